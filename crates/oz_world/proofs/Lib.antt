@@ -1,0 +1,2 @@
+mod Pushes
+mod Records

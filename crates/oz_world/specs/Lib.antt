@@ -1,0 +1,10 @@
+pub mod Calls
+pub mod Disk
+pub mod Faults
+pub mod History
+pub mod MemoryDisk
+pub mod MemorySink
+pub mod MemorySource
+pub mod Partial
+pub mod Present
+pub mod Record

@@ -1,0 +1,101 @@
+ghost use Rattle.std.specs.Prelude.{◌≡◌, ◌<◌, ◌≤◌, ◌↔◌, [], ◌∷◌, ◌++◌, length, remove, slice_get, slice_set, IsTrue, IsSome, IfSome, IfNone, IfErr, OnOk, OnErr, Some};
+
+use crate::OutOfMemory;
+use std::alloc::{AllocError, Global};
+use std::marker::Model;
+
+/// Items in a row.
+#[derive(Debug, Drop)]
+pub struct List<T> {
+    items: Vec<T>,
+}
+
+impl<T> Model for List<T> {
+    ghost use Rattle.std.specs.Prelude.{List as Items};
+
+    ghost Value = { Items T };
+
+    ghost view = { λ list. list.items.items };
+}
+
+impl<T> List<T> {
+    /// A list without items, which takes no memory.
+    pub fn new(alloc: Global) -> List<T>
+        ensures { result ≡ [] }
+    {
+        List {
+            items: Vec::new(alloc),
+        }
+    }
+
+    /// The list of the items of a vector, which it keeps as they are.
+    pub fn of(items: Vec<T>) -> List<T>
+        ensures { result ≡ items.items }
+    {
+        List { items }
+    }
+
+    /// The vector of the items, without taking memory.
+    pub fn into_items(self) -> Vec<T>
+        ensures { result.items ≡ self }
+    {
+        self.items
+    }
+
+    /// Puts an item at the end; where memory runs out the item comes back.
+    pub fn push(&mut self, _alloc: Global, item: T) -> Result<(), (T, OutOfMemory)>
+        ensures ok { OnOk result (self.new ≡ self.old ++ item ∷ []) }
+        ensures err { OnErr result (self.new ≡ self.old) }
+        ensures returned { IfErr result (λ refused. refused.0 ≡ item) }
+    {
+        match self.items.push(item) {
+            Ok(()) => Ok(()),
+            Err(refused) => Err((refused.value, AllocError)),
+        }
+    }
+
+    /// Takes the last item out.
+    pub fn pop(&mut self) -> Option<T>
+        ensures found { IsSome result ↔ (0 < length self.old) }
+        ensures last { IfSome result (λ item. self.old ≡ self.new ++ item ∷ []) }
+        ensures empty { IfNone result (self.new ≡ self.old) }
+    {
+        self.items.pop()
+    }
+
+    /// Takes the item at a place out, and the items behind it move up.
+    pub fn remove(&mut self, index: usize) -> T
+        requires { index < length self.old }
+        ensures item { slice_get self.old index ≡ Some result }
+        ensures rest { self.new ≡ remove self.old index }
+    {
+        self.items.remove(index)
+    }
+
+    /// Puts another item at a place, and gives the one that stood there.
+    pub fn replace(&mut self, index: usize, item: T) -> T
+        requires { index < length self.old }
+        ensures item { slice_get self.old index ≡ Some result }
+        ensures rest { self.new ≡ slice_set self.old index item }
+    {
+        std::mem::replace(&mut self.items[index], item)
+    }
+
+    pub fn items(&self) -> &[T]
+        ensures { result.now ≡ self.now }
+    {
+        self.items.as_slice()
+    }
+
+    pub fn len(&self) -> usize
+        ensures { result ≡ length self.now }
+    {
+        self.items.len()
+    }
+
+    pub fn is_empty(&self) -> bool
+        ensures { IsTrue result ↔ (self.now ≡ []) }
+    {
+        self.items.is_empty()
+    }
+}

@@ -16,7 +16,7 @@ abbrev pub u64_bytes : ℕ → List ℕ
 u64_bytes n = to_be_bytes w64 n
 
 -- The number at the front of a list of bytes, and what follows it; nothing where too few bytes are there.
-abbrev pub number_at : Width → List ℕ → Option (ℕ × List ℕ)
+unfoldable pub number_at : Width → List ℕ → Option (ℕ × List ℕ)
 number_at w bytes = if nat_lt (length bytes) (byte_len w) then None else Some (from_be_bytes w (take (byte_len w) bytes), drop (byte_len w) bytes)
 
 abbrev pub u8_at : List ℕ → Option (ℕ × List ℕ)

@@ -1,8 +1,10 @@
 ghost use Rattle.std.specs.Prelude.{◌≡◌, ◌<◌, ◌≤◌, ◌↔◌, [], ◌∷◌, ◌++◌, length, remove, slice_get, slice_set, IsTrue, IsSome, IfSome, IfNone, IfErr, OnOk, OnErr, Some};
+ghost use Rattle.std.specs.Slice.Iter.{iter_rest};
 
 use crate::OutOfMemory;
 use std::alloc::{AllocError, Global};
 use std::marker::Model;
+use std::slice::Iter;
 
 /// Items in a row.
 #[derive(Debug, Drop)]
@@ -87,6 +89,13 @@ impl<T> List<T> {
         self.items.as_slice()
     }
 
+    /// The items from the first to the last.
+    pub fn iter(&self) -> Iter<'_, T>
+        ensures { iter_rest result ≡ self.now }
+    {
+        self.items.iter()
+    }
+
     pub fn len(&self) -> usize
         ensures { result ≡ length self.now }
     {
@@ -98,4 +107,23 @@ impl<T> List<T> {
     {
         self.items.is_empty()
     }
+}
+
+/// Lists are equal where they have equal items in the same places.
+impl<T: PartialEq> PartialEq for List<T> {
+    ghost use Rattle.std.specs.Cmp.Lexicographic.{pointwise, lists_per};
+
+    ghost eq = { pointwise T.eq };
+
+    ghost laws = { lists_per T.laws };
+
+    fn eq(&self, other: &List<T>) -> bool {
+        self.items() == other.items()
+    }
+}
+
+impl<T: Eq> Eq for List<T> {
+    ghost use Rattle.std.specs.Cmp.Lexicographic.{lists_equiv};
+
+    ghost laws = { lists_equiv T.Eq.laws };
 }

@@ -5,6 +5,7 @@ use crate::OutOfMemory;
 use std::alloc::{AllocError, Global};
 use std::marker::Model;
 use std::slice::Iter;
+use std::vec::IntoIter;
 
 /// Items in a row.
 #[derive(Debug, Drop)]
@@ -21,6 +22,9 @@ impl<T> Model for List<T> {
 }
 
 impl<T> List<T> {
+    ghost use Rattle.std.specs.Borrow.{Lends, sem};
+    ghost use Rattle.oz_fields.specs.contracts.list.List.{the_row};
+
     /// A list without items, which takes no memory.
     pub fn new(alloc: Global) -> List<T>
         ensures { result ≡ [] }
@@ -83,6 +87,15 @@ impl<T> List<T> {
         std::mem::replace(&mut self.items[index], item)
     }
 
+    /// The item at a place, to be changed there.
+    pub fn item_mut(&mut self, index: usize) -> &mut T
+        requires { index < length self.old }
+        ensures* writes_back { sem 𝓛 (Lends (the_row T.row) T.row self.entry result (slice_set self.old index)) }
+        ensures item { slice_get self.old index ≡ Some result.now }
+    {
+        &mut self.items[index]
+    }
+
     pub fn items(&self) -> &[T]
         ensures { result.now ≡ self.now }
     {
@@ -126,4 +139,39 @@ impl<T: Eq> Eq for List<T> {
     ghost use Rattle.std.specs.Cmp.Lexicographic.{lists_equiv};
 
     ghost laws = { lists_equiv T.Eq.laws };
+}
+
+/// The items one after another, by value.
+impl<T: Drop> IntoIterator for List<T> {
+    ghost use Rattle.std.specs.Prelude.{◌≡◌};
+    ghost use Rattle.std.specs.Iterator.Runs.{EveryRun, ItemsAre};
+    ghost use Rattle.std.specs.Vec.Iter.{into_iter_items, into_iter_steps};
+    ghost use Rattle.std.specs.declared.alloc.Global.{Global};
+
+    type Item = T;
+
+    type IntoIter = IntoIter<T>;
+
+    ghost into_iter_gives = { λ list iter. (into_iter_items iter ≡ list) × EveryRun (into_iter_steps {X = T} {Z = Global}) (λ p. ItemsAre p (into_iter_items p.from)) };
+
+    fn into_iter(self) -> IntoIter<T> {
+        self.items.into_iter()
+    }
+}
+
+/// The items one after another, lent.
+impl<'a, T> IntoIterator for &'a List<T> {
+    ghost use Rattle.std.specs.Prelude.{◌≡◌};
+    ghost use Rattle.std.specs.Iterator.Runs.{EveryRun, ItemsMapTo};
+    ghost use Rattle.std.specs.Slice.Iter.{iter_rest, iter_steps};
+
+    type Item = &'a T;
+
+    type IntoIter = Iter<'a, T>;
+
+    ghost into_iter_gives = { λ list iter. (iter_rest iter ≡ list.now) × EveryRun (iter_steps {A = T}) (λ p. ItemsMapTo p (λ item. item.now) (iter_rest p.from)) };
+
+    fn into_iter(self) -> Iter<'a, T> {
+        self.items.iter()
+    }
 }

@@ -1,13 +1,11 @@
 -- The law of texts.
 use Rattle.std.proofs.Common.{◌≡◌, ℕ, ◌<◌, ◌≤◌, ◌^◌, List, ◌++◌, take, drop, length, false, ltb, Option, Some, refl, sym, ap, subst, ◌∙◌, arith}
-use Rattle.std.specs.Prelude.{option_and_then}
 use Rattle.std.proofs.lemmas.Bool.{ltb-false, le-ltb}
-use Rattle.std.proofs.lemmas.Option.{option_and_then_some}
 use Rattle.std.proofs.lemmas.List.{take_at, drop_at, take-append-drop, length-append, length-take}
-use Rattle.oz_fields.specs.Field.{AreBytes, IsField}
+use Rattle.oz_fields.specs.Field.{AreBytes, IsField, ◌>>=◌}
 use Rattle.oz_fields.specs.Number.{u16_bytes, u16_at}
 use Rattle.oz_fields.specs.Text.{text_bytes, front_at, text_at}
-use Rattle.oz_fields.proofs.Bytes.{came_through}
+use Rattle.oz_fields.proofs.Bytes.{came_through, both_found}
 use Rattle.oz_fields.proofs.Numbers.{u16_field}
 
 front_back : (front rest : List ℕ) → front_at (length front) (front ++ rest) ≡ Some (front, rest)
@@ -22,7 +20,7 @@ behind size = front_at size.0 size.1
 text_back : (text rest : List ℕ) → length text < 2 ^ 16 → text_at (text_bytes text ++ rest) ≡ Some (text, rest)
 unfolding text_at
 text_back text rest fits =
-    ap (λ (read : Option (ℕ × List ℕ)). option_and_then behind read) (u16_field.reads_back (length text) (text ++ rest) fits) ∙ front_back text rest
+    ap (λ (read : Option (ℕ × List ℕ)). read >>= behind) (u16_field.reads_back (length text) (text ++ rest) fits) ∙ front_back text rest
 
 front_spelled : (size : ℕ) (bytes text rest : List ℕ) → front_at size bytes ≡ Some (text, rest) → (length text ≡ size) × (bytes ≡ text ++ rest)
 front_spelled size bytes text rest e =
@@ -33,10 +31,11 @@ front_spelled size bytes text rest e =
 text_spelled : (bytes text rest : List ℕ) → AreBytes bytes → text_at bytes ≡ Some (text, rest) → (length text < 2 ^ 16) × (bytes ≡ text_bytes text ++ rest)
 unfolding text_at
 text_spelled bytes text rest bytes_fit e =
-    option_and_then_some behind (u16_at bytes) (text, rest) e (λ size first second.
-    let number = u16_field.one_spelling bytes size.0 size.1 bytes_fit first in
-    let content = front_spelled size.0 size.1 text rest second in
-    (omega (arith, number.0, content.0), number.1 ∙ ap (λ (left : List ℕ). u16_bytes size.0 ++ left) content.1 ∙ ap (λ (n : ℕ). u16_bytes n ++ (text ++ rest)) (sym content.0)))
+    let found = both_found (u16_at bytes) behind (text, rest) e in
+    let size = found.0 in
+    let number = u16_field.one_spelling bytes size.0 size.1 bytes_fit found.1 in
+    let content = front_spelled size.0 size.1 text rest found.2 in
+    (omega (arith, number.0, content.0), number.1 ∙ ap (λ (left : List ℕ). u16_bytes size.0 ++ left) content.1 ∙ ap (λ (n : ℕ). u16_bytes n ++ (text ++ rest)) (sym content.0))
 
 pub text_field : IsField (λ text. length text < 2 ^ 16) text_bytes text_at
 text_field = record { reads_back = text_back; one_spelling = text_spelled }

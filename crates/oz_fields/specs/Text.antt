@@ -1,5 +1,6 @@
 -- A text: its length in two bytes, and its bytes.
-use Rattle.std.specs.Prelude.{ℕ, List, ◌++◌, length, take, drop, Option, Some, None, nat_lt, if◌then◌else◌, option_and_then}
+use Rattle.std.specs.Prelude.{ℕ, List, ◌++◌, length, take, drop, Option, Some, None, nat_lt, if◌then◌else◌}
+use Rattle.oz_fields.specs.Field.{◌>>=◌}
 use Rattle.oz_fields.specs.Number.{u16_bytes, u16_at}
 
 abbrev pub text_bytes : List ℕ → List ℕ
@@ -11,4 +12,6 @@ front_at count bytes = if nat_lt (length bytes) count then None else Some (take 
 
 -- The text at the front of a list of bytes, and what follows it.
 unfoldable pub text_at : List ℕ → Option (List ℕ × List ℕ)
-text_at bytes = option_and_then (λ size. front_at size.0 size.1) (u16_at bytes)
+text_at bytes = do
+  size ← u16_at bytes
+  front_at size.0 size.1

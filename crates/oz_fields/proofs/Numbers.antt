@@ -45,6 +45,7 @@ u8_field = record {
 }
 
 pub u16_field : IsField (λ n. n < 2 ^ 16) u16_bytes u16_at
+unfolding u16_bytes
 u16_field = number_field w16 (2 ^ 16) (record {
   size = λ n. refl;
   number_back = from_be_bytes-to_be_bytes_2;
@@ -53,6 +54,7 @@ u16_field = number_field w16 (2 ^ 16) (record {
 })
 
 pub u32_field : IsField (λ n. n < 2 ^ 32) u32_bytes u32_at
+unfolding u32_bytes
 u32_field = number_field w32 (2 ^ 32) (record {
   size = λ n. refl;
   number_back = from_be_bytes-to_be_bytes_4;
@@ -61,6 +63,7 @@ u32_field = number_field w32 (2 ^ 32) (record {
 })
 
 pub u64_field : IsField (λ n. n < 2 ^ 64) u64_bytes u64_at
+unfolding u64_bytes
 u64_field = number_field w64 (2 ^ 64) (record {
   size = λ n. refl;
   number_back = from_be_bytes-to_be_bytes_8;

@@ -1,0 +1,90 @@
+-- When a story is that of a script.
+use Rattle.std.specs.Prelude.{◌≡◌, ◌⊎◌, ℕ, ◌+◌, ◌-◌, ◌<◌, ◌≤◌, Bool, true, false, IsTrue, ◌==◌, ◌&&◌, List, [], ◌∷◌, ◌++◌, map, filter, Option, None, Some, if◌then◌else◌}
+use Rattle.std.specs.List.{filter_map}
+use Rattle.oz_cluster.specs.declared.events.Event.{Event}
+use Rattle.oz_cluster.specs.declared.events.EventKind.{EventKind}
+use Rattle.oz_cluster.specs.declared.events.EventKind.TheVariants.{Ask, Decide, Swap, Flushed, Told}
+use Rattle.oz_cluster.specs.declared.requests.Answer.{Answer}
+use Rattle.oz_cluster.specs.declared.requests.Answer.TheVariants as told
+use Rattle.oz_cluster.specs.declared.requests.AskId.{AskId}
+use Rattle.oz_cluster.specs.declared.requests.Reply.{Reply}
+use Rattle.oz_cluster.specs.declared.requests.Reply.TheVariants as reply
+use Rattle.oz_cluster.specs.declared.requests.Request.{Request}
+use Rattle.oz_cluster.specs.declared.requests.Request.TheVariants.{CreateVolume, InfoVolume}
+use Rattle.oz_cluster.specs.declared.requests.Values.{Values}
+use Rattle.oz_cluster.specs.declared.requests.Values.TheVariants as values
+use Rattle.oz_cluster.specs.declared.script.Command.{Command}
+use Rattle.oz_cluster.specs.declared.script.Command.TheVariants.{VolumeCreate, VolumeInfo}
+use Rattle.oz_cluster.specs.declared.script.Line.{Line}
+use Rattle.oz_cluster.specs.declared.script.Script.{Script}
+use Rattle.oz_cluster.specs.Story.{is_told, last_reply}
+
+-- the one request of a line
+abbrev pub request_of : Command → Request
+request_of (VolumeCreate volume) = CreateVolume volume
+request_of (VolumeInfo volume) = InfoVolume volume
+
+-- what a line is told whose request had this reply
+abbrev pub answer_of : Reply → Answer
+answer_of reply.Done = told.Ok values.Done
+answer_of (reply.Count count) = told.Ok (values.Buckets count)
+answer_of (reply.Code code) = told.Code code
+
+-- the answer is what the line is to be told after this story; that there is no memory it may always be told
+abbrev pub IsDue : List Event → ℕ → ℕ → Answer → Type 0
+IsDue story client line (told.Ok values) = (given : Reply) × (last_reply client line story ≡ Some given) × (told.Ok values ≡ answer_of given)
+IsDue story client line (told.Code code) = (given : Reply) × (last_reply client line story ≡ Some given) × (told.Code code ≡ answer_of given)
+IsDue story client line told.OutOfMemory = Unit {0}
+
+-- the line that this line's `after` names was told
+abbrev pub AfterIsTold : List Event → Option (ℕ × ℕ) → Type 0
+AfterIsTold story None = Unit {0}
+AfterIsTold story (Some named) = IsTrue (is_told named.0 named.1 story)
+
+-- the client's line before it was told, and so was the one that its `after` names
+pub record HasStarted (story : List Event) (line : Line) : Type 0 where
+  pub before_it : 1 < line.number → IsTrue (is_told line.client (line.number - 1) story)
+  pub after_it : AfterIsTold story line.after
+
+-- the script's line of this client and number
+pub record IsLineOf (script : Script) (client number : ℕ) (line : Line) : Type 0 where
+  pub place : ℕ
+  pub before : List Line
+  pub behind : List Line
+  pub there : script.lines ≡ before ++ line ∷ behind
+  pub of_client : line.client ≡ client
+  pub of_number : line.number ≡ number
+
+-- what a line asks is its next step, after its start; what it is told is due, after its start
+abbrev pub EventFits : Script → List Event → EventKind → Type 0
+EventFits script story (Ask id request) =
+    (line : Line) × IsLineOf script id.client id.line line × HasStarted story line × (id.step ≡ 1) × (request ≡ request_of line.command)
+EventFits script story (Decide id index answer batch) = Unit {0}
+EventFits script story (Swap index) = Unit {0}
+EventFits script story (Flushed index moment) = Unit {0}
+EventFits script story (Told client number answer) =
+    (line : Line) × IsLineOf script client number line × HasStarted story line × IsDue story client number answer
+
+unfoldable pub FitsFrom : Script → List Event → List Event → Type 0
+FitsFrom script before [] = Unit {0}
+FitsFrom script before (event ∷ story) = EventFits script before event.kind × FitsFrom script (before ++ event ∷ []) story
+
+-- the numbers of a client's lines that were told, in order
+abbrev pub told_line : ℕ → EventKind → Option ℕ
+told_line client (Ask id request) = None
+told_line client (Decide id index answer batch) = None
+told_line client (Swap index) = None
+told_line client (Flushed index moment) = None
+told_line client (Told other number answer) = if other == client then Some number else None
+
+abbrev pub told_lines : ℕ → List Event → List ℕ
+told_lines client story = filter_map (λ event. told_line client event.kind) story
+
+-- the numbers of a client's lines, in order
+abbrev pub lines_of : Script → ℕ → List ℕ
+lines_of script client = map (λ line. line.number) (filter (λ line. line.client == client) script.lines)
+
+-- Each event is one that the script leads to, and each client's lines were told in order, all of them.
+pub record Fits (script : Script) (story : List Event) : Type 0 where
+  pub steps : FitsFrom script [] story
+  pub all_told : (client : ℕ) → told_lines client story ≡ lines_of script client

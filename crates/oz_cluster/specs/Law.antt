@@ -1,0 +1,86 @@
+-- The law: which event may follow a story.
+use Rattle.std.specs.Prelude.{◌≡◌, ◌≢◌, ◌⊎◌, ◌↔◌, ℕ, ◌+◌, ◌≤◌, ◌<◌, Bool, true, false, IsTrue, List, [], ◌∷◌, ◌++◌, Option, None, Some}
+use Rattle.oz_cluster.specs.declared.events.Event.{Event}
+use Rattle.oz_cluster.specs.declared.events.EventKind.{EventKind}
+use Rattle.oz_cluster.specs.declared.events.EventKind.TheVariants.{Ask, Decide, Swap, Flushed, Told}
+use Rattle.oz_cluster.specs.declared.requests.AskId.{AskId}
+use Rattle.oz_cluster.specs.declared.requests.Answer.{Answer}
+use Rattle.oz_cluster.specs.declared.requests.Answer.TheVariants as told
+use Rattle.oz_cluster.specs.declared.requests.Request.{Request}
+use Rattle.oz_cluster.specs.declared.requests.Reply.{Reply}
+use Rattle.oz_cluster.specs.Names.{stripe_of}
+use Rattle.oz_cluster.specs.Answers.{Answers, after, volume_of}
+use Rattle.oz_cluster.specs.Story.{Opening, is_asked, is_of_line, is_told, pending, last_index, swapped_index, durable_index, flushed_moment, is_durable, namespace_of}
+
+-- the seats: the flusher's, the caller's, the first stripe's, the first worker's
+abbrev pub flusher_seat : ℕ
+flusher_seat = 0
+
+abbrev pub caller_seat : ℕ
+caller_seat = 2
+
+abbrev pub stripe_seat : ℕ → ℕ
+stripe_seat stripe = 20 + stripe
+
+-- a line is worked on by the caller or a worker
+abbrev pub IsLineSeat : ℕ → Type 0
+IsLineSeat seat = (seat ≡ caller_seat) ⊎ (36 ≤ seat)
+
+-- A line asks a thing once, before it is told, and only once all that it asked before is decided and stable.
+pub record AskIsEnabled (opening : Opening) (story : List Event) (seat : ℕ) (id : AskId) : Type 0 where
+  pub line_seat : IsLineSeat seat
+  pub unasked : is_asked id story ≡ false
+  pub untold : is_told id.client id.line story ≡ false
+  pub decided : (earlier : AskId) → IsTrue (is_of_line id.client id.line earlier) → pending earlier story ≡ None
+  pub stable : IsTrue (is_durable opening id.client id.line story)
+
+-- What was asked is decided once, by the stripe of its volume, with the reply of one thread at this place. The index
+-- goes on by one where the namespace changes, and the batch is empty exactly where the index stays.
+pub record DecideIsEnabled (opening : Opening) (story : List Event) (seat : ℕ) (id : AskId) (index : ℕ) (answer : Reply) (batch : List ℕ) : Type 0 where
+  pub request : Request
+  pub asked : pending id story ≡ Some request
+  pub seat_of_stripe : seat ≡ stripe_seat (stripe_of (volume_of request))
+  pub one_thread : Answers (namespace_of opening story) request answer
+  pub changes : after (namespace_of opening story) request answer ≢ namespace_of opening story → index ≡ last_index opening story + 1
+  pub keeps : after (namespace_of opening story) request answer ≡ namespace_of opening story → index ≡ last_index opening story
+  pub recorded : (batch ≡ []) ↔ (index ≡ last_index opening story)
+
+-- What was decided since the last Swap is taken, once that is stable.
+pub record SwapIsEnabled (opening : Opening) (story : List Event) (seat index : ℕ) : Type 0 where
+  pub seat_of_flusher : seat ≡ flusher_seat
+  pub none_open : swapped_index opening story ≡ durable_index opening story
+  pub all_decided : index ≡ last_index opening story
+  pub some : swapped_index opening story < index
+
+-- What the last Swap took is stable, at a later moment than all before.
+pub record FlushedIsEnabled (opening : Opening) (story : List Event) (seat index moment : ℕ) : Type 0 where
+  pub seat_of_flusher : seat ≡ flusher_seat
+  pub swapped : index ≡ swapped_index opening story
+  pub unstable : durable_index opening story < index
+  pub later : flushed_moment story < moment
+
+-- A line is told once, and only once each of its Decides is stable; that there is no memory it may be told at any time.
+pub record ToldIsEnabled (opening : Opening) (story : List Event) (seat client line : ℕ) (answer : Answer) : Type 0 where
+  pub line_seat : IsLineSeat seat
+  pub untold : is_told client line story ≡ false
+  pub stable : IsTrue (is_durable opening client line story) ⊎ (answer ≡ told.OutOfMemory)
+
+-- the event may follow the story
+abbrev pub KindIsEnabled : Opening → List Event → ℕ → EventKind → Type 0
+KindIsEnabled opening story seat (Ask id request) = AskIsEnabled opening story seat id
+KindIsEnabled opening story seat (Decide id index answer batch) = DecideIsEnabled opening story seat id index answer batch
+KindIsEnabled opening story seat (Swap index) = SwapIsEnabled opening story seat index
+KindIsEnabled opening story seat (Flushed index moment) = FlushedIsEnabled opening story seat index moment
+KindIsEnabled opening story seat (Told client line answer) = ToldIsEnabled opening story seat client line answer
+
+abbrev pub IsEnabled : Opening → List Event → Event → Type 0
+IsEnabled opening story event = KindIsEnabled opening story event.seat event.kind
+
+-- each of these events may follow those before it
+unfoldable pub IsLegalFrom : Opening → List Event → List Event → Type 0
+IsLegalFrom opening before [] = Unit {0}
+IsLegalFrom opening before (event ∷ story) = IsEnabled opening before event × IsLegalFrom opening (before ++ event ∷ []) story
+
+-- each event of the story may follow those before it
+abbrev pub IsLegal : Opening → List Event → Type 0
+IsLegal opening story = IsLegalFrom opening [] story

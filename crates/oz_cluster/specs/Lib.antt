@@ -1,0 +1,6 @@
+pub mod Answers
+pub mod Fits
+pub mod Law
+pub mod Names
+pub mod Namespace
+pub mod Story

@@ -1,0 +1,50 @@
+-- Names of volumes, and the stripe that a volume belongs to.
+use Rattle.std.specs.Prelude.{◌≡◌, ◌≢◌, ◌⊎◌, ℕ, ◌+◌, ◌%◌, ◌≤◌, ◌<◌, Bool, List, [], ◌∷◌, length, sum, IsTrue, not, ◌==◌, ◌||◌, ◌&&◌, nat_le, false, true}
+use Rattle.std.specs.List.{list_any, list_all}
+
+-- a digit
+abbrev pub is_digit : ℕ → Bool
+is_digit byte = nat_le 48 byte && nat_le byte 57
+
+-- a small letter
+abbrev pub is_letter : ℕ → Bool
+is_letter byte = nat_le 97 byte && nat_le byte 122
+
+-- `-` or `.`
+abbrev pub is_mark : ℕ → Bool
+is_mark byte = byte == 45 || byte == 46
+
+-- a small letter, a digit or a mark
+abbrev pub is_name_byte : ℕ → Bool
+is_name_byte byte = is_letter byte || is_digit byte || is_mark byte
+
+-- two bytes stand side by side that may not: `..`, `.-` or `-.`
+abbrev pub has_bad_pair : List ℕ → Bool
+has_bad_pair [] = false
+has_bad_pair (first ∷ []) = false
+has_bad_pair (first ∷ second ∷ rest) = (is_mark first && is_mark second && not (first == 45 && second == 45)) || has_bad_pair (second ∷ rest)
+
+-- the first byte is a mark
+abbrev pub begins_with_mark : List ℕ → Bool
+begins_with_mark [] = false
+begins_with_mark (first ∷ rest) = is_mark first
+
+-- the last byte is a mark
+abbrev pub ends_with_mark : List ℕ → Bool
+ends_with_mark [] = false
+ends_with_mark (last ∷ []) = is_mark last
+ends_with_mark (first ∷ second ∷ rest) = ends_with_mark (second ∷ rest)
+
+-- a name of a volume
+pub record IsVolumeName (name : List ℕ) : Type 0 where
+  pub long_enough : 3 ≤ length name
+  pub short_enough : length name ≤ 63
+  pub name_bytes : IsTrue (list_all is_name_byte name)
+  pub first_byte : begins_with_mark name ≡ false
+  pub last_byte : ends_with_mark name ≡ false
+  pub pairs : has_bad_pair name ≡ false
+  pub no_number : list_all (λ byte. is_digit byte || byte == 46) name ≡ false
+
+-- one of sixteen
+abbrev pub stripe_of : List ℕ → ℕ
+stripe_of volume = sum volume % 16

@@ -1,0 +1,140 @@
+-- What a story tells: who asked, what was decided, what is stable, who was told.
+use Rattle.std.specs.Prelude.{◌≡◌, ℕ, ◌+◌, Bool, true, false, ◌&&◌, ◌==◌, nat_lt, List, [], ◌∷◌, ◌++◌, fold, filter, Option, None, Some, if◌then◌else◌}
+use Rattle.std.specs.List.{list_any, list_all}
+use Rattle.oz_cluster.specs.declared.events.Event.{Event}
+use Rattle.oz_cluster.specs.declared.events.EventKind.{EventKind}
+use Rattle.oz_cluster.specs.declared.events.EventKind.TheVariants.{Ask, Decide, Swap, Flushed, Told}
+use Rattle.oz_cluster.specs.declared.requests.AskId.{AskId}
+use Rattle.oz_cluster.specs.declared.requests.Request.{Request}
+use Rattle.oz_cluster.specs.declared.requests.Reply.{Reply}
+use Rattle.oz_cluster.specs.Namespace.{Volumes}
+use Rattle.oz_cluster.specs.Answers.{after}
+
+-- what the loaded disks stand for
+pub record Opening : Type 0 where
+  pub namespace : Volumes
+  pub index : ℕ
+
+abbrev pub is_of_line : ℕ → ℕ → AskId → Bool
+is_of_line client line id = id.client == client && id.line == line
+
+abbrev pub is_id : AskId → AskId → Bool
+is_id id other = other.client == id.client && other.line == id.line && other.step == id.step
+
+-- an Ask of this id
+abbrev pub asks : AskId → EventKind → Bool
+asks id (Ask other request) = is_id id other
+asks id (Decide other index reply batch) = false
+asks id (Swap index) = false
+asks id (Flushed index moment) = false
+asks id (Told client line answer) = false
+
+abbrev pub is_asked : AskId → List Event → Bool
+is_asked id story = list_any (λ event. asks id event.kind) story
+
+-- a Told of this line
+abbrev pub tells : ℕ → ℕ → EventKind → Bool
+tells client line (Ask id request) = false
+tells client line (Decide id index reply batch) = false
+tells client line (Swap index) = false
+tells client line (Flushed index moment) = false
+tells client line (Told other number answer) = other == client && number == line
+
+abbrev pub is_told : ℕ → ℕ → List Event → Bool
+is_told client line story = list_any (λ event. tells client line event.kind) story
+
+-- the request of the last Ask of this id that no Decide of it follows, given that one stood before
+abbrev pub pending_after : AskId → Option Request → EventKind → Option Request
+pending_after id before (Ask other request) = if is_id id other then Some request else before
+pending_after id before (Decide other index reply batch) = if is_id id other then None else before
+pending_after id before (Swap index) = before
+pending_after id before (Flushed index moment) = before
+pending_after id before (Told client line answer) = before
+
+abbrev pub pending : AskId → List Event → Option Request
+pending id story = fold (λ before event. pending_after id before event.kind) None story
+
+-- the last transaction index that was decided, and the last that was swapped, and the last that is stable
+abbrev pub decided_after : ℕ → EventKind → ℕ
+decided_after before (Ask id request) = before
+decided_after before (Decide id index reply batch) = index
+decided_after before (Swap index) = before
+decided_after before (Flushed index moment) = before
+decided_after before (Told client line answer) = before
+
+abbrev pub swapped_after : ℕ → EventKind → ℕ
+swapped_after before (Ask id request) = before
+swapped_after before (Decide id index reply batch) = before
+swapped_after before (Swap index) = index
+swapped_after before (Flushed index moment) = before
+swapped_after before (Told client line answer) = before
+
+abbrev pub flushed_after : ℕ → EventKind → ℕ
+flushed_after before (Ask id request) = before
+flushed_after before (Decide id index reply batch) = before
+flushed_after before (Swap index) = before
+flushed_after before (Flushed index moment) = index
+flushed_after before (Told client line answer) = before
+
+abbrev pub last_index : Opening → List Event → ℕ
+last_index opening story = fold (λ before event. decided_after before event.kind) opening.index story
+
+abbrev pub swapped_index : Opening → List Event → ℕ
+swapped_index opening story = fold (λ before event. swapped_after before event.kind) opening.index story
+
+abbrev pub durable_index : Opening → List Event → ℕ
+durable_index opening story = fold (λ before event. flushed_after before event.kind) opening.index story
+
+-- the moment of the last Flushed, 0 for none
+abbrev pub moment_after : ℕ → EventKind → ℕ
+moment_after before (Ask id request) = before
+moment_after before (Decide id index reply batch) = before
+moment_after before (Swap index) = before
+moment_after before (Flushed index moment) = moment
+moment_after before (Told client line answer) = before
+
+abbrev pub flushed_moment : List Event → ℕ
+flushed_moment story = fold (λ before event. moment_after before event.kind) 0 story
+
+-- the reply to a line's last Decide
+abbrev pub replied_after : ℕ → ℕ → Option Reply → EventKind → Option Reply
+replied_after client line before (Ask id request) = before
+replied_after client line before (Decide id index reply batch) = if is_of_line client line id then Some reply else before
+replied_after client line before (Swap index) = before
+replied_after client line before (Flushed index moment) = before
+replied_after client line before (Told other number answer) = before
+
+abbrev pub last_reply : ℕ → ℕ → List Event → Option Reply
+last_reply client line story = fold (λ before event. replied_after client line before event.kind) None story
+
+-- a Decide of this line with an index above a given one
+abbrev pub decides_above : ℕ → ℕ → ℕ → EventKind → Bool
+decides_above client line limit (Ask id request) = false
+decides_above client line limit (Decide id index reply batch) = is_of_line client line id && nat_lt limit index
+decides_above client line limit (Swap index) = false
+decides_above client line limit (Flushed index moment) = false
+decides_above client line limit (Told other number answer) = false
+
+-- each Decide of this line is stable
+abbrev pub is_durable : Opening → ℕ → ℕ → List Event → Bool
+is_durable opening client line story = list_all (λ event. if decides_above client line (durable_index opening story) event.kind then false else true) story
+
+-- what one more event leaves of a namespace, behind these events
+abbrev pub namespace_after : Option Request → Volumes → Reply → Volumes
+namespace_after None namespace answer = namespace
+namespace_after (Some request) namespace answer = after namespace request answer
+
+abbrev pub namespace_step : List Event → Volumes → EventKind → Volumes
+namespace_step before namespace (Ask id request) = namespace
+namespace_step before namespace (Decide id index answer batch) = namespace_after (pending id before) namespace answer
+namespace_step before namespace (Swap index) = namespace
+namespace_step before namespace (Flushed index moment) = namespace
+namespace_step before namespace (Told client line answer) = namespace
+
+unfoldable pub namespace_from : List Event → Volumes → List Event → Volumes
+namespace_from before namespace [] = namespace
+namespace_from before namespace (event ∷ story) = namespace_from (before ++ event ∷ []) (namespace_step before namespace event.kind) story
+
+-- the namespace after all Decides of a story, one after another
+abbrev pub namespace_of : Opening → List Event → Volumes
+namespace_of opening story = namespace_from [] opening.namespace story

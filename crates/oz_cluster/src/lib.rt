@@ -1,0 +1,8 @@
+//! The object store as one call: a script and disks go in, the story of what the manager decided comes out.
+#![tactic(auto)]
+
+pub mod events;
+pub mod model;
+pub mod names;
+pub mod requests;
+pub mod script;

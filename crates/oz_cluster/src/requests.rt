@@ -1,0 +1,44 @@
+use crate::names::Code;
+use oz_fields::Name;
+
+/// What names an ask: the line of a client's script that asks, and which of the line's asks it is, from 1.
+#[derive(Clone, Copy, Debug, PartialEq, Eq, PartialOrd, Ord)]
+pub struct AskId {
+    pub client: u16,
+    pub line: u16,
+    pub step: u16,
+}
+
+/// What the manager is asked.
+#[derive(Debug, Drop)]
+pub enum Request {
+    CreateVolume { volume: Name },
+    InfoVolume { volume: Name },
+}
+
+/// What the manager decides of a request.
+#[derive(Clone, Copy, Debug)]
+pub enum Reply {
+    /// It is done.
+    Done,
+    /// How many things there are.
+    Count(u32),
+    /// It is refused, and nothing changes.
+    Code(Code),
+}
+
+/// What a line of a script is told.
+#[derive(Clone, Copy, Debug)]
+pub enum Answer {
+    Ok(Values),
+    Code(Code),
+    OutOfMemory,
+}
+
+/// What stands behind `OK`.
+#[derive(Clone, Copy, Debug)]
+pub enum Values {
+    Done,
+    /// How many buckets a volume has.
+    Buckets(u32),
+}

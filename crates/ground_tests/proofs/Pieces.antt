@@ -1,10 +1,9 @@
 -- A piece reads back, by the laws of its fields.
-use Rattle.std.proofs.Common.{◌≡◌, ℕ, ◌<◌, ◌^◌, List, ◌++◌, Some, refl, subst, append_assoc}
-use Rattle.std.proofs.lemmas.Option.{same_Some}
+use Rattle.std.proofs.Common.{◌≡◌, ℕ, ◌<◌, ◌^◌, List, ◌++◌, Some, refl, append_assoc}
 use Rattle.oz_fields.specs.declared.block.Piece.{Piece}
 use Rattle.oz_fields.specs.Field.{AreBytes, IsField, ◌>>=◌}
 use Rattle.oz_fields.specs.Number.{u32_bytes, u64_bytes, u32_at, u64_at}
-use Rattle.oz_fields.proofs.Fields.{first_of_fields, parts_then}
+use Rattle.oz_fields.proofs.Fields.{first_of_fields, parts_then, found_is}
 use Rattle.oz_fields.proofs.Numbers.{u32_field, u64_field}
 use Rattle.ground_tests.specs.Piece.{piece_bytes, piece_at, IsPiece}
 
@@ -26,7 +25,7 @@ piece_spelled bytes piece rest fit e =
     let c = first_of_fields (λ n. n < 2 ^ 32) u32_bytes u32_at b.rest (λ length. Some (made a.value b.value length)) (piece, rest) u32_field b.rest_fit b.further in
     let two = parts_then bytes (u64_bytes a.value) a.rest (u64_bytes b.value) b.rest a.parts b.parts in
     let parts = parts_then bytes (u64_bytes a.value ++ u64_bytes b.value) b.rest (u32_bytes c.value) c.rest two c.parts in
-    subst (λ (read : Piece × List ℕ). IsPiece read.0 × (bytes ≡ piece_bytes read.0 ++ read.1)) (same_Some (made a.value b.value (c.value, c.rest)) (piece, rest) c.further) (record { container = a.fits; local = b.fits; length = c.fits }, parts)
+    found_is IsPiece piece_bytes bytes (made a.value b.value (c.value, c.rest)) (piece, rest) c.further (record { container = a.fits; local = b.fits; length = c.fits }) parts
 
 pub piece_field : IsField IsPiece piece_bytes piece_at
 piece_field = record { reads_back = piece_back; one_spelling = piece_spelled }

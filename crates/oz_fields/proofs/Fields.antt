@@ -1,5 +1,6 @@
 -- What a reading of several fields found, one field at a time.
-use Rattle.std.proofs.Common.{◌≡◌, List, ◌++◌, ℕ, Option, Some, ap, sym, ◌∙◌, append_assoc}
+use Rattle.std.proofs.Common.{◌≡◌, List, ◌++◌, ℕ, Option, Some, ap, sym, ◌∙◌, append_assoc, subst}
+use Rattle.std.proofs.lemmas.Option.{same_Some}
 use Rattle.oz_fields.specs.Field.{AreBytes, IsField, ◌>>=◌}
 use Rattle.oz_fields.proofs.Bytes.{both_found, AreBytes-behind}
 
@@ -29,3 +30,8 @@ first_of_fields Fits spelling read bytes next found field fit e =
 -- two fields that were found one behind the other
 pub parts_then : (bytes front rest next after : List ℕ) → bytes ≡ front ++ rest → rest ≡ next ++ after → bytes ≡ (front ++ next) ++ after
 parts_then bytes front rest next after first second = first ∙ ap (λ (left : List ℕ). front ++ left) second ∙ sym (append_assoc front next after)
+
+-- the value that was made of the fields is the one that was found
+pub found_is : {A : Type 0} (Fits : A → Type 0) (spelling : A → List ℕ) (bytes : List ℕ) (made found : A × List ℕ) → Some made ≡ Some found → Fits made.0 → bytes ≡ spelling made.0 ++ made.1 → Fits found.0 × (bytes ≡ spelling found.0 ++ found.1)
+found_is {A} Fits spelling bytes made found e fits parts =
+    subst (λ (read : A × List ℕ). Fits read.0 × (bytes ≡ spelling read.0 ++ read.1)) (same_Some made found e) (fits, parts)

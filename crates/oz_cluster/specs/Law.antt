@@ -10,7 +10,7 @@ use Rattle.oz_cluster.specs.declared.requests.Request.{Request}
 use Rattle.oz_cluster.specs.declared.requests.Reply.{Reply}
 use Rattle.oz_cluster.specs.Names.{stripe_of}
 use Rattle.oz_cluster.specs.Answers.{Answers, after, volume_of}
-use Rattle.oz_cluster.specs.Story.{Opening, is_asked, is_of_line, is_told, pending, last_index, swapped_index, durable_index, flushed_moment, is_durable, namespace_of}
+use Rattle.oz_cluster.specs.Story.{Opening, is_asked, is_of_line, is_told, pending, last_index, swapped_index, durable_index, flushed_moment, line_index, namespace_of}
 
 -- the seats: the flusher's, the caller's, the first stripe's, the first worker's
 abbrev pub flusher_seat : ℕ
@@ -32,7 +32,7 @@ pub record AskIsEnabled (opening : Opening) (story : List Event) (seat : ℕ) (i
   pub unasked : is_asked id story ≡ false
   pub untold : is_told id.client id.line story ≡ false
   pub decided : (earlier : AskId) → IsTrue (is_of_line id.client id.line earlier) → pending earlier story ≡ None
-  pub stable : IsTrue (is_durable opening id.client id.line story)
+  pub stable : line_index id.client id.line story ≤ durable_index opening story
 
 -- What was asked is decided once, by the stripe of its volume, with the reply of one thread at this place. The index
 -- goes on by one where the namespace changes, and the batch is empty exactly where the index stays.
@@ -63,7 +63,7 @@ pub record FlushedIsEnabled (opening : Opening) (story : List Event) (seat index
 pub record ToldIsEnabled (opening : Opening) (story : List Event) (seat client line : ℕ) (answer : Answer) : Type 0 where
   pub line_seat : IsLineSeat seat
   pub untold : is_told client line story ≡ false
-  pub stable : IsTrue (is_durable opening client line story) ⊎ (answer ≡ told.OutOfMemory)
+  pub stable : (line_index client line story ≤ durable_index opening story) ⊎ (answer ≡ told.OutOfMemory)
 
 -- the event may follow the story
 abbrev pub KindIsEnabled : Opening → List Event → ℕ → EventKind → Type 0

@@ -3,4 +3,5 @@ pub mod Fits
 pub mod Law
 pub mod Names
 pub mod Namespace
+pub mod Quiet
 pub mod Story

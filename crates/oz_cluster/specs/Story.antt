@@ -1,6 +1,6 @@
 -- What a story tells: who asked, what was decided, what is stable, who was told.
-use Rattle.std.specs.Prelude.{◌≡◌, ℕ, ◌+◌, Bool, true, false, ◌&&◌, ◌==◌, nat_lt, List, [], ◌∷◌, ◌++◌, fold, filter, Option, None, Some, if◌then◌else◌}
-use Rattle.std.specs.List.{list_any, list_all}
+use Rattle.std.specs.Prelude.{◌≡◌, ℕ, ◌+◌, Bool, true, false, ◌&&◌, ◌==◌, max, List, [], ◌∷◌, ◌++◌, fold, filter, Option, None, Some, if◌then◌else◌}
+use Rattle.std.specs.List.{list_any}
 use Rattle.oz_cluster.specs.declared.events.Event.{Event}
 use Rattle.oz_cluster.specs.declared.events.EventKind.{EventKind}
 use Rattle.oz_cluster.specs.declared.events.EventKind.TheVariants.{Ask, Decide, Swap, Flushed, Told}
@@ -107,17 +107,16 @@ replied_after client line before (Told other number answer) = before
 abbrev pub last_reply : ℕ → ℕ → List Event → Option Reply
 last_reply client line story = fold (λ before event. replied_after client line before event.kind) None story
 
--- a Decide of this line with an index above a given one
-abbrev pub decides_above : ℕ → ℕ → ℕ → EventKind → Bool
-decides_above client line limit (Ask id request) = false
-decides_above client line limit (Decide id index reply batch) = is_of_line client line id && nat_lt limit index
-decides_above client line limit (Swap index) = false
-decides_above client line limit (Flushed index moment) = false
-decides_above client line limit (Told other number answer) = false
+-- the greatest index that a Decide of this line has, 0 for none
+abbrev pub line_index_after : ℕ → ℕ → ℕ → EventKind → ℕ
+line_index_after client line before (Ask id request) = before
+line_index_after client line before (Decide id index reply batch) = if is_of_line client line id then max before index else before
+line_index_after client line before (Swap index) = before
+line_index_after client line before (Flushed index moment) = before
+line_index_after client line before (Told other number answer) = before
 
--- each Decide of this line is stable
-abbrev pub is_durable : Opening → ℕ → ℕ → List Event → Bool
-is_durable opening client line story = list_all (λ event. if decides_above client line (durable_index opening story) event.kind then false else true) story
+abbrev pub line_index : ℕ → ℕ → List Event → ℕ
+line_index client line story = fold (λ before event. line_index_after client line before event.kind) 0 story
 
 -- what one more event leaves of a namespace, behind these events
 abbrev pub namespace_after : Option Request → Volumes → Reply → Volumes

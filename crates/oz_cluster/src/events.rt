@@ -12,7 +12,10 @@ pub struct Event {
 #[derive(Debug, Drop)]
 pub enum EventKind {
     /// A line asked the manager.
-    Ask { id: AskId, request: Request },
+    Ask {
+        id: AskId,
+        request: Request,
+    },
     /// The manager decided what was asked. `index` is the last transaction index after it, and `batch`
     /// has the bytes of its operations.
     Decide {
@@ -22,9 +25,14 @@ pub enum EventKind {
         batch: List<u8>,
     },
     /// The flusher took the batches up to this index.
-    Swap { index: u64 },
+    Swap {
+        index: u64,
+    },
     /// They are on the manager's disk, stable from this moment of its clock on.
-    Flushed { index: u64, moment: u64 },
+    Flushed {
+        index: u64,
+        moment: u64,
+    },
     /// A line was answered.
     Told {
         client: u16,

@@ -1,0 +1,4 @@
+//! Tests of the crates that everything else stands on.
+#![tactic(auto)]
+
+mod fields;

@@ -1,0 +1,6 @@
+use Rattle.oz_fields.specs.Number.{u16_at}
+use Rattle.oz_fields.proofs.Bytes.{read_on}
+use Rattle.oz_fields.proofs.reader.Reader.u16.Goals as goal
+
+pub returns-clause-value : goal.returns-clause-value
+returns-clause-value c = rw (← c.self.view_is) (read_on u16_at c.self.inside.bytes.now c.self.inside.at 2 c.in_ok-value.value c.in_ok-value.ensures.value)

@@ -5,4 +5,5 @@ pub mod events;
 pub mod model;
 pub mod names;
 pub mod requests;
+pub mod rows;
 pub mod script;

@@ -1,4 +1,4 @@
-ghost use Rattle.std.specs.Prelude.{◌≡◌, ◌≤◌, ◌<◌, ◌+◌, ℕ, List, length, take, drop, slice_range, Option, Some, IfOk, IfSome, OnOk, OnErr, IsErr};
+ghost use Rattle.std.specs.Prelude.{◌≡◌, ◌≤◌, ◌<◌, ◌+◌, ◌^◌, ℕ, List, length, take, drop, slice_range, Option, Some, IfOk, IfSome, OnOk, OnErr, IsErr};
 ghost use Rattle.std.specs.Option.{option_map};
 ghost use Rattle.oz_world.specs.Faults.{HasCause};
 ghost use Rattle.oz_world.specs.Disk.{last_moment, overwritten, Torn, CutShort, Same, Moves, Stands, Ticks, IsStable};
@@ -44,11 +44,13 @@ pub trait Disk {
         ensures time { Stands (clock self.old) (clock self.new) (image self.old) (image self.new) }
         ensures cause { HasCause (faults self.old) (faults self.new) result };
 
-    /// Writes the bytes at `pos`, over what is there and past the end.
+    /// Writes the bytes at `pos`, over what is there and past the end. The place behind the last one
+    /// is a `u64` too.
     fn write_at(&mut self, pos: u64, bytes: &[u8]) -> Result<(), Failed>
         requires { IfSome (told self.old) (λ before. pos ≤ length before) }
         ensures written { OnOk result (told self.new ≡ option_map (overwritten pos bytes.now) (told self.old)) }
         ensures failed { OnErr result (Moves (Torn pos (length bytes.now)) (told self.old) (told self.new)) }
+        ensures within { OnOk result (pos + length bytes.now < 2 ^ 64) }
         ensures time { clock self.old < last_moment →
             Ticks (Torn pos (length bytes.now)) (clock self.old) (clock self.new)
             (image self.old) (image self.new) }

@@ -1,4 +1,4 @@
-ghost use Rattle.std.specs.Prelude.{◌≡◌, ◌≤◌, ◌<◌, ◌+◌, ◌==◌, ℕ, Some, [], vec_capacity, length, take, slice_range, IfOk, OnOk, OnErr, IsErr, is_err, ◌↔◌, if◌then◌else◌};
+ghost use Rattle.std.specs.Prelude.{◌≡◌, ◌≤◌, ◌<◌, ◌+◌, ◌^◌, ◌==◌, ℕ, Some, [], vec_capacity, length, take, slice_range, IfOk, OnOk, OnErr, IsErr, is_err, ◌↔◌, if◌then◌else◌};
 ghost use Rattle.oz_world.specs.Calls.{raised, Counts, IsToFail};
 ghost use Rattle.oz_world.specs.Faults.{HasCause};
 ghost use Rattle.oz_world.specs.Disk.{last_moment, overwritten, Torn, CutShort, Same, Stands, Ticks, IsStable};
@@ -159,6 +159,7 @@ impl Disk for MemoryDisk {
         requires { pos ≤ length (disk_bytes self.old) }
         ensures written { OnOk result (disk_bytes self.new ≡ overwritten pos bytes.now (disk_bytes self.old)) }
         ensures failed { OnErr result (disk_bytes self.new ≡ disk_bytes self.old) }
+        ensures within { OnOk result (pos + length bytes.now < 2 ^ 64) }
         ensures refused { IsToFail (disk_calls self.old) → IsErr result }
         ensures too_long { disk_room self.old < pos + length bytes.now → IsErr result }
         ensures time { disk_clock self.old < last_moment →

@@ -1,5 +1,4 @@
-ghost use Rattle.std.specs.Prelude.{◌≡◌, ◌<◌, ◌≤◌, ◌+◌, ◌^◌, length, IfOk, MatchOption, Some, None};
-ghost use Rattle.oz_journal.specs.Journal.{body_of};
+ghost use Rattle.std.specs.Prelude.{◌≡◌, ◌<◌, ◌^◌, ◌++◌, [], ◌∷◌, length, IfOk, MatchOption, Some, None};
 ghost use Rattle.oz_cluster.specs.Rows.{put_volume, body_bytes, body_at};
 
 use oz_fields::{OutOfMemory, Reader, put_text, put_u8, put_u64};
@@ -23,8 +22,8 @@ pub fn volume_batch(alloc: Global, volume: &[u8]) -> Result<Vec<u8>, OutOfMemory
 
 /// A body, with four bytes before it and one behind, which the journal fills.
 pub fn framed(alloc: Global, index: u64, batch: &[u8]) -> Result<Vec<u8>, OutOfMemory>
-    ensures body { IfOk result (λ framed. body_of framed.items ≡ body_bytes index batch.now) }
-    ensures size { IfOk result (λ framed. length framed.items ≡ length batch.now + 14) }
+    ensures { IfOk result (λ framed.
+        framed.items ≡ (0 ∷ 0 ∷ 0 ∷ 0 ∷ []) ++ body_bytes index batch.now ++ 0 ∷ []) }
 {
     let mut framed = Vec::new(alloc);
     framed.extend_from_slice(&[0; 4])?;

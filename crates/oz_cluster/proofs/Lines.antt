@@ -151,7 +151,7 @@ module _ (opening : Opening) (script : Script) (lines index moment : ℕ) (names
     untold = λ number lt. is_told-push 1 number story (decide new answer batch) ∙ no_more _ (stage.untold number lt);
     replied = last_reply-push 1 (lines + 1) story (decide new answer batch) ∙ cond-true (is_of_line 1 (lines + 1) id) (Some answer) (last_reply 1 (lines + 1) story) (same_line id);
     within = λ client number. cond_both (is_of_line client number id) (max (line_index client number story) new) (line_index client number story) (λ (n : ℕ). line_index client number (story ++ decide new answer batch ∷ []) ≡ n → line_index client number (story ++ decide new answer batch ∷ []) ≤ new)
-      (λ h is. omega (arith, is, stage.within client number)) (λ h is. omega (arith, is, stage.within client number)) (line_index-push client number story (decide new answer batch));
+        (λ h is. omega (arith, is, stage.within client number)) (λ h is. omega (arith, is, stage.within client number)) (line_index-push client number story (decide new answer batch));
     all_told = told_lines-push 1 story (decide new answer batch) ∙ (append-nil _ ∙ stage.all_told);
     others = λ client ne. told_lines-push client story (decide new answer batch) ∙ (append-nil _ ∙ stage.others client ne);
   }

@@ -7,7 +7,6 @@ use Rattle.std.specs.FinMap.{FinMap, find, get, from_entries, get-from_entries, 
 use Rattle.std.specs.Map.{lookup}
 use Rattle.std.specs.BTreeMap.{is_at}
 
-
 -- what the entries have at a name
 abbrev pub volume_at : List (List ℕ × Unit {0}) → List ℕ → Option (Unit {0})
 volume_at entries name = lookup (is_at (slice_cmp nat_cmp name)) entries

@@ -7,3 +7,4 @@ pub mod Namespace
 pub mod Quiet
 pub mod Rows
 pub mod Story
+pub mod Streams

@@ -7,3 +7,4 @@ pub mod names;
 pub mod requests;
 pub mod rows;
 pub mod script;
+mod streams;

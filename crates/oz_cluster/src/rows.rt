@@ -5,7 +5,9 @@ use oz_fields::{OutOfMemory, Reader, put_text, put_u8, put_u64};
 use std::alloc::Global;
 
 const LAYOUT: u8 = 1;
+
 const PUT: u8 = 1;
+
 const VOLUME: u8 = 1;
 
 /// The operation that puts the row of a volume.

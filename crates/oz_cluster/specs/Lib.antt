@@ -1,4 +1,5 @@
 pub mod Answers
+pub mod Codes
 pub mod Fits
 pub mod Law
 pub mod Names

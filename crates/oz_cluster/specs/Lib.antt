@@ -1,7 +1,9 @@
 pub mod Answers
+pub mod Causes
 pub mod Codes
 pub mod Fits
 pub mod Law
 pub mod Names
 pub mod Namespace
+pub mod Script
 pub mod Story

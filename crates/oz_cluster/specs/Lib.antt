@@ -1,4 +1,5 @@
 pub mod Answers
+pub mod Causes
 pub mod Codes
 pub mod Fits
 pub mod Law
@@ -6,5 +7,6 @@ pub mod Names
 pub mod Namespace
 pub mod Quiet
 pub mod Rows
+pub mod Script
 pub mod Story
 pub mod Streams

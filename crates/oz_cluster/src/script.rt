@@ -1,4 +1,20 @@
-use oz_fields::{List, Name};
+ghost use Rattle.std.specs.Prelude.{◌≡◌, ◌+◌, ◌<◌, ◌==◌, ◌||◌, not, [], ◌∷◌, ◌++◌, length, IfOk, IfSome, MatchOption, MatchResult};
+ghost use Rattle.std.specs.List.{list_all, position};
+ghost use Rattle.std.specs.Option.{option_map};
+ghost use Rattle.std.specs.Str.Lines.{lines, strip_carriage_return};
+ghost use Rattle.oz_cluster.specs.Causes.{cause_text};
+ghost use Rattle.oz_cluster.specs.Names.{is_digit, is_letter};
+ghost use Rattle.oz_cluster.specs.Script.{Gives, IsNumbered, is_blank, is_visible, is_client_name, words, command_of as command_said, with_client as clients_with, next_line, with_line as script_with, script_of};
+
+use crate::names::{is_digit, is_letter};
+use oz_fields::{List, Name, OutOfMemory};
+use std::alloc::Global;
+
+/// A script has at most so many bytes.
+pub const MOST_BYTES: usize = 1_048_576;
+
+/// And at most so many lines with a command.
+pub const MOST_LINES: usize = 4_096;
 
 /// The lines of all clients, in the order in which they stand.
 #[derive(Debug, Drop)]
@@ -22,4 +38,260 @@ pub struct Line {
 pub enum Command {
     VolumeCreate { volume: Name },
     VolumeInfo { volume: Name },
+}
+
+/// Why bytes are no script.
+#[derive(Clone, Copy, Debug, PartialEq, Eq)]
+pub enum ScriptFault {
+    /// The first line with a fault. All lines count, from 1, and 0 is the script as a whole.
+    At { line: u64, cause: Cause },
+    OutOfMemory,
+}
+
+/// What is wrong with a line.
+#[derive(Clone, Copy, Debug, PartialEq, Eq)]
+pub enum Cause {
+    /// The script has too many bytes.
+    Long,
+    /// The line is in none of the forms.
+    Form,
+    /// Too many lines with a command stand before it.
+    Many,
+}
+
+impl Cause {
+    /// The word that the program prints.
+    pub fn text(self) -> &'static str
+        ensures { result.now ≡ cause_text self }
+    {
+        match self {
+            Cause::Long => "long",
+            Cause::Form => "form",
+            Cause::Many => "many",
+        }
+    }
+}
+
+impl From<OutOfMemory> for ScriptFault {
+    ghost use Rattle.oz_cluster.specs.declared.script.ScriptFault.TheVariants.{OutOfMemory};
+
+    ghost from_gives = { λ _ fault. fault ≡ OutOfMemory };
+
+    fn from(_error: OutOfMemory) -> ScriptFault {
+        ScriptFault::OutOfMemory
+    }
+}
+
+/// Reads a script.
+pub fn parse(alloc: Global, bytes: &[u8]) -> Result<Script, ScriptFault>
+    ensures exact { Gives result (script_of bytes.now) }
+    ensures numbered { IfOk result IsNumbered }
+{
+    if bytes.len() > MOST_BYTES {
+        return Err(ScriptFault::At {
+            line: 0,
+            cause: Cause::Long,
+        });
+    }
+    let mut script = Script {
+        clients: List::new(alloc),
+        lines: List::new(alloc),
+    };
+    let mut place = 1;
+    let mut rest = bytes;
+    while let Some((line, behind)) = split_line(rest) {
+        script = with_line(alloc, script, place, line)?;
+        place += 1;
+        rest = behind;
+    }
+    Ok(script)
+}
+
+/// The first line, and what stands behind it.
+fn split_line(bytes: &[u8]) -> Option<(&[u8], &[u8])>
+    ensures parts { MatchOption result (bytes.now ≡ []) (λ parts. lines bytes.now ≡ parts.0.now ∷ lines parts.1.now) }
+    ensures shorter { IfSome result (λ parts. length parts.1.now < length bytes.now) }
+{
+    if bytes.is_empty() {
+        return None;
+    }
+    let Some(end) = line_feed_in(bytes) else {
+        return Some(bytes.split_at(bytes.len()));
+    };
+    let (line, _) = bytes.split_at(end);
+    let (_, behind) = bytes.split_at(end + 1);
+    Some((without_return(line), behind))
+}
+
+fn line_feed_in(bytes: &[u8]) -> Option<usize>
+    ensures { result ≡ position (λ byte. byte == 10) bytes.now }
+{
+    bytes.iter().position(|byte| *byte == b'\n')
+}
+
+fn without_return(line: &[u8]) -> &[u8]
+    ensures { result.now ≡ strip_carriage_return line.now }
+{
+    match line {
+        [front @ .., b'\r'] => front,
+        _ => line,
+    }
+}
+
+/// The first word, and what stands behind it.
+fn split_word(line: &[u8]) -> Option<(&[u8], &[u8])>
+    ensures { MatchOption result (words line.now ≡ []) (λ parts. words line.now ≡ parts.0.now ∷ words parts.1.now) }
+{
+    let Some(start) = word_in(line) else {
+        return None;
+    };
+    let (_, line) = line.split_at(start);
+    let end = blank_in(line).unwrap_or(line.len());
+    Some(line.split_at(end))
+}
+
+fn word_in(line: &[u8]) -> Option<usize>
+    ensures { result ≡ position (λ byte. not (is_blank byte)) line.now }
+{
+    line.iter().position(|byte| !is_blank(*byte))
+}
+
+fn blank_in(line: &[u8]) -> Option<usize>
+    ensures { result ≡ position is_blank line.now }
+{
+    line.iter().position(|byte| is_blank(*byte))
+}
+
+fn is_blank(byte: u8) -> bool
+    ensures { result ≡ is_blank byte }
+{
+    byte == b' ' || byte == b'\t'
+}
+
+/// Blanks and the bytes of words, and nothing else.
+fn is_of_words(line: &[u8]) -> bool
+    ensures { result ≡ list_all (λ byte. is_blank byte || is_visible byte) line.now }
+{
+    line.iter()
+        .all(|byte| is_blank(*byte) || byte.is_ascii_graphic())
+}
+
+fn is_client_name(name: &[u8]) -> bool
+    ensures { result ≡ is_client_name name.now }
+{
+    !name.is_empty() && name.len() <= 16 && has_client_bytes(name)
+}
+
+fn has_client_bytes(name: &[u8]) -> bool
+    ensures { result ≡ list_all (λ byte. is_letter byte || is_digit byte) name.now }
+{
+    name.iter().all(|byte| is_letter(*byte) || is_digit(*byte))
+}
+
+#[tactic(auto, unfolding(crate::specs::Script::with_line))]
+fn with_line(alloc: Global, script: Script, place: u64, line: &[u8]) -> Result<Script, ScriptFault>
+    ensures { Gives result (script_with script place line.now) }
+{
+    let form = ScriptFault::At {
+        line: place,
+        cause: Cause::Form,
+    };
+    if let [b'#', ..] = line {
+        return Ok(script);
+    }
+    if !is_of_words(line) {
+        return Err(form);
+    }
+    let Some((name, words)) = split_word(line) else {
+        return Ok(script);
+    };
+    let Script { clients, lines } = script;
+    let Some(clients) = with_client(alloc, clients, name)? else {
+        return Err(form);
+    };
+    let Some(command) = command_of(alloc, words)? else {
+        return Err(form);
+    };
+    if lines.len() >= MOST_LINES {
+        return Err(ScriptFault::At {
+            line: place,
+            cause: Cause::Many,
+        });
+    }
+    let lines = with_command(alloc, lines, command)?;
+    Ok(Script { clients, lines })
+}
+
+/// None where another client than the first speaks, or the name isn't one.
+fn with_client(
+    alloc: Global,
+    mut clients: List<Name>,
+    name: &[u8],
+) -> Result<Option<List<Name>>, OutOfMemory>
+    ensures { IfOk result (λ found. found ≡ clients_with clients name.now) }
+{
+    if let Some(first) = clients.items().first() {
+        return Ok((first.bytes() == name).then_some(clients));
+    }
+    if !is_client_name(name) {
+        return Ok(None);
+    }
+    match clients.push(alloc, Name::copy(alloc, name)?) {
+        Ok(()) => Ok(Some(clients)),
+        Err((_, error)) => Err(error),
+    }
+}
+
+fn with_command(
+    alloc: Global,
+    mut lines: List<Line>,
+    command: Command,
+) -> Result<List<Line>, OutOfMemory>
+    requires { length lines < 4096 }
+    ensures { IfOk result (λ longer. longer ≡ lines ++ next_line lines command ∷ []) }
+{
+    let line = Line {
+        client: 1,
+        number: lines.len() as u16 + 1,
+        after: None,
+        command,
+    };
+    match lines.push(alloc, line) {
+        Ok(()) => Ok(lines),
+        Err((_, error)) => Err(error),
+    }
+}
+
+/// The command of a line's words behind the client; None where there is none of these words.
+#[tactic(auto, unfolding(crate::specs::Script::command_of))]
+fn command_of(alloc: Global, line: &[u8]) -> Result<Option<Command>, OutOfMemory>
+    ensures { IfOk result (λ command. command ≡ command_said (words line.now)) }
+{
+    let Some((kind, rest)) = split_word(line) else {
+        return Ok(None);
+    };
+    let Some((verb, rest)) = split_word(rest) else {
+        return Ok(None);
+    };
+    let Some((path, rest)) = split_word(rest) else {
+        return Ok(None);
+    };
+    if split_word(rest).is_some() {
+        return Ok(None);
+    }
+    let [b'/', name @ ..] = path else {
+        return Ok(None);
+    };
+    if kind != b"volume".as_slice() {
+        return Ok(None);
+    }
+    if verb == b"create".as_slice() {
+        let volume = Name::copy(alloc, name)?;
+        return Ok(Some(Command::VolumeCreate { volume }));
+    }
+    if verb == b"info".as_slice() {
+        let volume = Name::copy(alloc, name)?;
+        return Ok(Some(Command::VolumeInfo { volume }));
+    }
+    Ok(None)
 }

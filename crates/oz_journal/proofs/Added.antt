@@ -5,6 +5,7 @@ use Rattle.oz_world.specs.Disk.{Images, IsStable, overwritten}
 use Rattle.oz_journal.specs.Grammar.{sized, records, AreRecords, IsJournal, StandsFor, with_body}
 use Rattle.oz_journal.specs.Journal.{body_of, IsAtRest, IsBeforeOrAfter, IsPartOf}
 use Rattle.oz_journal.specs.Moments.{LeavesOnly}
+use Rattle.oz_journal.proofs.Opens.{stable_at}
 use Rattle.oz_journal.proofs.Adds.{journal_of_records, records_of_journal, told_of, stands_by, gate_within, both_done, after_row, next_place, part_leaves}
 
 pub body_small : (framed : List ℕ) → length framed ≤ 4294967300 → length (body_of framed) < 2 ^ 32
@@ -61,12 +62,8 @@ module _ (told after : Option (List ℕ)) (gate : ℕ) (image : Images) (now : �
         place =
             ap (λ (n : ℕ). n + length framed) rest.place
             ∙ (ap (λ (l : List ℕ). length (records rest.bodies) + length l) is ∙ next_place tells.0 rest.bodies rest.grammar body small);
-        stable = stable_at after is_after stable;
+        stable = stable_at after left later to is_after stable;
       }
-    where
-      stable_at : (o : Option (List ℕ)) → o ≡ Some left → IfSome o (IsStable later to) → IsStable later to left
-      stable_at None e h = absurd cc
-      stable_at (Some bytes) e h = subst (IsStable later to) (cc e) h
 
   pub moments_after : (later : Images) (from to : ℕ) → ((bytes : List ℕ) → told ≡ Some bytes → IsStable image now bytes → LeavesOnly (IsPartOf gate framed bytes) from to later) → (bodies : List (List ℕ)) → StandsFor told bodies → LeavesOnly (IsBeforeOrAfter bodies body) from to later
   moments_after later from to moments bodies stands t left begins ends h =
@@ -77,3 +74,10 @@ module _ (told after : Option (List ℕ)) (gate : ℕ) (image : Images) (now : �
       let placed : IsPartOf (length (records rest.bodies)) (sized body ++ 0 ∷ []) tells.0 left =
       subst (λ (l : List ℕ). IsPartOf (length (records rest.bodies)) l tells.0 left) is (subst (λ (n : ℕ). IsPartOf n framed tells.0 left) rest.place part) in
       subst (λ (l : List (List ℕ)). IsBeforeOrAfter l body left) (sym same) (part_leaves tells.0 rest.bodies rest.grammar body small left placed)
+
+  -- once both writes are stable, what a stop leaves has the body
+  pub acknowledged_after : Written → (later : Images) (to moment : ℕ) → moment ≡ to → IfSome after (IsStable later to) → (bodies : List (List ℕ)) → StandsFor told bodies → (left : List ℕ) → later moment left → IsJournal left (bodies ++ body ∷ [])
+  acknowledged_after written later to moment now stable bodies stands left h =
+      let tells = told_of after (bodies ++ body ∷ []) (bodies_after written bodies stands) in
+      let same : left ≡ tells.0 = stable_at after tells.0 later to tells.1 stable left (subst (λ (n : ℕ). later n left) now h) in
+      subst (λ (l : List ℕ). IsJournal l (bodies ++ body ∷ [])) (sym same) tells.2

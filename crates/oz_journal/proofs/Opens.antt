@@ -23,7 +23,8 @@ empty_rests image now stable = record {
   stable = stable;
 }
 
-stable_at : (told : Option (List ℕ)) (left : List ℕ) (image : Images) (now : ℕ) → told ≡ Some left → IfSome told (IsStable image now) → IsStable image now left
+-- what a disk tells and makes stable
+pub stable_at : (told : Option (List ℕ)) (left : List ℕ) (image : Images) (now : ℕ) → told ≡ Some left → IfSome told (IsStable image now) → IsStable image now left
 stable_at None left image now tells stable = absurd cc
 stable_at (Some bytes) left image now tells stable = subst (IsStable image now) (cc tells) stable
 

@@ -111,6 +111,10 @@ impl<D: Disk> Journal<D> {
         ensures moments { (bodies : List (List ℕ)) → StandsFor (D.told self.old.disk) bodies →
             LeavesOnly (IsBeforeOrAfter bodies (body_of framed.old))
             (D.clock self.old.disk) (D.clock self.new.disk) (D.image self.new.disk) }
+        ensures acknowledged { (bodies : List (List ℕ)) →
+            StandsFor (D.told self.old.disk) bodies →
+            IfOk result (λ moment. (left : List ℕ) → D.image self.new.disk moment left →
+            IsJournal left (bodies ++ body_of framed.old ∷ [])) }
         ensures stable { OnOk result ((bytes : List ℕ) → D.told self.new.disk ≡ Some bytes →
             IsStable (D.image self.new.disk) (D.clock self.new.disk) bytes) }
         ensures time { Elapses (D.clock self.old.disk) (D.clock self.new.disk)

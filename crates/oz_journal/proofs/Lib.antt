@@ -1,0 +1,8 @@
+pub mod Added
+pub mod Adds
+pub mod Frames
+pub mod Moments
+pub mod Opens
+pub mod Readings
+pub mod Records
+pub mod Scans

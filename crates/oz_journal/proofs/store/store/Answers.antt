@@ -1,0 +1,17 @@
+use Rattle.std.proofs.Common.{length}
+use Rattle.oz_world.specs.Disk.{Torn, Same}
+use Rattle.oz_world.specs.Partial.{torn_none}
+use Rattle.oz_journal.proofs.Moments.{call_spans, spans_still}
+use Rattle.oz_journal.proofs.store.store.Goals as goal
+
+pub returns-in_err-sync-clause-time : goal.returns-in_err-sync-clause-time
+returns-in_err-sync-clause-time g c =
+    spans_still (Torn c.args.pos (length c.args.bytes.now)) _ _ _ _ _ _ (torn_none c.args.pos (length c.args.bytes.now))
+    (call_spans _ _ _ _ _ c.write_at.ensures.time c.write_at.ensures.no_time)
+    (call_spans Same _ _ _ _ c.sync.ensures.time c.sync.ensures.no_time)
+
+pub returns-clause-time : goal.returns-clause-time
+returns-clause-time g c =
+    spans_still (Torn c.args.pos (length c.args.bytes.now)) _ _ _ _ _ _ (torn_none c.args.pos (length c.args.bytes.now))
+    (call_spans _ _ _ _ _ c.write_at.ensures.time c.write_at.ensures.no_time)
+    (call_spans Same _ _ _ _ c.sync.ensures.time c.sync.ensures.no_time)

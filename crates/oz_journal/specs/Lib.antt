@@ -1,0 +1,5 @@
+pub mod Body
+pub mod Grammar
+pub mod Journal
+pub mod Load
+pub mod Moments

@@ -1,0 +1,16 @@
+//! Bodies one after another on a disk, each of them whole or not there, whenever the disk stops.
+#![tactic(auto)]
+
+mod body;
+mod frame;
+mod journal;
+mod laws;
+mod load_fault;
+mod open;
+mod scan;
+mod store;
+
+pub use body::Body;
+pub use journal::Journal;
+pub use laws::{bytes_left_alone_stand_for_the_same, bytes_stand_for_one_thing};
+pub use load_fault::LoadFault;

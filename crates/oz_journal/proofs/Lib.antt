@@ -1,6 +1,7 @@
 pub mod Added
 pub mod Adds
 pub mod Frames
+mod Later
 pub mod Moments
 pub mod Opens
 pub mod Readings

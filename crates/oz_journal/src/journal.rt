@@ -1,4 +1,4 @@
-ghost use Rattle.std.specs.Prelude.{◌≡◌, ◌≤◌, ◌+◌, ◌++◌, ◌∷◌, [], ℕ, List, length, false, Some, IfSome, IsSomeAnd, is_err, OnOk, IfOk, IfErr};
+ghost use Rattle.std.specs.Prelude.{◌≡◌, ◌≤◌, ◌<◌, ◌+◌, ◌++◌, ◌∷◌, [], ℕ, List, length, false, Some, IfSome, IsSomeAnd, is_err, OnOk, IfOk, IfErr};
 ghost use Rattle.oz_world.specs.Disk.{IsStable};
 ghost use Rattle.oz_world.specs.Faults.{Rose, HasCause};
 ghost use Rattle.oz_journal.specs.Body.{bodies_in, places_in};
@@ -120,6 +120,7 @@ impl<D: Disk> Journal<D> {
         ensures time { Elapses (D.clock self.old.disk) (D.clock self.new.disk)
             (D.image self.old.disk) (D.image self.new.disk) }
         ensures moment { IfOk result (λ moment. moment ≡ D.clock self.new.disk) }
+        ensures later { OnOk result (D.clock self.old.disk < D.clock self.new.disk) }
 
         ensures stopped { self.new.stopped ≡ is_err result }
         ensures cause { HasCause (D.faults self.old.disk) (D.faults self.new.disk) result }

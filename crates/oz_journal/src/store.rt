@@ -17,6 +17,7 @@ pub fn store<D: Disk>(disk: &mut D, pos: u64, bytes: &[u8]) -> Result<(), Failed
     ensures within { OnOk result (pos + length bytes.now < 2 ^ 64) }
     ensures stable { OnOk result
         (IfSome (D.told disk.new) (IsStable (D.image disk.new) (D.clock disk.new))) }
+    ensures later { OnOk result (D.clock disk.old < D.clock disk.new) }
     ensures time { Spans (Torn pos (length bytes.now)) (D.clock disk.old) (D.clock disk.new)
         (D.image disk.old) (D.image disk.new) }
     ensures cause { HasCause (D.faults disk.old) (D.faults disk.new) result }
@@ -36,6 +37,7 @@ pub fn put<D: Disk>(disk: &mut D, gate: u64, framed: &[u8]) -> Result<(), Failed
     ensures within { OnOk result (gate + 1 + length framed.now < 2 ^ 64) }
     ensures stable { OnOk result
         (IfSome (D.told disk.new) (IsStable (D.image disk.new) (D.clock disk.new))) }
+    ensures later { OnOk result (D.clock disk.old < D.clock disk.new) }
     ensures time { Elapses (D.clock disk.old) (D.clock disk.new) (D.image disk.old)
         (D.image disk.new) }
     ensures moments { (bytes : List ℕ) → D.told disk.old ≡ Some bytes →

@@ -1,6 +1,7 @@
-use Rattle.std.proofs.Common.{length}
+use Rattle.std.proofs.Common.{length, arith}
 use Rattle.oz_world.specs.Disk.{Torn, Same}
 use Rattle.oz_world.specs.Partial.{torn_none}
+use Rattle.oz_journal.proofs.Later.{took_a_moment}
 use Rattle.oz_journal.proofs.Moments.{call_spans, spans_still}
 use Rattle.oz_journal.proofs.store.store.Goals as goal
 
@@ -15,3 +16,9 @@ returns-clause-time g c =
     spans_still (Torn c.args.pos (length c.args.bytes.now)) _ _ _ _ _ _ (torn_none c.args.pos (length c.args.bytes.now))
     (call_spans _ _ _ _ _ c.write_at.ensures.time c.write_at.ensures.no_time)
     (call_spans Same _ _ _ _ c.sync.ensures.time c.sync.ensures.no_time)
+
+pub returns-clause-later : goal.returns-clause-later
+returns-clause-later g c =
+    let written = took_a_moment _ _ (Torn c.args.pos (length c.args.bytes.now)) _ _ _ _ c.in_ok-write_at.was c.write_at.ensures.time (λ h. (c.write_at.ensures.no_time h).0) in
+    let synced = took_a_moment _ _ Same _ _ _ _ c.in_ok-sync.was c.sync.ensures.time (λ h. (c.sync.ensures.no_time h).0) in
+    omega (arith, written, synced)

@@ -3,10 +3,13 @@ pub mod Causes
 pub mod Codes
 pub mod Fits
 pub mod Law
+pub mod Manager
 pub mod Names
+pub mod Manager
 pub mod Namespace
 pub mod Quiet
 pub mod Rows
 pub mod Script
+pub mod Steps
 pub mod Story
 pub mod Streams

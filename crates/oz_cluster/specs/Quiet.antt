@@ -4,7 +4,9 @@ use Rattle.oz_cluster.specs.declared.events.Event.{Event}
 use Rattle.oz_cluster.specs.declared.requests.AskId.{AskId}
 use Rattle.oz_cluster.specs.Namespace.{Volumes}
 use Rattle.oz_cluster.specs.Story.{Opening, is_asked, is_told, pending, last_index, swapped_index, durable_index, flushed_moment, line_index, namespace_of}
-use Rattle.oz_cluster.specs.Fits.{told_lines}
+use Rattle.oz_cluster.specs.declared.script.Script.{Script}
+use Rattle.oz_cluster.specs.Fits.{FitsFrom, told_lines}
+use Rattle.oz_cluster.specs.Law.{IsLegal}
 
 -- 1, 2 and so on, so many
 unfoldable pub counted : ℕ → List ℕ
@@ -25,3 +27,10 @@ pub record IsQuiet (opening : Opening) (story : List Event) (lines : ℕ) (names
   pub stable : (client line : ℕ) → line_index client line story ≤ index
   pub all_told : told_lines 1 story ≡ counted lines
   pub others : (client : ℕ) → client ≢ 1 → told_lines client story ≡ []
+
+-- So far the story is legal and fits the script, and the disk's clock isn't behind it.
+pub record IsServed (opening : Opening) (script : Script) (story : List Event) (lines : ℕ) (namespace : Volumes) (index clock : ℕ) : Type 0 where
+  pub quiet : IsQuiet opening story lines namespace index (flushed_moment story)
+  pub legal : IsLegal opening story
+  pub fits : FitsFrom script [] story
+  pub past : flushed_moment story ≤ clock

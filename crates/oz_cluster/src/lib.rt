@@ -2,6 +2,7 @@
 #![tactic(auto)]
 
 pub mod events;
+pub mod manager;
 pub mod model;
 pub mod names;
 pub mod requests;

@@ -1,4 +1,4 @@
-ghost use Rattle.std.specs.Prelude.{◌≡◌, ◌<◌, ◌^◌, ◌++◌, [], ◌∷◌, length, IfOk, MatchOption, Some, None};
+ghost use Rattle.std.specs.Prelude.{◌≡◌, ◌<◌, ◌^◌, ◌+◌, ◌++◌, [], ◌∷◌, length, IfOk, MatchOption, Some, None};
 ghost use Rattle.oz_cluster.specs.Rows.{put_volume, body_bytes, body_at};
 
 use oz_fields::{OutOfMemory, Reader, put_text, put_u8, put_u64};
@@ -13,7 +13,8 @@ const VOLUME: u8 = 1;
 /// The operation that puts the row of a volume.
 pub fn volume_batch(alloc: Global, volume: &[u8]) -> Result<Vec<u8>, OutOfMemory>
     requires { length volume.now < 2 ^ 16 }
-    ensures { IfOk result (λ batch. batch.items ≡ put_volume volume.now) }
+    ensures bytes { IfOk result (λ batch. batch.items ≡ put_volume volume.now) }
+    ensures size { IfOk result (λ batch. length batch.items ≡ length volume.now + 4) }
 {
     let mut batch = Vec::new(alloc);
     put_u8(alloc, &mut batch, PUT)?;
@@ -24,8 +25,9 @@ pub fn volume_batch(alloc: Global, volume: &[u8]) -> Result<Vec<u8>, OutOfMemory
 
 /// A body, with four bytes before it and one behind, which the journal fills.
 pub fn framed(alloc: Global, index: u64, batch: &[u8]) -> Result<Vec<u8>, OutOfMemory>
-    ensures { IfOk result (λ framed.
+    ensures bytes { IfOk result (λ framed.
         framed.items ≡ (0 ∷ 0 ∷ 0 ∷ 0 ∷ []) ++ body_bytes index batch.now ++ 0 ∷ []) }
+    ensures size { IfOk result (λ framed. length framed.items ≡ length batch.now + 14) }
 {
     let mut framed = Vec::new(alloc);
     framed.extend_from_slice(&[0; 4])?;

@@ -1,0 +1,29 @@
+-- The events of a line that asks one thing.
+use Rattle.std.specs.Prelude.{ℕ, ◌+◌, List}
+use Rattle.oz_cluster.specs.declared.events.Event.{Event}
+use Rattle.oz_cluster.specs.declared.events.EventKind.TheVariants.{Ask, Decide, Swap, Flushed, Told}
+use Rattle.oz_cluster.specs.declared.requests.AskId.{AskId}
+use Rattle.oz_cluster.specs.declared.requests.Reply.{Reply}
+use Rattle.oz_cluster.specs.declared.requests.Request.{Request}
+use Rattle.oz_cluster.specs.Answers.{volume_of}
+use Rattle.oz_cluster.specs.Fits.{answer_of}
+use Rattle.oz_cluster.specs.Law.{caller_seat, flusher_seat, stripe_seat}
+use Rattle.oz_cluster.specs.Names.{stripe_of}
+
+abbrev pub first_ask : ℕ → ℕ → AskId
+first_ask client number = record { client = client; line = number; step = 1 }
+
+abbrev pub ask_event : ℕ → ℕ → Request → Event
+ask_event client number request = record { seat = caller_seat; kind = Ask (first_ask client number) request }
+
+abbrev pub decide_event : ℕ → ℕ → Request → ℕ → Reply → List ℕ → Event
+decide_event client number request index reply batch = record { seat = stripe_seat (stripe_of (volume_of request)); kind = Decide (first_ask client number) index reply batch }
+
+abbrev pub swap_event : ℕ → Event
+swap_event index = record { seat = flusher_seat; kind = Swap index }
+
+abbrev pub flushed_event : ℕ → ℕ → Event
+flushed_event index moment = record { seat = flusher_seat; kind = Flushed index moment }
+
+abbrev pub told_event : ℕ → ℕ → Reply → Event
+told_event client number reply = record { seat = caller_seat; kind = Told client number (answer_of reply) }

@@ -1,0 +1,329 @@
+ghost use Rattle.std.specs.Prelude.{◌≡◌, ◌≢◌, ◌≤◌, ◌<◌, ◌+◌, ◌^◌, ◌++◌, [], ◌∷◌, ℕ, None, false, length, vec_len, vec_capacity, MatchOption, OnOk, OnErr, IfOk, IsErrOf};
+ghost use Rattle.oz_world.specs.Faults.{Rose};
+ghost use Rattle.oz_journal.specs.Journal.{body_of};
+ghost use Rattle.oz_cluster.specs.declared.script.Script.{Script};
+ghost use Rattle.oz_cluster.specs.Answers.{after, volume_of};
+ghost use Rattle.oz_cluster.specs.Law.{stripe_seat};
+ghost use Rattle.oz_cluster.specs.Names.{stripe_of};
+ghost use Rattle.oz_cluster.specs.Fits.{IsLineOf, request_of as request_said, answer_of as answer_due};
+ghost use Rattle.oz_cluster.specs.Namespace.{Volumes, with_volume};
+ghost use Rattle.oz_cluster.specs.Quiet.{IsServed};
+ghost use Rattle.oz_cluster.specs.Rows.{put_volume, body_bytes};
+ghost use Rattle.oz_cluster.specs.Steps.{ask_event, decide_event, swap_event, flushed_event, told_event};
+ghost use Rattle.oz_cluster.specs.Story.{Opening};
+
+use crate::events::{Event, EventKind};
+use crate::model::Namespace;
+use crate::names::stripe_of as stripe_number;
+use crate::requests::{Answer, AskId, Reply, Request, Values};
+use crate::rows::{framed, volume_batch};
+use crate::script::{Command, Line};
+use oz_fields::{List, Name, OutOfMemory};
+use oz_journal::Journal;
+use oz_world::{Disk, Gate, Point};
+use std::alloc::{AllocError, Global};
+use std::sync::Wait;
+
+const FLUSHER_SEAT: u16 = 0;
+
+const CALLER_SEAT: u16 = 2;
+
+const FIRST_STRIPE_SEAT: u16 = 20;
+
+/// Why a line wasn't served.
+#[derive(Clone, Copy, Debug, PartialEq, Eq)]
+pub enum Trouble {
+    OutOfMemory,
+    Disk,
+}
+
+impl From<OutOfMemory> for Trouble {
+    ghost use Rattle.std.specs.Prelude.{◌≡◌};
+    ghost use Rattle.oz_cluster.specs.declared.manager.Trouble.TheVariants.{OutOfMemory};
+
+    ghost from_gives = { λ _ trouble. trouble ≡ OutOfMemory };
+
+    fn from(_: OutOfMemory) -> Trouble {
+        Trouble::OutOfMemory
+    }
+}
+
+/// The manager on one thread: what it stands for, its journal, and the story so far.
+#[derive(Drop)]
+pub struct Manager<D: Disk> {
+    pub namespace: Namespace,
+    pub journal: Journal<D>,
+    /// The last transaction index.
+    pub index: u64,
+    pub story: Vec<Event>,
+}
+
+/// What a line asks.
+fn request_of(alloc: Global, command: &Command) -> Result<Request, OutOfMemory>
+    ensures { IfOk result (λ request. request ≡ request_said command.now) }
+{
+    match command {
+        Command::VolumeCreate { volume } => Ok(Request::CreateVolume {
+            volume: Name::copy(alloc, volume.bytes())?,
+        }),
+        Command::VolumeInfo { volume } => Ok(Request::InfoVolume {
+            volume: Name::copy(alloc, volume.bytes())?,
+        }),
+    }
+}
+
+/// What a line is told whose request had this reply.
+fn answer_of(reply: Reply) -> Answer
+    ensures { result ≡ answer_due reply }
+{
+    match reply {
+        Reply::Done => Answer::Ok(Values::Done),
+        Reply::Count(count) => Answer::Ok(Values::Buckets(count)),
+        Reply::Code(code) => Answer::Code(code),
+    }
+}
+
+/// The volume that a request makes, where its reply makes one.
+fn volume_made<'a>(request: &'a Request, reply: &Reply) -> Option<&'a Name>
+    ensures { MatchOption result
+        ((namespace : Volumes) → after namespace request.now reply.now ≡ namespace)
+        (λ volume. (request.now ≡ Request.CreateVolume volume.now) × (reply.now ≡ Reply.Done)) }
+{
+    match (request, reply) {
+        (Request::CreateVolume { volume }, Reply::Done) => Some(volume),
+        (Request::CreateVolume { .. }, Reply::Count(_) | Reply::Code(_)) => None,
+        (Request::InfoVolume { .. }, _) => None,
+    }
+}
+
+/// The seat of the stripe that decides a request.
+fn deciding_seat(request: &Request) -> u16
+    ensures { result ≡ stripe_seat (stripe_of (volume_of request.now)) }
+{
+    match request {
+        Request::CreateVolume { volume } | Request::InfoVolume { volume } => {
+            FIRST_STRIPE_SEAT + stripe_number(volume.bytes()) as u16
+        }
+    }
+}
+
+/// Adds an event. Its room was taken before.
+fn note(story: &mut Vec<Event>, seat: u16, kind: EventKind)
+    requires { vec_len story.old < vec_capacity story.old }
+    ensures items { story.new.items ≡ story.old.items ++ record { seat = seat; kind = kind } ∷ [] }
+    ensures len { vec_len story.new ≡ vec_len story.old + 1 }
+    ensures capacity { vec_capacity story.old ≤ vec_capacity story.new }
+{
+    story.push(Event { seat, kind }).unwrap();
+}
+
+/// What is written for a volume that a request makes.
+#[derive(Drop)]
+struct Change {
+    volume: Name,
+    batch: List<u8>,
+    /// The body, with four bytes before it and one behind.
+    frame: Vec<u8>,
+}
+
+/// Takes the memory for a change.
+fn prepare(alloc: Global, index: u64, volume: &Name) -> Result<Change, OutOfMemory>
+    requires { length volume.now < 2 ^ 16 }
+    ensures volume { IfOk result (λ change. change.volume ≡ volume.now) }
+    ensures batch { IfOk result (λ change. change.batch ≡ put_volume volume.now) }
+    ensures body { IfOk result (λ change. body_of change.frame.items ≡ body_bytes index (put_volume volume.now)) }
+    ensures least { IfOk result (λ change. 5 ≤ length change.frame.items) }
+    ensures most { IfOk result (λ change. length change.frame.items ≤ 4_294_967_300) }
+{
+    let batch = volume_batch(alloc, volume.bytes())?;
+    let frame = framed(alloc, index, &batch)?;
+    let volume = Name::copy(alloc, volume.bytes())?;
+    Ok(Change {
+        volume,
+        batch: List::of(batch),
+        frame,
+    })
+}
+
+impl<D: Disk> Manager<D> {
+    ghost use Rattle.oz_cluster.specs.Manager.{IsUnchanged};
+
+    /// Asks, decides and tells a line that changes nothing. The room for three events was taken before.
+    fn keep(&mut self, alloc: Global, client: u16, number: u16, request: Request, reply: Reply)
+        requires { vec_len self.old.story + 3 ≤ vec_capacity self.old.story }
+        ensures story { self.new.story.items ≡ self.old.story.items
+            ++ ask_event client number request ∷ []
+            ++ decide_event client number request self.old.index reply [] ∷ []
+            ++ told_event client number reply ∷ [] }
+        ensures namespace { self.new.namespace ≡ self.old.namespace }
+        ensures index { self.new.index ≡ self.old.index }
+        ensures journal { self.new.journal ≡ self.old.journal }
+    {
+        let id = AskId {
+            client,
+            line: number,
+            step: 1,
+        };
+        let index = self.index;
+        let seat = deciding_seat(&request);
+        let batch = List::new(alloc);
+        let answer = answer_of(reply);
+        note(&mut self.story, CALLER_SEAT, EventKind::Ask { id, request });
+        note(
+            &mut self.story,
+            seat,
+            EventKind::Decide {
+                id,
+                index,
+                reply,
+                batch,
+            },
+        );
+        note(
+            &mut self.story,
+            CALLER_SEAT,
+            EventKind::Told {
+                client,
+                line: number,
+                answer,
+            },
+        );
+    }
+
+    /// Asks and decides a line that makes a volume, and takes what was decided to be written. The room
+    /// for five events was taken before.
+    fn decide(
+        &mut self,
+        client: u16,
+        number: u16,
+        request: Request,
+        volume: Name,
+        batch: List<u8>,
+    ) -> Result<(), OutOfMemory>
+        requires room { vec_len self.old.story + 5 ≤ vec_capacity self.old.story }
+        requires index { self.old.index + 1 < 2 ^ 64 }
+        ensures story { OnOk result (self.new.story.items ≡ self.old.story.items
+            ++ ask_event client number request ∷ []
+            ++ decide_event client number request (self.old.index + 1) Reply.Done batch ∷ []
+            ++ swap_event (self.old.index + 1) ∷ []) }
+        ensures namespace { OnOk result (self.new.namespace ≡ with_volume self.old.namespace volume) }
+        ensures index { OnOk result (self.new.index ≡ self.old.index + 1) }
+        ensures room { OnOk result (vec_len self.new.story + 2 ≤ vec_capacity self.new.story) }
+        ensures unchanged { OnErr result (IsUnchanged self.old self.new) }
+        ensures journal { self.new.journal ≡ self.old.journal }
+    {
+        let id = AskId {
+            client,
+            line: number,
+            step: 1,
+        };
+        let index = self.index + 1;
+        let seat = deciding_seat(&request);
+        let Ok(()) = self.namespace.add(volume) else {
+            return Err(AllocError);
+        };
+        self.index = index;
+        note(&mut self.story, CALLER_SEAT, EventKind::Ask { id, request });
+        note(
+            &mut self.story,
+            seat,
+            EventKind::Decide {
+                id,
+                index,
+                reply: Reply::Done,
+                batch,
+            },
+        );
+        note(&mut self.story, FLUSHER_SEAT, EventKind::Swap { index });
+        Ok(())
+    }
+
+    /// Writes what was taken, and tells the line. The room for two events was taken before.
+    fn flush<R: Wait, G: Gate>(
+        &mut self,
+        rt: &R,
+        gate: &G,
+        client: u16,
+        number: u16,
+        frame: Vec<u8>,
+    ) -> Result<(), Trouble>
+        requires room { vec_len self.old.story + 2 ≤ vec_capacity self.old.story }
+        requires running { self.old.journal.stopped ≡ false }
+        requires least { 5 ≤ length frame.items }
+        requires most { length frame.items ≤ 4_294_967_300 }
+        ensures story { OnOk result (self.new.story.items ≡ self.old.story.items
+            ++ flushed_event self.old.index (D.clock self.new.journal.disk) ∷ []
+            ++ told_event client number Reply.Done ∷ []) }
+        ensures later { OnOk result (D.clock self.old.journal.disk < D.clock self.new.journal.disk) }
+        ensures running { OnOk result (self.new.journal.stopped ≡ false) }
+        ensures namespace { self.new.namespace ≡ self.old.namespace }
+        ensures index { self.new.index ≡ self.old.index }
+        ensures failed { result ≢ Err Trouble.OutOfMemory }
+        ensures cause { IsErrOf result Trouble.Disk →
+            Rose (D.faults self.old.journal.disk) (D.faults self.new.journal.disk) }
+        ensures never_falls { D.faults self.old.journal.disk ≤ D.faults self.new.journal.disk }
+    {
+        let mut frame = frame;
+        gate.pass(rt, Point::ManagerWrite, FLUSHER_SEAT);
+        let Ok(moment) = self.journal.append(&mut frame) else {
+            return Err(Trouble::Disk);
+        };
+        let index = self.index;
+        note(
+            &mut self.story,
+            FLUSHER_SEAT,
+            EventKind::Flushed { index, moment },
+        );
+        note(
+            &mut self.story,
+            CALLER_SEAT,
+            EventKind::Told {
+                client,
+                line: number,
+                answer: Answer::Ok(Values::Done),
+            },
+        );
+        Ok(())
+    }
+
+    /// Serves one line of a script: it is asked, decided, made stable and told. Without memory nothing
+    /// happens.
+    pub fn serve<R: Wait, G: Gate>(
+        &mut self,
+        rt: &R,
+        alloc: Global,
+        gate: &G,
+        line: &Line,
+    ) -> Result<(), Trouble>
+        requires running { self.old.journal.stopped ≡ false }
+        requires index { self.old.index + 1 < 2 ^ 64 }
+        ensures served { OnOk result ((opening : Opening) (script : Script) (lines : ℕ) →
+            IsLineOf script 1 (lines + 1) line.now → line.now.after ≡ None →
+            IsServed opening script self.old.story.items lines self.old.namespace self.old.index
+            (D.clock self.old.journal.disk) →
+            IsServed opening script self.new.story.items (lines + 1) self.new.namespace self.new.index
+            (D.clock self.new.journal.disk)) }
+        ensures unserved { IsErrOf result Trouble.OutOfMemory → IsUnchanged self.old self.new }
+        ensures running { OnOk result (self.new.journal.stopped ≡ false) }
+        ensures index { OnOk result (self.new.index ≤ self.old.index + 1) }
+        ensures cause { IsErrOf result Trouble.Disk →
+            Rose (D.faults self.old.journal.disk) (D.faults self.new.journal.disk) }
+        ensures never_falls { D.faults self.old.journal.disk ≤ D.faults self.new.journal.disk }
+    {
+        let request = request_of(alloc, &line.command)?;
+        let reply = self.namespace.reply(&request);
+        self.story.reserve(5)?;
+        let Some(volume) = volume_made(&request, &reply) else {
+            self.keep(alloc, line.client, line.number, request, reply);
+            return Ok(());
+        };
+        let Change {
+            volume,
+            batch,
+            frame,
+        } = prepare(alloc, self.index + 1, volume)?;
+        self.decide(line.client, line.number, request, volume, batch)?;
+        self.flush(rt, gate, line.client, line.number, frame)?;
+        Ok(())
+    }
+}

@@ -7,3 +7,4 @@ pub mod Names
 pub mod Namespace
 pub mod Script
 pub mod Story
+pub mod Words

@@ -1,5 +1,5 @@
 -- Where the words of a run break off, for words that have bytes.
-use Rattle.std.proofs.Common.{◌≡◌, ◌≢◌, ℕ, ◌+◌, ◌-◌, ◌<◌, ◌≤◌, Bool, true, false, List, [], ◌∷◌, ◌++◌, length, get_or, take, refl, sym, ap, ◌∙◌, inl, inr, map, arith}
+use Rattle.std.proofs.Common.{◌≡◌, ◌≢◌, ℕ, ◌<◌, ◌≤◌, Bool, true, false, List, [], ◌∷◌, length, get_or, refl, sym, ap, ◌∙◌, inl, inr, map, arith}
 use Rattle.std.specs.Prelude.{codes, not, String, ◌==◌}
 use Rattle.std.specs.String.{string_bytes, string_len}
 use Rattle.std.specs.declared.alloc.Global.{Global}

@@ -1,5 +1,5 @@
 -- The rules of names at their ends.
-use Rattle.std.proofs.Common.{◌≡◌, ℕ, ◌-◌, ◌<◌, ◌≤◌, Bool, false, List, [], ◌∷◌, length, get_or, refl, arith}
+use Rattle.std.proofs.Common.{◌≡◌, ℕ, ◌-◌, ◌<◌, ◌≤◌, false, List, [], ◌∷◌, length, get_or, refl, arith}
 use native.Mathlib.Numerals.{unary_clauses}
 use Rattle.oz_cluster.specs.Names.{is_mark, has_bad_pair, ends_with_mark}
 

@@ -1,19 +1,19 @@
 -- Reading a script line by line.
-use Rattle.std.proofs.Common.{◌≡◌, ℕ, zero, suc, ◌+◌, ◌<◌, ◌≤◌, Bool, true, false, cond, List, [], ◌∷◌, ◌++◌, length, Result, Ok, Err, Option, Some, None, refl, sym, ap, subst, ◌∙◌, arith, inl, inr}
+use Rattle.std.proofs.Common.{◌≡◌, ℕ, ◌+◌, ◌<◌, ◌≤◌, Bool, true, false, cond, List, [], ◌∷◌, ◌++◌, length, Result, Ok, Err, Option, Some, None, refl, sym, ap, subst, ◌∙◌, map, append_assoc, arith, inl, inr}
 use Rattle.std.specs.Prelude.{◌⊎◌, ◌||◌, nat_lt}
-use Rattle.std.specs.List.{list_all}
+use Rattle.std.specs.List.{list_all, filter_map, cons_option}
 use Rattle.std.specs.Str.{bytes_eq}
 use Rattle.oz_cluster.specs.declared.script.Cause.TheVariants.{Long, Form, Many}
-use Rattle.std.specs.Option.{ok_or}
+use Rattle.std.specs.Option.{ok_or, option_to_list}
 use Rattle.std.specs.Str.Lines.{lines}
 use Rattle.std.proofs.lemmas.Bool.{ltb-true, lt-ltb, le-ltb}
-use Rattle.std.proofs.lemmas.List.{length-append}
+use Rattle.std.proofs.lemmas.List.{length-append, append-nil, map-append}
 use Rattle.oz_cluster.specs.declared.script.Command.{Command}
 use Rattle.oz_cluster.specs.declared.script.Line.{Line}
 use Rattle.oz_cluster.specs.declared.script.Script.{Script}
 use Rattle.oz_cluster.specs.declared.script.ScriptFault.{ScriptFault}
 use Rattle.oz_cluster.specs.declared.script.ScriptFault.TheVariants.{At, OutOfMemory}
-use Rattle.oz_cluster.specs.Script.{◌>>=◌, is_blank, is_visible, is_remark, is_client_name, words, with_client, next_line, with_words, with_line, with_lines, script_of, command_of, Gives, AreNumberedFrom, IsNumbered}
+use Rattle.oz_cluster.specs.Script.{◌>>=◌, is_blank, is_visible, is_remark, is_client_name, words, with_client, next_line, with_words, with_line, with_lines, script_of, command_of, command_behind, command_on, commands_on, Gives, AreNumberedFrom, IsNumbered}
 
 -- the lines before the rest gave the script, and the rest begins at this place
 pub record IsReadTo (bytes : List ℕ) (script : Script) (place : ℕ) (rest : List ℕ) : Type 0 where
@@ -126,3 +126,60 @@ fails OutOfMemory bytes script place rest line behind r parts e = tt
 pub too_long : (bytes : List ℕ) → 1048576 < length bytes → script_of bytes ≡ Err (At 0 Long)
 unfolding script_of
 too_long bytes long = rw (lt-ltb 1048576 (length bytes) long) refl
+
+-- ---- the commands
+
+abbrev said_in : List Line → List Command
+said_in before = map (λ line. line.command) before
+
+-- a script, and this command behind it if there is one
+record Adds (script next : Script) (command : Option Command) : Type 0 where
+  adds : said_in next.lines ≡ said_in script.lines ++ option_to_list command
+
+adds-none : (script next : Script) → script ≡ next → Adds script next None
+adds-none script next same = record { adds = ap (λ (s : Script). said_in s.lines) (sym same) ∙ sym (append-nil (said_in script.lines)) }
+
+adds-words : (script : Script) (place : ℕ) (said : List (List ℕ)) (next : Script) → with_words script place said ≡ Ok next → Adds script next (command_behind said)
+adds-words script place [] next e = adds-none script next cc
+adds-words script place (name ∷ said) next e =
+    let a = bind_ok (ok_or (with_client script.clients name) (At place Form)) (λ clients. ok_or (command_of said) (At place Form) >>= λ command. full script place clients command) next e in
+    let b = bind_ok (ok_or (command_of said) (At place Form)) (λ command. full script place a.0 command) next a.2 in
+    let is : command_of said ≡ Some b.0 = some_of (command_of said) (At place Form) b.0 b.1 in
+    elim (chosen (nat_lt (length script.lines) 4096) (read (longer script a.0 b.0)) (Err (At place Many)) (read next) b.2) [
+      | inl met ↦
+          let same : longer script a.0 b.0 ≡ next = cc in
+          record { adds = ap (λ (s : Script). said_in s.lines) (sym same) ∙ map-append (λ line. line.command) script.lines (next_line script.lines b.0 ∷ []) ∙ ap (λ (o : Option Command). said_in script.lines ++ option_to_list o) (sym is) }
+      | inr refused ↦ absurd cc
+    ]
+
+adds-line : (script : Script) (place : ℕ) (line : List ℕ) (next : Script) → with_line script place line ≡ Ok next → Adds script next (command_on line)
+unfolding with_line
+adds-line script place line next e =
+    elim (chosen (is_remark line) (read script) (worded script place line) (read next) e) [
+      | inl remark ↦ rw remark.0 (adds-none script next cc)
+      | inr other ↦
+          elim (chosen (list_all (λ byte. is_blank byte || is_visible byte) line) (with_words script place (words line)) (Err (At place Form)) (read next) other.1) [
+            | inl plain ↦ rw other.0 (adds-words script place (words line) next plain.1)
+            | inr refused ↦ absurd cc
+          ]
+    ]
+
+append-option : (xs : List Command) (x : Option Command) (ys : List Command) → (xs ++ option_to_list x) ++ ys ≡ xs ++ cons_option x ys
+append-option xs None ys = ap (λ (zs : List Command). zs ++ ys) (append-nil xs)
+append-option xs (Some x) ys = append_assoc xs (x ∷ []) ys
+
+adds-lines : (script : Script) (place : ℕ) (given : List (List ℕ)) (next : Script) → with_lines script place given ≡ Ok next → said_in next.lines ≡ said_in script.lines ++ commands_on given
+unfolding with_lines
+adds-lines script place [] next e = let same : script ≡ next = cc in ap (λ (s : Script). said_in s.lines) (sym same) ∙ sym (append-nil (said_in script.lines))
+adds-lines script place (line ∷ given) next e =
+    let a = bind_ok (with_line script place line) (λ more. with_lines more (place + 1) given) next e in
+    let first = (adds-line script place line a.0 a.1).adds in
+    adds-lines a.0 (place + 1) given next a.2 ∙ ap (λ (xs : List Command). xs ++ commands_on given) first ∙ append-option (said_in script.lines) (command_on line) (commands_on given)
+
+pub commands_are : (bytes : List ℕ) (script : Script) → script_of bytes ≡ Ok script → map (λ line. line.command) script.lines ≡ commands_on (lines bytes)
+unfolding script_of
+commands_are bytes script e =
+    elim (chosen (nat_lt 1048576 (length bytes)) (Err (At 0 Long)) (with_lines (record { clients = []; lines = [] }) 1 (lines bytes)) (read script) e) [
+      | inl long ↦ absurd cc
+      | inr short ↦ adds-lines (record { clients = []; lines = [] }) 1 (lines bytes) script short.1
+    ]

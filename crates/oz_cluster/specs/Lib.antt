@@ -5,7 +5,6 @@ pub mod Fits
 pub mod Law
 pub mod Manager
 pub mod Names
-pub mod Manager
 pub mod Namespace
 pub mod Quiet
 pub mod Rows
@@ -13,3 +12,4 @@ pub mod Script
 pub mod Steps
 pub mod Story
 pub mod Streams
+pub mod Words

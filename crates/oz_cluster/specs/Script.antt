@@ -1,6 +1,6 @@
 -- The grammar of a script: what its bytes say, or which line has the first fault.
-use Rattle.std.specs.Prelude.{◌≡◌, ℕ, ◌+◌, ◌≤◌, Bool, true, false, nat_lt, nat_le, ◌==◌, ◌&&◌, ◌||◌, List, [], ◌∷◌, ◌++◌, length, filter, codes, Option, None, Some, Result, Ok, Err, if◌then◌else◌}
-use Rattle.std.specs.List.{list_all, slice_split}
+use Rattle.std.specs.Prelude.{◌≡◌, ℕ, ◌+◌, ◌≤◌, Bool, false, nat_lt, nat_le, ◌==◌, ◌&&◌, ◌||◌, List, [], ◌∷◌, ◌++◌, length, filter, codes, Option, None, Some, Result, Ok, Err, if◌then◌else◌}
+use Rattle.std.specs.List.{list_all, slice_split, filter_map}
 use Rattle.std.specs.Option.{ok_or, option_map}
 use Rattle.std.specs.Str.{bytes_eq}
 use Rattle.std.specs.Str.Lines.{lines}
@@ -90,6 +90,18 @@ unfoldable pub script_of : List ℕ → Result Script ScriptFault
 script_of bytes =
     if nat_lt 1048576 (length bytes) then Err (At 0 Long)
     else with_lines (record { clients = []; lines = [] }) 1 (lines bytes)
+
+-- the command that a line says, if it says one
+abbrev pub command_behind : List (List ℕ) → Option Command
+command_behind [] = None
+command_behind (name ∷ words) = command_of words
+
+abbrev pub command_on : List ℕ → Option Command
+command_on line = if is_remark line then None else command_behind (words line)
+
+-- the commands that the lines say, in order
+abbrev pub commands_on : List (List ℕ) → List Command
+commands_on lines = filter_map command_on lines
 
 -- what was returned is the answer, unless memory ran out
 abbrev pub Gives : {A : Type 0} → Result A ScriptFault → Result A ScriptFault → Type 0

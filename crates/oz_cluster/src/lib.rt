@@ -1,6 +1,5 @@
 //! The object store as one call: a script and disks go in, the story of what the manager decided comes out.
 #![tactic(auto)]
-
 pub mod events;
 pub mod manager;
 pub mod model;
@@ -9,3 +8,4 @@ pub mod requests;
 pub mod rows;
 pub mod script;
 mod streams;
+pub mod words;

@@ -1,10 +1,10 @@
-ghost use Rattle.std.specs.Prelude.{◌≡◌, ◌+◌, ◌<◌, ◌==◌, ◌||◌, not, [], ◌∷◌, ◌++◌, length, IfOk, IfSome, MatchOption, MatchResult};
+ghost use Rattle.std.specs.Prelude.{◌≡◌, ◌+◌, ◌<◌, ◌==◌, ◌||◌, not, [], ◌∷◌, ◌++◌, length, map, IfOk, IfSome, MatchOption, MatchResult};
 ghost use Rattle.std.specs.List.{list_all, position};
 ghost use Rattle.std.specs.Option.{option_map};
 ghost use Rattle.std.specs.Str.Lines.{lines, strip_carriage_return};
 ghost use Rattle.oz_cluster.specs.Causes.{cause_text};
 ghost use Rattle.oz_cluster.specs.Names.{is_digit, is_letter};
-ghost use Rattle.oz_cluster.specs.Script.{Gives, IsNumbered, is_blank, is_visible, is_client_name, words, command_of as command_said, with_client as clients_with, next_line, with_line as script_with, script_of};
+ghost use Rattle.oz_cluster.specs.Script.{Gives, IsNumbered, is_blank, is_visible, is_client_name, words, command_of as command_said, commands_on, with_client as clients_with, next_line, with_line as script_with, script_of};
 
 use crate::names::{is_digit, is_letter};
 use oz_fields::{List, Name, OutOfMemory};
@@ -86,6 +86,7 @@ impl From<OutOfMemory> for ScriptFault {
 pub fn parse(alloc: Global, bytes: &[u8]) -> Result<Script, ScriptFault>
     ensures exact { Gives result (script_of bytes.now) }
     ensures numbered { IfOk result IsNumbered }
+    ensures commands { IfOk result (λ script. map (λ line. line.command) script.lines ≡ commands_on (lines bytes.now)) }
 {
     if bytes.len() > MOST_BYTES {
         return Err(ScriptFault::At {

@@ -1,5 +1,5 @@
 use Rattle.std.proofs.lemmas.Result.{err_from_is_err_and}
-use Rattle.oz_cluster.proofs.ScriptSteps.{begins, goes_on, ends, fails, too_long}
+use Rattle.oz_cluster.proofs.ScriptSteps.{begins, goes_on, ends, fails, too_long, commands_are}
 use Rattle.oz_cluster.proofs.script.parse.Goals as goal
 
 pub returns-then-bytes-gt-MOST_BYTES-clause-exact : goal.returns-then-bytes-gt-MOST_BYTES-clause-exact
@@ -19,3 +19,7 @@ loop-line-preserved c =
 
 pub returns-clause-exact : goal.returns-clause-exact
 returns-clause-exact c = ends c.args.bytes.now c.loop-line.script c.loop-line.place c.loop-line.rest.now c.loop-line.invariant c.in_default.ensures.parts
+
+pub returns-clause-commands : goal.returns-clause-commands
+returns-clause-commands c =
+    commands_are c.args.bytes.now c.loop-line.script (ends c.args.bytes.now c.loop-line.script c.loop-line.place c.loop-line.rest.now c.loop-line.invariant c.in_default.ensures.parts)

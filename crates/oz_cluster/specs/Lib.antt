@@ -5,4 +5,5 @@ pub mod Law
 pub mod Names
 pub mod Namespace
 pub mod Quiet
+pub mod Report
 pub mod Story

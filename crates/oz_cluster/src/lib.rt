@@ -4,5 +4,6 @@
 pub mod events;
 pub mod model;
 pub mod names;
+pub mod report;
 pub mod requests;
 pub mod script;

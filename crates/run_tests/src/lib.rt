@@ -1,0 +1,4 @@
+//! Tests of runs, and of what a run is made of.
+#![tactic(auto)]
+
+mod report;

@@ -7,6 +7,7 @@ pub mod Manager
 pub mod Names
 pub mod Namespace
 pub mod Quiet
+pub mod Report
 pub mod Rows
 pub mod Script
 pub mod Steps

@@ -4,6 +4,7 @@ pub mod events;
 pub mod manager;
 pub mod model;
 pub mod names;
+pub mod report;
 pub mod requests;
 pub mod rows;
 pub mod script;

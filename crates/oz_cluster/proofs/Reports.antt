@@ -1,0 +1,146 @@
+-- What is printed of a story when an event is added.
+use Rattle.std.proofs.Common.{◌≡◌, ◌≢◌, ℕ, ◌+◌, ◌≤◌, ◌<◌, Bool, true, false, ◌&&◌, ◌==◌, cond, List, [], ◌∷◌, ◌++◌, length, take, get_or, codes, Option, Some, None, option_map, Bor, refl, sym, ◌∙◌, ap, subst, append_assoc, append-nil, arith}
+use Rattle.std.proofs.Math.Bool.{and_assoc}
+use Rattle.std.proofs.lemmas.Bool.{cond-true, cond-false, eq-eqb, ne_eqb}
+use Rattle.std.proofs.lemmas.List.{take_more}
+use Rattle.std.proofs.lemmas.List.Sums.{sum_by-append, count_by-le-length}
+use Rattle.std.specs.Cmp.{unsigned_ties}
+use Rattle.std.specs.Ordering.{is_eq, nat_cmp, ordering_then}
+use Rattle.std.specs.BTreeMap.{BTreeMap, get, is_at}
+use Rattle.std.specs.Map.{lookup}
+use Rattle.std.specs.declared.cmp.Ordering.{Ordering}
+use Rattle.std.specs.declared.cmp.Ordering.TheVariants.{Less, Equal, Greater}
+use Rattle.oz_cluster.specs.declared.events.Event.{Event}
+use Rattle.oz_cluster.specs.declared.events.EventKind.{EventKind}
+use Rattle.oz_cluster.specs.declared.events.EventKind.TheVariants.{Ask, Decide, Swap, Flushed, Told}
+use Rattle.oz_cluster.specs.declared.requests.Answer.{Answer}
+use Rattle.oz_cluster.specs.declared.requests.AskId.{AskId}
+use Rattle.oz_cluster.specs.declared.requests.Reply.{Reply}
+use Rattle.oz_cluster.specs.declared.requests.Request.{Request}
+use Rattle.oz_cluster.specs.contracts.requests.AskIdOrd.TheImpl as ask_id_order
+use Rattle.oz_cluster.specs.Story.{is_id, pending, pending_after}
+use Rattle.oz_cluster.specs.Report.{service_client, decide_text, told_text, event_text, lines_from, is_told_kind, told_count}
+use Rattle.oz_cluster.proofs.Stories.{pending-push}
+
+-- the order of ids
+abbrev pub id_cmp : AskId → AskId → Ordering
+id_cmp = (ask_id_order.ghosts).cmp
+
+is_eq-then : (a b : Ordering) → is_eq (ordering_then a b) ≡ (is_eq a && is_eq b)
+is_eq-then Less b = refl
+is_eq-then Equal b = refl
+is_eq-then Greater b = refl
+
+-- the order tells two ids apart unless they are one
+is_at-id : (id other : AskId) → is_at (id_cmp id) other ≡ is_id other id
+is_at-id id other =
+    is_eq-then (nat_cmp id.client other.client) (ordering_then (nat_cmp id.line other.line) (nat_cmp id.step other.step))
+    ∙ (ap (λ (b : Bool). is_eq (nat_cmp id.client other.client) && b) (is_eq-then (nat_cmp id.line other.line) (nat_cmp id.step other.step))
+    ∙ (ap (λ (b : Bool). b && (is_eq (nat_cmp id.line other.line) && is_eq (nat_cmp id.step other.step))) (sym (unsigned_ties id.client other.client))
+    ∙ (ap (λ (b : Bool). (id.client == other.client) && (b && is_eq (nat_cmp id.step other.step))) (sym (unsigned_ties id.line other.line))
+    ∙ (ap (λ (b : Bool). (id.client == other.client) && ((id.line == other.line) && b)) (sym (unsigned_ties id.step other.step))
+    ∙ sym (and_assoc (id.client == other.client) (id.line == other.line) (id.step == other.step))))))
+
+pub lines_from-push : (before story : List Event) (event : Event) → lines_from before (story ++ event ∷ []) ≡ lines_from before story ++ event_text (before ++ story) event.kind
+unfolding lines_from
+lines_from-push before [] event = append-nil _ ∙ ap (λ (l : List Event). event_text l event.kind) (sym (append-nil before))
+lines_from-push before (e ∷ story) event =
+    ap (λ (l : List ℕ). event_text before e.kind ++ l) (lines_from-push (before ++ e ∷ []) story event)
+    ∙ (sym (append_assoc (event_text before e.kind) (lines_from (before ++ e ∷ []) story) (event_text (before ++ e ∷ [] ++ story) event.kind))
+    ∙ ap (λ (l : List Event). (event_text before e.kind ++ lines_from (before ++ e ∷ []) story) ++ event_text l event.kind) (append_assoc before (e ∷ []) story))
+
+pub told_count-push : (story : List Event) (event : Event) → told_count (story ++ event ∷ []) ≡ told_count story + cond (is_told_kind event.kind) 1 0
+told_count-push story event =
+    omega (arith, sum_by-append (λ (e : Event). cond (is_told_kind e.kind) 1 0) story (event ∷ []))
+
+pub told_count-le : (story : List Event) → told_count story ≤ length story
+told_count-le story = count_by-le-length (λ (e : Event). is_told_kind e.kind) story
+
+-- what a map of borrowed requests has at an id
+abbrev pub named : BTreeMap AskId (Bor Request) → AskId → Option Request
+named asked id = option_map (λ (r : Bor Request). r.now) (get id_cmp asked id)
+
+-- These events are printed: the text, the requests that are pending after them, and how many lines are told.
+pub record IsPrinted (story : List Event) (out : List ℕ) (asked : BTreeMap AskId (Bor Request)) (told : ℕ) : Type 0 where
+  pub lines : out ≡ codes "story 1\n" ++ lines_from [] story
+  pub names : (id : AskId) → named asked id ≡ pending id story
+  pub count : told ≡ told_count story
+
+-- nothing is printed before the first event
+pub first_printed : (out : List ℕ) (asked : BTreeMap AskId (Bor Request)) → out ≡ codes "story 1\n" → asked.entries ≡ [] → IsPrinted [] out asked 0
+unfolding lines_from
+first_printed out asked h empty = record {
+  lines = h;
+  names = λ id. ap (λ (es : List (AskId × Bor Request)). option_map (λ (r : Bor Request). r.now) (lookup (is_at (id_cmp id)) es)) empty;
+  count = refl;
+}
+
+cond-named : (b : Bool) (f g : Option (Bor Request)) → option_map (λ (r : Bor Request). r.now) (cond b f g) ≡ cond b (option_map (λ (r : Bor Request). r.now) f) (option_map (λ (r : Bor Request). r.now) g)
+cond-named true f g = refl
+cond-named false f g = refl
+
+module _ (story : List Event) (event : Event) (out : List ℕ) (old : BTreeMap AskId (Bor Request)) (told : ℕ) (printed : IsPrinted story out old told) where
+  -- an event whose kind prints a text, leaves these requests pending and is told so often
+  next_printed : (kind : EventKind) (text : List ℕ) (after : BTreeMap AskId (Bor Request)) (more : ℕ) → event.kind ≡ kind → text ≡ event_text story kind → ((q : AskId) → named after q ≡ pending_after q (named old q) kind) → cond (is_told_kind kind) 1 0 ≡ more → IsPrinted (story ++ event ∷ []) (out ++ text) after (told + more)
+  next_printed kind text after more is prints leaves tells = record {
+    lines =
+        ap (λ (l : List ℕ). l ++ text) printed.lines
+        ∙ (append_assoc (codes "story 1\n") (lines_from [] story) text
+        ∙ ap (λ (l : List ℕ). codes "story 1\n" ++ l) (ap (λ (l : List ℕ). lines_from [] story ++ l) (prints ∙ ap (event_text story) (sym is)) ∙ sym (lines_from-push [] story event)));
+    names = λ q.
+        leaves q
+        ∙ (ap (λ (r : Option Request). pending_after q r kind) (printed.names q)
+        ∙ (ap (pending_after q (pending q story)) (sym is) ∙ sym (pending-push q story event)));
+    count =
+        ap (λ (n : ℕ). n + more) printed.count
+        ∙ (ap (λ (n : ℕ). told_count story + n) (sym tells ∙ ap (λ (k : EventKind). cond (is_told_kind k) 1 0) (sym is)) ∙ sym (told_count-push story event));
+  }
+
+  -- an event that prints nothing
+  silent_next : (kind : EventKind) (after : BTreeMap AskId (Bor Request)) → event.kind ≡ kind → [] ≡ event_text story kind → ((q : AskId) → named after q ≡ pending_after q (named old q) kind) → is_told_kind kind ≡ false → IsPrinted (story ++ event ∷ []) out after told
+  silent_next kind after is prints leaves tells =
+      let next : IsPrinted (story ++ event ∷ []) (out ++ []) after (told + 0) = next_printed kind [] after 0 is prints leaves (ap (λ (b : Bool). cond b 1 0) tells) in
+      record { lines = sym (append-nil out) ∙ next.lines; names = next.names; count = omega (arith, next.count) }
+
+  -- a map that differs at one id has what it had at each other
+  named-updates : (after : BTreeMap AskId (Bor Request)) (id : AskId) (value : Option (Bor Request)) → ((q : AskId) → get id_cmp after q ≡ cond (is_at (id_cmp id) q) value (get id_cmp old q)) → (q : AskId) → named after q ≡ cond (is_id q id) (option_map (λ (r : Bor Request). r.now) value) (named old q)
+  named-updates after id value h q =
+      ap (option_map (λ (r : Bor Request). r.now)) (h q)
+      ∙ (cond-named (is_at (id_cmp id) q) value (get id_cmp old q)
+      ∙ ap (λ (b : Bool). cond b (option_map (λ (r : Bor Request). r.now) value) (named old q)) (is_at-id id q))
+
+  pub asked_next : (after : BTreeMap AskId (Bor Request)) (id : AskId) (request : Bor Request) → event.kind ≡ Ask id request.now → ((q : AskId) → get id_cmp after q ≡ cond (is_at (id_cmp id) q) (Some request) (get id_cmp old q)) → IsPrinted (story ++ event ∷ []) out after told
+  asked_next after id request is updates = silent_next (Ask id request.now) after is refl (named-updates after id (Some request) updates) refl
+
+  module _ (after : BTreeMap AskId (Bor Request)) (id : AskId) (index : ℕ) (answer : Reply) (batch : List ℕ) (is : event.kind ≡ Decide id index answer batch) (updates : (q : AskId) → get id_cmp after q ≡ cond (is_at (id_cmp id) q) None (get id_cmp old q)) where
+    pub decided_next : (request : Option (Bor Request)) → request ≡ get id_cmp old id → id.client ≢ service_client → IsPrinted (story ++ event ∷ []) (out ++ decide_text id (option_map (λ (r : Bor Request). r.now) request) answer) after told
+    decided_next request found line =
+        let text : List ℕ = decide_text id (option_map (λ (r : Bor Request). r.now) request) answer in
+        let same : text ≡ decide_text id (pending id story) answer = ap (λ (r : Option Request). decide_text id r answer) (ap (option_map (λ (r : Bor Request). r.now)) found ∙ printed.names id) in
+        let shown : text ≡ event_text story (Decide id index answer batch) = same ∙ sym (cond-false (id.client == service_client) [] (decide_text id (pending id story) answer) (ne_eqb id.client service_client line)) in
+        let next : IsPrinted (story ++ event ∷ []) (out ++ text) after (told + 0) = next_printed (Decide id index answer batch) text after 0 is shown (named-updates after id None updates) refl in
+        record { lines = next.lines; names = next.names; count = omega (arith, next.count) }
+
+    pub served_next : id.client ≡ service_client → IsPrinted (story ++ event ∷ []) out after told
+    served_next service =
+        silent_next (Decide id index answer batch) after is (sym (cond-true (id.client == service_client) [] (decide_text id (pending id story) answer) (eq-eqb id.client service_client service))) (named-updates after id None updates) refl
+
+  pub told_next : (client line : ℕ) (answer : Answer) → event.kind ≡ Told client line answer → IsPrinted (story ++ event ∷ []) (out ++ told_text client line answer) old (told + 1)
+  told_next client line answer is = next_printed (Told client line answer) (told_text client line answer) old 1 is refl (λ q. refl) refl
+
+  pub swapped_next : (index : ℕ) → event.kind ≡ Swap index → IsPrinted (story ++ event ∷ []) out old told
+  swapped_next index is = silent_next (Swap index) old is refl (λ q. refl) refl
+
+  pub flushed_next : (index moment : ℕ) → event.kind ≡ Flushed index moment → IsPrinted (story ++ event ∷ []) out old told
+  flushed_next index moment is = silent_next (Flushed index moment) old is refl (λ q. refl) refl
+
+-- the event at this place is the next one
+pub printed_on : (story : List Event) (place : ℕ) (event : Event) (out new : List ℕ) (asked after : BTreeMap AskId (Bor Request)) (told now : ℕ) → place < length story → event ≡ get_or story place event → new ≡ out → after ≡ asked → now ≡ told → IsPrinted (take place story ++ event ∷ []) out asked told → IsPrinted (take (place + 1) story) new after now
+printed_on story place event out new asked after told now within there text requests count printed =
+    let more : take place story ++ event ∷ [] ≡ take (place + 1) story = ap (λ (e : Event). take place story ++ e ∷ []) there ∙ sym (take_more story place event within) in
+    let next : IsPrinted (take (place + 1) story) out asked told = subst (λ (l : List Event). IsPrinted l out asked told) more printed in
+    record {
+      lines = text ∙ next.lines;
+      names = λ id. ap (λ (m : BTreeMap AskId (Bor Request)). named m id) requests ∙ next.names id;
+      count = count ∙ next.count;
+    }

@@ -1,0 +1,105 @@
+-- The text that a run prints.
+use Rattle.std.specs.Prelude.{ℕ, Bool, true, false, ◌==◌, List, [], ◌∷◌, ◌++◌, codes, decimal, count_by, Option, None, Some, if◌then◌else◌}
+use Rattle.oz_cluster.specs.declared.events.Event.{Event}
+use Rattle.oz_cluster.specs.declared.events.EventKind.{EventKind}
+use Rattle.oz_cluster.specs.declared.events.EventKind.TheVariants.{Ask, Decide, Swap, Flushed, Told}
+use Rattle.oz_cluster.specs.declared.requests.Answer.{Answer}
+use Rattle.oz_cluster.specs.declared.requests.Answer.TheVariants as told
+use Rattle.oz_cluster.specs.declared.requests.AskId.{AskId}
+use Rattle.oz_cluster.specs.declared.requests.Reply.{Reply}
+use Rattle.oz_cluster.specs.declared.requests.Reply.TheVariants as reply
+use Rattle.oz_cluster.specs.declared.requests.Request.{Request}
+use Rattle.oz_cluster.specs.declared.requests.Request.TheVariants.{CreateVolume, InfoVolume}
+use Rattle.oz_cluster.specs.declared.requests.Values.TheVariants as values
+use Rattle.oz_cluster.specs.Codes.{code_text}
+use Rattle.oz_cluster.specs.Story.{pending}
+
+-- the client of what no line of a script asked
+abbrev pub service_client : ℕ
+service_client = 65535
+
+-- the name of what is pending; nothing stands where nothing is
+abbrev pub request_text : Option Request → List ℕ
+request_text None = []
+request_text (Some (CreateVolume volume)) = codes "CreateVolume"
+request_text (Some (InfoVolume volume)) = codes "InfoVolume"
+
+-- a reply; what it counts is told and not printed here
+abbrev pub reply_text : Reply → List ℕ
+reply_text reply.Done = codes "OK"
+reply_text (reply.Count count) = codes "OK"
+reply_text (reply.Code code) = code_text code
+
+-- what a line is told
+abbrev pub answer_text : Answer → List ℕ
+answer_text (told.Ok values.Done) = codes "OK"
+answer_text (told.Ok (values.Buckets count)) = codes "OK buckets " ++ decimal count
+answer_text (told.Code code) = code_text code
+answer_text told.OutOfMemory = codes "OUT_OF_MEMORY"
+
+-- the line of a Decide: its client, line and step, the request and the reply
+abbrev pub decide_text : AskId → Option Request → Reply → List ℕ
+decide_text id request answer =
+    codes "d " ++ decimal id.client ++ codes " " ++ decimal id.line ++ codes " " ++ decimal id.step
+    ++ codes " " ++ request_text request ++ codes " " ++ reply_text answer ++ codes "\n"
+
+-- the line of a Told: its client and line, and the answer
+abbrev pub told_text : ℕ → ℕ → Answer → List ℕ
+told_text client line answer =
+    codes "t " ++ decimal client ++ codes " " ++ decimal line ++ codes " " ++ answer_text answer ++ codes "\n"
+
+-- what is printed of an event behind these events
+abbrev pub event_text : List Event → EventKind → List ℕ
+event_text before (Ask id request) = []
+event_text before (Decide id index answer batch) =
+    if id.client == service_client then [] else decide_text id (pending id before) answer
+event_text before (Swap index) = []
+event_text before (Flushed index moment) = []
+event_text before (Told client line answer) = told_text client line answer
+
+-- what is printed of a story behind these events
+unfoldable pub lines_from : List Event → List Event → List ℕ
+lines_from before [] = []
+lines_from before (event ∷ story) = event_text before event.kind ++ lines_from (before ++ event ∷ []) story
+
+-- a Told
+abbrev pub is_told_kind : EventKind → Bool
+is_told_kind (Ask id request) = false
+is_told_kind (Decide id index answer batch) = false
+is_told_kind (Swap index) = false
+is_told_kind (Flushed index moment) = false
+is_told_kind (Told client line answer) = true
+
+-- how many Tolds a story has
+abbrev pub told_count : List Event → ℕ
+told_count story = count_by (λ event. is_told_kind event.kind) story
+
+-- the report of a story over a script of so many lines
+abbrev pub report_of : ℕ → List Event → List ℕ
+report_of lines story =
+    codes "story 1\n" ++ lines_from [] story
+    ++ codes "end " ++ decimal (told_count story) ++ codes " of " ++ decimal lines ++ codes "\n"
+
+-- What is printed in place of a report where the work didn't begin: the words are wrong at this place,
+abbrev pub words_fault : ℕ → List ℕ
+words_fault place = codes "words " ++ decimal place ++ codes "\n"
+
+-- the script is wrong at this line,
+abbrev pub script_fault : ℕ → List ℕ → List ℕ
+script_fault line cause = codes "script " ++ decimal line ++ codes " " ++ cause ++ codes "\n"
+
+-- the manager's disk is damaged at this offset,
+abbrev pub damaged_manager : ℕ → List ℕ
+damaged_manager offset = codes "damaged manager at " ++ decimal offset ++ codes "\n"
+
+-- it failed while it was loaded,
+abbrev pub disk_fault : List ℕ
+disk_fault = codes "disk manager fault\n"
+
+-- the script couldn't be read,
+abbrev pub read_fault : List ℕ
+read_fault = codes "read fault\n"
+
+-- or no memory was found.
+abbrev pub memory_fault : List ℕ
+memory_fault = codes "out of memory\n"

@@ -1,3 +1,4 @@
+pub mod Both
 pub mod Entry
 pub mod Kept
 pub mod Piece

@@ -1,5 +1,5 @@
 //! Tests of the crates that everything else stands on.
 #![tactic(auto)]
-
 mod fields;
+mod journal;
 mod world;

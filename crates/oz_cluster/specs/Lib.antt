@@ -2,10 +2,12 @@ pub mod Answers
 pub mod Causes
 pub mod Codes
 pub mod Fits
+pub mod Headline
 pub mod Law
 pub mod Manager
 pub mod Names
 pub mod Namespace
+pub mod Opens
 pub mod Quiet
 pub mod Report
 pub mod Rows

@@ -1,0 +1,90 @@
+ghost use Rattle.std.specs.Prelude.{◌≤◌};
+ghost use Rattle.oz_turn.specs.Steady.{IsBoard};
+
+use crate::held::Held;
+use crate::plays::{Count, Serve};
+use crate::seat::Seat;
+use crate::steps::{COUNT, SERVING, draw, lay, lift, wait_for};
+use crate::told::Told;
+use crate::view::Board;
+use std::alloc::{AllocError, Global};
+use std::sync::Wait;
+
+/// A value that seats take in turn.
+#[derive(Drop)]
+pub struct Turn<T: Told> {
+    pub(crate) board: Board<T>,
+    ghost laid: { IsBoard board.shared.table_id },
+    ghost seated: { 1 ≤ board.shared.key },
+}
+
+impl<T: Told> Turn<T> {
+    ghost use Rattle.std.specs.Prelude.{◌≡◌, ◌≢◌, ℕ, [], ◌∷◌, ◌++◌, length, drop, Some, None, IsSomeAnd, IfOk};
+    ghost use Rattle.oz_turn.specs.Told.{own_entries, BeginsWith};
+    ghost use Rattle.oz_turn.specs.Seat.{turn_of, number_of, seen_of, mine_of, room_of, taken_of, IsSameSeat};
+    ghost use Rattle.oz_turn.specs.Turn.{turn_id, seats_of};
+
+    /// Waits for the seat's turn.
+    pub fn take<R: Wait>(&self, rt: &R, seat: &mut Seat<T>) -> (T, Held)
+        requires turn { turn_of seat.old ≡ turn_id self.now }
+        requires free { taken_of seat.old ≡ None }
+        ensures seat { IsSameSeat seat.old seat.new }
+        ensures taken { taken_of seat.new ≡ Some result.0 }
+
+        // The list goes on from what the seat had seen, and the seat has seen it now.
+        ensures begins { BeginsWith (T.entries result.0) (seen_of seat.old) }
+        ensures seen { seen_of seat.new ≡ T.entries result.0 }
+
+        // The seat's entries in it are those that it gave.
+        ensures mine { mine_of seat.new ≡ mine_of seat.old }
+        ensures own { own_entries T.seat_of (number_of seat.new) (T.entries result.0) ≡ mine_of seat.new }
+        ensures room { room_of seat.new ≡ room_of seat.old }
+        ensures told_room { T.room result.0 (number_of seat.new) ≡ room_of seat.new }
+    {
+        let steps = &self.board.shared;
+        let ticket = draw(steps, &mut seat.token);
+        wait_for(rt, steps, &mut seat.token, ticket);
+        let value = lift(steps, &mut seat.token);
+        (value, Held::new())
+    }
+
+    /// Gives the value back with one entry more, and answers how many entries it then has.
+    pub fn give(&self, seat: &mut Seat<T>, value: T, held: Held) -> u64
+        requires turn { turn_of seat.old ≡ turn_id self.now }
+        requires entry { (e : T.Entry) × (T.entries value ≡ seen_of seat.old ++ e ∷ []) × (T.seat_of e ≡ number_of seat.old) }
+        requires rooms { IsSomeAnd (taken_of seat.old) (λ before. (n : ℕ) → n ≢ number_of seat.old → T.room value n ≡ T.room before n) }
+        ensures length { result ≡ length (T.entries value) }
+        ensures seat { IsSameSeat seat.old seat.new }
+        ensures free { taken_of seat.new ≡ None }
+        ensures seen { seen_of seat.new ≡ T.entries value }
+        ensures mine { (e : T.Entry) → T.entries value ≡ seen_of seat.old ++ e ∷ [] → mine_of seat.new ≡ mine_of seat.old ++ e ∷ [] }
+        ensures room { room_of seat.new ≡ T.room value (number_of seat.old) }
+    {
+        held.spend();
+        let steps = &self.board.shared;
+        let length = value.entries().len() as u64;
+        lay(steps, &mut seat.token, value);
+        steps.fetch_add::<Count>(&mut seat.token, COUNT, 1);
+        steps.fetch_add::<Serve>(&mut seat.token, SERVING, 1);
+        steps.wake_all(SERVING);
+        length
+    }
+
+    /// Gives the value back with the list that it had.
+    pub fn give_back(&self, seat: &mut Seat<T>, value: T, held: Held)
+        requires turn { turn_of seat.old ≡ turn_id self.now }
+        requires list { T.entries value ≡ seen_of seat.old }
+        requires rooms { IsSomeAnd (taken_of seat.old) (λ before. (n : ℕ) → n ≢ number_of seat.old → T.room value n ≡ T.room before n) }
+        ensures seat { IsSameSeat seat.old seat.new }
+        ensures free { taken_of seat.new ≡ None }
+        ensures seen { seen_of seat.new ≡ seen_of seat.old }
+        ensures mine { mine_of seat.new ≡ mine_of seat.old }
+        ensures room { room_of seat.new ≡ T.room value (number_of seat.old) }
+    {
+        held.spend();
+        let steps = &self.board.shared;
+        lay(steps, &mut seat.token, value);
+        steps.fetch_add::<Serve>(&mut seat.token, SERVING, 1);
+        steps.wake_all(SERVING);
+    }
+}

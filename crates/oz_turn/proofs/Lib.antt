@@ -6,3 +6,5 @@ pub mod Claims
 pub mod Looks
 pub mod Gives
 pub mod Makes
+pub mod Joins
+pub mod Closes

@@ -2,6 +2,7 @@
 use Rattle.std.specs.Prelude.{ℕ, ◌≡◌, List, [], Option, None}
 use Rattle.atomic_table.specs.Seated.{TableId}
 use Rattle.oz_turn.specs.Views.{own}
+use Rattle.oz_turn.specs.declared.view.Share.{Share}
 use Rattle.oz_turn.specs.declared.told.Told.{Ghosts}
 use Rattle.oz_turn.specs.declared.seat.Seat.{Seat}
 
@@ -31,6 +32,10 @@ module _ {T E : Type 0} {told : Ghosts T E} where
 
   abbrev pub IsSameSeat : Seat T E told → Seat T E told → Type 0
   IsSameSeat old new = (turn_of new ≡ turn_of old) × (number_of new ≡ number_of old)
+
+  -- what the rule says of a seat
+  abbrev pub share_of : Seat T E told → Share E
+  share_of s = own s.token.me.0
 
   -- a seat that has seen and given nothing
   pub record IsNewSeat (turn : TableId) (number : ℕ) (s : Seat T E told) : Type 0 where

@@ -1,7 +1,9 @@
 //! One value that many threads take in turn. Each seat knows a beginning of the value's list, and exactly its own entries in it.
 #![tactic(auto)]
 
+mod closing;
 mod held;
+mod opening;
 mod plays;
 mod ring;
 mod seat;

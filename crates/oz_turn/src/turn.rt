@@ -1,10 +1,12 @@
-ghost use Rattle.std.specs.Prelude.{◌≤◌};
+ghost use Rattle.std.specs.Prelude.{◌≡◌, ◌≤◌, drop, IfOk};
 ghost use Rattle.oz_turn.specs.Steady.{IsBoard};
 
+use crate::closing::join_all;
 use crate::held::Held;
+use crate::opening::{open, seat_all};
 use crate::plays::{Count, Serve};
 use crate::seat::Seat;
-use crate::steps::{COUNT, SERVING, draw, lay, lift, wait_for};
+use crate::steps::{COUNT, SERVING, VALUE, draw, lay, lift, wait_for};
 use crate::told::Told;
 use crate::view::Board;
 use std::alloc::{AllocError, Global};
@@ -19,10 +21,35 @@ pub struct Turn<T: Told> {
 }
 
 impl<T: Told> Turn<T> {
-    ghost use Rattle.std.specs.Prelude.{◌≡◌, ◌≢◌, ℕ, [], ◌∷◌, ◌++◌, length, drop, Some, None, IsSomeAnd, IfOk};
+    ghost use Rattle.std.specs.Prelude.{◌≡◌, ◌≢◌, ℕ, ◌<◌, ◌≤◌, [], ◌∷◌, ◌++◌, length, drop, Some, None, IsSomeAnd, IfOk, IfErr, All, Any, slice_get};
     ghost use Rattle.oz_turn.specs.Told.{own_entries, BeginsWith};
-    ghost use Rattle.oz_turn.specs.Seat.{turn_of, number_of, seen_of, mine_of, room_of, taken_of, IsSameSeat};
+    ghost use Rattle.oz_turn.specs.Seat.{turn_of, number_of, seen_of, mine_of, room_of, taken_of, IsSameSeat, IsNewSeat};
     ghost use Rattle.oz_turn.specs.Turn.{turn_id, seats_of};
+
+    /// Makes a turn of the value, and its seats, numbered from 0.
+    pub fn make(
+        alloc: Global,
+        value: T,
+        seats: u16,
+    ) -> Result<(Turn<T>, Vec<Seat<T>>), (T, AllocError)>
+        requires seats { (1 ≤ seats) × (seats ≤ 64) }
+        requires empty { T.entries value ≡ [] }
+        requires no_rooms { (n : ℕ) → T.room value n ≡ 0 }
+        ensures made { IfOk result (λ r. (seats_of r.0 ≡ seats) × (length r.1.items ≡ seats)) }
+        ensures new { IfOk result (λ r. (n : ℕ) (s : _) → slice_get r.1.items n ≡ Some s → IsNewSeat (turn_id r.0) n s) }
+        ensures err { IfErr result (λ e. e.0 ≡ value) }
+    {
+        let Ok(mut made) = Vec::with_capacity(alloc, usize::from(seats)) else {
+            return Err((value, AllocError));
+        };
+        match open(alloc, value, seats) {
+            Ok((board, token)) => {
+                seat_all(&board.shared, token, seats, &mut made);
+                Ok((Turn { board }, made))
+            }
+            Err(error) => Err(error),
+        }
+    }
 
     /// Waits for the seat's turn.
     pub fn take<R: Wait>(&self, rt: &R, seat: &mut Seat<T>) -> (T, Held)
@@ -87,4 +114,66 @@ impl<T: Told> Turn<T> {
         steps.fetch_add::<Serve>(&mut seat.token, SERVING, 1);
         steps.wake_all(SERVING);
     }
+
+    /// Waits for the seat's turn, and answers copies of the entries from `first` on.
+    pub fn look<R: Wait>(
+        &self,
+        rt: &R,
+        alloc: Global,
+        seat: &mut Seat<T>,
+        first: u64,
+    ) -> Result<Vec<T::Entry>, AllocError>
+        requires turn { turn_of seat.old ≡ turn_id self.now }
+        requires free { taken_of seat.old ≡ None }
+        ensures entries { IfOk result (λ v. v.items ≡ drop first (seen_of seat.new)) }
+
+        // Also where memory ran out the seat may have seen more.
+        ensures seat { IsSameSeat seat.old seat.new }
+        ensures free { taken_of seat.new ≡ None }
+        ensures begins { BeginsWith (seen_of seat.new) (seen_of seat.old) }
+        ensures mine { mine_of seat.new ≡ mine_of seat.old }
+        ensures own { own_entries T.seat_of (number_of seat.new) (seen_of seat.new) ≡ mine_of seat.new }
+        ensures room { room_of seat.new ≡ room_of seat.old }
+    {
+        let (value, held) = self.take(rt, seat);
+        let found = copied::<T>(alloc, value.entries(), first);
+        self.give_back(seat, value, held);
+        found
+    }
+
+    /// Ends the turn, and hands the value out.
+    pub fn close(self, seats: Vec<Seat<T>>) -> T
+        requires turn { All (λ s. turn_of s ≡ turn_id self) seats.items }
+        requires free { All (λ s. taken_of s ≡ None) seats.items }
+        requires all { (n : ℕ) → n < seats_of self → Any (λ s. number_of s ≡ n) seats.items }
+        ensures begins { All (λ s. BeginsWith (T.entries result) (seen_of s)) seats.items }
+        ensures own { All (λ s. own_entries T.seat_of (number_of s) (T.entries result) ≡ mine_of s) seats.items }
+        ensures rooms { All (λ s. T.room result (number_of s) ≡ room_of s) seats.items }
+    {
+        let all = join_all(&self.board.shared, seats);
+        let Turn { board } = self;
+        let mut closed = board.close_with(all);
+        let Some(value) = closed.take(VALUE) else {
+            unreachable!()
+        };
+        closed.free();
+        value
+    }
+}
+
+// Copies of the entries from `first` on.
+fn copied<T: Told>(
+    alloc: Global,
+    entries: &[T::Entry],
+    first: u64,
+) -> Result<Vec<T::Entry>, AllocError>
+    ensures { IfOk result (λ v. v.items ≡ drop first entries.now) }
+{
+    let mut found = Vec::new(alloc);
+    if first < entries.len() as u64 {
+        for entry in &entries[first as usize..] {
+            found.push(T::copy(alloc, entry)?)?;
+        }
+    }
+    Ok(found)
 }

@@ -1,7 +1,7 @@
 -- The turn at the end: the value is at home, where one view has every number.
 use Rattle.std.proofs.Common.{◌≡◌, ℕ, ◌<◌, ◌==◌, false, true≢false, List, [], ◌∷◌, length, Option, Some, None, refl, sym, ap, ◌∙◌, subst, ⊎_elim, arith, eq-eqb}
-use Rattle.std.specs.Prelude.{count_by, Contains}
-use Rattle.std.proofs.lemmas.List.Elements.{All-contains}
+use Rattle.std.specs.Prelude.{count_by, All, Contains, IsSomeAnd}
+use Rattle.std.proofs.lemmas.List.Elements.{All-contains, All-weaker}
 use mathlib.Core.Option.{some, some-injective}
 use native.Mathlib.Decide.{ℕ_discrete}
 use lib.ListN.{get_elem?}
@@ -51,29 +51,24 @@ module _ {T E : Type 0} (m : Telling T E) (seats : ℕ) where
           omega arith
 
   -- what is known of the value at the end
-  pub record Ends (v : View T E) (slots : List (Option T)) : Type 0 where
-    pub value : T
-    pub slot : get_elem? slots 0 ≡ some (Some value)
+  pub record Ends (v : View T E) (value : T) : Type 0 where
     pub told : (x : Share E) → Contains v.shares x → BeginsWith (m.entries value) x.seen × (own_entries m.seat_of x.number (m.entries value) ≡ x.mine) × (m.room value x.number ≡ x.room)
+    pub given : All (λ e. m.seat_of e < seats) (m.entries value)
 
-  pub ends : (id : ℕ) (v : View T E) (ws : List ℕ) (slots : List (Option T)) → v.taken ≡ None → ((n : ℕ) → n < seats → (x : Share E) × Contains v.shares x × (x.number ≡ n)) → Final (Seen (IsKept m seats) id v) ws slots → Ends v slots
-  ends id v ws slots free all final =
+  -- the slot has a value, of which that is known
+  pub ends : (id : ℕ) (v : View T E) (ws : List ℕ) (slots : List (Option T)) (found : Option T) → v.taken ≡ None → ((n : ℕ) → n < seats → (x : Share E) × Contains v.shares x × (x.number ≡ n)) → Final (Seen (IsKept m seats) id v) ws slots → get_elem? slots 0 ≡ some found → IsSomeAnd found (Ends v)
+  ends id v ws slots found free all final there =
       let s = final.0 in
       let k = final.1.0 in
       let at = final.1.1 in
       let h = home s k id v at free all in
-      let fits = k.fits id v at in record {
-        value = k.value;
-        slot = final.4 0 (Some k.value) (ap (λ l. get_elem? l 0) h.slot);
+      let fits = k.fits id v at in
+      let last : IsSomeAnd (Some k.value) (Ends v) = record {
         told = λ x has. (
             let share = All-contains (FitsShare m k.claimed k.story k.value) v.shares x fits.shares has in
             (subst (λ l. BeginsWith l x.seen) (sym h.told) share.seen, ap (own_entries m.seat_of x.number) h.told ∙ share.mine, share.room)
             );
-      }
-
-  -- the same of the value that was found in the slot
-  pub ends_with : (v : View T E) (slots : List (Option T)) (x : T) → Ends v slots → get_elem? slots 0 ≡ some (Some x) → (y : Share E) → Contains v.shares y → BeginsWith (m.entries x) y.seen × (own_entries m.seat_of y.number (m.entries x) ≡ y.mine) × (m.room x y.number ≡ y.room)
-  ends_with v slots x h found y has =
-      let both : Some h.value ≡ Some x = some-injective (Some h.value) (Some x) (sym h.slot ∙ found) in
-      let same : h.value ≡ x = cc (both) in
-      subst (λ z. BeginsWith (m.entries z) y.seen × (own_entries m.seat_of y.number (m.entries z) ≡ y.mine) × (m.room z y.number ≡ y.room)) same (h.told y has)
+        given = subst (λ l. All (λ e. m.seat_of e < seats) l) (sym h.told)
+            (All-weaker (λ e. m.seat_of e < k.claimed) (λ e. m.seat_of e < seats) (λ e below. (let few = k.few in omega arith)) k.story k.given);
+      } in
+      subst (λ o. IsSomeAnd o (Ends v)) (some-injective (Some k.value) found (sym (final.4 0 (Some k.value) (ap (λ l. get_elem? l 0) h.slot)) ∙ there)) last

@@ -10,14 +10,14 @@ use crate::steps::claim;
 use crate::told::Told;
 use crate::view::{Board, Steps, Token};
 use atomic_table::{Refused, Table};
-use std::alloc::{AllocError, AllocFailed, Global};
+use std::alloc::{AllocError as OutOfMemory, AllocFailed, Global};
 
 /// The table with the value in its slot, and the seat that may claim the first number.
 pub(crate) fn open<T: Told>(
     alloc: Global,
     value: T,
     seats: u16,
-) -> Result<(Board<T>, Token<T>), (T, AllocError)>
+) -> Result<(Board<T>, Token<T>), (T, OutOfMemory)>
     requires few { seats ≤ 64 }
     requires empty { T.entries value ≡ [] }
     requires no_rooms { (n : ℕ) → T.room value n ≡ 0 }
@@ -28,13 +28,13 @@ pub(crate) fn open<T: Told>(
     let mut slots = Vec::new(alloc);
     if let Err(failed) = slots.push(Some(value)) {
         let AllocFailed { value } = failed;
-        return Err((only_value(slots, value), AllocError));
+        return Err((only_value(slots, value), OutOfMemory));
     }
     match Table::new(alloc, &[0, 0, 0, 0], slots, &seats) {
         Ok(made) => Ok(made),
         Err(Refused { mut slots }) => {
             let value = slots.pop().unwrap();
-            Err((only_value(slots, value), AllocError))
+            Err((only_value(slots, value), OutOfMemory))
         }
     }
 }

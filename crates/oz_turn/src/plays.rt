@@ -1,4 +1,4 @@
-//! What each step tells. These types are for the proofs alone.
+//! Names for the kinds of step, by which the table's calls are told what to prove.
 ghost use Rattle.oz_turn.specs.Told.{telling};
 ghost use Rattle.oz_turn.specs.Views.{seated, next, joined, spent};
 ghost use Rattle.oz_turn.specs.Plays.{Claims, Draws, Looks, Counts, Serves};

@@ -1,6 +1,6 @@
 use std::marker::Brand;
 
-/// Names one turn, for types that have to agree on it.
+/// Which turn a run's seats belong to. A type that keeps a seat takes it as a parameter, so that all of them mean one turn.
 pub trait Ring {
     ghost use Rattle.atomic_table.specs.Seated.{TableId};
 

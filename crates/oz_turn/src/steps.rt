@@ -21,7 +21,7 @@ pub(crate) const COUNT: usize = 3;
 
 pub(crate) const VALUE: usize = 0;
 
-// A sleep compares these bits.
+// The part of a word by which a parked thread is told apart from one that need not wait.
 const LOW: u64 = 0xffff_ffff;
 
 pub(crate) fn claim<T: Told>(steps: &Steps<T>, token: &mut Token<T>) -> u64

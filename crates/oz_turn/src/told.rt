@@ -1,6 +1,6 @@
 ghost use Rattle.std.specs.Prelude.{◌≡◌, ℕ, List, IfOk};
 
-use std::alloc::{AllocError, Global};
+use std::alloc::{AllocError as OutOfMemory, Global};
 
 /// A value that goes from seat to seat. It tells a list of entries, each given by a seat, and a whole number for each seat.
 pub trait Told {
@@ -19,6 +19,6 @@ pub trait Told {
     fn entries(&self) -> &[Self::Entry]
         ensures { result.now ≡ entries self.now };
 
-    fn copy(alloc: Global, entry: &Self::Entry) -> Result<Self::Entry, AllocError>
+    fn copy(alloc: Global, entry: &Self::Entry) -> Result<Self::Entry, OutOfMemory>
         ensures { IfOk result (λ e. e ≡ entry.now) };
 }

@@ -9,7 +9,7 @@ use crate::seat::Seat;
 use crate::steps::{COUNT, SERVING, VALUE, draw, lay, lift, wait_for};
 use crate::told::Told;
 use crate::view::Board;
-use std::alloc::{AllocError, Global};
+use std::alloc::{AllocError as OutOfMemory, Global};
 use std::sync::Wait;
 
 /// A value that seats take in turn.
@@ -31,7 +31,7 @@ impl<T: Told> Turn<T> {
         alloc: Global,
         value: T,
         seats: u16,
-    ) -> Result<(Turn<T>, Vec<Seat<T>>), (T, AllocError)>
+    ) -> Result<(Turn<T>, Vec<Seat<T>>), (T, OutOfMemory)>
         requires seats { (1 ≤ seats) × (seats ≤ 64) }
         requires empty { T.entries value ≡ [] }
         requires no_rooms { (n : ℕ) → T.room value n ≡ 0 }
@@ -40,7 +40,7 @@ impl<T: Told> Turn<T> {
         ensures err { IfErr result (λ e. e.0 ≡ value) }
     {
         let Ok(mut made) = Vec::with_capacity(alloc, usize::from(seats)) else {
-            return Err((value, AllocError));
+            return Err((value, OutOfMemory));
         };
         match open(alloc, value, seats) {
             Ok((board, token)) => {
@@ -122,7 +122,7 @@ impl<T: Told> Turn<T> {
         alloc: Global,
         seat: &mut Seat<T>,
         first: u64,
-    ) -> Result<Vec<T::Entry>, AllocError>
+    ) -> Result<Vec<T::Entry>, OutOfMemory>
         requires turn { turn_of seat.old ≡ turn_id self.now }
         requires free { taken_of seat.old ≡ None }
         ensures entries { IfOk result (λ v. v.items ≡ drop first (seen_of seat.new)) }
@@ -149,6 +149,9 @@ impl<T: Told> Turn<T> {
         ensures begins { All (λ s. BeginsWith (T.entries result) (seen_of s)) seats.items }
         ensures own { All (λ s. own_entries T.seat_of (number_of s) (T.entries result) ≡ mine_of s) seats.items }
         ensures rooms { All (λ s. T.room result (number_of s) ≡ room_of s) seats.items }
+
+        // Every entry is one of a seat's.
+        ensures given { All (λ e. T.seat_of e < seats_of self) (T.entries result) }
     {
         let all = join_all(&self.board.shared, seats);
         let Turn { board } = self;
@@ -166,7 +169,7 @@ fn copied<T: Told>(
     alloc: Global,
     entries: &[T::Entry],
     first: u64,
-) -> Result<Vec<T::Entry>, AllocError>
+) -> Result<Vec<T::Entry>, OutOfMemory>
     ensures { IfOk result (λ v. v.items ≡ drop first entries.now) }
 {
     let mut found = Vec::new(alloc);

@@ -3,7 +3,7 @@ use atomic_table::{Seat, Shared, Table, TableRule};
 use std::alloc::Global;
 use std::collections::LinkedList;
 
-/// What one number has seen and given, and its room. No value of it is made.
+/// What the holder of one number has seen and given, and its room. It is a value of proofs only.
 pub struct Share<E> {
     pub number: u64,
     pub seen: LinkedList<E>,
@@ -11,14 +11,14 @@ pub struct Share<E> {
     pub room: u64,
 }
 
-/// What a seat at the table knows. No value of it is made.
+/// All that a seat knows at one moment. It is a value of proofs only.
 pub struct View<T, E> {
     pub shares: LinkedList<Share<E>>,
     /// How many turns were drawn before its own.
     pub ticket: Option<u64>,
     /// The value, as it was taken.
     pub taken: Option<T>,
-    /// How many numbers are claimed. Only who may claim the next one knows it.
+    /// How many numbers are claimed, at the one seat that may claim the next.
     pub claims: Option<u64>,
 }
 

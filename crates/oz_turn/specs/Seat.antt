@@ -1,6 +1,6 @@
 -- What contracts see of a seat.
 use Rattle.std.specs.Prelude.{ℕ, ◌≡◌, List, [], Option, None}
-use Rattle.atomic_table.specs.Seated.{TableId}
+use Rattle.oz_turn.specs.Ring.{TurnId}
 use Rattle.oz_turn.specs.Views.{own}
 use Rattle.oz_turn.specs.declared.view.Share.{Share}
 use Rattle.oz_turn.specs.declared.told.Told.{Ghosts}
@@ -8,7 +8,7 @@ use Rattle.oz_turn.specs.declared.seat.Seat.{Seat}
 
 module _ {T E : Type 0} {told : Ghosts T E} where
   -- the turn that it is a seat of
-  abbrev pub turn_of : Seat T E told → TableId
+  abbrev pub turn_of : Seat T E told → TurnId
   turn_of s = s.token.table_id
 
   abbrev pub number_of : Seat T E told → ℕ
@@ -38,7 +38,7 @@ module _ {T E : Type 0} {told : Ghosts T E} where
   share_of s = own s.token.me.0
 
   -- a seat that has seen and given nothing
-  pub record IsNewSeat (turn : TableId) (number : ℕ) (s : Seat T E told) : Type 0 where
+  pub record IsNewSeat (turn : TurnId) (number : ℕ) (s : Seat T E told) : Type 0 where
     pub of_turn : turn_of s ≡ turn
     pub numbered : number_of s ≡ number
     pub seen : seen_of s ≡ []

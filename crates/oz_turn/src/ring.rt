@@ -2,9 +2,9 @@ use std::marker::Brand;
 
 /// Which turn a run's seats belong to. A type that keeps a seat takes it as a parameter, so that all of them mean one turn.
 pub trait Ring {
-    ghost use Rattle.atomic_table.specs.Seated.{TableId};
+    ghost use Rattle.oz_turn.specs.Ring.{TurnId};
 
-    ghost turn: { TableId };
+    ghost turn: { TurnId };
 }
 
 impl Ring for Brand {

@@ -1,0 +1,5 @@
+//! Worked cases of the crates at the bottom.
+#![tactic(auto)]
+
+#[cfg(test)]
+mod turn;

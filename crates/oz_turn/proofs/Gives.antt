@@ -11,7 +11,7 @@ use Rattle.atomic_table.proofs.Lists.{set_here}
 use Rattle.oz_turn.specs.Told.{Telling, own_entries}
 use Rattle.oz_turn.specs.Views.{own, counting, serving}
 use Rattle.oz_turn.specs.Kept.{one_if_some, times, share_count, ticket_count, FitsView, FitsShare, IsHome, IsOut, IsKept}
-use Rattle.oz_turn.specs.Plays.{carrying, Counts, Serves}
+use Rattle.oz_turn.specs.Plays.{carrying, Counts, Serves, MayServe}
 use Rattle.oz_turn.specs.declared.view.Share.{Share}
 use Rattle.oz_turn.specs.declared.view.View.{View}
 use Rattle.oz_turn.proofs.Sums.{sum_by-set, sum_by-set_same, two_in_sum}
@@ -203,17 +203,20 @@ module _ {T E : Type 0} (m : Telling T E) (seats : ℕ) where
       let P : Me (Option T) (View T E) → Type 0 = λ z. Allows (IsKept m seats) slots id z 3 (λ n. (n + 1) % 2 ^ 64) (Counts m z) in
       subst P (sym is) (counts_slot slots id v x y e one taken more by fit)
 
-  pub serves : (slots id : ℕ) (a : Me (Option T) (View T E)) (v : View T E) (x y : T) → a ≡ (v, carrying (Some x)) → length v.shares ≡ 1 → v.taken ≡ Some y → m.entries x ≡ (own v).seen → ((q : ℕ) → q ≢ (own v).number → m.room x q ≡ m.room y q)
-      → Allows (IsKept m seats) slots id a 2 (λ n. (n + 1) % 2 ^ 64) (Serves m a)
-  serves slots id a v x y is one taken told rooms =
-      let P : Me (Option T) (View T E) → Type 0 = λ z. Allows (IsKept m seats) slots id z 2 (λ n. (n + 1) % 2 ^ 64) (Serves m z) in
-      subst P (sym is) (serves_slot slots id v x y one taken told rooms)
+  pub serves : (slots id : ℕ) (a : Me (Option T) (View T E)) → length a.0.shares ≡ 1 → MayServe m a → Allows (IsKept m seats) slots id a 2 (λ n. (n + 1) % 2 ^ 64) (Serves m a)
+  serves slots id a one h =
+      let P : List (ℕ × Option T) → Type 0 = λ z. Allows (IsKept m seats) slots id (a.0, z) 2 (λ n. (n + 1) % 2 ^ 64) (Serves m (a.0, z)) in
+      subst P (sym h.slot) (serves_slot slots id a.0 h.value h.before one h.taken h.list h.rooms)
 
-  -- a serve after the count
-  pub serves_counted : (slots id n : ℕ) (a b : Me (Option T) (View T E)) (v : View T E) (x y : T) → a ≡ (v, carrying (Some x)) → Counts m a n b → v.taken ≡ Some y → ((q : ℕ) → q ≢ (own v).number → m.room x q ≡ m.room y q)
-      → Allows (IsKept m seats) slots id b 2 (λ k. (k + 1) % 2 ^ 64) (Serves m b)
-  serves_counted slots id n a b v x y is counted taken rooms =
-      let w : View T E = counting v (m.entries x) (own_entries m.seat_of (own v).number (m.entries x)) in
-      let f : Me (Option T) (View T E) → Me (Option T) (View T E) = λ z. (counting z.0 (m.entries x) (own_entries m.seat_of (own z.0).number (m.entries x)), z.1) in
-      let now : b ≡ (w, carrying (Some x)) = (counted x (ap (λ z. z.1) is)).1 ∙ ap f is in
-      serves slots id b w x y now refl taken refl rooms
+pub may_serve : {T E : Type 0} (m : Telling T E) (a : Me (Option T) (View T E)) (v : View T E) (x y : T) → a ≡ (v, carrying (Some x)) → v.taken ≡ Some y → m.entries x ≡ (own v).seen → ((q : ℕ) → q ≢ (own v).number → m.room x q ≡ m.room y q) → MayServe m a
+may_serve {T} {E} m a v x y is taken list rooms =
+    let known : Me (Option T) (View T E) = (v, carrying (Some x)) in
+    let may : MayServe m known = record { value = x; before = y; slot = refl; taken = taken; list = list; rooms = rooms } in
+    subst (MayServe m) (sym is) may
+
+-- after a count the value may be given back
+pub counted_may_serve : {T E : Type 0} (m : Telling T E) (n : ℕ) (a b : Me (Option T) (View T E)) (v : View T E) (x y : T) → a ≡ (v, carrying (Some x)) → Counts m a n b → v.taken ≡ Some y → ((q : ℕ) → q ≢ (own v).number → m.room x q ≡ m.room y q) → MayServe m b
+counted_may_serve {T} {E} m n a b v x y is counted taken rooms =
+    let f : Me (Option T) (View T E) → Me (Option T) (View T E) = λ z. (counting z.0 (m.entries x) (own_entries m.seat_of (own z.0).number (m.entries x)), z.1) in
+    let now : b ≡ f (v, carrying (Some x)) = (counted x (ap (λ z. z.1) is)).1 ∙ ap f is in
+    may_serve m b (counting v (m.entries x) (own_entries m.seat_of (own v).number (m.entries x))) x y now taken refl rooms

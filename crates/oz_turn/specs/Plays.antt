@@ -1,5 +1,5 @@
 -- What each step tells: of the seat before, the number found and the seat after.
-use Rattle.std.specs.Prelude.{ℕ, ◌≡◌, ◌%◌, ◌^◌, ◌==◌, List, [], ◌∷◌, Option, Some, MatchBool}
+use Rattle.std.specs.Prelude.{ℕ, ◌≡◌, ◌≢◌, ◌%◌, ◌^◌, ◌==◌, List, [], ◌∷◌, Option, Some, MatchBool}
 use Rattle.atomic_table.specs.Table.{Me}
 use Rattle.oz_turn.specs.Told.{Telling, own_entries, BeginsWith}
 use Rattle.oz_turn.specs.Views.{own, numbered, ticketed, taking, counting, serving}
@@ -11,7 +11,7 @@ pub record Finds {T E : Type 0} (m : Telling T E) (v : View T E) (value : T) : T
   pub mine : own_entries m.seat_of (own v).number (m.entries value) ≡ (own v).mine
   pub room : m.room value (own v).number ≡ (own v).room
 
--- the slot is out, with this in it
+-- the slot is out with the seat, with this in it
 abbrev pub carrying : {T : Type 0} → Option T → List (ℕ × Option T)
 carrying x = (0, x) ∷ []
 
@@ -36,3 +36,12 @@ module _ {T E : Type 0} (m : Telling T E) where
 
   abbrev pub Serves : SeatState → ℕ → SeatState → Type 0
   Serves a n b = (x : T) → a.1 ≡ carrying (Some x) → b ≡ (serving a.0 (m.room x (own a.0).number), [])
+
+-- The value in the slot may be given back: its list is the one that the seat has seen, and its rooms for other numbers are those that it had when it was taken
+pub record MayServe {T E : Type 0} (m : Telling T E) (a : Me (Option T) (View T E)) : Type 0 where
+  pub value : T
+  pub before : T
+  pub slot : a.1 ≡ carrying (Some value)
+  pub taken : a.0.taken ≡ Some before
+  pub list : m.entries value ≡ (own a.0).seen
+  pub rooms : (n : ℕ) → n ≢ (own a.0).number → m.room value n ≡ m.room before n

@@ -1,11 +1,11 @@
 //! The steps of a seat on the table.
 ghost use Rattle.std.specs.Prelude.{◌≡◌, ℕ, ◌%◌, ◌^◌, ◌<◌, [], length, Some, None};
 ghost use Rattle.oz_turn.specs.Told.{telling};
-ghost use Rattle.oz_turn.specs.Views.{fresh, numbered, ticketed};
-ghost use Rattle.oz_turn.specs.Plays.{Takes, carrying};
+ghost use Rattle.oz_turn.specs.Views.{own, fresh, numbered, ticketed, serving};
+ghost use Rattle.oz_turn.specs.Plays.{Takes, MayServe, carrying};
 ghost use Rattle.oz_turn.specs.Steady.{IsBoard};
 
-use crate::plays::{Claim, Draw, Look};
+use crate::plays::{Claim, Draw, Look, Serve};
 use crate::told::Told;
 use crate::view::{Steps, Token};
 use std::sync::Wait;
@@ -15,7 +15,7 @@ const CLAIMED: usize = 0;
 
 const TICKET: usize = 1;
 
-pub(crate) const SERVING: usize = 2;
+const SERVING: usize = 2;
 
 pub(crate) const COUNT: usize = 3;
 
@@ -90,4 +90,16 @@ pub(crate) fn lay<T: Told>(steps: &Steps<T>, token: &mut Token<T>, value: T)
         None => {}
         Some(_) => unreachable!(),
     }
+}
+
+/// Gives the slot back, and lets the next ticket's seat have it.
+pub(crate) fn serve<T: Told>(steps: &Steps<T>, token: &mut Token<T>)
+    requires board { IsBoard steps.now.table_id × (token.old.table_id ≡ steps.now.table_id) }
+    requires one { length token.old.me.0.shares ≡ 1 }
+    requires may { MayServe (telling T.entries T.seat_of T.room) token.old.me }
+    ensures same { (token.new.table_id ≡ token.old.table_id) × (token.new.id ≡ token.old.id) }
+    ensures served { (x : T) → token.old.me.1 ≡ carrying (Some x) → token.new.me ≡ (serving token.old.me.0 (T.room x (own token.old.me.0).number), []) }
+{
+    steps.fetch_add::<Serve>(token, SERVING, 1);
+    steps.wake_all(SERVING);
 }

@@ -4,9 +4,9 @@ ghost use Rattle.oz_turn.specs.Steady.{IsBoard};
 use crate::closing::join_all;
 use crate::held::Held;
 use crate::opening::{open, seat_all};
-use crate::plays::{Count, Serve};
+use crate::plays::Count;
 use crate::seat::Seat;
-use crate::steps::{COUNT, SERVING, VALUE, draw, lay, lift, wait_for};
+use crate::steps::{COUNT, VALUE, draw, lay, lift, serve, wait_for};
 use crate::told::Told;
 use crate::view::Board;
 use std::alloc::{AllocError as OutOfMemory, Global};
@@ -92,8 +92,7 @@ impl<T: Told> Turn<T> {
         let length = value.entries().len() as u64;
         lay(steps, &mut seat.token, value);
         steps.fetch_add::<Count>(&mut seat.token, COUNT, 1);
-        steps.fetch_add::<Serve>(&mut seat.token, SERVING, 1);
-        steps.wake_all(SERVING);
+        serve(steps, &mut seat.token);
         length
     }
 
@@ -111,8 +110,7 @@ impl<T: Told> Turn<T> {
         held.spend();
         let steps = &self.board.shared;
         lay(steps, &mut seat.token, value);
-        steps.fetch_add::<Serve>(&mut seat.token, SERVING, 1);
-        steps.wake_all(SERVING);
+        serve(steps, &mut seat.token);
     }
 
     /// Waits for the seat's turn, and answers copies of the entries from `first` on.

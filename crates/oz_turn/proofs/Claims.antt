@@ -11,7 +11,7 @@ use Rattle.oz_turn.specs.Plays.{Claims}
 use Rattle.oz_turn.specs.declared.view.Share.{Share}
 use Rattle.oz_turn.specs.declared.view.View.{View}
 use Rattle.oz_turn.proofs.Sums.{sum_by-set, sum_by-set_same}
-use Rattle.oz_turn.proofs.Frames.{each_set, apart_set, apart_same, place_same}
+use Rattle.oz_turn.proofs.Frames.{each_set, apart_set, apart_same, waits_set, place_same}
 use Rattle.oz_turn.proofs.Shares.{one_more, own_entries-above}
 
 module _ {T E : Type 0} (m : Telling T E) (seats : ℕ) where
@@ -59,6 +59,7 @@ module _ {T E : Type 0} (m : Telling T E) (seats : ℕ) where
                 claims = λ q also. (let same : Some (n + 1) ≡ Some q = also in cc);
               };
           tickets = apart_same s.views id v w at (λ u. u.ticket) refl k.tickets;
+          waits = λ t from below. waits_set s.views id v w at t (λ is. is) (k.waits t from (omega (arith, out, below)));
           claimer = apart_set s.views id v w at (λ u. u.claims) (λ q also j u ne e fu. (let here = (k.fits j u e).claims q fu in let same : n + 1 ≡ q = cc in absurd (omega arith))) k.claimer;
           place = place_same s.views id v w at m s.homes k.served k.story k.value free free k.place;
         },

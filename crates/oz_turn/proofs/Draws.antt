@@ -2,14 +2,16 @@
 use Rattle.std.proofs.Common.{◌≡◌, ℕ, ◌+◌, ◌%◌, ◌^◌, ◌<◌, ◌≤◌, List, [], ◌∷◌, length, Option, Some, None, refl, sym, ap, ◌∙◌, subst, arith}
 use Rattle.std.specs.Prelude.{sum_by, slice_set, slice_index}
 use Rattle.std.proofs.Math.Nat.{mod-add-mod}
+use native.Mathlib.Decide.{ℕ_discrete}
 use Rattle.atomic_table.specs.Table.{State, Allows, keeps}
+use Rattle.atomic_table.proofs.Lists.{set_here}
 use Rattle.oz_turn.specs.Told.{Telling}
 use Rattle.oz_turn.specs.Views.{ticketed}
-use Rattle.oz_turn.specs.Kept.{one_if_some, times, share_count, ticket_count, FitsView, IsKept}
+use Rattle.oz_turn.specs.Kept.{one_if_some, times, share_count, ticket_count, FitsView, IsKept, Waits}
 use Rattle.oz_turn.specs.Plays.{Draws}
 use Rattle.oz_turn.specs.declared.view.View.{View}
 use Rattle.oz_turn.proofs.Sums.{sum_by-set, sum_by-set_same, sum_by-le-sum_by}
-use Rattle.oz_turn.proofs.Frames.{each_set, apart_set, apart_same, place_same}
+use Rattle.oz_turn.proofs.Frames.{below_length, each_set, apart_set, apart_same, waits_set, place_same}
 
 module _ {T E : Type 0} (m : Telling T E) (seats : ℕ) where
   -- more tickets may be out
@@ -36,7 +38,12 @@ module _ {T E : Type 0} (m : Telling T E) (seats : ℕ) where
       let count : sum_by ticket_count (slice_set s.views id w) ≡ out + 1 = omega (arith, sum_by-set ticket_count s.views id v w at) in
       let word : slice_index s.words 1 ≡ t % 2 ^ 64 = ap (λ ws. slice_index ws 1) k.words in
       let new : (t % 2 ^ 64 + 1) % 2 ^ 64 ≡ (k.served + sum_by ticket_count (slice_set s.views id w)) % 2 ^ 64 = mod-add-mod t (2 ^ 64) 1 ∙ ap (λ (n : ℕ). n % 2 ^ 64) (omega (arith, count)) in
-      let old = k.fits id v at in (
+      let old = k.fits id v at in
+      let waits_drawn : (i : ℕ) → k.served ≤ i → i < t + 1 → Dec (i ≡ t) → Waits (slice_set s.views id w) i
+      = λ i from below. elim [
+        | yes now ↦ (id, w, set_here s.views id w (below_length s.views id v at), ap Some (sym now))
+        | no apart ↦ waits_set s.views id v w at i (λ is. absurd (let none : v.ticket ≡ None = idle in cc)) (k.waits i from (omega arith))
+      ] in (
         w,
         keeps,
         tt,
@@ -55,6 +62,7 @@ module _ {T E : Type 0} (m : Telling T E) (seats : ℕ) where
               (λ j u ne e. subst (λ (o : ℕ). FitsView m k.claimed k.served o k.story k.value u) (sym count) (fits_more k.claimed k.served out k.story k.value u (k.fits j u e)))
               record { shares = old.shares; ticket = λ i is. (let same : t ≡ i = cc in (omega arith, omega (arith, count), omega arith)); claims = old.claims };
           tickets = apart_set s.views id v w at (λ u. u.ticket) (λ n is j u ne e fu. (let same : t ≡ n = cc in let due = (k.fits j u e).ticket n fu in absurd (omega (arith, due.1)))) k.tickets;
+          waits = λ i from below. waits_drawn i from (omega (arith, count, below)) (ℕ_discrete i t);
           claimer = apart_same s.views id v w at (λ u. u.claims) refl k.claimer;
           place = place_same s.views id v w at m s.homes k.served k.story k.value free free k.place;
         },

@@ -2,10 +2,11 @@
 use Rattle.std.proofs.Common.{◌≡◌, ◌≢◌, ◌⊎◌, ℕ, zero, suc, ◌<◌, List, [], ◌∷◌, length, set, Option, Some, None, sym, ap, ◌∙◌, subst, ⊎_elim, inl, inr, arith}
 use mathlib.Core.Option as maybe
 use mathlib.Core.Option.{some, some-ne-none, some-injective}
+use native.Mathlib.Decide.{ℕ_discrete}
 use lib.ListN.{get_elem?}
-use Rattle.atomic_table.proofs.Lists.{at_set, set_else}
+use Rattle.atomic_table.proofs.Lists.{at_set, set_here, set_else}
 use Rattle.oz_turn.specs.Told.{Telling}
-use Rattle.oz_turn.specs.Kept.{Apart, IsHome, IsOut}
+use Rattle.oz_turn.specs.Kept.{Apart, Waits, IsHome, IsOut}
 use Rattle.oz_turn.specs.declared.view.View.{View}
 
 pub below_length : {A : Type 0} (xs : List A) (i : ℕ) (a : A) → get_elem? xs i ≡ some a → i < length xs
@@ -44,6 +45,15 @@ module _ {T E : Type 0} (views : List (View T E)) (id : ℕ) (v w : View T E) (a
 
   pub apart_none : (f : View T E → Option ℕ) → f w ≡ None → Apart f views → Apart f (set views id w)
   apart_none f none old = apart_set f (λ n is j u ne there fu. absurd (cc)) old
+
+  pub waits_set : (t : ℕ) → (v.ticket ≡ Some t → w.ticket ≡ Some t) → Waits views t → Waits (set views id w) t
+  waits_set t same h = go (ℕ_discrete h.0 id)
+    where
+      go : Dec (h.0 ≡ id) → Waits (set views id w) t
+      go (yes here) =
+          let is : h.1 ≡ v = one_there views id h.1 v (subst (λ (k : ℕ). get_elem? views k ≡ some h.1) here h.2) at in
+          (id, w, set_here views id w (below_length views id v at), same (sym (ap (λ (u : View T E). u.ticket) is) ∙ h.3))
+      go (no apart) = (h.0, h.1, set_else views id h.0 w apart ∙ h.2, h.3)
 
   -- the value stays where it is, where the view didn't have it and doesn't
   module _ (m : Telling T E) (homes : List (maybe.Option (Option T))) (served : ℕ) (story : List E) (value : T) (was : v.taken ≡ None) (is : w.taken ≡ None) where

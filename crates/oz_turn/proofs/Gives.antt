@@ -15,7 +15,7 @@ use Rattle.oz_turn.specs.Plays.{carrying, Counts, Serves, MayServe}
 use Rattle.oz_turn.specs.declared.view.Share.{Share}
 use Rattle.oz_turn.specs.declared.view.View.{View}
 use Rattle.oz_turn.proofs.Sums.{sum_by-set, sum_by-set_same, two_in_sum}
-use Rattle.oz_turn.proofs.Frames.{below_length, one_there, each_set, apart_same, apart_none}
+use Rattle.oz_turn.proofs.Frames.{below_length, one_there, each_set, apart_same, apart_none, waits_set}
 use Rattle.oz_turn.proofs.Shares.{single, one_passes, at_most_one, none_pass, own_entries-other, begins_itself, begins_longer}
 
 abbrev value_in : {T : Type 0} → List (ℕ × Option T) → Option T
@@ -127,6 +127,7 @@ module _ {T E : Type 0} (m : Telling T E) (seats : ℕ) where
                 claims = old.claims;
               };
           tickets = apart_same s.views id v w at (λ u. u.ticket) refl k.tickets;
+          waits = λ t from below. waits_set s.views id v w at t (λ is. is) (k.waits t from (omega (arith, out, below)));
           claimer = apart_same s.views id v w at (λ u. u.claims) refl k.claimer;
           place = inr record {
             slot = h.slot;
@@ -187,6 +188,9 @@ module _ {T E : Type 0} (m : Telling T E) (seats : ℕ) where
                 claims = old.claims;
               };
           tickets = apart_none s.views id v w at (λ u. u.ticket) refl k.tickets;
+          waits = λ t from below.
+              waits_set s.views id v w at t (λ is. (let both : Some k.served ≡ Some t = sym h.ticket ∙ is in let same : k.served ≡ t = cc (both) in absurd (omega arith)))
+              (k.waits t (omega (arith, from)) (omega (arith, out, below)));
           claimer = apart_same s.views id v w at (λ u. u.claims) refl k.claimer;
           place = inl record {
             slot = ap (λ z. slice_set z 0 (some (Some x))) h.slot;

@@ -14,7 +14,7 @@ use Rattle.oz_turn.specs.Plays.{Takes, Looks}
 use Rattle.oz_turn.specs.declared.view.Share.{Share}
 use Rattle.oz_turn.specs.declared.view.View.{View}
 use Rattle.oz_turn.proofs.Sums.{sum_by-set_same}
-use Rattle.oz_turn.proofs.Frames.{below_length, one_there, each_set, apart_same}
+use Rattle.oz_turn.proofs.Frames.{below_length, one_there, each_set, apart_same, waits_set}
 use Rattle.oz_turn.proofs.Shares.{single, begins_itself}
 use Rattle.oz_turn.proofs.Draws.{tickets_few}
 
@@ -64,6 +64,7 @@ module _ {T E : Type 0} (m : Telling T E) (seats : ℕ) where
                 claims = old.claims;
               };
           tickets = apart_same s.views id v w at (λ u. u.ticket) refl k.tickets;
+          waits = λ t from below. waits_set s.views id v w at t (λ is. is) (k.waits t from (omega (arith, out, below)));
           claimer = apart_same s.views id v w at (λ u. u.claims) refl k.claimer;
           place = inr record {
             slot = ap (λ h. slice_set h 0 none) home.slot;

@@ -15,7 +15,7 @@ use Rattle.oz_turn.specs.Kept.{Apart, one_if_some, times, share_count, ticket_co
 use Rattle.oz_turn.specs.declared.view.Share.{Share}
 use Rattle.oz_turn.specs.declared.view.View.{View}
 use Rattle.oz_turn.proofs.Sums.{sum_by-set, sum_by-set_same}
-use Rattle.oz_turn.proofs.Frames.{each_set, apart_same, apart_none, place_same}
+use Rattle.oz_turn.proofs.Frames.{each_set, apart_same, apart_none, waits_set, place_same}
 
 at_new : {A : Type 0} (l : List A) (a b : A) (j : ℕ) → get_elem? (l ++ a ∷ []) j ≡ some b → (get_elem? l j ≡ some b) ⊎ ((j ≡ length l) × (a ≡ b))
 at_new [] a b zero e = inr (refl, some-injective a b e)
@@ -69,6 +69,7 @@ module _ {T E : Type 0} (m : Telling T E) (seats : ℕ) where
     fits = only (FitsView m 0 0 0 [] x)
         record { shares = All-nil (FitsShare m 0 [] x); ticket = λ t is. absurd (cc); claims = λ n is. (let same : Some 0 ≡ Some n = is in cc) };
     tickets = λ i j n v w here there fv fw. only_at i v here ∙ sym (only_at j w there);
+    waits = λ t from below. absurd (let none : t < 0 = below in omega arith);
     claimer = λ i j n v w here there fv fw. only_at i v here ∙ sym (only_at j w there);
     place = inl record { slot = refl; told = empty; nobody = only (λ u. u.taken ≡ None) refl };
   }
@@ -109,6 +110,10 @@ module _ {T E : Type 0} (m : Telling T E) (seats : ℕ) where
             (fits_still w record { shares = old.shares; ticket = old.ticket; claims = λ n is. absurd (cc) }))
             (λ _. fits_still a record { shares = All-nil (FitsShare m k.claimed k.story k.value); ticket = λ t is. absurd (cc); claims = old.claims });
         tickets = apart_new one a (λ u. u.ticket) (λ n is j u e also. cc) (apart_same s.views id v w at (λ u. u.ticket) refl k.tickets);
+        waits = λ t from below. (
+            let h = waits_set s.views id v w at t (λ is. is) (k.waits t from (omega (arith, out, below))) in
+            (h.0, h.1, at_longer one (a ∷ []) h.0 h.1 h.2, h.3)
+            );
         claimer = apart_new one a (λ u. u.claims) no_other (apart_none s.views id v w at (λ u. u.claims) refl k.claimer);
         place = place_new one a m s.homes k.served k.story k.value refl (place_same s.views id v w at m s.homes k.served k.story k.value free free k.place);
       }
@@ -149,6 +154,8 @@ module _ {T E : Type 0} (m : Telling T E) (seats : ℕ) where
             j u e)
             (fits_still nobody record { shares = All-nil (FitsShare m k.claimed k.story k.value); ticket = λ t is. absurd (cc); claims = λ n is. absurd (cc) });
         tickets = apart_none one other w nobody there (λ u. u.ticket) refl (apart_same s.views id v both at (λ u. u.ticket) refl k.tickets);
+        waits = λ t from below.
+            waits_set one other w nobody there t (λ is. absurd (let none : w.ticket ≡ None = idle in cc)) (waits_set s.views id v both at t (λ is. is) (k.waits t from (omega (arith, out, below))));
         claimer = apart_none one other w nobody there (λ u. u.claims) refl (apart_same s.views id v both at (λ u. u.claims) refl k.claimer);
         place = place_same one other w nobody there m s.homes k.served k.story k.value also refl (place_same s.views id v both at m s.homes k.served k.story k.value free free k.place);
       }

@@ -28,6 +28,10 @@ module _ {T E : Type 0} where
   abbrev pub Apart : (View T E → Option ℕ) → List (View T E) → Type 0
   Apart f views = (i j n : ℕ) (v w : View T E) → get_elem? views i ≡ some v → get_elem? views j ≡ some w → f v ≡ Some n → f w ≡ Some n → i ≡ j
 
+  -- a view has the ticket
+  abbrev pub Waits : List (View T E) → ℕ → Type 0
+  Waits views t = (id : ℕ) × (v : View T E) × (get_elem? views id ≡ some v) × (v.ticket ≡ Some t)
+
 -- a share, where the value tells this story and was last given as `value`
 pub record FitsShare {T E : Type 0} (m : Telling T E) (claimed : ℕ) (story : List E) (value : T) (s : Share E) : Type 0 where
   pub number : s.number < claimed
@@ -72,6 +76,8 @@ pub record IsKept {T E : Type 0} (m : Telling T E) (seats : ℕ) (s : State (Opt
   pub given : All (λ e. m.seat_of e < claimed) story
   pub unclaimed : (k : ℕ) → claimed ≤ k → m.room value k ≡ 0
   pub fits : (id : ℕ) (v : View T E) → get_elem? s.views id ≡ some v → FitsView m claimed served (sum_by ticket_count s.views) story value v
+  -- the tickets out are the next ones, each at one view
   pub tickets : Apart (λ v. v.ticket) s.views
+  pub waits : (t : ℕ) → served ≤ t → t < served + sum_by ticket_count s.views → Waits s.views t
   pub claimer : Apart (λ v. v.claims) s.views
   pub place : IsHome m s.homes s.views story value ⊎ IsOut s.homes s.views served story value

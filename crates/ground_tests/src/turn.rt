@@ -1,11 +1,13 @@
-ghost use Rattle.std.specs.Prelude.{◌≡◌, ◌+◌, ◌≤◌, ◌<◌, vec_len, IfOk, OnOk, IfSome, OnSome};
+ghost use Rattle.std.specs.Prelude.{◌≡◌, ◌+◌, ◌≤◌, ◌<◌, [], ◌∷◌, ◌++◌, vec_len, IfOk, OnOk, IfSome, OnSome};
+ghost use Rattle.oz_turn.specs.Seat.{mine_of};
 ghost use Rattle.oz_turn.specs.Turn.{turn_id, seats_of};
 ghost use Rattle.ground_tests.specs.Notes.{IsReady, AreReady};
 
-use oz_turn::{Seat, Told, Turn};
+use oz_turn::{Ring, Seat, Told, Turn};
 use std::alloc::{AllocError, Global};
+use std::marker::{Brand, Model, PhantomData};
 use std::process::Abort;
-use std::sync::Wait;
+use std::sync::{Mutex, Wait};
 use std::test::Fail;
 use std::thread::{Threads, join};
 
@@ -66,7 +68,8 @@ fn add<R: Wait>(
     text: u64,
 ) -> Option<u64>
     requires { IsReady (turn_id turn.now) number seat.old }
-    ensures { IsReady (turn_id turn.now) number seat.new }
+    ensures ready { IsReady (turn_id turn.now) number seat.new }
+    ensures added { IfSome result (λ _. mine_of seat.new ≡ mine_of seat.old ++ record { seat = number; text = text } ∷ []) }
 {
     let (mut notes, held) = turn.take(rt, seat);
     match notes.list.push(Note { seat: number, text }) {
@@ -279,4 +282,57 @@ fn check_order<R: Abort>(rt: &R, notes: &[Note]) {
         next[n] = note.text + 1;
     }
     assert!(rt; next == [EACH, EACH]);
+}
+
+// The seat 0 under a lock, where only its type says which turn it is of. Contracts see the notes that it gave.
+#[derive(Drop)]
+struct Shelf<R: Ring> {
+    seat: Seat<Notes>,
+    of: PhantomData<R>,
+}
+
+impl<R: Ring> Model for Shelf<R> {
+    ghost use Rattle.std.specs.Prelude.{List};
+    ghost use Rattle.oz_turn.specs.Seat.{mine_of};
+    ghost use Rattle.ground_tests.specs.declared.turn.Note.{Note};
+    ghost use Rattle.ground_tests.specs.Notes.{IsReady};
+
+    ghost Value = { List Note };
+
+    ghost view = { λ s. mine_of s.seat };
+
+    ghost invariant = { λ s. IsReady R.turn 0 s.seat };
+}
+
+impl<R: Ring> Shelf<R> {
+    fn add<W: Wait>(&mut self, rt: &W, turn: &Turn<Notes>, text: u64) -> Option<u64>
+        requires { turn_id turn.now ≡ R.turn }
+        ensures { IfSome result (λ _. self.new ≡ self.old ++ record { seat = 0; text = text } ∷ []) }
+    {
+        add(rt, turn, &mut self.seat, 0, text)
+    }
+}
+
+fn add_under_a_lock<R: Ring, W: Wait>(rt: &W, turn: &Turn<Notes>, seat: Seat<Notes>) -> Option<u64>
+    requires turn { turn_id turn.now ≡ R.turn }
+    requires seat { IsReady (turn_id turn.now) 0 seat }
+{
+    let shelf: Mutex<Shelf<R>> = Mutex::new(Shelf {
+        seat,
+        of: PhantomData,
+    });
+    let first = shelf.lock(rt).add(rt, turn, 5)?;
+    let second = shelf.lock(rt).add(rt, turn, 6)?;
+    first.checked_add(second)
+}
+
+#[test]
+fn a_seat_under_a_lock_is_of_the_turn(rt: HostRuntime) -> Result<(), Fail> {
+    let (turn, mut seats) = made(rt.alloc(), 1)?;
+    let Some(seat) = pop_last(&turn, &mut seats) else {
+        return Err("no seat".into());
+    };
+    let sum = add_under_a_lock::<Brand, _>(&rt, &turn, seat);
+    assert_eq!(rt; sum, Some(3));
+    Ok(())
 }

@@ -6,4 +6,4 @@ pub add-requires : goal.add-requires
 add-requires g c = let less : c.args.n < length c.args.seats.now.items = search rules in ready_read _ _ c.requires.ready c.args.n _ less c.index_mut.ensures.value
 
 pub returns-clause-ready : goal.returns-clause-ready
-returns-clause-ready g c = ready_set _ _ c.requires.ready c.args.n _ c.add.ensures
+returns-clause-ready g c = ready_set _ _ c.requires.ready c.args.n _ c.add.ensures.ready

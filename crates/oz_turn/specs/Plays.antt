@@ -19,21 +19,27 @@ module _ {T E : Type 0} (m : Telling T E) where
   abbrev pub SeatState : Type 0
   SeatState = Me (Option T) (View T E)
 
+  -- the number found is the seat's
   abbrev pub Claims : SeatState → ℕ → SeatState → Type 0
   Claims a n b = (a.0.claims ≡ Some n) × (b ≡ (numbered a.0 n, a.1))
 
+  -- the seat has a ticket, which the word is short for
   abbrev pub Draws : SeatState → ℕ → SeatState → Type 0
   Draws a n b = (t : ℕ) × (n ≡ t % 2 ^ 64) × (b ≡ (ticketed a.0 t, a.1))
 
+  -- the slot is out with the seat, and the value in it seen
   abbrev pub Takes : SeatState → SeatState → Type 0
   Takes a b = (x : T) × (b ≡ (taking a.0 x (m.entries x), (0, Some x) ∷ a.1)) × Finds m a.0 x
 
+  -- where the word is the seat's ticket, the slot is taken; else nothing changes
   abbrev pub Looks : SeatState → ℕ → SeatState → Type 0
   Looks a n b = (t : ℕ) → a.0.ticket ≡ Some t → MatchBool (n == t % 2 ^ 64) (Takes a b) (b ≡ a)
 
+  -- the list of the value in the slot is the story
   abbrev pub Counts : SeatState → ℕ → SeatState → Type 0
   Counts a n b = (x : T) → a.1 ≡ carrying (Some x) → (own_entries m.seat_of (own a.0).number (own a.0).seen ≡ (own a.0).mine) × (b ≡ (counting a.0 (m.entries x) (own_entries m.seat_of (own a.0).number (m.entries x)), a.1))
 
+  -- the value in the slot is given back
   abbrev pub Serves : SeatState → ℕ → SeatState → Type 0
   Serves a n b = (x : T) → a.1 ≡ carrying (Some x) → b ≡ (serving a.0 (m.room x (own a.0).number), [])
 

@@ -1,5 +1,5 @@
 -- What contracts see of a seat.
-use Rattle.std.specs.Prelude.{ℕ, ◌≡◌, List, [], Option, None}
+use Rattle.std.specs.Prelude.{ℕ, ◌≡◌, List, [], Option, Some, None, slice_get}
 use Rattle.oz_turn.specs.Ring.{TurnId}
 use Rattle.oz_turn.specs.Views.{own}
 use Rattle.oz_turn.specs.declared.view.Share.{Share}
@@ -45,3 +45,7 @@ module _ {T E : Type 0} {told : Ghosts T E} where
     pub mine : mine_of s ≡ []
     pub room : room_of s ≡ 0
     pub free : taken_of s ≡ None
+
+-- seats that have seen and given nothing, numbered by their places
+abbrev pub AreNewSeats : {T E : Type 0} {told : Ghosts T E} → TurnId → List (Seat T E told) → Type 0
+AreNewSeats {T} {E} {told} turn seats = (n : ℕ) (s : Seat T E told) → slice_get seats n ≡ Some s → IsNewSeat turn n s

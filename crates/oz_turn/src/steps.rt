@@ -10,7 +10,7 @@ use crate::told::Told;
 use crate::view::{Steps, Token};
 use std::sync::Wait;
 
-/// The words, and the slot.
+// The table's words, and its slot.
 const CLAIMED: usize = 0;
 
 const TICKET: usize = 1;

@@ -21,9 +21,9 @@ pub struct Turn<T: Told> {
 }
 
 impl<T: Told> Turn<T> {
-    ghost use Rattle.std.specs.Prelude.{◌≡◌, ◌≢◌, ℕ, ◌<◌, ◌≤◌, [], ◌∷◌, ◌++◌, length, drop, Some, None, IsSomeAnd, IfOk, IfErr, All, Any, slice_get};
-    ghost use Rattle.oz_turn.specs.Told.{own_entries, BeginsWith};
-    ghost use Rattle.oz_turn.specs.Seat.{turn_of, number_of, seen_of, mine_of, room_of, taken_of, IsSameSeat, IsNewSeat};
+    ghost use Rattle.std.specs.Prelude.{◌≡◌, ℕ, ◌<◌, ◌≤◌, [], ◌∷◌, ◌++◌, length, drop, None, IfOk, IfErr, All, Any};
+    ghost use Rattle.oz_turn.specs.Told.{own_entries, BeginsWith, AddsOne, KeepsOtherRooms};
+    ghost use Rattle.oz_turn.specs.Seat.{turn_of, number_of, seen_of, mine_of, room_of, taken_of, IsSameSeat, AreNewSeats};
     ghost use Rattle.oz_turn.specs.Turn.{turn_id, seats_of};
 
     /// Makes a turn of the value, and its seats, numbered from 0.
@@ -36,7 +36,7 @@ impl<T: Told> Turn<T> {
         requires empty { T.entries value ≡ [] }
         requires no_rooms { (n : ℕ) → T.room value n ≡ 0 }
         ensures made { IfOk result (λ r. (seats_of r.0 ≡ seats) × (length r.1.items ≡ seats)) }
-        ensures new { IfOk result (λ r. (n : ℕ) (s : _) → slice_get r.1.items n ≡ Some s → IsNewSeat (turn_id r.0) n s) }
+        ensures new { IfOk result (λ r. AreNewSeats (turn_id r.0) r.1.items) }
         ensures err { IfErr result (λ e. e.0 ≡ value) }
     {
         let Ok(mut made) = Vec::with_capacity(alloc, usize::from(seats)) else {
@@ -78,13 +78,14 @@ impl<T: Told> Turn<T> {
     /// Gives the value back with one entry more, and answers how many entries it then has.
     pub fn give(&self, seat: &mut Seat<T>, value: T, held: Held) -> u64
         requires turn { turn_of seat.old ≡ turn_id self.now }
-        requires entry { (e : T.Entry) × (T.entries value ≡ seen_of seat.old ++ e ∷ []) × (T.seat_of e ≡ number_of seat.old) }
-        requires rooms { IsSomeAnd (taken_of seat.old) (λ before. (n : ℕ) → n ≢ number_of seat.old → T.room value n ≡ T.room before n) }
+        requires entry { AddsOne T.seat_of (number_of seat.old) (seen_of seat.old) (T.entries value) }
+        requires rooms { KeepsOtherRooms T.room (number_of seat.old) (taken_of seat.old) value }
         ensures length { result ≡ length (T.entries value) }
         ensures seat { IsSameSeat seat.old seat.new }
         ensures free { taken_of seat.new ≡ None }
         ensures seen { seen_of seat.new ≡ T.entries value }
-        ensures mine { (e : T.Entry) → T.entries value ≡ seen_of seat.old ++ e ∷ [] → mine_of seat.new ≡ mine_of seat.old ++ e ∷ [] }
+        ensures mine { (e : T.Entry) → T.entries value ≡ seen_of seat.old ++ e ∷ []
+            → mine_of seat.new ≡ mine_of seat.old ++ e ∷ [] }
         ensures room { room_of seat.new ≡ T.room value (number_of seat.old) }
     {
         held.spend();
@@ -100,7 +101,7 @@ impl<T: Told> Turn<T> {
     pub fn give_back(&self, seat: &mut Seat<T>, value: T, held: Held)
         requires turn { turn_of seat.old ≡ turn_id self.now }
         requires list { T.entries value ≡ seen_of seat.old }
-        requires rooms { IsSomeAnd (taken_of seat.old) (λ before. (n : ℕ) → n ≢ number_of seat.old → T.room value n ≡ T.room before n) }
+        requires rooms { KeepsOtherRooms T.room (number_of seat.old) (taken_of seat.old) value }
         ensures seat { IsSameSeat seat.old seat.new }
         ensures free { taken_of seat.new ≡ None }
         ensures seen { seen_of seat.new ≡ seen_of seat.old }

@@ -1,4 +1,5 @@
 pub mod Both
 pub mod Entry
 pub mod Kept
+pub mod Notes
 pub mod Piece

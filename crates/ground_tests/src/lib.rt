@@ -2,4 +2,6 @@
 #![tactic(auto)]
 mod fields;
 mod journal;
+#[cfg(test)]
+mod turn;
 mod world;

@@ -1,0 +1,10 @@
+pub mod Sums
+pub mod Frames
+pub mod Shares
+pub mod Draws
+pub mod Claims
+pub mod Looks
+pub mod Gives
+pub mod Makes
+pub mod Joins
+pub mod Closes

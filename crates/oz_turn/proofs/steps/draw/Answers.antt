@@ -1,0 +1,9 @@
+use Rattle.std.proofs.Common.{rules}
+use Rattle.oz_turn.specs.Told.{telling}
+use Rattle.oz_turn.proofs.Draws.{draws}
+use Rattle.oz_turn.proofs.steps.draw.Goals as goal
+
+pub fetch_add-requires : goal.fetch_add-requires
+fetch_add-requires g c =
+    let m = telling g.T.Told.entries g.T.Told.seat_of g.T.Told.room in
+    (c.requires.board.1, (search rules), draws m _ _ _ _ _ c.requires.idle.0 c.requires.idle.1 c.requires.idle.2)

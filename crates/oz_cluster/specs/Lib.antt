@@ -5,6 +5,7 @@ pub mod Fits
 pub mod Law
 pub mod Names
 pub mod Namespace
+pub mod PlainScript
 pub mod Script
 pub mod Story
 pub mod Words

@@ -1,9 +1,11 @@
-ghost use Rattle.std.specs.Prelude.{◌≡◌, ◌+◌, ◌<◌, ◌==◌, ◌||◌, not, [], ◌∷◌, ◌++◌, length, map, IfOk, IfSome, MatchOption, MatchResult};
+ghost use Rattle.std.specs.Prelude.{◌≡◌, ℕ, List as Items, ◌+◌, ◌<◌, ◌==◌, ◌||◌, not, [], ◌∷◌, ◌++◌, length, map, IfOk, IfSome, MatchOption, MatchResult};
 ghost use Rattle.std.specs.List.{list_all, position};
 ghost use Rattle.std.specs.Option.{option_map};
 ghost use Rattle.std.specs.Str.Lines.{lines, strip_carriage_return};
 ghost use Rattle.oz_cluster.specs.Causes.{cause_text};
 ghost use Rattle.oz_cluster.specs.Names.{is_digit, is_letter};
+ghost use Rattle.oz_cluster.specs.PlainScript.{IsPlain, plain_text, plain_script};
+ghost use Rattle.oz_cluster.specs.declared.script.Command.{Command as Said};
 ghost use Rattle.oz_cluster.specs.Script.{Gives, IsNumbered, is_blank, is_visible, is_client_name, words, command_of as command_said, commands_on, with_client as clients_with, next_line, with_line as script_with, script_of};
 
 use crate::names::{is_digit, is_letter};
@@ -296,3 +298,9 @@ fn command_of(alloc: Global, line: &[u8]) -> Result<Option<Command>, OutOfMemory
     }
     Ok(None)
 }
+
+/// Whatever the client and the commands, their plain text is read as they are.
+pub fn plain_text_is_read()
+    ensures { (client : Items ℕ) (commands : Items Said) → IsPlain client commands
+        → script_of (plain_text client commands) ≡ Ok (plain_script client commands) }
+{}

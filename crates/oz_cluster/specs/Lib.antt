@@ -8,6 +8,7 @@ pub mod Manager
 pub mod Names
 pub mod Namespace
 pub mod Opens
+pub mod PlainScript
 pub mod Quiet
 pub mod Report
 pub mod Rows

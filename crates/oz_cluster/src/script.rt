@@ -1,9 +1,10 @@
-ghost use Rattle.std.specs.Prelude.{◌≡◌, ◌+◌, ◌<◌, ◌==◌, ◌||◌, not, [], ◌∷◌, ◌++◌, length, map, IfOk, IfSome, MatchOption, MatchResult};
+ghost use Rattle.std.specs.Prelude.{◌≡◌, ℕ, List as Items, ◌+◌, ◌<◌, ◌==◌, ◌||◌, not, [], ◌∷◌, ◌++◌, length, map, IfOk, IfSome, MatchOption};
 ghost use Rattle.std.specs.List.{list_all, position};
-ghost use Rattle.std.specs.Option.{option_map};
 ghost use Rattle.std.specs.Str.Lines.{lines, strip_carriage_return};
 ghost use Rattle.oz_cluster.specs.Causes.{cause_text};
 ghost use Rattle.oz_cluster.specs.Names.{is_digit, is_letter};
+ghost use Rattle.oz_cluster.specs.PlainScript.{IsPlain, plain_text, plain_script};
+ghost use Rattle.oz_cluster.specs.declared.script.Command.{Command as Said};
 ghost use Rattle.oz_cluster.specs.Script.{Gives, IsNumbered, is_blank, is_visible, is_client_name, words, command_of as command_said, commands_on, with_client as clients_with, next_line, with_line as script_with, script_of};
 
 use crate::names::{is_digit, is_letter};
@@ -13,7 +14,7 @@ use std::alloc::Global;
 /// A script has at most so many bytes.
 pub const MOST_BYTES: usize = 1_048_576;
 
-/// And at most so many lines with a command.
+/// A script has at most so many lines with a command.
 pub const MOST_LINES: usize = 4_096;
 
 /// The lines of all clients, in the order in which they stand.
@@ -86,7 +87,8 @@ impl From<OutOfMemory> for ScriptFault {
 pub fn parse(alloc: Global, bytes: &[u8]) -> Result<Script, ScriptFault>
     ensures exact { Gives result (script_of bytes.now) }
     ensures numbered { IfOk result IsNumbered }
-    ensures commands { IfOk result (λ script. map (λ line. line.command) script.lines ≡ commands_on (lines bytes.now)) }
+    ensures commands { IfOk result (λ script.
+        map (λ line. line.command) script.lines ≡ commands_on (lines bytes.now)) }
 {
     if bytes.len() > MOST_BYTES {
         return Err(ScriptFault::At {
@@ -110,7 +112,8 @@ pub fn parse(alloc: Global, bytes: &[u8]) -> Result<Script, ScriptFault>
 
 /// The first line, and what stands behind it.
 fn split_line(bytes: &[u8]) -> Option<(&[u8], &[u8])>
-    ensures parts { MatchOption result (bytes.now ≡ []) (λ parts. lines bytes.now ≡ parts.0.now ∷ lines parts.1.now) }
+    ensures parts { MatchOption result (bytes.now ≡ [])
+        (λ parts. lines bytes.now ≡ parts.0.now ∷ lines parts.1.now) }
     ensures shorter { IfSome result (λ parts. length parts.1.now < length bytes.now) }
 {
     if bytes.is_empty() {
@@ -141,7 +144,8 @@ fn without_return(line: &[u8]) -> &[u8]
 
 /// The first word, and what stands behind it.
 fn split_word(line: &[u8]) -> Option<(&[u8], &[u8])>
-    ensures { MatchOption result (words line.now ≡ []) (λ parts. words line.now ≡ parts.0.now ∷ words parts.1.now) }
+    ensures { MatchOption result (words line.now ≡ [])
+        (λ parts. words line.now ≡ parts.0.now ∷ words parts.1.now) }
 {
     let Some(start) = word_in(line) else {
         return None;
@@ -296,3 +300,9 @@ fn command_of(alloc: Global, line: &[u8]) -> Result<Option<Command>, OutOfMemory
     }
     Ok(None)
 }
+
+/// Whatever the client and the commands, their plain text is read as they are.
+pub fn plain_text_is_read()
+    ensures { (client : Items ℕ) (commands : Items Said) → IsPlain client commands
+        → script_of (plain_text client commands) ≡ Ok (plain_script client commands) }
+{}

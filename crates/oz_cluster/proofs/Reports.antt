@@ -1,9 +1,9 @@
 -- What is printed of a story when an event is added.
-use Rattle.std.proofs.Common.{◌≡◌, ◌≢◌, ℕ, ◌+◌, ◌≤◌, ◌<◌, Bool, true, false, ◌&&◌, ◌==◌, cond, List, [], ◌∷◌, ◌++◌, length, take, get_or, codes, Option, Some, None, option_map, Bor, refl, sym, ◌∙◌, ap, subst, append_assoc, append-nil, arith}
+use Rattle.std.proofs.Common.{◌≡◌, ◌≢◌, ℕ, ◌+◌, ◌<◌, Bool, true, false, ◌&&◌, ◌==◌, cond, List, [], ◌∷◌, ◌++◌, length, take, get_or, codes, Option, Some, None, option_map, Bor, refl, sym, ◌∙◌, ap, subst, append_assoc, append-nil, arith}
 use Rattle.std.proofs.Math.Bool.{and_assoc}
 use Rattle.std.proofs.lemmas.Bool.{cond-true, cond-false, eq-eqb, ne_eqb}
 use Rattle.std.proofs.lemmas.List.{take_more}
-use Rattle.std.proofs.lemmas.List.Sums.{sum_by-append, count_by-le-length}
+use Rattle.std.proofs.lemmas.List.Sums.{sum_by-append}
 use Rattle.std.specs.Cmp.{unsigned_ties}
 use Rattle.std.specs.Ordering.{is_eq, nat_cmp, ordering_then}
 use Rattle.std.specs.BTreeMap.{BTreeMap, get, is_at}
@@ -41,7 +41,7 @@ is_at-id id other =
     ∙ (ap (λ (b : Bool). (id.client == other.client) && ((id.line == other.line) && b)) (sym (unsigned_ties id.step other.step))
     ∙ sym (and_assoc (id.client == other.client) (id.line == other.line) (id.step == other.step))))))
 
-pub lines_from-push : (before story : List Event) (event : Event) → lines_from before (story ++ event ∷ []) ≡ lines_from before story ++ event_text (before ++ story) event.kind
+lines_from-push : (before story : List Event) (event : Event) → lines_from before (story ++ event ∷ []) ≡ lines_from before story ++ event_text (before ++ story) event.kind
 unfolding lines_from
 lines_from-push before [] event = append-nil _ ∙ ap (λ (l : List Event). event_text l event.kind) (sym (append-nil before))
 lines_from-push before (e ∷ story) event =
@@ -49,12 +49,9 @@ lines_from-push before (e ∷ story) event =
     ∙ (sym (append_assoc (event_text before e.kind) (lines_from (before ++ e ∷ []) story) (event_text (before ++ e ∷ [] ++ story) event.kind))
     ∙ ap (λ (l : List Event). (event_text before e.kind ++ lines_from (before ++ e ∷ []) story) ++ event_text l event.kind) (append_assoc before (e ∷ []) story))
 
-pub told_count-push : (story : List Event) (event : Event) → told_count (story ++ event ∷ []) ≡ told_count story + cond (is_told_kind event.kind) 1 0
+told_count-push : (story : List Event) (event : Event) → told_count (story ++ event ∷ []) ≡ told_count story + cond (is_told_kind event.kind) 1 0
 told_count-push story event =
     omega (arith, sum_by-append (λ (e : Event). cond (is_told_kind e.kind) 1 0) story (event ∷ []))
-
-pub told_count-le : (story : List Event) → told_count story ≤ length story
-told_count-le story = count_by-le-length (λ (e : Event). is_told_kind e.kind) story
 
 -- what a map of borrowed requests has at an id
 abbrev pub named : BTreeMap AskId (Bor Request) → AskId → Option Request

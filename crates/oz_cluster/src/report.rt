@@ -107,7 +107,7 @@ pub fn words_text(alloc: Global, place: usize) -> Result<Vec<u8>, OutOfMemory>
     Ok(text.into_bytes())
 }
 
-/// The script is wrong at this line, counted from 1, or as a whole at line 0. The cause is one word.
+/// The script is wrong at this line, counted from 1, or at 0 as a whole. The cause is one word.
 pub fn script_text(alloc: Global, line: u64, cause: &str) -> Result<Vec<u8>, OutOfMemory>
     ensures { IfOk result (λ text. text.items ≡ script_fault line cause.now) }
 {

@@ -1,5 +1,5 @@
 -- From the law and the script to what a run promises.
-use Rattle.std.proofs.Common.{◌≡◌, ◌≢◌, ◌⊎◌, ⊎_elim, ℕ, ◌+◌, ◌-◌, ◌<◌, ◌≤◌, true, List, [], ◌∷◌, ◌++◌, refl, sym, ◌∙◌, ap, subst, arith, append_assoc}
+use Rattle.std.proofs.Common.{◌≡◌, ⊎_elim, ℕ, ◌-◌, true, List, [], ◌∷◌, ◌++◌, sym, subst, arith, append_assoc}
 use Rattle.std.proofs.lemmas.List.{append-nil}
 use Rattle.oz_cluster.specs.declared.events.Event.{Event}
 use Rattle.oz_cluster.specs.declared.events.EventKind.TheVariants.{Ask, Decide, Told}

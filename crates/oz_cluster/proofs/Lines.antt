@@ -1,12 +1,11 @@
 -- What one line leaves of a quiet story.
-use Rattle.std.proofs.Common.{◌≡◌, ◌≢◌, ◌⊎◌, ◌↔◌, ⊎_elim, add-one, inl, inr, ℕ, ◌+◌, ◌-◌, ◌<◌, ◌≤◌, max, Bool, true, false, ◌||◌, ◌&&◌, ◌==◌, IsTrue, List, [], ◌∷◌, ◌++◌, Option, Some, None, refl, sym, ◌∙◌, ap, subst, arith, if◌then◌else◌}
+use Rattle.std.proofs.Common.{◌≡◌, ◌≢◌, ◌↔◌, ⊎_elim, add-one, inl, ℕ, ◌+◌, ◌-◌, ◌<◌, ◌≤◌, max, Bool, true, false, ◌||◌, List, [], ◌∷◌, ◌++◌, Option, Some, None, refl, sym, ◌∙◌, ap, subst, arith, if◌then◌else◌}
 use Rattle.std.proofs.lemmas.Bool.{cases_Bool, cases_lt, cond_both, eqb-true, eq-eqb, ne_eqb, and_parts, and_from, cond-true, cond-false, or_left, or_right, or_from}
 use Rattle.std.proofs.lemmas.List.{append-nil}
 use Rattle.std.proofs.lemmas.Bool.Decides.{nat_tests}
 use Rattle.std.specs.List.{cons_option}
 use Rattle.oz_cluster.specs.declared.events.Event.{Event}
 use Rattle.oz_cluster.specs.declared.events.EventKind.TheVariants.{Ask, Decide, Swap, Flushed, Told}
-use Rattle.oz_cluster.specs.declared.requests.Answer.{Answer}
 use Rattle.oz_cluster.specs.declared.requests.AskId.{AskId}
 use Rattle.oz_cluster.specs.declared.requests.Reply.{Reply}
 use Rattle.oz_cluster.specs.declared.requests.Reply.TheVariants as reply
@@ -14,12 +13,12 @@ use Rattle.oz_cluster.specs.declared.requests.Request.{Request}
 use Rattle.oz_cluster.specs.declared.script.Line.{Line}
 use Rattle.oz_cluster.specs.declared.script.Script.{Script}
 use Rattle.oz_cluster.specs.Answers.{Answers, after, volume_of}
-use Rattle.oz_cluster.specs.Fits.{EventFits, FitsFrom, AfterIsTold, HasStarted, IsLineOf, IsDue, answer_of, request_of, told_lines}
-use Rattle.oz_cluster.specs.Law.{IsEnabled, IsLegal, caller_seat, flusher_seat, stripe_seat}
+use Rattle.oz_cluster.specs.Fits.{FitsFrom, AfterIsTold, HasStarted, IsLineOf, IsDue, answer_of, request_of, told_lines}
+use Rattle.oz_cluster.specs.Law.{IsLegal}
 use Rattle.oz_cluster.specs.Names.{stripe_of}
 use Rattle.oz_cluster.specs.Namespace.{Volumes}
 use Rattle.oz_cluster.specs.Quiet.{IsQuiet, counted}
-use Rattle.oz_cluster.specs.Story.{Opening, asks, is_asked, is_id, is_of_line, tells, is_told, pending, last_index, swapped_index, durable_index, flushed_moment, last_reply, line_index, namespace_after, namespace_of}
+use Rattle.oz_cluster.specs.Story.{Opening, is_asked, is_id, is_of_line, is_told, pending, last_index, swapped_index, durable_index, flushed_moment, last_reply, line_index, namespace_after, namespace_of}
 use Rattle.oz_cluster.proofs.Stories.{is_asked-push, is_told-push, pending-push, last_index-push, swapped_index-push, durable_index-push, flushed_moment-push, last_reply-push, line_index-push, told_lines-push, namespace_of-push, legal-push, fits-push}
 
 pub same_id : (id : AskId) → is_id id id ≡ true

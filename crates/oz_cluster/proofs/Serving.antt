@@ -3,22 +3,21 @@ use Rattle.std.proofs.Common.{is_some, cond, ◌≡◌, ◌≢◌, ℕ, ◌+◌,
 use Rattle.std.proofs.lemmas.Bool.{false≢true}
 use Rattle.std.specs.Cmp.{eq_by_cmp_equiv}
 use Rattle.std.specs.Cmp.Lexicographic.{nat_list_cmp_total}
-use Rattle.std.specs.FinMap.{contains_key, get, insert, get-insert}
+use Rattle.std.specs.FinMap.{get, get-insert}
 use Rattle.oz_cluster.specs.declared.events.Event.{Event}
 use Rattle.oz_cluster.specs.declared.requests.Reply.{Reply}
 use Rattle.oz_cluster.specs.declared.requests.Reply.TheVariants as reply
 use Rattle.oz_cluster.specs.declared.requests.Request.{Request}
-use Rattle.oz_cluster.specs.declared.requests.Request.TheVariants.{CreateVolume, InfoVolume}
+use Rattle.oz_cluster.specs.declared.requests.Request.TheVariants.{CreateVolume}
 use Rattle.oz_cluster.specs.declared.script.Line.{Line}
 use Rattle.oz_cluster.specs.declared.script.Script.{Script}
-use Rattle.oz_cluster.specs.Answers.{Answers, after, volume_of}
-use Rattle.oz_cluster.specs.Fits.{IsLineOf, request_of, answer_of}
+use Rattle.oz_cluster.specs.Answers.{Answers, after}
+use Rattle.oz_cluster.specs.Fits.{IsLineOf, request_of}
 use Rattle.oz_cluster.specs.Namespace.{Volumes, has_volume, with_volume}
 use Rattle.oz_cluster.specs.Quiet.{IsServed, IsQuiet}
 use Rattle.oz_cluster.specs.Steps.{ask_event, decide_event, swap_event, flushed_event, told_event}
 use Rattle.oz_cluster.specs.Story.{Opening, flushed_moment, last_reply}
 use Rattle.oz_cluster.proofs.Lines.{Stage, asks_next, decides_next, swaps_next, flushes_next, told_legal, told_fits, quiet_again}
-use Rattle.oz_cluster.proofs.Stories.{flushed_moment-push}
 
 -- a volume that wasn't there changes the namespace
 made_changes : (namespace : Volumes) (volume : List ℕ) → has_volume namespace volume ≡ false → with_volume namespace volume ≢ namespace

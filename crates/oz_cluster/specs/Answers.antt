@@ -1,6 +1,5 @@
 -- What one thread replies to a request, and what it leaves.
 use Rattle.std.specs.Prelude.{◌≡◌, ℕ, List, true, false}
-use Rattle.oz_cluster.specs.declared.names.Code.{Code}
 use Rattle.oz_cluster.specs.declared.names.Code.TheVariants.{VolumeNotFound, VolumeAlreadyExists, InvalidVolumeName}
 use Rattle.oz_cluster.specs.declared.requests.Request.{Request}
 use Rattle.oz_cluster.specs.declared.requests.Request.TheVariants.{CreateVolume, InfoVolume}

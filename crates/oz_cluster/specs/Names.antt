@@ -1,6 +1,6 @@
 -- Names of volumes, and the stripe that a volume belongs to.
-use Rattle.std.specs.Prelude.{◌≡◌, ◌≢◌, ◌⊎◌, ℕ, ◌+◌, ◌%◌, ◌≤◌, ◌<◌, Bool, List, [], ◌∷◌, length, sum, IsTrue, not, ◌==◌, ◌||◌, ◌&&◌, nat_le, false, true}
-use Rattle.std.specs.List.{list_any, list_all}
+use Rattle.std.specs.Prelude.{◌≡◌, ℕ, ◌%◌, ◌≤◌, Bool, List, [], ◌∷◌, length, sum, IsTrue, not, ◌==◌, ◌||◌, ◌&&◌, nat_le, false}
+use Rattle.std.specs.List.{list_all}
 
 -- a digit
 abbrev pub is_digit : ℕ → Bool

@@ -1,5 +1,5 @@
 -- What a manager's disk stands for as a run begins.
-use Rattle.std.specs.Prelude.{◌≡◌, ◌⊎◌, ℕ, ◌<◌, ◌^◌, zero, suc, List, [], ◌∷◌, Option, Some, slice_get}
+use Rattle.std.specs.Prelude.{◌≡◌, ◌⊎◌, ℕ, ◌<◌, ◌^◌, zero, suc, List, [], ◌∷◌, Some, slice_get}
 use Rattle.oz_journal.specs.Grammar.{IsJournal, IsDamagedAt, places}
 use Rattle.oz_cluster.specs.Names.{IsVolumeName}
 use Rattle.oz_cluster.specs.Namespace.{Volumes, nothing, with_volume}

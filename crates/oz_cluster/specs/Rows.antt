@@ -1,5 +1,5 @@
 -- The body of a manager's journal: a layout, the last transaction index, and the operations up to it.
-use Rattle.std.specs.Prelude.{ℕ, ◌<◌, ◌^◌, ◌==◌, ◌&&◌, Bool, List, [], ◌∷◌, ◌++◌, length, Option, Some, None, if◌then◌else◌, nat_eq, is_none}
+use Rattle.std.specs.Prelude.{ℕ, ◌==◌, ◌&&◌, List, ◌∷◌, ◌++◌, length, Option, Some, None, if◌then◌else◌}
 use Rattle.oz_fields.specs.Field.{◌>>=◌}
 use Rattle.oz_fields.specs.Number.{u64_bytes, u8_at, u64_at}
 use Rattle.oz_fields.specs.Text.{text_bytes, text_at}

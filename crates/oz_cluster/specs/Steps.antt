@@ -1,5 +1,5 @@
 -- The events of a line that asks one thing.
-use Rattle.std.specs.Prelude.{ℕ, ◌+◌, List}
+use Rattle.std.specs.Prelude.{ℕ, List}
 use Rattle.oz_cluster.specs.declared.events.Event.{Event}
 use Rattle.oz_cluster.specs.declared.events.EventKind.TheVariants.{Ask, Decide, Swap, Flushed, Told}
 use Rattle.oz_cluster.specs.declared.requests.AskId.{AskId}

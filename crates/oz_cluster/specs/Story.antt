@@ -1,5 +1,5 @@
 -- What a story tells: who asked, what was decided, what is stable, who was told.
-use Rattle.std.specs.Prelude.{◌≡◌, ℕ, ◌+◌, Bool, true, false, ◌&&◌, ◌==◌, max, List, [], ◌∷◌, ◌++◌, fold, filter, Option, None, Some, if◌then◌else◌}
+use Rattle.std.specs.Prelude.{ℕ, Bool, false, ◌&&◌, ◌==◌, max, List, [], ◌∷◌, ◌++◌, fold, Option, None, Some, if◌then◌else◌}
 use Rattle.std.specs.List.{list_any}
 use Rattle.oz_cluster.specs.declared.events.Event.{Event}
 use Rattle.oz_cluster.specs.declared.events.EventKind.{EventKind}

@@ -1,5 +1,6 @@
 //! The object store as one call: a script and disks go in, the story of what the manager decided comes out.
 #![tactic(auto)]
+
 pub mod events;
 pub mod manager;
 pub mod model;

@@ -1,4 +1,4 @@
-use Rattle.std.proofs.Common.{◌+◌, ◌∙◌, ◌≡◌, ap, sym, subst, arith, length, length-take, drop, take, IfSome, List, ℕ}
+use Rattle.std.proofs.Common.{◌+◌, ◌∙◌, ◌≡◌, ap, sym, subst, arith, length, length-take, drop, take, IfSome, ℕ}
 use Rattle.std.specs.Option.{option_map}
 use Rattle.oz_cluster.specs.Streams.{script_limit}
 use Rattle.oz_cluster.proofs.Reading.{read_left, read_front, read_end}

@@ -1,12 +1,11 @@
-use Rattle.std.proofs.Common.{◌≡◌, ◌≢◌, ◌<◌, ◌+◌, ℕ, ◌++◌, ◌∷◌, [], List, refl, sym, ◌∙◌, ap, subst}
-use Rattle.oz_cluster.specs.declared.events.Event.{Event}
+use Rattle.std.proofs.Common.{◌≡◌, ◌≢◌, ◌<◌, ◌+◌, ℕ, ◌++◌, ◌∷◌, [], refl, sym, ◌∙◌, ap, subst}
 use Rattle.oz_cluster.specs.declared.requests.Reply.{Reply}
 use Rattle.oz_cluster.specs.declared.requests.Reply.TheVariants as reply
 use Rattle.oz_cluster.specs.declared.requests.Request.{Request}
 use Rattle.oz_cluster.specs.declared.requests.Request.TheVariants.{CreateVolume}
 use Rattle.oz_cluster.specs.Answers.{Answers, after}
 use Rattle.oz_cluster.specs.Fits.{request_of}
-use Rattle.oz_cluster.specs.Namespace.{Volumes, with_volume}
+use Rattle.oz_cluster.specs.Namespace.{with_volume}
 use Rattle.oz_cluster.specs.Steps.{ask_event, decide_event, swap_event, flushed_event, told_event}
 use Rattle.oz_cluster.proofs.Serving.{kept, made, moved}
 use Rattle.oz_cluster.proofs.manager.Manager.serve.Goals as goal

@@ -1,5 +1,4 @@
 use Rattle.std.proofs.Common.{◌∙◌, ap}
-use Rattle.std.specs.FinMap.{FinMap}
 use Rattle.oz_cluster.specs.Namespace.{Volumes, with_volume}
 use Rattle.oz_cluster.proofs.Volumes.{one_added}
 use Rattle.oz_cluster.proofs.model.Namespace.add.Goals as goal

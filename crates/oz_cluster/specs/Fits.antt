@@ -46,7 +46,6 @@ pub record HasStarted (story : List Event) (line : Line) : Type 0 where
 
 -- the script's line of this client and number
 pub record IsLineOf (script : Script) (client number : ℕ) (line : Line) : Type 0 where
-  pub place : ℕ
   pub before : List Line
   pub behind : List Line
   pub there : script.lines ≡ before ++ line ∷ behind

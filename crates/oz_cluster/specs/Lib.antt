@@ -7,6 +7,7 @@ pub mod Law
 pub mod Manager
 pub mod Names
 pub mod Namespace
+pub mod OpenFaults
 pub mod Opens
 pub mod PlainScript
 pub mod Quiet

@@ -1,0 +1,11 @@
+use Rattle.std.proofs.Common.{◌≡◌, ℕ, ◌+◌, ◌<◌, ◌≤◌, ◌^◌, false}
+use Rattle.oz_cluster.specs.Quiet.{IsServed}
+use Rattle.oz_cluster.proofs.work.serve_all.Given as goal
+
+abbrev pub invariant-loop-line : goal.invariant-loop-line
+invariant-loop-line g l = record {
+  running : l.manager.journal.stopped ≡ false;
+  counted : l.manager.index ≤ l.fn.manager.index + l.line-index;
+  falls : g.D.Disk.faults l.fn.manager.journal.disk ≤ g.D.Disk.faults l.manager.journal.disk;
+  served : IsServed (record { namespace = l.fn.manager.namespace; index = l.fn.manager.index }) l.fn.script l.manager.story.items l.line-index l.manager.namespace l.manager.index (g.D.Disk.clock l.manager.journal.disk);
+}

@@ -1,0 +1,122 @@
+ghost use Rattle.std.specs.Prelude.{◌≡◌, ◌≤◌, ◌<◌, ◌^◌, ◌⊎◌, [], ℕ, false, Some, IfOk, IfErr, IfSome, MatchOption, slice_get};
+ghost use Rattle.oz_world.specs.Faults.{Rose};
+ghost use Rattle.oz_journal.specs.Body.{bodies_in, places_in};
+ghost use Rattle.oz_cluster.specs.Namespace.{nothing};
+ghost use Rattle.oz_cluster.specs.OpenFaults.{as_open};
+ghost use Rattle.oz_cluster.specs.Opens.{IsNextBody, OpensFrom, IsWrongAt, Opens, IsDamagedDisk};
+
+use crate::manager::Manager;
+use crate::model::Namespace;
+use crate::names::volume_name;
+use crate::rows::read_body;
+use oz_fields::{Name, OutOfMemory};
+use oz_journal::{Body, Journal, LoadFault};
+use oz_world::Disk;
+use std::alloc::Global;
+
+/// Transaction indexes stay below this.
+const INDEX_LIMIT: u64 = 1 << 63;
+
+/// Why a manager's disk wasn't opened.
+#[derive(Clone, Copy, Debug, PartialEq, Eq)]
+pub enum OpenFault {
+    Disk,
+    /// The place on the disk where it isn't a manager's.
+    Damaged {
+        offset: u64,
+    },
+    OutOfMemory,
+}
+
+impl From<OutOfMemory> for OpenFault {
+    ghost use Rattle.std.specs.Prelude.{◌≡◌};
+    ghost use Rattle.oz_cluster.specs.declared.opening.OpenFault.TheVariants.{OutOfMemory};
+
+    ghost from_gives = { λ _ fault. fault ≡ OutOfMemory };
+
+    fn from(_: OutOfMemory) -> OpenFault {
+        OpenFault::OutOfMemory
+    }
+}
+
+fn open_fault(fault: LoadFault) -> OpenFault
+    ensures { result ≡ as_open fault }
+{
+    match fault {
+        LoadFault::Disk => OpenFault::Disk,
+        LoadFault::Damaged { offset } => OpenFault::Damaged { offset },
+        LoadFault::OutOfMemory => OpenFault::OutOfMemory,
+    }
+}
+
+/// The index and the volume of a body that may follow one of the last index.
+fn next_body(last: u64, bytes: &[u8]) -> Option<(u64, &[u8])>
+    ensures { MatchOption result
+        ((index : ℕ) (volume : _) → IsNextBody last bytes.now index volume → ⊥)
+        (λ row. IsNextBody last bytes.now row.0 row.1.now) }
+{
+    let (index, volume) = read_body(bytes)?;
+    if last < index && index < INDEX_LIMIT && volume_name(volume).is_ok() {
+        Some((index, volume))
+    } else {
+        None
+    }
+}
+
+/// What bodies lead to: the namespace and the last index.
+fn opening_of(alloc: Global, bodies: &[Body]) -> Result<(Namespace, u64), OpenFault>
+    ensures opens { IfOk result (λ opening. OpensFrom nothing 0 (bodies_in bodies.now)
+        (record { namespace = opening.0; index = opening.1 })) }
+    ensures fits { IfOk result (λ opening. opening.1 < 2 ^ 63) }
+    ensures damaged { IfErr result (λ fault. (offset : ℕ) → fault ≡ OpenFault.Damaged offset →
+        (count : ℕ) × IsWrongAt 0 (bodies_in bodies.now) count
+        × (slice_get (places_in bodies.now) count ≡ Some offset)) }
+    ensures disk { IfErr result (λ fault. fault ≡ OpenFault.Disk → ⊥) }
+{
+    let mut namespace = Namespace::new(alloc);
+    let mut index = 0;
+    for body in bodies {
+        let Some((next, volume)) = next_body(index, body.bytes.items()) else {
+            return Err(OpenFault::Damaged { offset: body.at });
+        };
+        let Ok(name) = Name::copy(alloc, volume) else {
+            return Err(OpenFault::OutOfMemory);
+        };
+        let Ok(()) = namespace.add(name) else {
+            return Err(OpenFault::OutOfMemory);
+        };
+        index = next;
+    }
+    Ok((namespace, index))
+}
+
+impl<D: Disk> Manager<D> {
+    /// The manager of a disk, with a story in which nothing has happened yet.
+    pub fn open(alloc: Global, disk: D) -> Result<Manager<D>, (D, OpenFault)>
+        ensures opens { IfOk result (λ manager. IfSome (D.told disk) (λ bytes.
+            Opens bytes (record { namespace = manager.namespace; index = manager.index }))) }
+        ensures story { IfOk result (λ manager. manager.story.items ≡ []) }
+        ensures running { IfOk result (λ manager. manager.journal.stopped ≡ false) }
+        ensures index { IfOk result (λ manager. manager.index < 2 ^ 63) }
+        ensures damaged { IfErr result (λ refused. (offset : ℕ) →
+            refused.1 ≡ OpenFault.Damaged offset →
+            IfSome (D.told disk) (λ bytes. IsDamagedDisk bytes offset)) }
+        ensures cause { IfErr result (λ refused.
+            refused.1 ≡ OpenFault.Disk → Rose (D.faults disk) (D.faults refused.0)) }
+        ensures never_falls { IfOk result (λ manager. D.faults disk ≤ D.faults manager.journal.disk) }
+    {
+        let (journal, bodies) = match Journal::load(alloc, disk) {
+            Ok(loaded) => loaded,
+            Err((disk, fault)) => return Err((disk, open_fault(fault))),
+        };
+        match opening_of(alloc, &bodies) {
+            Ok((namespace, index)) => Ok(Manager {
+                namespace,
+                journal,
+                index,
+                story: Vec::new(alloc),
+            }),
+            Err(fault) => Err((journal.into_disk(), fault)),
+        }
+    }
+}

@@ -11,9 +11,11 @@ pub mod OpenFaults
 pub mod Opens
 pub mod PlainScript
 pub mod Quiet
+pub mod Refusals
 pub mod Report
 pub mod Rows
 pub mod Script
+pub mod StatusCauses
 pub mod Steps
 pub mod Story
 pub mod Streams

@@ -6,6 +6,7 @@ pub mod manager;
 pub mod model;
 pub mod names;
 pub mod opening;
+mod refusal;
 pub mod report;
 pub mod requests;
 pub mod rows;

@@ -1,0 +1,132 @@
+ghost use Rattle.std.specs.Prelude.{◌≡◌, ◌⊎◌, ◌≤◌, ◌++◌, [], ℕ, List as Items, Option, map, IfOk, IfErr};
+ghost use Rattle.std.specs.String.{string_bytes};
+ghost use Rattle.oz_world.specs.Faults.{Rose};
+ghost use Rattle.oz_cluster.specs.Refusals.{status_of, text_of, IsScriptOf, IsSo, Says};
+ghost use Rattle.oz_cluster.specs.Script.{IsNumbered};
+ghost use Rattle.oz_cluster.specs.Streams.{script_limit, TakesUpTo};
+ghost use Rattle.oz_cluster.specs.Words.{IsRun};
+
+use crate::report;
+use crate::script::{Cause, Script, ScriptFault, parse};
+use crate::streams::{ReadFault, read_script, write_all};
+use crate::words::read_words;
+use oz_fields::OutOfMemory;
+use oz_world::{Sink, Source};
+use std::alloc::Global;
+
+/// What stops a run before its work.
+#[derive(Clone, Copy, Debug, PartialEq, Eq)]
+pub enum Refusal {
+    /// The place, from 1, of the first word of the command line that is wrong.
+    Words {
+        place: usize,
+    },
+    Read,
+    /// The first line with a fault, from 1, and 0 for the script as a whole.
+    Script {
+        line: u64,
+        cause: Cause,
+    },
+    Disk,
+    /// The place on the manager's disk, in bytes.
+    Damaged {
+        offset: u64,
+    },
+    OutOfMemory,
+}
+
+impl Refusal {
+    /// The status that the program ends with.
+    pub fn status(self) -> u8
+        ensures { result ≡ status_of self }
+    {
+        match self {
+            Refusal::Script { .. } => 1,
+            Refusal::Words { .. } => 2,
+            Refusal::Read => 3,
+            Refusal::Disk => 5,
+            Refusal::Damaged { .. } => 6,
+            Refusal::OutOfMemory => 7,
+        }
+    }
+
+    /// The line that is written.
+    pub fn text(self, alloc: Global) -> Result<Vec<u8>, OutOfMemory>
+        ensures { IfOk result (λ text. text.items ≡ text_of self) }
+    {
+        match self {
+            Refusal::Script { line, cause } => report::script_text(alloc, line, cause.text()),
+            Refusal::Words { place } => report::words_text(alloc, place),
+            Refusal::Read => copied(alloc, report::read_fault_text()),
+            Refusal::Disk => copied(alloc, report::disk_fault_text()),
+            Refusal::Damaged { offset } => report::damaged_text(alloc, offset),
+            Refusal::OutOfMemory => copied(alloc, report::out_of_memory_text()),
+        }
+    }
+}
+
+fn copied(alloc: Global, text: &str) -> Result<Vec<u8>, OutOfMemory>
+    ensures { IfOk result (λ copy. copy.items ≡ text.now) }
+{
+    let mut copy = Vec::new(alloc);
+    copy.extend_from_slice(text.as_bytes())?;
+    Ok(copy)
+}
+
+/// Writes a text, or as much of it as the sink takes.
+pub fn say<K: Sink>(out: &mut K, text: &[u8])
+    ensures said { Says text.now (K.held out.old) (K.held out.new) (Rose (K.faults out.old) (K.faults out.new)) }
+    ensures never_falls { K.faults out.old ≤ K.faults out.new }
+{
+    match write_all(out, text) {
+        Ok(()) => {}
+        Err(_) => {}
+    }
+}
+
+/// Writes why a run was stopped, and answers its status.
+pub fn refuse<K: Sink>(alloc: Global, out: &mut K, refusal: Refusal) -> u8
+    ensures stopped { (result ≡ 7) ⊎ ((result ≡ status_of refusal)
+        × Says (text_of refusal) (K.held out.old) (K.held out.new) (Rose (K.faults out.old) (K.faults out.new))) }
+    ensures never_falls { K.faults out.old ≤ K.faults out.new }
+{
+    let Ok(text) = refusal.text(alloc) else {
+        say(out, report::out_of_memory_text().as_bytes());
+        return 7;
+    };
+    say(out, &text);
+    refusal.status()
+}
+
+/// Reads the words, and then the script to its end.
+pub fn begin<S: Source>(
+    alloc: Global,
+    words: &[String],
+    source: &mut S,
+) -> Result<Script, Refusal>
+    ensures words { IfOk result (λ _. IsRun (map string_bytes words.now)) }
+    ensures script { IfOk result (IsScriptOf (S.left source.old)) }
+    ensures numbered { IfOk result IsNumbered }
+    ensures so { IfErr result (λ refusal. (disk : Option (Items ℕ)) →
+        IsSo (map string_bytes words.now) (S.left source.old) disk refusal) }
+    ensures cause { IfErr result (λ refusal. refusal ≡ Refusal.Read →
+        Rose (S.faults source.old) (S.faults source.new)) }
+    ensures early { IfErr result (λ refusal. refusal ≡ Refusal.Disk → ⊥) }
+    ensures undamaged { IfErr result (λ refusal. (offset : ℕ) → refusal ≡ Refusal.Damaged offset → ⊥) }
+    ensures taken { TakesUpTo script_limit (S.left source.old) (S.left source.new) }
+    ensures never_falls { S.faults source.old ≤ S.faults source.new }
+{
+    if let Err(place) = read_words(words) {
+        return Err(Refusal::Words { place });
+    }
+    let text = match read_script(alloc, source) {
+        Ok(text) => text,
+        Err(ReadFault::Failed) => return Err(Refusal::Read),
+        Err(ReadFault::OutOfMemory) => return Err(Refusal::OutOfMemory),
+    };
+    match parse(alloc, &text) {
+        Ok(script) => Ok(script),
+        Err(ScriptFault::At { line, cause }) => Err(Refusal::Script { line, cause }),
+        Err(ScriptFault::OutOfMemory) => Err(Refusal::OutOfMemory),
+    }
+}

@@ -1,11 +1,19 @@
--- What a fault of the journal is to the manager that opens it.
+-- What a fault of the journal is to the manager that opens it, and to the run.
 use Rattle.std.specs.Prelude.{ℕ}
 use Rattle.oz_journal.specs.declared.load_fault.LoadFault.{LoadFault}
 use Rattle.oz_journal.specs.declared.load_fault.LoadFault.TheVariants as load
 use Rattle.oz_cluster.specs.declared.opening.OpenFault.{OpenFault}
 use Rattle.oz_cluster.specs.declared.opening.OpenFault.TheVariants as fault
+use Rattle.oz_cluster.specs.declared.refusal.Refusal.{Refusal}
+use Rattle.oz_cluster.specs.declared.refusal.Refusal.TheVariants as refusal
 
 abbrev pub as_open : LoadFault → OpenFault
 as_open load.Disk = fault.Disk
 as_open (load.Damaged offset) = fault.Damaged offset
 as_open load.OutOfMemory = fault.OutOfMemory
+
+-- what stops the run
+abbrev pub as_refusal : OpenFault → Refusal
+as_refusal fault.Disk = refusal.Disk
+as_refusal (fault.Damaged offset) = refusal.Damaged offset
+as_refusal fault.OutOfMemory = refusal.OutOfMemory

@@ -10,6 +10,7 @@ mod refusal;
 pub mod report;
 pub mod requests;
 pub mod rows;
+pub mod run;
 pub mod script;
 mod streams;
 pub mod words;

@@ -1,5 +1,6 @@
 //! Tests of the crates that everything else stands on.
 #![tactic(auto)]
+
 mod fields;
 mod journal;
 #[cfg(test)]

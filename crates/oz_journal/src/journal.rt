@@ -152,8 +152,8 @@ impl<D: Disk> Journal<D> {
         self.disk.faults()
     }
 
-    /// Takes all bodies away. A stop in the middle of it may leave anything that is no longer than the
-    /// disk was. After `Failed` the journal is stopped.
+    /// Takes all bodies away. Nothing is promised of what a stop in the middle of it leaves. After
+    /// `Failed` the journal is stopped.
     pub fn clear(&mut self) -> Result<(), Failed>
         requires { self.old.stopped ≡ false }
         ensures bodies { (bodies : List (List ℕ)) → StandsFor (D.told self.old.disk) bodies →

@@ -1,4 +1,4 @@
-use Rattle.std.proofs.Common.{◌≡◌, ℕ, List, [], ◌∷◌, ◌++◌, ap}
+use Rattle.std.proofs.Common.{[], ◌∷◌, ◌++◌}
 use Rattle.oz_journal.specs.Journal.{body_of, IsBeforeOrAfter}
 use Rattle.oz_journal.proofs.Moments.{leave_then}
 use Rattle.ground_tests.specs.Both.{IsNoneOneOrBoth}

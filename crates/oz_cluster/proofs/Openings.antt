@@ -1,13 +1,11 @@
 -- What loading leads to, a body further on.
-use Rattle.std.proofs.Common.{◌≡◌, ◌⊎◌, inl, IfSome, Option, None, ℕ, ◌+◌, ◌<◌, ◌≤◌, zero, suc, List, [], ◌∷◌, length, get_or, drop, map, Some, refl, sym, ◌∙◌, ap, subst, arith, slice_get}
-use Rattle.std.proofs.lemmas.List.{drop_more, drop_all}
+use Rattle.std.proofs.Common.{◌≡◌, inl, IfSome, Option, None, ℕ, ◌+◌, ◌<◌, zero, suc, List, [], ◌∷◌, length, get_or, drop, Some, refl, sym, ◌∙◌, ap, subst, arith, slice_get}
 use Rattle.oz_journal.specs.declared.body.Body.{Body}
 use Rattle.oz_journal.specs.Body.{bodies_in, places_in}
-use Rattle.oz_cluster.specs.Namespace.{Volumes, nothing, with_volume}
+use Rattle.oz_cluster.specs.Namespace.{Volumes, with_volume}
 use Rattle.oz_journal.specs.Grammar.{IsDamagedAt}
 use Rattle.oz_journal.specs.declared.load_fault.LoadFault.{LoadFault}
 use Rattle.oz_journal.specs.declared.load_fault.LoadFault.TheVariants as load
-use Rattle.oz_cluster.specs.declared.opening.OpenFault.{OpenFault}
 use Rattle.oz_cluster.specs.declared.opening.OpenFault.TheVariants as open_faults
 use Rattle.oz_cluster.specs.OpenFaults.{as_open}
 use Rattle.oz_cluster.specs.Opens.{IsNextBody, OpensFrom, IsWrongAt, IsDamagedDisk}

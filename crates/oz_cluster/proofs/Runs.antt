@@ -1,5 +1,5 @@
 -- What a run begins with, and what serving all lines leaves.
-use Rattle.std.proofs.Common.{⊎_elim, ◌≡◌, ◌≢◌, ℕ, ◌+◌, ◌<◌, ◌≤◌, zero, suc, Bool, true, false, ◌==◌, List, [], ◌∷◌, ◌++◌, map, filter, length, get_or, None, refl, sym, ◌∙◌, ap, subst, arith, if◌then◌else◌}
+use Rattle.std.proofs.Common.{⊎_elim, ◌≡◌, ◌≢◌, ℕ, ◌+◌, ◌<◌, ◌≤◌, zero, suc, Bool, false, ◌==◌, List, [], ◌∷◌, ◌++◌, map, filter, length, get_or, None, refl, sym, ◌∙◌, ap, subst, arith, if◌then◌else◌}
 use Rattle.std.proofs.lemmas.Bool.{cases_Bool, eq-eqb, ne_eqb, eqb-true, false≢true}
 use Rattle.std.proofs.lemmas.List.{append-nil, append_assoc}
 use Rattle.oz_world.specs.Faults.{Rose}
@@ -105,14 +105,14 @@ not_one client other same = absurd (false≢true (sym other ∙ eq-eqb client 1 
 pub fits_all : (opening : Opening) (script : Script) (story : List Event) (namespace : Volumes) (index clock : ℕ) → AreNumberedFrom 1 script.lines → IsServed opening script story (length script.lines) namespace index clock → Fits script story
 unfolding counted
 fits_all opening script story namespace index clock numbered served =
-  let from_none : length script.lines ≡ 0 + length script.lines = omega arith in
-  record {
-  steps = served.fits;
-  all_told = λ client. ⊎_elim
-    (λ same. subst (λ (c : ℕ). told_lines c story ≡ lines_of script c) (sym (eqb-true client 1 same)) (served.quiet.all_told ∙ (ap counted from_none ∙ sym (counts_up script.lines 0 numbered))))
-    (λ other. served.quiet.others client (not_one client other) ∙ ap (map (λ (line : Line). line.number)) (sym (none_of script.lines 1 client (not_one client other) numbered)))
-    (cases_Bool (client == 1));
-}
+    let from_none : length script.lines ≡ 0 + length script.lines = omega arith in
+    record {
+      steps = served.fits;
+      all_told = λ client. ⊎_elim
+          (λ same. subst (λ (c : ℕ). told_lines c story ≡ lines_of script c) (sym (eqb-true client 1 same)) (served.quiet.all_told ∙ (ap counted from_none ∙ sym (counts_up script.lines 0 numbered))))
+          (λ other. served.quiet.others client (not_one client other) ∙ ap (map (λ (line : Line). line.number)) (sym (none_of script.lines 1 client (not_one client other) numbered)))
+          (cases_Bool (client == 1));
+    }
 
 pub rose_later : (first before after : ℕ) → first ≤ before → Rose before after → Rose first after
 rose_later first before after le rose = omega (arith, le, rose)

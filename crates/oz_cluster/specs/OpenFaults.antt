@@ -1,5 +1,4 @@
 -- What a fault of the journal is to the manager that opens it, and to the run.
-use Rattle.std.specs.Prelude.{ℕ}
 use Rattle.oz_journal.specs.declared.load_fault.LoadFault.{LoadFault}
 use Rattle.oz_journal.specs.declared.load_fault.LoadFault.TheVariants as load
 use Rattle.oz_cluster.specs.declared.opening.OpenFault.{OpenFault}

@@ -22,9 +22,7 @@ const INDEX_LIMIT: u64 = 1 << 63;
 pub enum OpenFault {
     Disk,
     /// The place on the disk where it isn't a manager's.
-    Damaged {
-        offset: u64,
-    },
+    Damaged { offset: u64 },
     OutOfMemory,
 }
 

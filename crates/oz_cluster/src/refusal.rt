@@ -18,20 +18,13 @@ use std::alloc::Global;
 #[derive(Clone, Copy, Debug, PartialEq, Eq)]
 pub enum Refusal {
     /// The place, from 1, of the first word of the command line that is wrong.
-    Words {
-        place: usize,
-    },
+    Words { place: usize },
     Read,
     /// The first line with a fault, from 1, and 0 for the script as a whole.
-    Script {
-        line: u64,
-        cause: Cause,
-    },
+    Script { line: u64, cause: Cause },
     Disk,
     /// The place on the manager's disk, in bytes.
-    Damaged {
-        offset: u64,
-    },
+    Damaged { offset: u64 },
     OutOfMemory,
 }
 
@@ -99,11 +92,7 @@ pub fn refuse<K: Sink>(alloc: Global, out: &mut K, refusal: Refusal) -> u8
 }
 
 /// Reads the words, and then the script to its end.
-pub fn begin<S: Source>(
-    alloc: Global,
-    words: &[String],
-    source: &mut S,
-) -> Result<Script, Refusal>
+pub fn begin<S: Source>(alloc: Global, words: &[String], source: &mut S) -> Result<Script, Refusal>
     ensures words { IfOk result (λ _. IsRun (map string_bytes words.now)) }
     ensures script { IfOk result (IsScriptOf (S.left source.old)) }
     ensures numbered { IfOk result IsNumbered }

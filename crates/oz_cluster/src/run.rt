@@ -138,7 +138,13 @@ pub fn run<R: Wait, S: Source, K: Sink, D: Disk, G: Gate>(
     let worked = serve_all(rt, alloc, gate, &script, &mut manager);
     let Manager { journal, story, .. } = manager;
     Ended {
-        status: finish(alloc, out, script.lines.items().len() as u64, &story, worked),
+        status: finish(
+            alloc,
+            out,
+            script.lines.items().len() as u64,
+            &story,
+            worked,
+        ),
         story,
         disks: Disks {
             manager: journal.into_disk(),

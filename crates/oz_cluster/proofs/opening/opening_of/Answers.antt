@@ -1,7 +1,6 @@
-use Rattle.std.proofs.Common.{◌≡◌, ◌<◌, ◌+◌, ℕ, List, suc, sym, ◌∙◌, ap, subst, arith, length, get_or, slice_get, Some, drop}
+use Rattle.std.proofs.Common.{◌≡◌, ◌+◌, ℕ, List, suc, sym, ◌∙◌, ap, subst, arith, Some, drop}
 use Rattle.std.proofs.lemmas.List.{drop_all}
-use Rattle.oz_journal.specs.declared.body.Body.{Body}
-use Rattle.oz_journal.specs.Body.{bodies_in, places_in}
+use Rattle.oz_journal.specs.Body.{bodies_in}
 use Rattle.oz_cluster.specs.Namespace.{Volumes, with_volume}
 use Rattle.oz_cluster.specs.Opens.{IsNextBody, IsWrongAt, OpensFrom}
 use Rattle.oz_cluster.proofs.Openings.{bodies_from, place_at, leads_on, wrong_on, wrong_here, ends_here, length-bodies_in}

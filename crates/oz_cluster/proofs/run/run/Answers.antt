@@ -1,12 +1,9 @@
-use Rattle.std.proofs.Common.{◌≡◌, ◌≤◌, ◌++◌, ℕ, List, [], length, map, take, Option, IfSome, OnOk, IsErrOf, Err, Ok, refl, sym, ◌∙◌, ap, subst, arith}
+use Rattle.std.proofs.Common.{◌≡◌, ◌++◌, ℕ, List, length, map, OnOk, IsErrOf, refl, sym, ◌∙◌, ap, subst}
 use Rattle.std.specs.Option.{option_map}
 use Rattle.std.specs.String.{string_bytes}
 use Rattle.oz_world.specs.Faults.{Rose}
 use Rattle.oz_cluster.specs.declared.events.Event.{Event}
-use Rattle.oz_cluster.specs.declared.manager.Trouble.{Trouble}
 use Rattle.oz_cluster.specs.declared.manager.Trouble.TheVariants as trouble
-use Rattle.oz_cluster.specs.declared.refusal.Refusal.{Refusal}
-use Rattle.oz_cluster.specs.OpenFaults.{as_refusal}
 use Rattle.oz_cluster.specs.Quiet.{IsServed}
 use Rattle.oz_cluster.specs.Refusals.{IsSo}
 use Rattle.oz_cluster.specs.Report.{report_of}
@@ -26,10 +23,10 @@ returns-in-Err-open-clause-causes g c =
     let told = g.D.Disk.told c.args.disks.manager in
     let so = open_so (map string_bytes c.args.words.now) (g.S.Source.left c.args.source.now) told why c.in-Ok.ensures.words (c.in-Ok.script, c.in-Ok.ensures.script) c.in-Err-open.ensures.damaged in
     refused _ _ _ _ _ _ _ _ c.refusal_of.result c.refuse-in-Err-open.result
-      (subst (IsSo (map string_bytes c.args.words.now) (g.S.Source.left c.args.source.now) told) (sym is) so)
-      (λ read. absurd (never_read why (sym is ∙ read)))
-      (λ failed. c.in-Err-open.ensures.cause (disk_fails why (sym is ∙ failed)))
-      c.refuse-in-Err-open.ensures.stopped
+    (subst (IsSo (map string_bytes c.args.words.now) (g.S.Source.left c.args.source.now) told) (sym is) so)
+    (λ read. absurd (never_read why (sym is ∙ read)))
+    (λ failed. c.in-Err-open.ensures.cause (disk_fails why (sym is ∙ failed)))
+    c.refuse-in-Err-open.ensures.stopped
 
 pub returns-clause-one_run : goal.returns-clause-one_run
 returns-clause-one_run g c done =
@@ -51,5 +48,5 @@ returns-clause-causes g c =
     let begun : HasBegun (map string_bytes c.args.words.now) (g.S.Source.left c.args.source.now) (g.D.Disk.told c.args.disks.manager) = record { words = c.in-Ok.ensures.words; script = (c.in-Ok.script, c.in-Ok.ensures.script); opens = some_opens (g.D.Disk.told c.args.disks.manager) opening c.in-Ok-open.ensures.opens } in
     let failed : c.finish.result ≡ 5 → Rose (g.D.Disk.faults c.args.disks.manager) (g.D.Disk.faults manager.journal.disk) = λ is. rose_later _ _ _ c.in-Ok-open.ensures.never_falls (c.serve_all-worked.ensures.cause (subst (λ r. IsErrOf r trouble.Disk) (sym (c.finish.ensures.disk is)) refl)) in
     worked _ _ _ _ _ _ _ _ c.finish.result c.finish.ensures.known begun c.finish.ensures.unwritten
-      (λ is. subst (λ disk. Rose (g.D.Disk.faults c.args.disks.manager) (g.D.Disk.faults disk)) (sym c.into_disk.ensures) (failed is))
-      c.finish.ensures.others.0 c.finish.ensures.others.1 c.finish.ensures.others.2 c.finish.ensures.others.3
+    (λ is. subst (λ disk. Rose (g.D.Disk.faults c.args.disks.manager) (g.D.Disk.faults disk)) (sym c.into_disk.ensures) (failed is))
+    c.finish.ensures.others.0 c.finish.ensures.others.1 c.finish.ensures.others.2 c.finish.ensures.others.3

@@ -1,4 +1,4 @@
-use Rattle.std.proofs.Common.{◌≡◌, ℕ, ◌+◌, ◌<◌, ◌≤◌, ◌^◌, false}
+use Rattle.std.proofs.Common.{◌≡◌, ◌+◌, ◌≤◌, false}
 use Rattle.oz_cluster.specs.Quiet.{IsServed}
 use Rattle.oz_cluster.proofs.work.serve_all.Given as goal
 

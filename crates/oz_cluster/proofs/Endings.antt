@@ -1,5 +1,5 @@
 -- Why a run ends with its status, and what a run that was done is.
-use Rattle.std.proofs.Common.{◌≡◌, ◌⊎◌, ⊎_elim, ℕ, ◌≤◌, List, ◌++◌, length, take, Option, Some, None, IfSome, refl, sym, ◌∙◌, subst, arith}
+use Rattle.std.proofs.Common.{◌≡◌, ◌⊎◌, ⊎_elim, ℕ, ◌≤◌, List, ◌++◌, length, Option, Some, None, IfSome, refl, sym, ◌∙◌, subst, arith}
 use Rattle.std.specs.Option.{option_map}
 use Rattle.oz_cluster.specs.declared.events.Event.{Event}
 use Rattle.oz_cluster.specs.declared.opening.OpenFault.{OpenFault}
@@ -17,7 +17,6 @@ use Rattle.oz_cluster.specs.Report.{report_of}
 use Rattle.oz_cluster.specs.Script.{IsNumbered}
 use Rattle.oz_cluster.specs.StatusCauses.{HasBegun, HasStopped, StatusCauses}
 use Rattle.oz_cluster.specs.Story.{Opening}
-use Rattle.oz_cluster.specs.Streams.{script_limit}
 use Rattle.oz_cluster.specs.Words.{IsRun}
 use Rattle.oz_cluster.proofs.Headlines.{replies, asks, acknowledges}
 use Rattle.oz_cluster.proofs.Runs.{fits_all}
@@ -135,10 +134,8 @@ some_opens (Some bytes) opening opens = (opening, opens)
 
 pub one_run : (left told before after : Option (List ℕ)) (opening : Opening) (script : Lines) (story : List Event) (namespace : Volumes) (index clock : ℕ)
     → IsScriptOf left script → IsNumbered script → IfSome told (λ bytes. Opens bytes opening) → IsServed opening script story (length script.lines) namespace index clock
-    → after ≡ option_map (λ held. held ++ report_of (length script.lines) story) before → IfSome left (λ text. IfSome told (λ bytes. IsOneRun bytes (take script_limit text) story before after))
-one_run None told before after opening script story namespace index clock parsed numbered opens served printed = tt
-one_run (Some text) None before after opening script story namespace index clock parsed numbered opens served printed = tt
-one_run (Some text) (Some bytes) before after opening script story namespace index clock parsed numbered opens served printed = record {
+    → after ≡ option_map (λ held. held ++ report_of (length script.lines) story) before → IsOneRun told left story before after
+one_run left told before after opening script story namespace index clock parsed numbered opens served printed = record {
   opening = opening;
   script = script;
   opens = opens;

@@ -1,5 +1,5 @@
 -- What a run promises of the story that it prints.
-use Rattle.std.specs.Prelude.{◌≡◌, ◌≢◌, ℕ, ◌-◌, ◌<◌, ◌≤◌, true, List, ◌∷◌, ◌++◌, length, Option, Some, Ok}
+use Rattle.std.specs.Prelude.{◌≡◌, ◌≢◌, ℕ, ◌-◌, ◌<◌, ◌≤◌, true, List, ◌∷◌, ◌++◌, length, Option, Some, IfSome}
 use Rattle.std.specs.Option.{option_map}
 use Rattle.oz_cluster.specs.declared.events.Event.{Event}
 use Rattle.oz_cluster.specs.declared.events.EventKind.TheVariants.{Ask, Decide, Told}
@@ -14,7 +14,7 @@ use Rattle.oz_cluster.specs.Fits.{Fits}
 use Rattle.oz_cluster.specs.Law.{IsLegal}
 use Rattle.oz_cluster.specs.Opens.{Opens}
 use Rattle.oz_cluster.specs.Report.{report_of}
-use Rattle.oz_cluster.specs.Script.{script_of}
+use Rattle.oz_cluster.specs.Refusals.{IsScriptOf}
 use Rattle.oz_cluster.specs.Story.{Opening, is_told, pending, line_index, durable_index, namespace_of}
 
 -- each reply is the one-thread namespace's at its place, to the request that its line had asked
@@ -48,10 +48,11 @@ pub record Headline (opening : Opening) (script : Script) (story : List Event) (
   pub after_all_seen : AsksAfterTold story
   pub acknowledged : ToldIsStable opening story
 
--- a run of the script that the text says, over what the manager's disk stood for
-pub record IsOneRun (disk text : List ℕ) (story : List Event) (held_before held_after : Option (List ℕ)) : Type 0 where
+-- A run of a script over an opening. Where the manager's disk tells its bytes it stood for the opening, and where the
+-- source tells its text that said the script.
+pub record IsOneRun (disk left : Option (List ℕ)) (story : List Event) (held_before held_after : Option (List ℕ)) : Type 0 where
   pub opening : Opening
   pub script : Script
-  pub opens : Opens disk opening
-  pub parsed : script_of text ≡ Ok script
+  pub opens : IfSome disk (λ bytes. Opens bytes opening)
+  pub parsed : IsScriptOf left script
   pub headline : Headline opening script story held_before held_after

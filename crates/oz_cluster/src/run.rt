@@ -1,4 +1,4 @@
-ghost use Rattle.std.specs.Prelude.{◌≡◌, ◌≤◌, ◌++◌, [], length, map, take, IfSome, OnErr, Ok as IsOk, Err as IsErr};
+ghost use Rattle.std.specs.Prelude.{◌≡◌, ◌≤◌, ◌++◌, map};
 ghost use Rattle.std.specs.Option.{option_map};
 ghost use Rattle.std.specs.String.{string_bytes};
 ghost use Rattle.oz_world.specs.Faults.{Rose};
@@ -59,11 +59,11 @@ fn finish<K: Sink>(
     worked: Result<(), Trouble>,
 ) -> u8
     ensures known { result ≤ 7 }
-    ensures done { result ≡ 0 → worked ≡ IsOk tt }
+    ensures done { result ≡ 0 → worked ≡ Ok tt }
     ensures printed { result ≡ 0 →
         K.held out.new ≡ option_map (λ held. held ++ report_of lines story.now) (K.held out.old) }
     ensures unwritten { result ≡ 4 → Rose (K.faults out.old) (K.faults out.new) }
-    ensures disk { result ≡ 5 → worked ≡ IsErr Trouble.Disk }
+    ensures disk { result ≡ 5 → worked ≡ Err Trouble.Disk }
     ensures others { (result ≡ 1 → ⊥) × (result ≡ 2 → ⊥) × (result ≡ 3 → ⊥) × (result ≡ 6 → ⊥) }
     ensures never_falls { K.faults out.old ≤ K.faults out.new }
 {
@@ -91,8 +91,8 @@ pub fn run<R: Wait, S: Source, K: Sink, D: Disk, G: Gate>(
     disks: Disks<D>,
     gate: &G,
 ) -> Ended<D>
-    ensures one_run { result.status ≡ 0 → IfSome (S.left source.old) (λ text. IfSome (D.told disks.manager) (λ bytes.
-        IsOneRun bytes (take script_limit text) result.story.items (K.held out.old) (K.held out.new))) }
+    ensures one_run { result.status ≡ 0 → IsOneRun (D.told disks.manager) (S.left source.old)
+        result.story.items (K.held out.old) (K.held out.new) }
     ensures causes { StatusCauses (map string_bytes words.now) (S.left source.old) (D.told disks.manager)
         (K.held out.old) (K.held out.new)
         (Rose (S.faults source.old) (S.faults source.new))

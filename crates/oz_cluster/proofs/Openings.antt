@@ -1,6 +1,6 @@
 -- What loading leads to, a body further on.
 use Rattle.std.proofs.Common.{append-nil, ◌==◌, ◌&&◌, if◌then◌else◌, ◌^◌, ◌++◌, ◌≡◌, inl, IfSome, Option, None, ℕ, ◌+◌, ◌<◌, zero, suc, List, [], ◌∷◌, length, get_or, drop, Some, refl, sym, ◌∙◌, ap, subst, arith, slice_get}
-use Rattle.oz_fields.specs.Field.{IsField, ◌>>=◌}
+use Rattle.oz_fields.specs.Field.{◌>>=◌}
 use Rattle.oz_fields.specs.Number.{u64_bytes, u8_at, u64_at}
 use Rattle.oz_fields.specs.Text.{text_bytes, text_at}
 use Rattle.oz_fields.proofs.Numbers.{u8_field, u64_field}

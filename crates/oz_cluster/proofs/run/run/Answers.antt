@@ -41,7 +41,7 @@ returns-clause-one_run g c done =
     let of_story = subst (λ (story : List Event). after ≡ option_map (λ held. held ++ report_of (length c.items.result.now) story) before) c.deref.ensures.value printed in
     let report = subst (λ (n : ℕ). after ≡ option_map (λ held. held ++ report_of n manager.story.items) before) lines of_story in
     let stands = stands_then (g.D.Disk.told c.args.disks.manager) (g.D.Disk.told c.in-Ok-open.manager.journal.disk) (g.D.Disk.told manager.journal.disk) opening.namespace manager.namespace opening.index manager.index c.in-Ok-open.ensures.stands
-        (λ was. subst (λ r. OnOk r (StandsAs (g.D.Disk.told manager.journal.disk) manager.namespace manager.index)) (c.finish.ensures.done done) (c.serve_all-worked.ensures.reopens was)) in
+    (λ was. subst (λ r. OnOk r (StandsAs (g.D.Disk.told manager.journal.disk) manager.namespace manager.index)) (c.finish.ensures.done done) (c.serve_all-worked.ensures.reopens was)) in
     let after_all = subst (λ disk. IfSome (g.D.Disk.told c.args.disks.manager) (λ bytes. StandsAs (g.D.Disk.told disk) manager.namespace manager.index)) (sym c.into_disk.ensures) stands in
     one_run _ _ _ _ _ opening c.in-Ok.script manager.story.items manager.namespace manager.index _ c.in-Ok.ensures.script c.in-Ok.ensures.numbered c.in-Ok-open.ensures.opens served report after_all
 

@@ -10,13 +10,13 @@ use Rattle.oz_cluster.specs.declared.script.Script.{Script as Lines}
 use Rattle.oz_cluster.specs.Headline.{IsOneRun}
 use Rattle.oz_cluster.specs.Namespace.{Volumes}
 use Rattle.oz_cluster.specs.OpenFaults.{as_refusal}
-use Rattle.oz_cluster.specs.Opens.{Opens, IsDamagedDisk}
+use Rattle.oz_cluster.specs.Opens.{Opens, IsDamagedDisk, StandsAs}
 use Rattle.oz_cluster.specs.Quiet.{IsServed}
 use Rattle.oz_cluster.specs.Refusals.{status_of, text_of, IsScript, IsScriptOf, IsSo, Says}
 use Rattle.oz_cluster.specs.Report.{report_of}
 use Rattle.oz_cluster.specs.Script.{IsNumbered}
 use Rattle.oz_cluster.specs.StatusCauses.{HasBegun, HasStopped, StatusCauses}
-use Rattle.oz_cluster.specs.Story.{Opening}
+use Rattle.oz_cluster.specs.Story.{Opening, namespace_of}
 use Rattle.oz_cluster.specs.Words.{IsRun}
 use Rattle.oz_cluster.proofs.Headlines.{replies, asks, acknowledges}
 use Rattle.oz_cluster.proofs.Runs.{fits_all}
@@ -132,10 +132,10 @@ pub some_opens : (told : Option (List ℕ)) (opening : Opening) → IfSome told 
 some_opens None opening opens = tt
 some_opens (Some bytes) opening opens = (opening, opens)
 
-pub one_run : (left told before after : Option (List ℕ)) (opening : Opening) (script : Lines) (story : List Event) (namespace : Volumes) (index clock : ℕ)
+pub one_run : (left told told_after before after : Option (List ℕ)) (opening : Opening) (script : Lines) (story : List Event) (namespace : Volumes) (index clock : ℕ)
     → IsScriptOf left script → IsNumbered script → IfSome told (λ bytes. Opens bytes opening) → IsServed opening script story (length script.lines) namespace index clock
-    → after ≡ option_map (λ held. held ++ report_of (length script.lines) story) before → IsOneRun told left story before after
-one_run left told before after opening script story namespace index clock parsed numbered opens served printed = record {
+    → after ≡ option_map (λ held. held ++ report_of (length script.lines) story) before → IfSome told (λ bytes. StandsAs told_after namespace index) → IsOneRun told told_after left story before after
+one_run left told told_after before after opening script story namespace index clock parsed numbered opens served printed stands = record {
   opening = opening;
   script = script;
   opens = opens;
@@ -147,4 +147,12 @@ one_run left told before after opening script story namespace index clock parsed
     after_all_seen = asks script story served.fits;
     acknowledged = acknowledges opening story served.legal;
   };
+  reopens =
+      let of_story = subst (λ (n : Volumes). IfSome told (λ bytes. StandsAs told_after n index)) (sym served.quiet.stands_for) stands in
+      subst (λ (i : ℕ). IfSome told (λ bytes. StandsAs told_after (namespace_of opening story) i)) (sym served.quiet.decided) of_story;
 }
+
+-- where it stood for the opening, it stands for the end
+pub stands_then : (told after : Option (List ℕ)) (end : Option (List ℕ)) (namespace later : Volumes) (index last : ℕ) → IfSome told (λ bytes. StandsAs after namespace index) → (StandsAs after namespace index → StandsAs end later last) → IfSome told (λ bytes. StandsAs end later last)
+stands_then None after end namespace later index last stands goes = tt
+stands_then (Some bytes) after end namespace later index last stands goes = goes stands

@@ -1,14 +1,21 @@
 -- What loading leads to, a body further on.
-use Rattle.std.proofs.Common.{◌≡◌, inl, IfSome, Option, None, ℕ, ◌+◌, ◌<◌, zero, suc, List, [], ◌∷◌, length, get_or, drop, Some, refl, sym, ◌∙◌, ap, subst, arith, slice_get}
+use Rattle.std.proofs.Common.{append-nil, ◌==◌, ◌&&◌, if◌then◌else◌, ◌^◌, ◌++◌, ◌≡◌, inl, IfSome, Option, None, ℕ, ◌+◌, ◌<◌, zero, suc, List, [], ◌∷◌, length, get_or, drop, Some, refl, sym, ◌∙◌, ap, subst, arith, slice_get}
+use Rattle.oz_fields.specs.Field.{◌>>=◌}
+use Rattle.oz_fields.specs.Number.{u64_bytes, u8_at, u64_at}
+use Rattle.oz_fields.specs.Text.{text_bytes, text_at}
+use Rattle.oz_fields.proofs.Numbers.{u8_field, u64_field}
+use Rattle.oz_fields.proofs.Texts.{text_field}
+use Rattle.oz_cluster.specs.Names.{IsVolumeName}
+use Rattle.oz_cluster.specs.Rows.{put_volume, body_bytes, body_at}
 use Rattle.oz_journal.specs.declared.body.Body.{Body}
 use Rattle.oz_journal.specs.Body.{bodies_in, places_in}
-use Rattle.oz_cluster.specs.Namespace.{Volumes, with_volume}
-use Rattle.oz_journal.specs.Grammar.{IsDamagedAt}
+use Rattle.oz_cluster.specs.Namespace.{Volumes, nothing, with_volume}
+use Rattle.oz_journal.specs.Grammar.{IsDamagedAt, StandsFor}
 use Rattle.oz_journal.specs.declared.load_fault.LoadFault.{LoadFault}
 use Rattle.oz_journal.specs.declared.load_fault.LoadFault.TheVariants as load
 use Rattle.oz_cluster.specs.declared.opening.OpenFault.TheVariants as open_faults
 use Rattle.oz_cluster.specs.OpenFaults.{as_open}
-use Rattle.oz_cluster.specs.Opens.{IsNextBody, OpensFrom, IsWrongAt, IsDamagedDisk}
+use Rattle.oz_cluster.specs.Opens.{IsNextBody, OpensFrom, IsWrongAt, IsDamagedDisk, StandsAs}
 use Rattle.oz_cluster.specs.Story.{Opening}
 
 -- the bodies from one on
@@ -50,3 +57,62 @@ damaged_journal None fault offset damaged is = tt
 damaged_journal (Some bytes) load.Disk offset damaged is = absurd (cc is)
 damaged_journal (Some bytes) (load.Damaged at) offset damaged is = inl (subst (IsDamagedAt bytes) (cc is) (damaged at refl))
 damaged_journal (Some bytes) load.OutOfMemory offset damaged is = absurd (cc is)
+
+-- what a body gives, a field further on
+abbrev all_read : ℕ → ℕ → ℕ → ℕ → List ℕ × List ℕ → Option (ℕ × List ℕ)
+all_read layout index operation kind volume = if layout == 1 && operation == 1 && kind == 1 && length volume.1 == 0 then Some (index, volume.0) else None
+
+abbrev behind_kind : ℕ → ℕ → ℕ → ℕ × List ℕ → Option (ℕ × List ℕ)
+behind_kind layout index operation kind = text_at kind.1 >>= all_read layout index operation kind.0
+
+abbrev behind_operation : ℕ → ℕ → ℕ × List ℕ → Option (ℕ × List ℕ)
+behind_operation layout index operation = u8_at operation.1 >>= behind_kind layout index operation.0
+
+abbrev behind_index : ℕ → ℕ × List ℕ → Option (ℕ × List ℕ)
+behind_index layout index = u8_at index.1 >>= behind_operation layout index.0
+
+abbrev behind_layout : ℕ × List ℕ → Option (ℕ × List ℕ)
+behind_layout layout = u64_at layout.1 >>= behind_index layout.0
+
+-- a body of one volume reads back
+pub body_reads : (index : ℕ) (volume : List ℕ) → index < 2 ^ 64 → length volume < 2 ^ 16 → body_at (body_bytes index (put_volume volume)) ≡ Some (index, volume)
+unfolding body_at
+body_reads index volume fits short =
+    let put : List ℕ = 1 ∷ 1 ∷ text_bytes volume in
+    let text : text_at (text_bytes volume) ≡ Some (volume, []) = subst (λ (l : List ℕ). text_at l ≡ Some (volume, [])) (append-nil (text_bytes volume)) (text_field.reads_back volume [] short) in
+    let layout : u8_at (1 ∷ u64_bytes index ++ put) ≡ Some (1, u64_bytes index ++ put) = u8_field.reads_back 1 (u64_bytes index ++ put) (omega arith) in
+    let operation : u8_at put ≡ Some (1, 1 ∷ text_bytes volume) = u8_field.reads_back 1 (1 ∷ text_bytes volume) (omega arith) in
+    let kind : u8_at (1 ∷ text_bytes volume) ≡ Some (1, text_bytes volume) = u8_field.reads_back 1 (text_bytes volume) (omega arith) in
+    let number = u64_field.reads_back index put fits in
+    ap (λ (found : Option (ℕ × List ℕ)). found >>= behind_layout) layout
+    ∙ (ap (λ (found : Option (ℕ × List ℕ)). found >>= behind_index 1) number
+    ∙ (ap (λ (found : Option (ℕ × List ℕ)). found >>= behind_operation 1 index) operation
+    ∙ (ap (λ (found : Option (ℕ × List ℕ)). found >>= behind_kind 1 index 1) kind
+    ∙ ap (λ (found : Option (List ℕ × List ℕ)). found >>= all_read 1 index 1 1) text)))
+
+-- one body more
+opens_push : (namespace : Volumes) (last : ℕ) (bodies : List (List ℕ)) (opening : Opening) (body : List ℕ) (index : ℕ) (volume : List ℕ) → OpensFrom namespace last bodies opening → IsNextBody opening.index body index volume → OpensFrom namespace last (bodies ++ body ∷ []) (record { namespace = with_volume opening.namespace volume; index = index })
+unfolding OpensFrom
+opens_push namespace last [] opening body index volume is next = (index, volume, subst (λ (o : Opening). IsNextBody o.index body index volume) is next, ap (λ (o : Opening). record { namespace = with_volume o.namespace volume; index = index }) is)
+opens_push namespace last (first ∷ bodies) opening body index volume opens next = (opens.0, opens.1, opens.2, opens_push (with_volume namespace opens.1) opens.0 bodies opening body index volume opens.3 next)
+
+-- a volume was put on a disk
+pub stands_on : (before after : Option (List ℕ)) (namespace : Volumes) (index : ℕ) (volume body : List ℕ) → IsVolumeName volume → body ≡ body_bytes (index + 1) (put_volume volume) → ((bodies : List (List ℕ)) → StandsFor before bodies → StandsFor after (bodies ++ body ∷ [])) → StandsAs before namespace index → StandsAs after (with_volume namespace volume) (index + 1)
+stands_on before after namespace index volume body name is appended stands below =
+    let was = stands (omega (arith, below)) in
+    let next : IsNextBody index body (index + 1) volume = record {
+      bytes = ap body_at is ∙ body_reads (index + 1) volume (omega (arith, below)) (omega (arith, name.short_enough));
+      name = name;
+      rises = omega arith;
+      fits = below;
+    } in
+    (was.0 ++ body ∷ [], appended was.0 was.1, opens_push nothing 0 was.0 (record { namespace = namespace; index = index }) body (index + 1) volume was.2 next)
+
+-- a manager that was opened
+pub stands_opened : (told after : Option (List ℕ)) (bodies : List (List ℕ)) (namespace : Volumes) (index : ℕ) → IfSome told (λ bytes. StandsFor after bodies) → OpensFrom nothing 0 bodies (record { namespace = namespace; index = index }) → IfSome told (λ bytes. StandsAs after namespace index)
+stands_opened None after bodies namespace index stands opens = tt
+stands_opened (Some bytes) after bodies namespace index stands opens = λ below. (bodies, stands, opens)
+
+pub stands_same : (before after : Option (List ℕ)) (namespace later : Volumes) (index last : ℕ) → before ≡ after → namespace ≡ later → index ≡ last → StandsAs before namespace index → StandsAs after later last
+stands_same before after namespace later index last same_disk same_namespace same_index stands =
+    subst (λ (i : ℕ). StandsAs after later i) same_index (subst (λ (n : Volumes). StandsAs after n index) same_namespace (subst (λ (t : Option (List ℕ)). StandsAs t namespace index) same_disk stands))

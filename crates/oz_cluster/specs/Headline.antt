@@ -12,10 +12,10 @@ use Rattle.oz_cluster.specs.declared.script.Script.{Script}
 use Rattle.oz_cluster.specs.Answers.{Answers}
 use Rattle.oz_cluster.specs.Fits.{Fits}
 use Rattle.oz_cluster.specs.Law.{IsLegal}
-use Rattle.oz_cluster.specs.Opens.{Opens}
+use Rattle.oz_cluster.specs.Opens.{Opens, StandsAs}
 use Rattle.oz_cluster.specs.Report.{report_of}
 use Rattle.oz_cluster.specs.Refusals.{IsScriptOf}
-use Rattle.oz_cluster.specs.Story.{Opening, is_told, pending, line_index, durable_index, namespace_of}
+use Rattle.oz_cluster.specs.Story.{Opening, is_told, pending, line_index, durable_index, last_index, namespace_of}
 
 -- each reply is the one-thread namespace's at its place, to the request that its line had asked
 abbrev pub RepliesAreOneThreads : Opening → List Event → Type 0
@@ -48,11 +48,12 @@ pub record Headline (opening : Opening) (script : Script) (story : List Event) (
   pub after_all_seen : AsksAfterTold story
   pub acknowledged : ToldIsStable opening story
 
--- A run of a script over an opening. Where the manager's disk tells its bytes it stood for the opening, and where the
--- source tells its text that said the script.
-pub record IsOneRun (disk left : Option (List ℕ)) (story : List Event) (held_before held_after : Option (List ℕ)) : Type 0 where
+-- A run of a script over an opening. Where the manager's disk tells its bytes it stood for the opening, and afterwards it
+-- stands for what the story led to. Where the source tells its text that said the script.
+pub record IsOneRun (disk_before disk_after left : Option (List ℕ)) (story : List Event) (held_before held_after : Option (List ℕ)) : Type 0 where
   pub opening : Opening
   pub script : Script
-  pub opens : IfSome disk (λ bytes. Opens bytes opening)
+  pub opens : IfSome disk_before (λ bytes. Opens bytes opening)
   pub parsed : IsScriptOf left script
   pub headline : Headline opening script story held_before held_after
+  pub reopens : IfSome disk_before (λ bytes. StandsAs disk_after (namespace_of opening story) (last_index opening story))

@@ -1,6 +1,6 @@
 -- What a manager's disk stands for as a run begins.
-use Rattle.std.specs.Prelude.{◌≡◌, ◌⊎◌, ℕ, ◌<◌, ◌^◌, zero, suc, List, [], ◌∷◌, Some, slice_get}
-use Rattle.oz_journal.specs.Grammar.{IsJournal, IsDamagedAt, places}
+use Rattle.std.specs.Prelude.{Option, ◌≡◌, ◌⊎◌, ℕ, ◌<◌, ◌^◌, zero, suc, List, [], ◌∷◌, Option, Some, slice_get}
+use Rattle.oz_journal.specs.Grammar.{IsJournal, StandsFor, IsDamagedAt, places}
 use Rattle.oz_cluster.specs.Names.{IsVolumeName}
 use Rattle.oz_cluster.specs.Namespace.{Volumes, nothing, with_volume}
 use Rattle.oz_cluster.specs.Rows.{body_at}
@@ -40,3 +40,7 @@ pub record IsWrongBodyAt (bytes : List ℕ) (offset : ℕ) : Type 0 where
 -- the manager's disk is no journal, or one of its bodies is wrong
 abbrev pub IsDamagedDisk : List ℕ → ℕ → Type 0
 IsDamagedDisk bytes offset = IsDamagedAt bytes offset ⊎ IsWrongBodyAt bytes offset
+
+-- What a disk tells stands for this namespace and this last index, while the index stays below 2^63.
+abbrev pub StandsAs : Option (List ℕ) → Volumes → ℕ → Type 0
+StandsAs told namespace index = index < 2 ^ 63 → (bodies : List (List ℕ)) × StandsFor told bodies × OpensFrom nothing 0 bodies (record { namespace = namespace; index = index })

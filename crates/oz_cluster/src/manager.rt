@@ -1,5 +1,6 @@
-ghost use Rattle.std.specs.Prelude.{◌≡◌, ◌≢◌, ◌≤◌, ◌<◌, ◌+◌, ◌^◌, ◌++◌, [], ◌∷◌, ℕ, None, false, length, vec_len, vec_capacity, MatchOption, OnOk, OnErr, IfOk, IsErrOf};
+ghost use Rattle.std.specs.Prelude.{List as Items, ◌≡◌, ◌≢◌, ◌≤◌, ◌<◌, ◌+◌, ◌^◌, ◌++◌, [], ◌∷◌, ℕ, None, false, length, vec_len, vec_capacity, MatchOption, OnOk, OnErr, IfOk, IsErrOf};
 ghost use Rattle.oz_world.specs.Faults.{Rose};
+ghost use Rattle.oz_journal.specs.Grammar.{StandsFor};
 ghost use Rattle.oz_journal.specs.Journal.{body_of};
 ghost use Rattle.oz_cluster.specs.declared.script.Script.{Script};
 ghost use Rattle.oz_cluster.specs.Answers.{after, volume_of};
@@ -7,6 +8,7 @@ ghost use Rattle.oz_cluster.specs.Law.{stripe_seat};
 ghost use Rattle.oz_cluster.specs.Names.{stripe_of};
 ghost use Rattle.oz_cluster.specs.Fits.{IsLineOf, request_of as request_said, answer_of as answer_due};
 ghost use Rattle.oz_cluster.specs.Namespace.{Volumes, with_volume};
+ghost use Rattle.oz_cluster.specs.Opens.{StandsAs};
 ghost use Rattle.oz_cluster.specs.Quiet.{IsServed};
 ghost use Rattle.oz_cluster.specs.Rows.{put_volume, body_bytes};
 ghost use Rattle.oz_cluster.specs.Steps.{ask_event, decide_event, swap_event, flushed_event, told_event};
@@ -255,6 +257,8 @@ impl<D: Disk> Manager<D> {
             ++ flushed_event self.old.index (D.clock self.new.journal.disk) ∷ []
             ++ told_event client number Reply.Done ∷ []) }
         ensures later { OnOk result (D.clock self.old.journal.disk < D.clock self.new.journal.disk) }
+        ensures stands { (bodies : Items (Items ℕ)) → StandsFor (D.told self.old.journal.disk) bodies →
+            OnOk result (StandsFor (D.told self.new.journal.disk) (bodies ++ body_of frame.items ∷ [])) }
         ensures running { OnOk result (self.new.journal.stopped ≡ false) }
         ensures namespace { self.new.namespace ≡ self.old.namespace }
         ensures index { self.new.index ≡ self.old.index }
@@ -303,6 +307,8 @@ impl<D: Disk> Manager<D> {
             (D.clock self.old.journal.disk) →
             IsServed opening script self.new.story.items (lines + 1) self.new.namespace self.new.index
             (D.clock self.new.journal.disk)) }
+        ensures reopens { StandsAs (D.told self.old.journal.disk) self.old.namespace self.old.index →
+            OnOk result (StandsAs (D.told self.new.journal.disk) self.new.namespace self.new.index) }
         ensures unserved { IsErrOf result Trouble.OutOfMemory → IsUnchanged self.old self.new }
         ensures running { OnOk result (self.new.journal.stopped ≡ false) }
         ensures index { OnOk result (self.new.index ≤ self.old.index + 1) }

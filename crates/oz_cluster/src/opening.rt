@@ -3,7 +3,7 @@ ghost use Rattle.oz_world.specs.Faults.{Rose};
 ghost use Rattle.oz_journal.specs.Body.{bodies_in, places_in};
 ghost use Rattle.oz_cluster.specs.Namespace.{nothing};
 ghost use Rattle.oz_cluster.specs.OpenFaults.{as_open};
-ghost use Rattle.oz_cluster.specs.Opens.{IsNextBody, OpensFrom, IsWrongAt, Opens, IsDamagedDisk};
+ghost use Rattle.oz_cluster.specs.Opens.{IsNextBody, OpensFrom, IsWrongAt, Opens, IsDamagedDisk, StandsAs};
 
 use crate::manager::Manager;
 use crate::model::Namespace;
@@ -93,6 +93,8 @@ impl<D: Disk> Manager<D> {
     pub fn open(alloc: Global, disk: D) -> Result<Manager<D>, (D, OpenFault)>
         ensures opens { IfOk result (λ manager. IfSome (D.told disk) (λ bytes.
             Opens bytes (record { namespace = manager.namespace; index = manager.index }))) }
+        ensures stands { IfOk result (λ manager. IfSome (D.told disk) (λ _.
+            StandsAs (D.told manager.journal.disk) manager.namespace manager.index)) }
         ensures story { IfOk result (λ manager. manager.story.items ≡ []) }
         ensures running { IfOk result (λ manager. manager.journal.stopped ≡ false) }
         ensures index { IfOk result (λ manager. manager.index < 2 ^ 63) }

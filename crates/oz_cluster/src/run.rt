@@ -91,8 +91,8 @@ pub fn run<R: Wait, S: Source, K: Sink, D: Disk, G: Gate>(
     disks: Disks<D>,
     gate: &G,
 ) -> Ended<D>
-    ensures one_run { result.status ≡ 0 → IsOneRun (D.told disks.manager) (S.left source.old)
-        result.story.items (K.held out.old) (K.held out.new) }
+    ensures one_run { result.status ≡ 0 → IsOneRun (D.told disks.manager)
+        (D.told result.disks.manager) (S.left source.old) result.story.items (K.held out.old) (K.held out.new) }
     ensures causes { StatusCauses (map string_bytes words.now) (S.left source.old) (D.told disks.manager)
         (K.held out.old) (K.held out.new)
         (Rose (S.faults source.old) (S.faults source.new))

@@ -1,5 +1,6 @@
 ghost use Rattle.std.specs.Prelude.{◌≡◌, ◌≤◌, ◌<◌, ◌^◌, [], false, length, OnOk, IsErrOf};
 ghost use Rattle.oz_world.specs.Faults.{Rose};
+ghost use Rattle.oz_cluster.specs.Opens.{StandsAs};
 ghost use Rattle.oz_cluster.specs.Quiet.{IsServed};
 ghost use Rattle.oz_cluster.specs.Script.{IsNumbered};
 
@@ -25,6 +26,8 @@ pub fn serve_all<R: Wait, D: Disk, G: Gate>(
         (record { namespace = manager.old.namespace; index = manager.old.index }) script.now
         manager.new.story.items (length script.now.lines) manager.new.namespace manager.new.index
         (D.clock manager.new.journal.disk)) }
+    ensures reopens { StandsAs (D.told manager.old.journal.disk) manager.old.namespace manager.old.index →
+        OnOk result (StandsAs (D.told manager.new.journal.disk) manager.new.namespace manager.new.index) }
     ensures cause { IsErrOf result Trouble.Disk →
         Rose (D.faults manager.old.journal.disk) (D.faults manager.new.journal.disk) }
     ensures never_falls { D.faults manager.old.journal.disk ≤ D.faults manager.new.journal.disk }

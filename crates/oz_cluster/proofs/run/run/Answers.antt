@@ -1,15 +1,16 @@
-use Rattle.std.proofs.Common.{◌≡◌, ◌++◌, ℕ, List, length, map, OnOk, IsErrOf, refl, sym, ◌∙◌, ap, subst}
+use Rattle.std.proofs.Common.{IfSome, ◌≡◌, ◌++◌, ℕ, List, length, map, OnOk, IsErrOf, refl, sym, ◌∙◌, ap, subst}
 use Rattle.std.specs.Option.{option_map}
 use Rattle.std.specs.String.{string_bytes}
 use Rattle.oz_world.specs.Faults.{Rose}
 use Rattle.oz_cluster.specs.declared.events.Event.{Event}
 use Rattle.oz_cluster.specs.declared.manager.Trouble.TheVariants as trouble
+use Rattle.oz_cluster.specs.Opens.{StandsAs}
 use Rattle.oz_cluster.specs.Quiet.{IsServed}
 use Rattle.oz_cluster.specs.Refusals.{IsSo}
 use Rattle.oz_cluster.specs.Report.{report_of}
 use Rattle.oz_cluster.specs.StatusCauses.{HasBegun}
 use Rattle.oz_cluster.specs.Story.{Opening}
-use Rattle.oz_cluster.proofs.Endings.{refused, worked, open_so, never_read, disk_fails, some_opens, one_run}
+use Rattle.oz_cluster.proofs.Endings.{refused, worked, stands_then, open_so, never_read, disk_fails, some_opens, one_run}
 use Rattle.oz_cluster.proofs.Runs.{rose_later}
 use Rattle.oz_cluster.proofs.run.run.Goals as goal
 
@@ -39,7 +40,10 @@ returns-clause-one_run g c done =
     let printed : after ≡ option_map (λ held. held ++ report_of (length c.items.result.now) c.deref.result.now) before = c.finish.ensures.printed done in
     let of_story = subst (λ (story : List Event). after ≡ option_map (λ held. held ++ report_of (length c.items.result.now) story) before) c.deref.ensures.value printed in
     let report = subst (λ (n : ℕ). after ≡ option_map (λ held. held ++ report_of n manager.story.items) before) lines of_story in
-    one_run _ _ _ _ opening c.in-Ok.script manager.story.items manager.namespace manager.index _ c.in-Ok.ensures.script c.in-Ok.ensures.numbered c.in-Ok-open.ensures.opens served report
+    let stands = stands_then (g.D.Disk.told c.args.disks.manager) (g.D.Disk.told c.in-Ok-open.manager.journal.disk) (g.D.Disk.told manager.journal.disk) opening.namespace manager.namespace opening.index manager.index c.in-Ok-open.ensures.stands
+    (λ was. subst (λ r. OnOk r (StandsAs (g.D.Disk.told manager.journal.disk) manager.namespace manager.index)) (c.finish.ensures.done done) (c.serve_all-worked.ensures.reopens was)) in
+    let after_all = subst (λ disk. IfSome (g.D.Disk.told c.args.disks.manager) (λ bytes. StandsAs (g.D.Disk.told disk) manager.namespace manager.index)) (sym c.into_disk.ensures) stands in
+    one_run _ _ _ _ _ opening c.in-Ok.script manager.story.items manager.namespace manager.index _ c.in-Ok.ensures.script c.in-Ok.ensures.numbered c.in-Ok-open.ensures.opens served report after_all
 
 pub returns-clause-causes : goal.returns-clause-causes
 returns-clause-causes g c =

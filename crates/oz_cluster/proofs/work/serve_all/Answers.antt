@@ -1,4 +1,4 @@
-use Rattle.std.proofs.Common.{◌≡◌, ◌<◌, List, length, get_or, sym, subst, arith}
+use Rattle.std.proofs.Common.{◌≡◌, ◌<◌, ℕ, List, length, get_or, sym, ap, ◌∙◌, subst, arith}
 use Rattle.oz_cluster.specs.declared.events.Event.{Event}
 use Rattle.oz_cluster.specs.declared.script.Line.{Line}
 use Rattle.oz_cluster.specs.Quiet.{IsServed}
@@ -14,6 +14,7 @@ loop-line-init g c =
       running = c.requires.running;
       counted = omega arith;
       falls = omega arith;
+      reopens = λ stands. stands;
       served = subst (λ (story : List Event). IsServed opening c.args.script.now story 0 opening.namespace opening.index clock) (sym c.requires.unserved) (begins opening c.args.script.now clock);
     }
 
@@ -37,8 +38,17 @@ loop-line-preserved g c =
       running = c.in_default.ensures.running;
       counted = omega (arith, c.loop-line.invariant.counted, c.in_default.ensures.index);
       falls = omega (arith, c.loop-line.invariant.falls, c.in_default.ensures.never_falls);
+      reopens = λ stands. c.in_default.ensures.reopens (c.loop-line.invariant.reopens stands);
       served = c.in_default.ensures.served opening script c.loop-line.line-index there alone c.loop-line.invariant.served;
     }
 
 pub returns-clause-never_falls : goal.returns-clause-never_falls
 returns-clause-never_falls g c = c.loop-line.invariant.falls
+
+pub returns-clause-served : goal.returns-clause-served
+returns-clause-served g c =
+    let opening : Opening = record { namespace = c.args.manager.now.namespace; index = c.args.manager.now.index } in
+    let manager = c.loop-line.manager in
+    let last : c.loop-line.line-index ≡ length c.items-line-items.result.now = omega (arith, c.loop-line.auto.line-index-end, c.loop-line-test.false) in
+    let all = last ∙ ap length c.items-line-items.ensures in
+    subst (λ (lines : ℕ). IsServed opening c.args.script.now manager.story.items lines manager.namespace manager.index (g.D.Disk.clock manager.journal.disk)) all c.loop-line.invariant.served

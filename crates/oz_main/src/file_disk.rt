@@ -1,4 +1,5 @@
-ghost use Rattle.std.specs.Prelude.{◌≡◌, ◌≤◌, ◌+◌, None};
+ghost use Rattle.std.specs.Prelude.{◌≡◌, ◌≤◌, ◌<ℤ◌, pos, None, IfOk, IfSome};
+ghost use Rattle.std.specs.Fd.{file_raw_fd};
 ghost use Rattle.std.proofs.lemmas.Option.{none-some};
 ghost use Rattle.oz_world.specs.Calls.{raised};
 ghost use Rattle.oz_world.specs.Faults.{HasCause};
@@ -6,6 +7,7 @@ ghost use Rattle.oz_world.specs.Faults.{HasCause};
 use oz_world::{Disk, Failed};
 use std::fs::{File, OpenOptions};
 use std::io;
+use std::os::fd::AsRawFd;
 use std::os::unix::fs::FileExt;
 use std::rt::Files;
 
@@ -33,16 +35,15 @@ impl FileDisk {
         }
     }
 
-    /// The file at a path, which is made where it isn't there. Where it can't be opened, the disk's
-    /// calls fail.
-    pub fn open<R: Files<File = File>>(rt: &R, path: &str) -> FileDisk
+    /// The file at a path in a folder, which is made where it isn't there. Where it can't be opened,
+    /// the disk's calls fail.
+    pub fn open<R: Files<File = File>>(rt: &R, folder: &str, path: &str) -> FileDisk
+        ensures apart { IfSome result.file (λ found. pos 2 <ℤ file_raw_fd found) }
         ensures clock { result.clock ≡ 0 }
         ensures faults { result.faults ≡ 0 }
     {
-        let mut how = OpenOptions::new();
-        how.read(true).write(true).create(true);
         FileDisk {
-            file: how.open(rt, path).ok(),
+            file: opened(rt, folder, path).ok(),
             clock: 0,
             faults: 0,
         }
@@ -68,6 +69,22 @@ impl FileDisk {
             None => Err(self.fail()),
         }
     }
+}
+
+/// A file that is read and written, and no standard stream. It is made where it isn't there, and its
+/// folder is synced, so that a stop leaves it there.
+fn opened<R: Files<File = File>>(rt: &R, folder: &str, path: &str) -> io::Result<File>
+    ensures { IfOk result (λ found. pos 2 <ℤ file_raw_fd found) }
+{
+    let folder = File::open(rt, folder)?;
+    let mut how = OpenOptions::new();
+    how.read(true).write(true).create(true);
+    let file = how.open(rt, path)?;
+    if file.as_raw_fd() <= 2 {
+        return Err(io::ErrorKind::Unsupported.into());
+    }
+    folder.sync_all()?;
+    Ok(file)
 }
 
 /// The length of a file.

@@ -32,7 +32,7 @@ pub fn disks_for<R: Files<File = File>>(
     let manager = match read_words(words) {
         Ok(Words::Run { dir }) => {
             let path = format!(in alloc; "{}/manager", words[dir])?;
-            FileDisk::open(rt, &path)
+            FileDisk::open(rt, &words[dir], &path)
         }
         Err(_) => FileDisk::without_file(),
     };

@@ -20,7 +20,7 @@ use std::io::{Stdin, Stdout};
 use std::process::ExitCode;
 use std::rt::{Env, Files};
 use std::sync::Wait;
-use streams::{StdinSource, StdoutSink};
+use streams::{StdinSource, StdoutSink, take_places};
 
 const HELP: &str = "usage: ozone run DIR
 Runs the script on standard input over the disks in the folder DIR, and prints the report.
@@ -42,6 +42,7 @@ fn serve<R: Wait + AllocGlobal + Files<File = File>>(
     ensures known { IfOk result (λ status. status ≤ 7) }
     ensures served { IfOk result (λ status. status ≡ 0 → IsRun (map string_bytes words.now)) }
 {
+    let _places = take_places(rt);
     let disks = disks_for(rt, rt.alloc(), words)?;
     let mut source = StdinSource::new(stdin);
     let mut out = StdoutSink::new(stdout);

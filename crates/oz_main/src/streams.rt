@@ -2,7 +2,9 @@ ghost use Rattle.std.specs.Prelude.{◌≡◌, ◌≤◌, ◌⊎◌, None};
 ghost use Rattle.oz_world.specs.Calls.{raised};
 
 use oz_world::{Failed, Sink, Source};
+use std::fs::File;
 use std::io::{Read, Stdin, Stdout, Write};
+use std::rt::Files;
 
 /// Standard input.
 #[derive(Drop)]
@@ -81,5 +83,23 @@ impl Sink for StdoutSink {
                 Err(Failed)
             }
         }
+    }
+}
+
+/// What stands in the place of standard streams that are closed.
+#[derive(Drop)]
+pub struct Places {
+    input: Option<File>,
+    output: Option<File>,
+    errors: Option<File>,
+}
+
+/// Takes the places of the standard streams that are closed, so that no file that is opened later is
+/// taken for one. A folder can be neither read nor written, so those streams fail.
+pub fn take_places<R: Files<File = File>>(rt: &R) -> Places {
+    Places {
+        input: File::open(rt, "/").ok(),
+        output: File::open(rt, "/").ok(),
+        errors: File::open(rt, "/").ok(),
     }
 }

@@ -1,0 +1,168 @@
+ghost use Rattle.std.specs.Prelude.{◌≡◌, ◌≤◌, ◌<ℤ◌, pos, None, IfOk, IfSome};
+ghost use Rattle.std.specs.Fd.{file_raw_fd};
+ghost use Rattle.std.proofs.lemmas.Option.{none-some};
+ghost use Rattle.oz_world.specs.Calls.{raised};
+ghost use Rattle.oz_world.specs.Faults.{HasCause};
+
+use oz_world::{Disk, Failed};
+use std::fs::{File, OpenOptions};
+use std::io;
+use std::os::fd::AsRawFd;
+use std::os::unix::fs::FileExt;
+use std::rt::Files;
+
+/// A disk that is a file of the system. What the file contains, and what a stop leaves of it, is the
+/// system's to say, so it tells neither.
+#[derive(Drop)]
+pub struct FileDisk {
+    /// None where there is no such file, and then each call fails.
+    file: Option<File>,
+    clock: u64,
+    faults: u64,
+}
+
+impl FileDisk {
+    /// A disk whose calls all fail.
+    pub fn without_file() -> FileDisk
+        ensures file { result.file ≡ None }
+        ensures clock { result.clock ≡ 0 }
+        ensures faults { result.faults ≡ 0 }
+    {
+        FileDisk {
+            file: None,
+            clock: 0,
+            faults: 0,
+        }
+    }
+
+    /// The file at a path in a folder, which is made where it isn't there. Where it can't be opened,
+    /// the disk's calls fail.
+    pub fn open<R: Files<File = File>>(rt: &R, folder: &str, path: &str) -> FileDisk
+        ensures apart { IfSome result.file (λ found. pos 2 <ℤ file_raw_fd found) }
+        ensures clock { result.clock ≡ 0 }
+        ensures faults { result.faults ≡ 0 }
+    {
+        FileDisk {
+            file: opened(rt, folder, path).ok(),
+            clock: 0,
+            faults: 0,
+        }
+    }
+
+    /// Counts a fault.
+    fn fail(&mut self) -> Failed
+        ensures clock { self.new.clock ≡ self.old.clock }
+        ensures faults { self.new.faults ≡ raised self.old.faults }
+        ensures rises { self.old.faults ≤ self.new.faults }
+    {
+        self.faults = self.faults.saturating_add(1);
+        Failed
+    }
+
+    /// Hands on what the system answered, and counts a fault where it failed.
+    fn heard<T: Drop>(&mut self, answer: Option<T>) -> Result<T, Failed>
+        ensures clock { self.new.clock ≡ self.old.clock }
+        ensures cause { HasCause self.old.faults self.new.faults result }
+    {
+        match answer {
+            Some(value) => Ok(value),
+            None => Err(self.fail()),
+        }
+    }
+}
+
+/// A file that is read and written, and no standard stream. It is made where it isn't there, and its
+/// folder is synced, so that a stop leaves it there.
+fn opened<R: Files<File = File>>(rt: &R, folder: &str, path: &str) -> io::Result<File>
+    ensures { IfOk result (λ found. pos 2 <ℤ file_raw_fd found) }
+{
+    let folder = File::open(rt, folder)?;
+    let mut how = OpenOptions::new();
+    how.read(true).write(true).create(true);
+    let file = how.open(rt, path)?;
+    if file.as_raw_fd() <= 2 {
+        return Err(io::ErrorKind::Unsupported.into());
+    }
+    folder.sync_all()?;
+    Ok(file)
+}
+
+/// The length of a file.
+fn length_of(file: &File) -> io::Result<u64> {
+    Ok(file.metadata()?.len())
+}
+
+impl Disk for FileDisk {
+    ghost told = { λ _. None };
+
+    ghost clock = { λ disk. disk.clock };
+
+    ghost image = { λ _ _ _. ⊥ };
+
+    ghost faults = { λ disk. disk.faults };
+
+    ghost read_is_image = { λ _ bytes h. none-some bytes h };
+
+    fn faults(&self) -> u64 {
+        self.faults
+    }
+
+    fn clock(&self) -> u64 {
+        self.clock
+    }
+
+    fn len(&mut self) -> Result<u64, Failed> {
+        let answer = match &self.file {
+            Some(file) => length_of(file).ok(),
+            None => None,
+        };
+        self.heard(answer)
+    }
+
+    fn read_at(&mut self, pos: u64, into: &mut [u8]) -> Result<(), Failed> {
+        let answer = match &self.file {
+            Some(file) => file.read_exact_at(into, pos).ok(),
+            None => None,
+        };
+        self.heard(answer)
+    }
+
+    fn write_at(&mut self, pos: u64, bytes: &[u8]) -> Result<(), Failed> {
+        if self.clock == u64::MAX {
+            return Err(self.fail());
+        }
+        self.clock += 1;
+        if pos.checked_add(bytes.len() as u64).is_none() {
+            return Err(self.fail());
+        }
+        let answer = match &self.file {
+            Some(file) => file.write_all_at(bytes, pos).ok(),
+            None => None,
+        };
+        self.heard(answer)
+    }
+
+    fn cut(&mut self, size: u64) -> Result<(), Failed> {
+        if self.clock == u64::MAX {
+            return Err(self.fail());
+        }
+        self.clock += 1;
+        let answer = match &self.file {
+            Some(file) => file.set_len(size).ok(),
+            None => None,
+        };
+        self.heard(answer)
+    }
+
+    fn sync(&mut self) -> Result<(), Failed> {
+        if self.clock == u64::MAX {
+            return Err(self.fail());
+        }
+        self.clock += 1;
+        let answer = match &self.file {
+            Some(file) => file.sync_all().ok(),
+            None => None,
+        };
+        self.heard(answer)
+    }
+}

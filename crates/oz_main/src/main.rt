@@ -1,0 +1,87 @@
+//! `ozone`, the program: its words, real files for disks, and the standard streams.
+#![tactic(auto)]
+
+ghost use Rattle.std.specs.Prelude.{◌≡◌, ◌≤◌, map, IfOk};
+ghost use Rattle.std.specs.String.{string_bytes};
+ghost use Rattle.oz_cluster.specs.Words.{IsRun};
+
+mod arguments;
+mod file_disk;
+mod folder;
+mod streams;
+
+use file_disk::FileDisk;
+use folder::{disks_for, let_go};
+use oz_cluster::run::{Ended, run};
+use oz_world::{OpenGate, OutOfMemory};
+use std::alloc::AllocGlobal;
+use std::fs::File;
+use std::io::{Stdin, Stdout};
+use std::process::ExitCode;
+use std::rt::{Env, Files};
+use std::sync::Wait;
+use streams::{StdinSource, StdoutSink, take_places};
+
+const HELP: &str = "usage: ozone run DIR
+Runs the script on standard input over the disks in the folder DIR, and prints the report.
+DIR must be there.
+";
+
+const VERSION: &str = "ozone 0.1.0
+";
+
+const OUT_OF_MEMORY: u8 = 7;
+
+/// Runs the script over the disks in the folder that the words name, and answers the program's status.
+fn serve<R: Wait + AllocGlobal + Files<File = File>>(
+    rt: &R,
+    words: &[String],
+    stdin: Stdin,
+    stdout: Stdout,
+) -> Result<u8, OutOfMemory>
+    ensures known { IfOk result (λ status. status ≤ 7) }
+    ensures served { IfOk result (λ status. status ≡ 0 → IsRun (map string_bytes words.now)) }
+{
+    let _places = take_places(rt);
+    let disks = disks_for(rt, rt.alloc(), words)?;
+    let mut source = StdinSource::new(stdin);
+    let mut out = StdoutSink::new(stdout);
+    let Ended {
+        status,
+        story: _,
+        disks,
+    } = run(
+        rt,
+        rt.alloc(),
+        words,
+        &mut source,
+        &mut out,
+        disks,
+        &OpenGate,
+    );
+    let_go(disks);
+    Ok(status)
+}
+
+/// Answers the two words that stand alone, and hands on all others.
+fn start<R: Wait + AllocGlobal + Env + Files<File = File>>(
+    rt: &R,
+    stdin: Stdin,
+    stdout: Stdout,
+) -> Result<u8, OutOfMemory>
+    ensures { IfOk result (λ status. status ≤ 7) }
+{
+    let words = arguments::words(rt, rt.alloc())?;
+    match &words[..] {
+        [word] if word.as_str() == "--help" => Ok(StdoutSink::new(stdout).tell(HELP)),
+        [word] if word.as_str() == "--version" => Ok(StdoutSink::new(stdout).tell(VERSION)),
+        _ => serve(rt, &words, stdin, stdout),
+    }
+}
+
+fn main(rt: HostRuntime) -> ExitCode {
+    match start(&rt, rt.stdin(), rt.stdout()) {
+        Ok(status) => ExitCode::from(status),
+        Err(_) => ExitCode::from(OUT_OF_MEMORY),
+    }
+}

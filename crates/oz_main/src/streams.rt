@@ -1,0 +1,105 @@
+ghost use Rattle.std.specs.Prelude.{◌≡◌, ◌≤◌, ◌⊎◌, None};
+ghost use Rattle.oz_world.specs.Calls.{raised};
+
+use oz_world::{Failed, Sink, Source};
+use std::fs::File;
+use std::io::{Read, Stdin, Stdout, Write};
+use std::rt::Files;
+
+/// Standard input.
+#[derive(Drop)]
+pub struct StdinSource {
+    stdin: Stdin,
+    faults: u64,
+}
+
+impl StdinSource {
+    pub fn new(stdin: Stdin) -> StdinSource
+        ensures { result.faults ≡ 0 }
+    {
+        StdinSource { stdin, faults: 0 }
+    }
+}
+
+impl Source for StdinSource {
+    ghost left = { λ _. None };
+
+    ghost faults = { λ source. source.faults };
+
+    fn faults(&self) -> u64 {
+        self.faults
+    }
+
+    fn read(&mut self, into: &mut [u8]) -> Result<usize, Failed> {
+        match self.stdin.read(into) {
+            Ok(count) => Ok(count),
+            Err(_) => {
+                self.faults = self.faults.saturating_add(1);
+                Err(Failed)
+            }
+        }
+    }
+}
+
+/// Standard output.
+#[derive(Drop)]
+pub struct StdoutSink {
+    stdout: Stdout,
+    faults: u64,
+}
+
+impl StdoutSink {
+    pub fn new(stdout: Stdout) -> StdoutSink
+        ensures { result.faults ≡ 0 }
+    {
+        StdoutSink { stdout, faults: 0 }
+    }
+
+    /// Writes a text, and answers the program's status: 0, or 4 where it can't be written.
+    pub fn tell(mut self, text: &str) -> u8
+        ensures { (result ≡ 0) ⊎ (result ≡ 4) }
+    {
+        match self.stdout.write_all(text.as_bytes()) {
+            Ok(()) => 0,
+            Err(_) => 4,
+        }
+    }
+}
+
+impl Sink for StdoutSink {
+    ghost held = { λ _. None };
+
+    ghost faults = { λ sink. sink.faults };
+
+    fn faults(&self) -> u64 {
+        self.faults
+    }
+
+    fn write(&mut self, bytes: &[u8]) -> Result<usize, Failed> {
+        match self.stdout.write(bytes) {
+            Ok(count) if count > 0 => Ok(count),
+            _ => {
+                self.faults = self.faults.saturating_add(1);
+                Err(Failed)
+            }
+        }
+    }
+}
+
+/// What stands in the place of standard streams that are closed.
+#[derive(Drop)]
+pub struct Places {
+    input: Option<File>,
+    output: Option<File>,
+    errors: Option<File>,
+}
+
+/// Takes the places of the standard streams that are closed, so that no file that is opened later is
+/// taken for one. A folder can be neither read nor written, so those streams fail.
+pub fn take_places<R: Files<File = File>>(rt: &R) -> Places {
+    Places {
+        input: File::open(rt, "/").ok(),
+        output: File::open(rt, "/").ok(),
+        errors: File::open(rt, "/").ok(),
+    }
+}

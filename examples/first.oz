@@ -1,0 +1,2 @@
+a volume create /vol1
+a volume info /vol1

@@ -2,4 +2,5 @@
 #![tactic(auto)]
 
 mod report;
+mod run;
 mod script;

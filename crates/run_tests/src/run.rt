@@ -1,0 +1,455 @@
+#[cfg(test)]
+mod tests {
+    use oz_cluster::run::{Disks, Ended, run};
+    use oz_world::{MemoryDisk, MemorySink, MemorySource, OpenGate, OutOfMemory};
+    use std::alloc::Global;
+    use std::process::Abort;
+    use std::sync::Wait;
+    use std::test::Fail;
+
+    const ROOM: u64 = 4096;
+
+    /// A disk with the volume `vol1`, of index 1.
+    const ONE: [u8; 23] = [
+        1, 0, 0, 0, 17, 1, 0, 0, 0, 0, 0, 0, 0, 1, 1, 1, 0, 4, 118, 111, 108, 49, 0,
+    ];
+
+    /// The numbers, from 1, of the calls that fail, and 0 where none does.
+    #[derive(Clone, Copy)]
+    struct Fails {
+        source: u64,
+        sink: u64,
+        disk: u64,
+    }
+
+    const NEVER: Fails = Fails {
+        source: 0,
+        sink: 0,
+        disk: 0,
+    };
+
+    /// What a run left: its status, what it wrote, and the bytes of the manager's disk.
+    #[derive(Debug, Drop, PartialEq, Eq)]
+    struct Left {
+        status: u8,
+        text: String,
+        disk: Vec<u8>,
+    }
+
+    /// The words between the commas; none where the line is empty.
+    fn words_of(alloc: Global, line: &str) -> Result<Vec<String>, OutOfMemory> {
+        let mut words = Vec::new(alloc);
+        if !line.is_empty() {
+            for word in line.split(',') {
+                words.push(String::from_str(alloc, word)?)?;
+            }
+        }
+        Ok(words)
+    }
+
+    fn disk_of(alloc: Global, bytes: &[u8], fails: u64) -> Result<MemoryDisk, OutOfMemory> {
+        MemoryDisk::new(alloc, bytes.to_vec(alloc)?, vec![in alloc; fails]?, ROOM)
+    }
+
+    /// What a run with these words leaves of a disk, where some calls fail.
+    fn runs<R: Wait + AllocGlobal>(
+        rt: &R,
+        words: &str,
+        script: &[u8],
+        disk: &[u8],
+        fails: Fails,
+    ) -> Result<Left, OutOfMemory> {
+        let alloc = rt.alloc();
+        let words = words_of(alloc, words)?;
+        let mut source = MemorySource::new(script.to_vec(alloc)?, vec![in alloc; fails.source]?);
+        let mut out = MemorySink::new(alloc, vec![in alloc; fails.sink]?)?;
+        let disks = Disks {
+            manager: disk_of(alloc, disk, fails.disk)?,
+            scm: disk_of(alloc, &[], 0)?,
+            nodes: Vec::new(alloc),
+        };
+        let ended = run(rt, alloc, &words, &mut source, &mut out, disks, &OpenGate);
+        let Ended {
+            status,
+            disks: Disks {
+                manager,
+                scm: _,
+                nodes,
+            },
+            story: _,
+        } = ended;
+        nodes.destroy_empty();
+        Ok(Left {
+            status,
+            text: String::from_utf8_lossy(alloc, out.held())?,
+            disk: manager.bytes().to_vec(alloc)?,
+        })
+    }
+
+    /// A run in which no call fails writes this. The answer is what the disk then holds.
+    fn writes<R: Wait + Abort + AllocGlobal>(
+        rt: &R,
+        script: &str,
+        disk: &[u8],
+        wanted: &str,
+    ) -> Result<Vec<u8>, OutOfMemory> {
+        let Left { status, text, disk } = runs(rt, "run,.", script.as_bytes(), disk, NEVER)?;
+        assert_eq!(rt; text.as_str(), wanted, "of {script:?}");
+        assert_eq!(rt; status, 0, "of {script:?}");
+        Ok(disk)
+    }
+
+    /// A run with these words leaves this, where some calls fail: its status, its text and its disk.
+    fn leaves<R: Wait + Abort + AllocGlobal>(
+        rt: &R,
+        words: &str,
+        script: &[u8],
+        disk: &[u8],
+        fails: Fails,
+        wanted: (u8, &str, &[u8]),
+    ) -> Result<(), OutOfMemory> {
+        let alloc = rt.alloc();
+        let (status, text, kept) = wanted;
+        let wanted = Left {
+            status,
+            text: String::from_str(alloc, text)?,
+            disk: kept.to_vec(alloc)?,
+        };
+        let found = runs(rt, words, script, disk, fails)?;
+        assert_eq!(rt; found, wanted);
+        Ok(())
+    }
+
+    #[test]
+    fn an_empty_script_over_an_empty_disk(rt: HostRuntime) -> Result<(), Fail> {
+        for disk in [&[], [0u8].as_slice(), &[1], &[255]] {
+            let kept = writes(&rt, "", disk, "story 1\nend 0 of 0\n")?;
+            assert_eq!(&rt; kept.as_slice(), [0].as_slice(), "of {disk:?}");
+        }
+        Ok(())
+    }
+
+    #[test]
+    fn a_second_volume_of_one_name_is_refused(rt: HostRuntime) -> Result<(), Fail> {
+        let script = "a volume create /vol1\na volume create /vol1\n";
+        let wanted = "story 1\n\
+            d 1 1 1 CreateVolume OK\n\
+            t 1 1 OK\n\
+            d 1 2 1 CreateVolume VOLUME_ALREADY_EXISTS\n\
+            t 1 2 VOLUME_ALREADY_EXISTS\n\
+            end 2 of 2\n";
+        let kept = writes(&rt, script, &[], wanted)?;
+        assert_eq!(&rt; kept.as_slice(), ONE.as_slice());
+        Ok(())
+    }
+
+    #[test]
+    fn a_volume_is_asked_about(rt: HostRuntime) -> Result<(), Fail> {
+        let script = "a volume create /vol1\na volume info /vol1\na volume info /vol2\n";
+        let wanted = "story 1\n\
+            d 1 1 1 CreateVolume OK\n\
+            t 1 1 OK\n\
+            d 1 2 1 InfoVolume OK\n\
+            t 1 2 OK buckets 0\n\
+            d 1 3 1 InfoVolume VOLUME_NOT_FOUND\n\
+            t 1 3 VOLUME_NOT_FOUND\n\
+            end 3 of 3\n";
+        let kept = writes(&rt, script, &[], wanted)?;
+        assert_eq!(&rt; kept.as_slice(), ONE.as_slice());
+        Ok(())
+    }
+
+    #[test]
+    fn a_run_finds_what_another_left(rt: HostRuntime) -> Result<(), Fail> {
+        let again = "a volume create /vol1\na volume info /vol1\n";
+        let wanted = "story 1\n\
+            d 1 1 1 CreateVolume VOLUME_ALREADY_EXISTS\n\
+            t 1 1 VOLUME_ALREADY_EXISTS\n\
+            d 1 2 1 InfoVolume OK\n\
+            t 1 2 OK buckets 0\n\
+            end 2 of 2\n";
+        let kept = writes(&rt, again, &ONE, wanted)?;
+        assert_eq!(&rt; kept.as_slice(), ONE.as_slice());
+        let another = "b volume create /abc\nb volume info /vol1\n";
+        let wanted = "story 1\n\
+            d 1 1 1 CreateVolume OK\n\
+            t 1 1 OK\n\
+            d 1 2 1 InfoVolume OK\n\
+            t 1 2 OK buckets 0\n\
+            end 2 of 2\n";
+        let kept = writes(&rt, another, &kept, wanted)?;
+        let two = [
+            1, 0, 0, 0, 17, 1, 0, 0, 0, 0, 0, 0, 0, 1, 1, 1, 0, 4, 118, 111, 108, 49, 1, 0, 0, 0,
+            16, 1, 0, 0, 0, 0, 0, 0, 0, 2, 1, 1, 0, 3, 97, 98, 99, 0,
+        ];
+        assert_eq!(&rt; kept.as_slice(), two.as_slice());
+        Ok(())
+    }
+
+    /// A volume of this name is made, or the name is refused.
+    fn named<R: Wait + Abort + AllocGlobal>(
+        rt: &R,
+        name: &str,
+        is_name: bool,
+    ) -> Result<(), OutOfMemory> {
+        let alloc = rt.alloc();
+        let reply = if is_name { "OK" } else { "INVALID_VOLUME_NAME" };
+        let script = format!(in alloc; "a volume create /{name}")?;
+        let wanted = format!(in alloc;
+            "story 1\nd 1 1 1 CreateVolume {reply}\nt 1 1 {reply}\nend 1 of 1\n"
+        )?;
+        let kept = writes(rt, script.as_str(), &[], wanted.as_str())?;
+        assert_eq!(rt; kept.len() > 1, is_name, "of {name}");
+        Ok(())
+    }
+
+    #[test]
+    fn names_of_volumes(rt: HostRuntime) -> Result<(), Fail> {
+        for (name, is_name) in [
+            ("ab", false),
+            ("abc", true),
+            (
+                "aaaaaaaaaaaaaaaaaaaaaaaaaaaaaaaaaaaaaaaaaaaaaaaaaaaaaaaaaaaaaaa",
+                true,
+            ),
+            (
+                "aaaaaaaaaaaaaaaaaaaaaaaaaaaaaaaaaaaaaaaaaaaaaaaaaaaaaaaaaaaaaaaa",
+                false,
+            ),
+            ("a..b", false),
+            ("1.2.3.4", false),
+            ("1.2.3", false),
+            ("", false),
+            ("/abc", false),
+        ] {
+            named(&rt, name, is_name)?;
+        }
+        Ok(())
+    }
+
+    #[test]
+    fn words_that_are_wrong(rt: HostRuntime) -> Result<(), Fail> {
+        for (words, text) in [
+            ("", "words 1\n"),
+            ("run", "words 2\n"),
+            ("run,", "words 2\n"),
+            ("run,.,extra", "words 3\n"),
+            ("walk,.", "words 1\n"),
+        ] {
+            let script = b"a volume create /abc\n";
+            leaves(&rt, words, script, &[], NEVER, (2, text, &[]))?;
+            leaves(&rt, words, script, &ONE, NEVER, (2, text, &ONE))?;
+        }
+        Ok(())
+    }
+
+    #[test]
+    fn scripts_that_are_wrong(rt: HostRuntime) -> Result<(), Fail> {
+        for (script, text) in [
+            ("a volume create v", "script 1 form\n"),
+            ("a volume create /vol1\n\n#\nx\n", "script 4 form\n"),
+            ("a volume create /v\nb volume info /v\n", "script 2 form\n"),
+        ] {
+            let script = script.as_bytes();
+            leaves(&rt, "run,.", script, &[], NEVER, (1, text, &[]))?;
+            leaves(&rt, "run,.", script, &ONE, NEVER, (1, text, &ONE))?;
+        }
+        Ok(())
+    }
+
+    #[test]
+    fn scripts_that_are_too_long(rt: HostRuntime) -> Result<(), Fail> {
+        let alloc = rt.alloc();
+        let most = vec![in alloc; b'#'; 1_048_576]?;
+        let wanted = (0, "story 1\nend 0 of 0\n", [0].as_slice());
+        leaves(&rt, "run,.", &most, &[], NEVER, wanted)?;
+        for size in [1_048_577, 1_048_578, 1_200_000] {
+            let script = vec![in alloc; b'#'; size]?;
+            leaves(
+                &rt,
+                "run,.",
+                &script,
+                &[],
+                NEVER,
+                (1, "script 0 long\n", &[]),
+            )?;
+        }
+        let mut script = Vec::new(alloc);
+        for _ in 0..4_097 {
+            script.extend_from_slice(b"a volume info /v\n")?;
+        }
+        leaves(
+            &rt,
+            "run,.",
+            &script,
+            &[],
+            NEVER,
+            (1, "script 4097 many\n", &[]),
+        )?;
+        Ok(())
+    }
+
+    /// A disk of this body alone.
+    fn holding(alloc: Global, body: &[u8]) -> Result<Vec<u8>, OutOfMemory> {
+        let mut bytes = vec![in alloc; 1, 0, 0, 0]?;
+        bytes.push(body.len().min(255) as u8)?;
+        bytes.extend_from_slice(body)?;
+        bytes.push(0)?;
+        Ok(bytes)
+    }
+
+    #[test]
+    fn journals_that_are_damaged(rt: HostRuntime) -> Result<(), Fail> {
+        for (disk, text) in [
+            (
+                [1, 0, 0, 0, 5, 1, 2, 3, 4].as_slice(),
+                "damaged manager at 0\n",
+            ),
+            (&[1, 0], "damaged manager at 0\n"),
+            (&[1, 0, 0, 0, 0], "damaged manager at 5\n"),
+            (&[1, 0, 0, 0, 0, 1, 0], "damaged manager at 5\n"),
+            (&ONE[..22], "damaged manager at 22\n"),
+        ] {
+            let script = b"a volume create /abc\n";
+            leaves(&rt, "run,.", script, disk, NEVER, (6, text, disk))?;
+        }
+        Ok(())
+    }
+
+    #[test]
+    fn bodies_that_are_damaged(rt: HostRuntime) -> Result<(), Fail> {
+        for body in [
+            [].as_slice(),
+            &[7],
+            &[2, 0, 0, 0, 0, 0, 0, 0, 1, 1, 1, 0, 3, 97, 98, 99],
+            &[1, 0, 0, 0, 0, 0, 0, 0, 0, 1, 1, 0, 3, 97, 98, 99],
+            &[1, 128, 0, 0, 0, 0, 0, 0, 0, 1, 1, 0, 3, 97, 98, 99],
+            &[1, 0, 0, 0, 0, 0, 0, 0, 1, 2, 1, 0, 3, 97, 98, 99],
+            &[1, 0, 0, 0, 0, 0, 0, 0, 1, 1, 2, 0, 3, 97, 98, 99],
+            &[1, 0, 0, 0, 0, 0, 0, 0, 1, 1, 1, 0, 2, 97, 98],
+            &[1, 0, 0, 0, 0, 0, 0, 0, 1, 1, 1, 0, 4, 97, 98, 99],
+            &[1, 0, 0, 0, 0, 0, 0, 0, 1, 1, 1, 0, 3, 97, 98, 99, 0],
+        ] {
+            let alloc = rt.alloc();
+            let alone = holding(alloc, body)?;
+            let text = "damaged manager at 5\n";
+            leaves(&rt, "run,.", b"", &alone, NEVER, (6, text, &alone))?;
+            let mut behind = ONE[..22].to_vec(alloc)?;
+            behind.extend_from_slice(&alone)?;
+            let text = "damaged manager at 27\n";
+            leaves(&rt, "run,.", b"", &behind, NEVER, (6, text, &behind))?;
+        }
+        Ok(())
+    }
+
+    #[test]
+    fn a_record_of_an_earlier_index(rt: HostRuntime) -> Result<(), Fail> {
+        let mut twice = ONE[..22].to_vec(rt.alloc())?;
+        twice.extend_from_slice(&ONE)?;
+        let text = "damaged manager at 27\n";
+        leaves(&rt, "run,.", b"", &twice, NEVER, (6, text, &twice))?;
+        Ok(())
+    }
+
+    #[test]
+    fn a_source_that_fails(rt: HostRuntime) -> Result<(), Fail> {
+        for call in [1, 2] {
+            let fails = Fails {
+                source: call,
+                ..NEVER
+            };
+            let script = b"a volume create /vol1\n";
+            leaves(&rt, "run,.", script, &[], fails, (3, "read fault\n", &[]))?;
+            leaves(
+                &rt,
+                "run,.",
+                b"x",
+                &[1, 0],
+                fails,
+                (3, "read fault\n", &[1, 0]),
+            )?;
+            leaves(&rt, "run", script, &[], fails, (2, "words 2\n", &[]))?;
+        }
+        Ok(())
+    }
+
+    #[test]
+    fn a_sink_that_fails(rt: HostRuntime) -> Result<(), Fail> {
+        let fails = Fails { sink: 1, ..NEVER };
+        let script = b"a volume create /vol1\n";
+        for (words, script, disk, status, kept) in [
+            ("run,.", script.as_slice(), [].as_slice(), 4, ONE.as_slice()),
+            ("run,.", b"", &ONE, 4, &ONE),
+            ("run", b"", &ONE, 2, &ONE),
+            ("run,.", b"x", &ONE, 1, &ONE),
+            ("run,.", b"", &[1, 0], 6, &[1, 0]),
+        ] {
+            leaves(&rt, words, script, disk, fails, (status, "", kept))?;
+        }
+        let both = Fails { disk: 7, ..fails };
+        leaves(&rt, "run,.", script, &[], both, (4, "", &ONE))?;
+        Ok(())
+    }
+
+    #[test]
+    fn a_disk_that_fails_at_loading(rt: HostRuntime) -> Result<(), Fail> {
+        let text = "disk manager fault\n";
+        for (call, disk, kept) in [
+            (1, [].as_slice(), [].as_slice()),
+            (2, &[], &[]),
+            (3, &[], &[0]),
+            (1, &ONE, &ONE),
+            (2, &ONE, &ONE),
+            (3, &ONE, &ONE),
+        ] {
+            let fails = Fails {
+                disk: call,
+                ..NEVER
+            };
+            let script = b"a volume create /vol1\n";
+            leaves(&rt, "run,.", script, disk, fails, (5, text, kept))?;
+            leaves(
+                &rt,
+                "run,.",
+                b"x",
+                disk,
+                fails,
+                (1, "script 1 form\n", disk),
+            )?;
+        }
+        Ok(())
+    }
+
+    /// What wasn't told may be there at the next run.
+    #[test]
+    fn a_disk_that_fails_in_the_work(rt: HostRuntime) -> Result<(), Fail> {
+        let alloc = rt.alloc();
+        let script = b"a volume info /abc\na volume create /vol1\na volume info /vol1\n";
+        let text = "story 1\n\
+            d 1 1 1 InfoVolume VOLUME_NOT_FOUND\n\
+            t 1 1 VOLUME_NOT_FOUND\n\
+            d 1 2 1 CreateVolume OK\n\
+            end 1 of 3\n";
+        for (call, reply) in [
+            (4, "VOLUME_NOT_FOUND"),
+            (5, "VOLUME_NOT_FOUND"),
+            (6, "VOLUME_NOT_FOUND"),
+            (7, "OK"),
+        ] {
+            let fails = Fails {
+                disk: call,
+                ..NEVER
+            };
+            let left = runs(&rt, "run,.", script, &[], fails)?;
+            assert_eq!(&rt; left.status, 5, "at {call}");
+            assert_eq!(&rt; left.text.as_str(), text, "at {call}");
+            let more = if reply == "OK" { " buckets 0" } else { "" };
+            let wanted = format!(in alloc;
+                "story 1\nd 1 1 1 InfoVolume {reply}\nt 1 1 {reply}{more}\nend 1 of 1\n"
+            )?;
+            let again = writes(&rt, "a volume info /vol1", &left.disk, wanted.as_str())?;
+            assert_eq!(&rt; again.as_slice(), left.disk.as_slice(), "at {call}");
+        }
+        Ok(())
+    }
+}

@@ -1,5 +1,5 @@
 -- What loading asks of a disk, and what it leaves.
-use Rattle.std.specs.Prelude.{◌≡◌, ◌⊎◌, ℕ, ◌≤◌, List, length, Result, Ok, Err, Vec}
+use Rattle.std.specs.Prelude.{◌≡◌, ◌⊎◌, ℕ, ◌+◌, ◌≤◌, nat_le, List, length, Result, Ok, Err, Vec, if◌then◌else◌}
 use Rattle.std.specs.declared.alloc.Global.{Global}
 use Rattle.oz_journal.specs.declared.body.Body.{Body}
 use Rattle.oz_journal.specs.declared.load_fault.LoadFault.{LoadFault}
@@ -17,3 +17,8 @@ IsLeftAlone before after = (after ≡ before) ⊎ ((length before ≤ 1) × (len
 abbrev pub disk_after : {D : Type 0} → Result (State D × Vec Body Global) (D × LoadFault) → D
 disk_after (Ok loaded) = loaded.0.disk
 disk_after (Err refused) = refused.0
+
+-- The moment at which loading ends, by that at which it begins and the disk's bytes: at most one byte is written over and
+-- synced, which takes two moments, and more are synced, which takes one.
+abbrev pub loaded_at : ℕ → List ℕ → ℕ
+loaded_at clock bytes = clock + (if nat_le (length bytes) 1 then 2 else 1)

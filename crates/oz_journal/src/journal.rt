@@ -36,7 +36,7 @@ impl<D: Disk> Model for Journal<D> {
 }
 
 impl<D: Disk> Journal<D> {
-    ghost use Rattle.oz_journal.specs.Load.{IsLoadable, IsLeftAlone, disk_after};
+    ghost use Rattle.oz_journal.specs.Load.{IsLoadable, IsLeftAlone, disk_after, loaded_at};
 
     /// Loads what a disk has, or begins where it has at most one byte. It writes to no other disk, and
     /// makes what it reads stable before it reads it. The disk comes back where it can't.
@@ -64,6 +64,8 @@ impl<D: Disk> Journal<D> {
             length bytes ≤ 1 → OnOk result (D.told (disk_after result) ≡ Some (0 ∷ []))) }
 
         // What a stop may leave.
+        ensures ended { IfOk result (λ loaded. IfSome (D.told disk) (λ bytes.
+            D.clock loaded.0.disk ≡ loaded_at (D.clock disk) bytes)) }
         ensures stable { IfOk result (λ loaded. (bytes : List ℕ) → D.told loaded.0.disk ≡ Some bytes →
             IsStable (D.image loaded.0.disk) (D.clock loaded.0.disk) bytes) }
         ensures time { Elapses (D.clock disk) (D.clock (disk_after result)) (D.image disk)

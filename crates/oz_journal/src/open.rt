@@ -4,7 +4,7 @@ ghost use Rattle.oz_world.specs.Faults.{Rose};
 ghost use Rattle.oz_journal.specs.Body.{bodies_in, places_in};
 ghost use Rattle.oz_journal.specs.Grammar.{IsJournal, IsDamagedAt, places};
 ghost use Rattle.oz_journal.specs.Journal.{IsAtRest};
-ghost use Rattle.oz_journal.specs.Load.{IsLoadable, IsLeftAlone};
+ghost use Rattle.oz_journal.specs.Load.{IsLoadable, IsLeftAlone, loaded_at};
 ghost use Rattle.oz_journal.specs.Moments.{Elapses, Spans};
 
 use crate::frame::CLOSED;
@@ -22,6 +22,7 @@ fn stable_bytes<D: Disk>(alloc: Global, disk: &mut D, size: u64) -> Result<Vec<u
     ensures stable { OnOk result (IfSome (D.told disk.old)
         (IsStable (D.image disk.new) (D.clock disk.new))) }
     ensures contents { D.told disk.new ≡ D.told disk.old }
+    ensures moment { OnOk result (D.clock disk.new ≡ D.clock disk.old + 1) }
     ensures time { Spans Same (D.clock disk.old) (D.clock disk.new) (D.image disk.old)
         (D.image disk.new) }
     ensures disk { IsErrOf result LoadFault.Disk → Rose (D.faults disk.old) (D.faults disk.new) }
@@ -55,6 +56,8 @@ pub fn open<D: Disk>(alloc: Global, disk: &mut D) -> Result<(Vec<Body>, u64), Lo
         2 ≤ length bytes → D.told disk.new ≡ Some bytes) }
     ensures closed { IfSome (D.told disk.old) (λ bytes.
         length bytes ≤ 1 → OnOk result (D.told disk.new ≡ Some (0 ∷ []))) }
+    ensures ended { OnOk result (IfSome (D.told disk.old) (λ bytes.
+        D.clock disk.new ≡ loaded_at (D.clock disk.old) bytes)) }
     ensures time { Elapses (D.clock disk.old) (D.clock disk.new) (D.image disk.old)
         (D.image disk.new) }
     ensures moments { IfSome (D.told disk.old) (λ bytes.

@@ -17,7 +17,7 @@ pub fn store<D: Disk>(disk: &mut D, pos: u64, bytes: &[u8]) -> Result<(), Failed
     ensures within { OnOk result (pos + length bytes.now < 2 ^ 64) }
     ensures stable { OnOk result
         (IfSome (D.told disk.new) (IsStable (D.image disk.new) (D.clock disk.new))) }
-    ensures later { OnOk result (D.clock disk.old < D.clock disk.new) }
+    ensures moments { OnOk result (D.clock disk.new ≡ D.clock disk.old + 2) }
     ensures time { Spans (Torn pos (length bytes.now)) (D.clock disk.old) (D.clock disk.new)
         (D.image disk.old) (D.image disk.new) }
     ensures cause { HasCause (D.faults disk.old) (D.faults disk.new) result }

@@ -17,8 +17,8 @@ returns-clause-time g c =
     (call_spans _ _ _ _ _ c.write_at.ensures.time c.write_at.ensures.no_time)
     (call_spans Same _ _ _ _ c.sync.ensures.time c.sync.ensures.no_time)
 
-pub returns-clause-later : goal.returns-clause-later
-returns-clause-later g c =
+pub returns-clause-moments : goal.returns-clause-moments
+returns-clause-moments g c =
     let written = took_a_moment _ _ (Torn c.args.pos (length c.args.bytes.now)) _ _ _ _ c.in_ok-write_at.was c.write_at.ensures.time (λ h. (c.write_at.ensures.no_time h).0) in
     let synced = took_a_moment _ _ Same _ _ _ _ c.in_ok-sync.was c.sync.ensures.time (λ h. (c.sync.ensures.no_time h).0) in
     omega (arith, written, synced)

@@ -1,158 +1,297 @@
--- Why a run ends with its status, and what a run that was done is.
-use Rattle.std.proofs.Common.{◌≡◌, ◌⊎◌, ⊎_elim, ℕ, ◌≤◌, List, ◌++◌, length, Option, Some, None, IfSome, refl, sym, ◌∙◌, subst, arith}
-use Rattle.std.specs.Option.{option_map}
+-- Why a run ends with its status, and what a run that worked is.
+use Rattle.std.proofs.Common.{◌≡◌, ◌≢◌, ◌⊎◌, ⊎_elim, inl, inr, ℕ, ◌≤◌, ◌<◌, ◌^◌, Bool, true, false, List, [], take, length, Option, Some, None, IfSome, Result, Ok, Err, IsOk, OnOk, refl, sym, ◌∙◌, ap, subst, arith}
+use Rattle.std.proofs.lemmas.Bool.{cases_lt, false≢true}
+use Rattle.oz_world.specs.Disk.{Images, Seen, IsStable}
+use Rattle.oz_world.specs.Faults.{Rose}
+use Rattle.oz_journal.specs.Grammar.{StandsFor}
+use Rattle.oz_journal.specs.Load.{IsLoadable, IsLeftAlone, loaded_at}
+use Rattle.oz_journal.specs.Moments.{Elapses, Spans}
 use Rattle.oz_cluster.specs.declared.events.Event.{Event}
 use Rattle.oz_cluster.specs.declared.opening.OpenFault.{OpenFault}
 use Rattle.oz_cluster.specs.declared.opening.OpenFault.TheVariants as fault
 use Rattle.oz_cluster.specs.declared.refusal.Refusal.{Refusal}
 use Rattle.oz_cluster.specs.declared.refusal.Refusal.TheVariants.{Words, Read, Script, Disk, Damaged, OutOfMemory}
+use Rattle.oz_cluster.specs.declared.script.Cause.{Cause}
 use Rattle.oz_cluster.specs.declared.script.Script.{Script as Lines}
-use Rattle.oz_cluster.specs.Headline.{IsOneRun}
-use Rattle.oz_cluster.specs.Namespace.{Volumes}
+use Rattle.oz_cluster.specs.declared.script.ScriptFault.TheVariants.{At}
+use Rattle.oz_cluster.specs.declared.status.Status.{Status}
+use Rattle.oz_cluster.specs.declared.status.Status.TheVariants as ends
+use Rattle.oz_cluster.specs.Headline.{IsPrinted, LoadingKeeps, IsOneRun, RunEnds}
+use Rattle.oz_cluster.specs.Namespace.{Volumes, nothing}
 use Rattle.oz_cluster.specs.OpenFaults.{as_refusal}
-use Rattle.oz_cluster.specs.Opens.{Opens, IsDamagedDisk, StandsAs}
-use Rattle.oz_cluster.specs.Quiet.{IsServed}
-use Rattle.oz_cluster.specs.Refusals.{status_of, text_of, IsScript, IsScriptOf, IsSo, Says}
+use Rattle.oz_cluster.specs.Opens.{Opens, OpensFrom, IsDamagedDisk, StandsAs}
+use Rattle.oz_cluster.specs.Quiet.{IsServed, IsHeld, IsLoaded}
+use Rattle.oz_cluster.specs.Refusals.{status_of, text_of, IsScript, IsScriptOf, IsSo, Says, IsStopped}
 use Rattle.oz_cluster.specs.Report.{report_of}
-use Rattle.oz_cluster.specs.Script.{IsNumbered}
-use Rattle.oz_cluster.specs.StatusCauses.{HasBegun, HasStopped, StatusCauses}
-use Rattle.oz_cluster.specs.Story.{Opening, namespace_of}
+use Rattle.oz_cluster.specs.Script.{script_of, IsNumbered}
+use Rattle.oz_cluster.specs.StatusCauses.{HasBegun, IsFaultOf, StatusCauses}
+use Rattle.oz_cluster.specs.Statuses.{status_number}
+use Rattle.oz_cluster.specs.Stops.{StopsHold}
+use Rattle.oz_cluster.specs.Story.{Opening, namespace_of, last_index}
+use Rattle.oz_cluster.specs.Streams.{script_limit}
 use Rattle.oz_cluster.specs.Words.{IsRun}
+use Rattle.oz_cluster.proofs.Exact.{run_has_no_fault, opens_or_damaged}
 use Rattle.oz_cluster.proofs.Headlines.{replies, asks, acknowledges}
-use Rattle.oz_cluster.proofs.Runs.{fits_all}
+use Rattle.oz_cluster.proofs.Runs.{fits_so_far, tells_all}
+use Rattle.oz_cluster.proofs.Serving.{none_there, some_there}
 
-status_fits : (refusal : Refusal) → status_of refusal ≤ 7
-status_fits (Script line cause) = omega arith
-status_fits (Words place) = omega arith
-status_fits Read = omega arith
-status_fits Disk = omega arith
-status_fits (Damaged offset) = omega arith
-status_fits OutOfMemory = omega arith
+module _ (words : List (List ℕ)) (left told before after : Option (List ℕ)) (source_rose sink_rose disk_rose : Type 0) (story : List Event) where
+  -- what stopped a run before the disk was asked
+  so_early : (refusal : Refusal) → IsSo words left told source_rose ⊥ refusal → IsSo words left told source_rose disk_rose refusal
+  so_early (Script line cause) so = so
+  so_early (Words place) so = so
+  so_early Read so = so
+  so_early Disk so = absurd so.2
+  so_early (Damaged offset) so = so
+  so_early OutOfMemory so = tt
 
-never_done : (refusal : Refusal) → status_of refusal ≡ 0 → ⊥
-never_done (Script line cause) is = absurd (omega (arith, is))
-never_done (Words place) is = absurd (omega (arith, is))
-never_done Read is = absurd (omega (arith, is))
-never_done Disk is = absurd (omega (arith, is))
-never_done (Damaged offset) is = absurd (omega (arith, is))
-never_done OutOfMemory is = absurd (omega (arith, is))
-
-never_unwritten : (refusal : Refusal) → status_of refusal ≡ 4 → ⊥
-never_unwritten (Script line cause) is = absurd (omega (arith, is))
-never_unwritten (Words place) is = absurd (omega (arith, is))
-never_unwritten Read is = absurd (omega (arith, is))
-never_unwritten Disk is = absurd (omega (arith, is))
-never_unwritten (Damaged offset) is = absurd (omega (arith, is))
-never_unwritten OutOfMemory is = absurd (omega (arith, is))
-
-is_read : (refusal : Refusal) → status_of refusal ≡ 3 → refusal ≡ Read
-is_read (Script line cause) is = absurd (omega (arith, is))
-is_read (Words place) is = absurd (omega (arith, is))
-is_read Read is = refl
-is_read Disk is = absurd (omega (arith, is))
-is_read (Damaged offset) is = absurd (omega (arith, is))
-is_read OutOfMemory is = absurd (omega (arith, is))
-
-is_disk : (refusal : Refusal) → status_of refusal ≡ 5 → refusal ≡ Disk
-is_disk (Script line cause) is = absurd (omega (arith, is))
-is_disk (Words place) is = absurd (omega (arith, is))
-is_disk Read is = absurd (omega (arith, is))
-is_disk Disk is = refl
-is_disk (Damaged offset) is = absurd (omega (arith, is))
-is_disk OutOfMemory is = absurd (omega (arith, is))
-
-module _ (given : List (List ℕ)) (left disk before after : Option (List ℕ)) (source_rose sink_rose disk_rose : Type 0) where
-  -- memory ran out
-  without_memory : (status : ℕ) → status ≡ 7 → StatusCauses given left disk before after source_rose sink_rose disk_rose status
-  without_memory status seven = record {
-    known = omega (arith, seven);
-    answered = λ is. absurd (omega (arith, seven, is));
-    script = λ is. absurd (omega (arith, seven, is));
-    words = λ is. absurd (omega (arith, seven, is));
-    read = λ is. absurd (omega (arith, seven, is));
-    unwritten = λ is. absurd (omega (arith, seven, is));
-    disk_fault = λ is. absurd (omega (arith, seven, is));
-    damaged = λ is. absurd (omega (arith, seven, is));
+  -- a run that was stopped so, or that had no memory to say it
+  pub stopped : (refusal why : Refusal) (status : Status) → IsSo words left told source_rose disk_rose refusal → (why ≡ refusal) ⊎ (why ≡ OutOfMemory) → status ≡ status_of why → Says (text_of why) before after sink_rose → story ≡ [] → IsStopped words left told source_rose disk_rose before after sink_rose story status
+  stopped refusal why status so which is said untold = record {
+    refusal = why;
+    so = ⊎_elim (λ same. subst (IsSo words left told source_rose disk_rose) (sym same) so) (λ none. subst (IsSo words left told source_rose disk_rose) (sym none) tt) which;
+    status_is = is;
+    said = said;
+    untold = untold;
   }
 
-  module _ (refusal : Refusal) (status : ℕ) (so : IsSo given left disk refusal) (source : refusal ≡ Read → source_rose) (at_disk : refusal ≡ Disk → disk_rose) where
-    said_so : (status ≡ status_of refusal) × Says (text_of refusal) before after sink_rose → StatusCauses given left disk before after source_rose sink_rose disk_rose status
-    said_so said =
-        let stopped : (n : ℕ) → status ≡ n → HasStopped given left disk before after sink_rose n = λ n is. record { refusal = refusal; so = so; status_is = sym is ∙ said.0; said = said.1 } in
-        record {
-          known = omega (arith, said.0, status_fits refusal);
-          answered = λ is. absurd (never_done refusal (sym said.0 ∙ is));
-          script = stopped 1;
-          words = stopped 2;
-          read = λ is.
-              let read = is_read refusal (sym said.0 ∙ is) in
-              (subst (IsSo given left disk) read so, source read);
-          unwritten = λ is. absurd (never_unwritten refusal (sym said.0 ∙ is));
-          disk_fault = λ is.
-              let failed = is_disk refusal (sym said.0 ∙ is) in
-              let now = subst (IsSo given left disk) failed so in
-              (now.0, now.1, at_disk failed);
-          damaged = stopped 6;
-        }
-
-    -- something stopped the run before its work
-    pub refused : (status ≡ 7) ⊎ ((status ≡ status_of refusal) × Says (text_of refusal) before after sink_rose) → StatusCauses given left disk before after source_rose sink_rose disk_rose status
-    refused stopped = ⊎_elim (without_memory status) said_so stopped
-
-  -- the work was begun
-  pub worked : (status : ℕ) → status ≤ 7 → HasBegun given left disk → (status ≡ 4 → sink_rose) → (status ≡ 5 → disk_rose) → (status ≡ 1 → ⊥) → (status ≡ 2 → ⊥) → (status ≡ 3 → ⊥) → (status ≡ 6 → ⊥) → StatusCauses given left disk before after source_rose sink_rose disk_rose status
-  worked status fits begun sink at_disk no_script no_words no_read no_damage = record {
-    known = fits;
-    answered = λ is. begun;
-    script = λ is. absurd (no_script is);
-    words = λ is. absurd (no_words is);
-    read = λ is. absurd (no_read is);
-    unwritten = λ is. (begun, sink is);
-    disk_fault = λ is. (begun.words, begun.script, at_disk is);
-    damaged = λ is. absurd (no_damage is);
-  }
+  pub stopped_early : (refusal why : Refusal) (status : Status) → IsSo words left told source_rose ⊥ refusal → (why ≡ refusal) ⊎ (why ≡ OutOfMemory) → status ≡ status_of why → Says (text_of why) before after sink_rose → story ≡ [] → IsStopped words left told source_rose disk_rose before after sink_rose story status
+  stopped_early refusal why status so which is said untold = stopped refusal why status (so_early refusal so) which is said untold
 
 -- a manager that wasn't opened
-pub open_so : (given : List (List ℕ)) (left disk : Option (List ℕ)) (why : OpenFault) → IsRun given → IsScript left → ((offset : ℕ) → why ≡ fault.Damaged offset → IfSome disk (λ bytes. IsDamagedDisk bytes offset)) → IsSo given left disk (as_refusal why)
-open_so given left disk fault.Disk run script damaged = (run, script)
-open_so given left disk (fault.Damaged offset) run script damaged = (run, script, damaged offset refl)
-open_so given left disk fault.OutOfMemory run script damaged = tt
+pub open_so : (words : List (List ℕ)) (left told : Option (List ℕ)) (source_rose disk_rose : Type 0) (why : OpenFault) → IsRun words → IsScript left → ((offset : ℕ) → why ≡ fault.Damaged offset → IfSome told (λ bytes. IsDamagedDisk bytes offset)) → (why ≡ fault.Disk → disk_rose) → IsSo words left told source_rose disk_rose (as_refusal why)
+open_so words left told source_rose disk_rose fault.Disk run script damaged rose = (run, script, rose refl)
+open_so words left told source_rose disk_rose (fault.Damaged offset) run script damaged rose = (run, script, damaged offset refl)
+open_so words left told source_rose disk_rose fault.OutOfMemory run script damaged rose = tt
 
-pub never_read : (why : OpenFault) → as_refusal why ≡ Read → ⊥
-never_read fault.Disk is = absurd (cc is)
-never_read (fault.Damaged offset) is = absurd (cc is)
-never_read fault.OutOfMemory is = absurd (cc is)
+-- The causes of each status.
 
-pub disk_fails : (why : OpenFault) → as_refusal why ≡ Disk → why ≡ fault.Disk
-disk_fails fault.Disk is = refl
-disk_fails (fault.Damaged offset) is = absurd (cc is)
-disk_fails fault.OutOfMemory is = absurd (cc is)
+no_script_and_fault : (text : List ℕ) (line : ℕ) (cause : Cause) (left : Option (List ℕ)) → left ≡ Some text → IsFaultOf text line cause → IsScript left → ⊥
+no_script_and_fault text line cause None is wrong script = absurd (cc is)
+no_script_and_fault text line cause (Some other) is wrong script =
+    let same : other ≡ text = cc is in
+    let good : script_of (take script_limit text) ≡ Ok script.0 = subst (λ (t : List ℕ). script_of (take script_limit t) ≡ Ok script.0) same script.1 in
+    absurd (cc (sym wrong ∙ good))
 
-pub some_opens : (told : Option (List ℕ)) (opening : Opening) → IfSome told (λ bytes. Opens bytes opening) → IfSome told (λ bytes. (some : Opening) × Opens bytes some)
+some_fault : (left : Option (List ℕ)) (line : ℕ) (cause : Cause) → IfSome left (λ text. script_of (take script_limit text) ≡ Err (At line cause)) → IfSome left (λ text. (line : ℕ) × (cause : Cause) × IsFaultOf text line cause)
+some_fault None line cause h = tt
+some_fault (Some text) line cause h = (line, cause, h)
+
+fault_and_script : (left : Option (List ℕ)) (text : List ℕ) (line : ℕ) (cause : Cause) → left ≡ Some text → IfSome left (λ text. script_of (take script_limit text) ≡ Err (At line cause)) → IsScript left → ⊥
+fault_and_script None text line cause is wrong script = absurd (cc is)
+fault_and_script (Some other) text line cause is wrong script = absurd (cc (sym wrong ∙ script.1))
+
+some_damage : (told : Option (List ℕ)) (offset : ℕ) → IfSome told (λ bytes. IsDamagedDisk bytes offset) → IfSome told (λ bytes. (offset : ℕ) × IsDamagedDisk bytes offset)
+some_damage None offset h = tt
+some_damage (Some bytes) offset h = (offset, h)
+
+some_opens : (told : Option (List ℕ)) (opening : Opening) → IfSome told (λ bytes. Opens bytes opening) → IfSome told (λ bytes. (some : Opening) × Opens bytes some)
 some_opens None opening opens = tt
 some_opens (Some bytes) opening opens = (opening, opens)
 
-pub one_run : (left told told_after before after : Option (List ℕ)) (opening : Opening) (script : Lines) (story : List Event) (namespace : Volumes) (index clock : ℕ)
-    → IsScriptOf left script → IsNumbered script → IfSome told (λ bytes. Opens bytes opening) → IsServed opening script story (length script.lines) namespace index clock
-    → after ≡ option_map (λ held. held ++ report_of (length script.lines) story) before → IfSome told (λ bytes. StandsAs told_after namespace index) → IsOneRun told told_after left story before after
-one_run left told told_after before after opening script story namespace index clock parsed numbered opens served printed stands = record {
-  opening = opening;
-  script = script;
-  opens = opens;
-  parsed = parsed;
-  headline = record {
-    printed = printed;
-    one_history = (served.legal, fits_all opening script story namespace index clock numbered.in_order served);
-    at_that_point = replies opening story served.legal;
-    after_all_seen = asks script story served.fits;
-    acknowledged = acknowledges opening story served.legal;
-  };
-  reopens =
-      let of_story = subst (λ (n : Volumes). IfSome told (λ bytes. StandsAs told_after n index)) (sym served.quiet.stands_for) stands in
-      subst (λ (i : ℕ). IfSome told (λ bytes. StandsAs told_after (namespace_of opening story) i)) (sym served.quiet.decided) of_story;
-}
+opens_and_damaged : (told : Option (List ℕ)) (opening : Opening) (bytes : List ℕ) (offset : ℕ) → told ≡ Some bytes → IfSome told (λ bytes. Opens bytes opening) → IsDamagedDisk bytes offset → ⊥
+opens_and_damaged None opening bytes offset is opens damaged = absurd (cc is)
+opens_and_damaged (Some other) opening bytes offset is opens damaged =
+    let same : other ≡ bytes = cc is in
+    opens_or_damaged bytes opening offset (subst (λ (b : List ℕ). Opens b opening) same opens) damaged
 
--- where it stood for the opening, it stands for the end
-pub stands_then : (told after : Option (List ℕ)) (end : Option (List ℕ)) (namespace later : Volumes) (index last : ℕ) → IfSome told (λ bytes. StandsAs after namespace index) → (StandsAs after namespace index → StandsAs end later last) → IfSome told (λ bytes. StandsAs end later last)
-stands_then None after end namespace later index last stands goes = tt
-stands_then (Some bytes) after end namespace later index last stands goes = goes stands
+module _ (words : List (List ℕ)) (left told : Option (List ℕ)) (source_rose sink_rose disk_rose : Type 0) (number : ℕ) where
+  -- something stopped the run before its work
+  stop_causes : (refusal : Refusal) → IsSo words left told source_rose disk_rose refusal → number ≡ status_number (status_of refusal) → StatusCauses words left told source_rose sink_rose disk_rose number
+  stop_causes (Script line cause) so n = record {
+    known = omega (arith, n);
+    done = λ is. absurd (omega (arith, n, is));
+    script = λ is. (so.0, some_fault left line cause so.1);
+    words_fault = λ is. absurd (omega (arith, n, is));
+    read = λ is. absurd (omega (arith, n, is));
+    unwritten = λ is. absurd (omega (arith, n, is));
+    disk_fault = λ is. absurd (omega (arith, n, is));
+    damaged = λ is. absurd (omega (arith, n, is));
+    wrong_words = λ place wrong. absurd (run_has_no_fault words place so.0 wrong);
+    wrong_script = λ run text where_it why is wrong. inl n;
+    wrong_disk = λ run text bytes offset is script there damaged. absurd (fault_and_script left text line cause is so.1 script);
+  }
+  stop_causes (Words place) so n = record {
+    known = omega (arith, n);
+    done = λ is. absurd (omega (arith, n, is));
+    script = λ is. absurd (omega (arith, n, is));
+    words_fault = λ is. (place, so);
+    read = λ is. absurd (omega (arith, n, is));
+    unwritten = λ is. absurd (omega (arith, n, is));
+    disk_fault = λ is. absurd (omega (arith, n, is));
+    damaged = λ is. absurd (omega (arith, n, is));
+    wrong_words = λ other wrong. inl n;
+    wrong_script = λ run text line cause is wrong. absurd (run_has_no_fault words place run so);
+    wrong_disk = λ run text bytes offset is script there damaged. absurd (run_has_no_fault words place run so);
+  }
+  stop_causes Read so n = record {
+    known = omega (arith, n);
+    done = λ is. absurd (omega (arith, n, is));
+    script = λ is. absurd (omega (arith, n, is));
+    words_fault = λ is. absurd (omega (arith, n, is));
+    read = λ is. so;
+    unwritten = λ is. absurd (omega (arith, n, is));
+    disk_fault = λ is. absurd (omega (arith, n, is));
+    damaged = λ is. absurd (omega (arith, n, is));
+    wrong_words = λ place wrong. absurd (run_has_no_fault words place so.0 wrong);
+    wrong_script = λ run text line cause is wrong. inr (inl n);
+    wrong_disk = λ run text bytes offset is script there damaged. inl n;
+  }
+  stop_causes Disk so n = record {
+    known = omega (arith, n);
+    done = λ is. absurd (omega (arith, n, is));
+    script = λ is. absurd (omega (arith, n, is));
+    words_fault = λ is. absurd (omega (arith, n, is));
+    read = λ is. absurd (omega (arith, n, is));
+    unwritten = λ is. absurd (omega (arith, n, is));
+    disk_fault = λ is. so;
+    damaged = λ is. absurd (omega (arith, n, is));
+    wrong_words = λ place wrong. absurd (run_has_no_fault words place so.0 wrong);
+    wrong_script = λ run text line cause is wrong. absurd (no_script_and_fault text line cause left is wrong so.1);
+    wrong_disk = λ run text bytes offset is script there damaged. inr (inl n);
+  }
+  stop_causes (Damaged offset) so n = record {
+    known = omega (arith, n);
+    done = λ is. absurd (omega (arith, n, is));
+    script = λ is. absurd (omega (arith, n, is));
+    words_fault = λ is. absurd (omega (arith, n, is));
+    read = λ is. absurd (omega (arith, n, is));
+    unwritten = λ is. absurd (omega (arith, n, is));
+    disk_fault = λ is. absurd (omega (arith, n, is));
+    damaged = λ is. (so.0, so.1, some_damage told offset so.2);
+    wrong_words = λ place wrong. absurd (run_has_no_fault words place so.0 wrong);
+    wrong_script = λ run text line cause is wrong. absurd (no_script_and_fault text line cause left is wrong so.1);
+    wrong_disk = λ run text bytes at is script there damaged. inr (inr (inl n));
+  }
+  stop_causes OutOfMemory so n = record {
+    known = omega (arith, n);
+    done = λ is. absurd (omega (arith, n, is));
+    script = λ is. absurd (omega (arith, n, is));
+    words_fault = λ is. absurd (omega (arith, n, is));
+    read = λ is. absurd (omega (arith, n, is));
+    unwritten = λ is. absurd (omega (arith, n, is));
+    disk_fault = λ is. absurd (omega (arith, n, is));
+    damaged = λ is. absurd (omega (arith, n, is));
+    wrong_words = λ place wrong. inr n;
+    wrong_script = λ run text line cause is wrong. inr (inr n);
+    wrong_disk = λ run text bytes offset is script there damaged. inr (inr (inr n));
+  }
+
+  -- the run came to its work
+  module _ (given : IsRun words) (script : Lines) (parsed : IsScriptOf left script) (opening : Opening) (opens : IfSome told (λ bytes. Opens bytes opening)) where
+    work_causes : number ≤ 7 → (number ≡ 4 → sink_rose) → (number ≡ 5 → disk_rose) → (number ≡ 1 → ⊥) → (number ≡ 2 → ⊥) → (number ≡ 3 → ⊥) → (number ≡ 6 → ⊥) → StatusCauses words left told source_rose sink_rose disk_rose number
+    work_causes known sink disk no_script no_words no_read no_damage = record {
+      known = known;
+      done = λ is. begun;
+      script = λ is. absurd (no_script is);
+      words_fault = λ is. absurd (no_words is);
+      read = λ is. absurd (no_read is);
+      unwritten = λ is. (begun, sink is);
+      disk_fault = λ is. (given, (script, parsed), disk is);
+      damaged = λ is. absurd (no_damage is);
+      wrong_words = λ place wrong. absurd (run_has_no_fault words place given wrong);
+      wrong_script = λ run text line cause is wrong. absurd (no_script_and_fault text line cause left is wrong (script, parsed));
+      wrong_disk = λ run text bytes offset is some there damaged. absurd (opens_and_damaged told opening bytes offset there opens damaged);
+    }
+      where
+        begun : HasBegun words left told
+        begun = record { given = given; script = (script, parsed); opens = some_opens told opening opens }
+
+    pub printed_causes : (status : Status) (report : List ℕ) (before after : Option (List ℕ)) → number ≡ status_number status → IsPrinted status report before after sink_rose → (status ≡ ends.Disk → disk_rose) → StatusCauses words left told source_rose sink_rose disk_rose number
+    printed_causes ends.Done report before after n printed disk = work_causes (omega (arith, n)) (λ is. absurd (omega (arith, n, is))) (λ is. absurd (omega (arith, n, is))) (λ is. omega (arith, n, is)) (λ is. omega (arith, n, is)) (λ is. omega (arith, n, is)) (λ is. omega (arith, n, is))
+    printed_causes ends.Script report before after n printed disk = absurd printed
+    printed_causes ends.Words report before after n printed disk = absurd printed
+    printed_causes ends.Read report before after n printed disk = absurd printed
+    printed_causes ends.Unwritten report before after n printed disk = work_causes (omega (arith, n)) (λ is. printed.1) (λ is. absurd (omega (arith, n, is))) (λ is. omega (arith, n, is)) (λ is. omega (arith, n, is)) (λ is. omega (arith, n, is)) (λ is. omega (arith, n, is))
+    printed_causes ends.Disk report before after n printed disk = work_causes (omega (arith, n)) (λ is. absurd (omega (arith, n, is))) (λ is. disk refl) (λ is. omega (arith, n, is)) (λ is. omega (arith, n, is)) (λ is. omega (arith, n, is)) (λ is. omega (arith, n, is))
+    printed_causes ends.Damaged report before after n printed disk = absurd printed
+    printed_causes ends.OutOfMemory report before after n printed disk = work_causes (omega (arith, n)) (λ is. absurd (omega (arith, n, is))) (λ is. absurd (omega (arith, n, is))) (λ is. omega (arith, n, is)) (λ is. omega (arith, n, is)) (λ is. omega (arith, n, is)) (λ is. omega (arith, n, is))
+
+halt_cause : (halt : Option ℕ) (before after : ℕ) → halt ≢ None → IfSome halt (λ count. (count ≡ after) × Rose before count) → Rose before after
+halt_cause None before after some cause = absurd (some refl)
+halt_cause (Some count) before after some cause = subst (Rose before) cause.0 cause.1
+
+pub causes_of : (words : List (List ℕ)) (left : Option (List ℕ)) (disk_before disk_after : Seen) (before after : Option (List ℕ)) (source_rose sink_rose : Type 0) (story : List Event) (number : ℕ) → RunEnds words left disk_before disk_after before after source_rose sink_rose story number → StatusCauses words left disk_before.told source_rose sink_rose (Rose disk_before.faults disk_after.faults) number
+causes_of words left disk_before disk_after before after source_rose sink_rose story number ending = ⊎_elim
+    (λ stop. stop_causes words left disk_before.told source_rose sink_rose (Rose disk_before.faults disk_after.faults) number stop.refusal stop.so (ending.1 ∙ ap status_number stop.status_is))
+    (λ run. printed_causes words left disk_before.told source_rose sink_rose (Rose disk_before.faults disk_after.faults) number run.given run.script run.parsed run.opening run.opens ending.0 _ before after ending.1 run.headline.printed
+    (λ is. halt_cause _ disk_before.faults disk_after.faults (run.halted.named is) run.halted.cause))
+    ending.2
+
+-- A run that worked.
+
+rises : (before loaded now : ℕ) (halt : Option ℕ) → before ≤ loaded → IfSome halt (λ count. (count ≡ now) × Rose loaded count) → IfSome halt (λ count. (count ≡ now) × Rose before count)
+rises before loaded now None le cause = tt
+rises before loaded now (Some count) le cause = (cause.0, omega (arith, le, cause.1))
+
+stands_if : (told after : Option (List ℕ)) (namespace : Volumes) (index : ℕ) → ((bytes : List ℕ) → told ≡ Some bytes → StandsAs after namespace index) → IfSome told (λ bytes. StandsAs after namespace index)
+stands_if None after namespace index h = tt
+stands_if (Some bytes) after namespace index h = h bytes refl
+
+if_some : (told : Option (List ℕ)) (P : List ℕ → Type 0) (bytes : List ℕ) → told ≡ Some bytes → IfSome told P → P bytes
+if_some None P bytes is h = absurd (cc is)
+if_some (Some other) P bytes is h =
+    let same : other ≡ bytes = cc is in
+    subst P same h
+
+if_all : (told : Option (List ℕ)) (P : List ℕ → Type 0) → ((bytes : List ℕ) → told ≡ Some bytes → P bytes) → IfSome told P
+if_all None P h = tt
+if_all (Some bytes) P h = h bytes refl
+
+-- while the disk is loaded, what a stop leaves is left alone
+loading_keeps : (disk : Seen) (bytes : List ℕ) (loaded last : ℕ) (middle image : Images) → loaded ≡ loaded_at disk.clock bytes → Spans IsLeftAlone disk.clock loaded disk.image middle → Elapses loaded last middle image → LoadingKeeps disk bytes image
+loading_keeps disk bytes loaded last middle image is spans time moment left from to there =
+    let then : middle moment left = (time.kept moment left (omega (arith, to, is))).0 there in
+    ⊎_elim
+    (λ new. spans.made moment left new (omega (arith, to, is)) then)
+    (λ old.
+    let same : moment ≡ disk.clock = omega (arith, from, old) in
+    (left, subst (λ (t : ℕ). disk.image t left) same ((spans.elapses.kept moment left (omega (arith, old))).0 then), inl refl))
+    (cases_lt disk.clock moment)
+
+module _ (words : List (List ℕ)) (left : Option (List ℕ)) (disk_before loaded disk_after : Seen) (before after : Option (List ℕ)) (sink_rose : Type 0) (opening : Opening) (script : Lines) (lines : ℕ) (story : List Event) (namespace : Volumes) (index : ℕ) (stopped : Bool) (status : Status)
+    (given : IsRun words) (parsed : IsScriptOf left script) (numbered : IsNumbered script) (opens : IfSome disk_before.told (λ bytes. Opens bytes opening)) (few : lines ≤ length script.lines)
+    (stands : IfSome disk_before.told (λ bytes. StandsAs loaded.told opening.namespace opening.index)) (stable : (bytes : List ℕ) → loaded.told ≡ Some bytes → IsStable loaded.image loaded.clock bytes) (ended : IfSome disk_before.told (λ bytes. loaded.clock ≡ loaded_at disk_before.clock bytes))
+    (spans : IfSome disk_before.told (λ bytes. IsLoadable bytes (disk_before.image disk_before.clock) → Spans IsLeftAlone disk_before.clock loaded.clock disk_before.image loaded.image)) (falls : disk_before.faults ≤ loaded.faults)
+    (served : IsServed opening script lines loaded.faults story namespace index stopped disk_after) (held : IsLoaded opening loaded → index < 2 ^ 63 → IsHeld opening story namespace index loaded.clock disk_after) (time : Elapses loaded.clock disk_after.clock loaded.image disk_after.image)
+    (all : (status ≡ ends.OutOfMemory) ⊎ (lines ≡ length script.lines)) (done : status ≡ ends.Done → stopped ≡ false) (named : status ≡ ends.Disk → stopped ≡ true) (printed : IsPrinted status (report_of (length script.lines) story) before after sink_rose) where
+  held_of : (bytes : List ℕ) → disk_before.told ≡ Some bytes → last_index opening story < 2 ^ 63 → IsHeld opening story namespace index loaded.clock disk_after
+  held_of bytes tells below = held (record { stands = if_some disk_before.told (λ _. StandsAs loaded.told opening.namespace opening.index) bytes tells stands; stable = stable }) (omega (arith, below, served.quiet.decided))
+
+  pub one_run : IsOneRun words left disk_before disk_after before after sink_rose story status
+  one_run = record {
+    opening = opening;
+    script = script;
+    given = given;
+    parsed = parsed;
+    opens = opens;
+    headline = record {
+      printed = printed;
+      one_history = (served.legal, fits_so_far opening script lines loaded.faults story namespace index stopped disk_after numbered.in_order few served);
+      all_told = λ ne. ⊎_elim (λ none. absurd (ne none)) (λ last. tells_all opening script lines loaded.faults story namespace index stopped disk_after numbered.in_order last served) all;
+      at_that_point = replies opening story served.legal;
+      after_all_seen = asks opening script story served.fits;
+      acknowledged = acknowledges opening story served.legal;
+      stops = λ bytes premises.
+          let end = if_some disk_before.told (λ b. loaded.clock ≡ loaded_at disk_before.clock b) bytes premises.tells ended in
+          subst (λ (first : ℕ). StopsHold opening story first disk_after.clock disk_after.image) end (held_of bytes premises.tells premises.fits).stops;
+    };
+    halted = record {
+      done = λ is. none_there _ (served.halted ∙ done is);
+      named = λ is. some_there _ (served.halted ∙ named is);
+      cause = rises disk_before.faults loaded.faults disk_after.faults _ falls served.cause;
+    };
+    loading = if_all disk_before.told _ (λ bytes tells loadable.
+        loading_keeps disk_before bytes loaded.clock disk_after.clock loaded.image disk_after.image
+        (if_some disk_before.told (λ b. loaded.clock ≡ loaded_at disk_before.clock b) bytes tells ended)
+        (if_some disk_before.told (λ b. IsLoadable b (disk_before.image disk_before.clock) → Spans IsLeftAlone disk_before.clock loaded.clock disk_before.image loaded.image) bytes tells spans loadable) time);
+    reopens = λ none. stands_if disk_before.told disk_after.told (namespace_of opening story) (last_index opening story) (λ bytes tells below.
+        let there = (held_of bytes tells below).stands none (omega (arith, below, served.quiet.decided)) in
+        subst (λ (n : Volumes). (bodies : List (List ℕ)) × StandsFor disk_after.told bodies × OpensFrom nothing 0 bodies (record { namespace = n; index = last_index opening story })) (sym served.quiet.stands_for)
+        (subst (λ (i : ℕ). (bodies : List (List ℕ)) × StandsFor disk_after.told bodies × OpensFrom nothing 0 bodies (record { namespace = namespace; index = i })) (sym served.quiet.decided) there));
+  }
+
+-- what was served where memory didn't run out
+pub all_served : {T E : Type 0} (status : Status) (worked : Result T E) (lines all : ℕ) → OnOk worked (lines ≡ all) → (status ≡ ends.OutOfMemory) ⊎ IsOk worked → (status ≡ ends.OutOfMemory) ⊎ (lines ≡ all)
+all_served status (Ok value) lines all served worked = inr served
+all_served status (Err error) lines all served worked = ⊎_elim (λ none. inl none) (λ ok. absurd (false≢true ok)) worked

@@ -96,23 +96,24 @@ unfolding OpensFrom
 opens_push namespace last [] opening body index volume is next = (index, volume, subst (λ (o : Opening). IsNextBody o.index body index volume) is next, ap (λ (o : Opening). record { namespace = with_volume o.namespace volume; index = index }) is)
 opens_push namespace last (first ∷ bodies) opening body index volume opens next = (opens.0, opens.1, opens.2, opens_push (with_volume namespace opens.1) opens.0 bodies opening body index volume opens.3 next)
 
--- a volume was put on a disk
-pub stands_on : (before after : Option (List ℕ)) (namespace : Volumes) (index : ℕ) (volume body : List ℕ) → IsVolumeName volume → body ≡ body_bytes (index + 1) (put_volume volume) → ((bodies : List (List ℕ)) → StandsFor before bodies → StandsFor after (bodies ++ body ∷ [])) → StandsAs before namespace index → StandsAs after (with_volume namespace volume) (index + 1)
-stands_on before after namespace index volume body name is appended stands below =
-    let was = stands (omega (arith, below)) in
+-- a volume was put
+pub opens_on : (namespace : Volumes) (index : ℕ) (volume body : List ℕ) (bodies : List (List ℕ)) → IsVolumeName volume → body ≡ body_bytes (index + 1) (put_volume volume) → index + 1 < 2 ^ 63 → OpensFrom nothing 0 bodies (record { namespace = namespace; index = index }) → OpensFrom nothing 0 (bodies ++ body ∷ []) (record { namespace = with_volume namespace volume; index = index + 1 })
+opens_on namespace index volume body bodies name is below opens =
     let next : IsNextBody index body (index + 1) volume = record {
       bytes = ap body_at is ∙ body_reads (index + 1) volume (omega (arith, below)) (omega (arith, name.short_enough));
       name = name;
       rises = omega arith;
       fits = below;
     } in
-    (was.0 ++ body ∷ [], appended was.0 was.1, opens_push nothing 0 was.0 (record { namespace = namespace; index = index }) body (index + 1) volume was.2 next)
+    opens_push nothing 0 bodies (record { namespace = namespace; index = index }) body (index + 1) volume opens next
+
+-- a volume was put on a disk
+pub stands_on : (before after : Option (List ℕ)) (namespace : Volumes) (index : ℕ) (volume body : List ℕ) → IsVolumeName volume → body ≡ body_bytes (index + 1) (put_volume volume) → ((bodies : List (List ℕ)) → StandsFor before bodies → StandsFor after (bodies ++ body ∷ [])) → StandsAs before namespace index → StandsAs after (with_volume namespace volume) (index + 1)
+stands_on before after namespace index volume body name is appended stands below =
+    let was = stands (omega (arith, below)) in
+    (was.0 ++ body ∷ [], appended was.0 was.1, opens_on namespace index volume body was.0 name is below was.2)
 
 -- a manager that was opened
 pub stands_opened : (told after : Option (List ℕ)) (bodies : List (List ℕ)) (namespace : Volumes) (index : ℕ) → IfSome told (λ bytes. StandsFor after bodies) → OpensFrom nothing 0 bodies (record { namespace = namespace; index = index }) → IfSome told (λ bytes. StandsAs after namespace index)
 stands_opened None after bodies namespace index stands opens = tt
 stands_opened (Some bytes) after bodies namespace index stands opens = λ below. (bodies, stands, opens)
-
-pub stands_same : (before after : Option (List ℕ)) (namespace later : Volumes) (index last : ℕ) → before ≡ after → namespace ≡ later → index ≡ last → StandsAs before namespace index → StandsAs after later last
-stands_same before after namespace later index last same_disk same_namespace same_index stands =
-    subst (λ (i : ℕ). StandsAs after later i) same_index (subst (λ (n : Volumes). StandsAs after n index) same_namespace (subst (λ (t : Option (List ℕ)). StandsAs t namespace index) same_disk stands))

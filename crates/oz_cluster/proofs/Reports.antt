@@ -12,14 +12,15 @@ use Rattle.std.specs.declared.cmp.Ordering.{Ordering}
 use Rattle.std.specs.declared.cmp.Ordering.TheVariants.{Less, Equal, Greater}
 use Rattle.oz_cluster.specs.declared.events.Event.{Event}
 use Rattle.oz_cluster.specs.declared.events.EventKind.{EventKind}
-use Rattle.oz_cluster.specs.declared.events.EventKind.TheVariants.{Ask, Decide, Swap, Flushed, Told}
+use Rattle.oz_cluster.specs.declared.events.EventKind.TheVariants.{Ask, Decide, Swap, Flushed, Halt, Told}
+use Rattle.oz_cluster.specs.declared.events.Node.{Node}
 use Rattle.oz_cluster.specs.declared.requests.Answer.{Answer}
 use Rattle.oz_cluster.specs.declared.requests.AskId.{AskId}
 use Rattle.oz_cluster.specs.declared.requests.Reply.{Reply}
 use Rattle.oz_cluster.specs.declared.requests.Request.{Request}
 use Rattle.oz_cluster.specs.contracts.requests.AskIdOrd.TheImpl as ask_id_order
 use Rattle.oz_cluster.specs.Story.{is_id, pending, pending_after}
-use Rattle.oz_cluster.specs.Report.{service_client, decide_text, told_text, event_text, lines_from, is_told_kind, told_count}
+use Rattle.oz_cluster.specs.Report.{service_client, decide_text, halt_text, told_text, event_text, lines_from, is_told_kind, told_count}
 use Rattle.oz_cluster.proofs.Stories.{pending-push}
 
 -- the order of ids
@@ -130,6 +131,11 @@ module _ (story : List Event) (event : Event) (out : List ℕ) (old : BTreeMap A
 
   pub flushed_next : (index moment : ℕ) → event.kind ≡ Flushed index moment → IsPrinted (story ++ event ∷ []) out old told
   flushed_next index moment is = silent_next (Flushed index moment) old is refl (λ q. refl) refl
+
+  pub halted_next : (node : Node) (count : ℕ) → event.kind ≡ Halt node count → IsPrinted (story ++ event ∷ []) (out ++ halt_text node count) old told
+  halted_next node count is =
+      let next : IsPrinted (story ++ event ∷ []) (out ++ halt_text node count) old (told + 0) = next_printed (Halt node count) (halt_text node count) old 0 is refl (λ q. refl) refl in
+      record { lines = next.lines; names = next.names; count = omega (arith, next.count) }
 
 -- the event at this place is the next one
 pub printed_on : (story : List Event) (place : ℕ) (event : Event) (out new : List ℕ) (asked after : BTreeMap AskId (Bor Request)) (told now : ℕ) → place < length story → event ≡ get_or story place event → new ≡ out → after ≡ asked → now ≡ told → IsPrinted (take place story ++ event ∷ []) out asked told → IsPrinted (take (place + 1) story) new after now

@@ -1,39 +1,60 @@
 -- What a run begins with, and what serving all lines leaves.
-use Rattle.std.proofs.Common.{⊎_elim, ◌≡◌, ◌≢◌, ℕ, ◌+◌, ◌<◌, ◌≤◌, zero, suc, Bool, false, ◌==◌, List, [], ◌∷◌, ◌++◌, map, filter, length, get_or, None, refl, sym, ◌∙◌, ap, subst, arith, if◌then◌else◌}
+use Rattle.std.proofs.Common.{⊎_elim, ◌≡◌, ◌≢◌, ℕ, ◌+◌, ◌-◌, ◌<◌, ◌≤◌, zero, suc, Bool, false, ◌==◌, List, [], ◌∷◌, ◌++◌, map, filter, length, get_or, None, refl, sym, ◌∙◌, ap, subst, arith, if◌then◌else◌}
 use Rattle.std.proofs.lemmas.Bool.{cases_Bool, eq-eqb, ne_eqb, eqb-true, false≢true}
 use Rattle.std.proofs.lemmas.List.{append-nil, append_assoc}
-use Rattle.oz_world.specs.Faults.{Rose}
+use Rattle.oz_world.specs.Disk.{Seen}
 use Rattle.oz_cluster.specs.declared.events.Event.{Event}
 use Rattle.oz_cluster.specs.declared.script.Line.{Line}
 use Rattle.oz_cluster.specs.declared.script.Script.{Script}
-use Rattle.oz_cluster.specs.Fits.{Fits, FitsFrom, IsLineOf, lines_of, told_lines}
+use Rattle.oz_cluster.specs.Fits.{Fits, AllAreTold, FitsFrom, IsLineOf, lines_of, told_lines}
 use Rattle.oz_cluster.specs.Law.{IsLegalFrom}
 use Rattle.oz_cluster.specs.Namespace.{Volumes}
 use Rattle.oz_cluster.specs.Quiet.{IsServed, counted}
 use Rattle.oz_cluster.specs.Script.{AreNumberedFrom}
-use Rattle.oz_cluster.specs.Story.{Opening, namespace_from}
+use Rattle.oz_cluster.specs.Story.{Opening, namespace_from, kept_from}
+use Rattle.oz_cluster.proofs.Lines.{Sums}
 
 -- nothing was asked yet
-pub begins : (opening : Opening) (script : Script) (clock : ℕ) → IsServed opening script [] 0 opening.namespace opening.index clock
-unfolding namespace_from IsLegalFrom FitsFrom counted
-begins opening script clock = record {
+pub begins : (opening : Opening) (script : Script) (now : Seen) → IsServed opening script 0 now.faults [] opening.namespace opening.index false now
+unfolding namespace_from kept_from IsLegalFrom FitsFrom counted
+begins opening script now = record {
   quiet = record {
     stands_for = refl;
+    kept = λ most le. refl;
     decided = refl;
-    swapped = refl;
-    durable = refl;
-    latest = refl;
-    settled = λ id. refl;
+    grown = omega arith;
+    halted = refl;
+    swapped = λ none. refl;
+    durable = λ none. refl;
+    settled = λ id lt. refl;
     unasked = λ id lt. refl;
+    undecided = λ client line lt. refl;
     told = λ line some le. absurd (omega (arith, some, le));
     untold = λ line lt. refl;
-    stable = λ client line. omega arith;
     all_told = refl;
     others = λ client ne. refl;
+    within = λ moment. tt;
   };
   legal = tt;
   fits = tt;
   past = omega arith;
+  halted = refl;
+  cause = tt;
+  never_falls = omega arith;
+}
+
+pub sums_first : (opening : Opening) → Sums opening [] opening.namespace opening.index opening.index opening.index 0 None
+unfolding namespace_from kept_from
+sums_first opening = record {
+  stands_for = refl;
+  kept = λ most le. refl;
+  decided = refl;
+  grown = omega arith;
+  taken = refl;
+  durable = refl;
+  latest = refl;
+  halted = refl;
+  within = λ at. tt;
 }
 
 -- a line of a numbered list: its client, its number, and that it waits for none
@@ -102,17 +123,43 @@ none_of (first ∷ lines) from client ne numbered =
 not_one : (client : ℕ) → (client == 1) ≡ false → client ≢ 1
 not_one client other same = absurd (false≢true (sym other ∙ eq-eqb client 1 same))
 
-pub fits_all : (opening : Opening) (script : Script) (story : List Event) (namespace : Volumes) (index clock : ℕ) → AreNumberedFrom 1 script.lines → IsServed opening script story (length script.lines) namespace index clock → Fits script story
+counted-front : (n k : ℕ) → (rest : List ℕ) × (counted (n + k) ≡ counted n ++ rest)
 unfolding counted
-fits_all opening script story namespace index clock numbered served =
-    let from_none : length script.lines ≡ 0 + length script.lines = omega arith in
-    record {
-      steps = served.fits;
-      all_told = λ client. ⊎_elim
-          (λ same. subst (λ (c : ℕ). told_lines c story ≡ lines_of script c) (sym (eqb-true client 1 same)) (served.quiet.all_told ∙ (ap counted from_none ∙ sym (counts_up script.lines 0 numbered))))
-          (λ other. served.quiet.others client (not_one client other) ∙ ap (map (λ (line : Line). line.number)) (sym (none_of script.lines 1 client (not_one client other) numbered)))
-          (cases_Bool (client == 1));
-    }
+counted-front n zero =
+    let same : n + 0 ≡ n = omega arith in
+    ([], ap counted same ∙ sym (append-nil (counted n)))
+counted-front n (suc k) =
+    let step : n + suc k ≡ suc (n + k) = omega arith in
+    let front = counted-front n k in
+    (front.0 ++ (n + k + 1) ∷ [], ap counted step ∙ (ap (λ (l : List ℕ). l ++ (n + k + 1) ∷ []) front.1 ∙ append_assoc (counted n) front.0 ((n + k + 1) ∷ [])))
 
-pub rose_later : (first before after : ℕ) → first ≤ before → Rose before after → Rose first after
-rose_later first before after le rose = omega (arith, le, rose)
+lines_of_one : (script : Script) → AreNumberedFrom 1 script.lines → lines_of script 1 ≡ counted (length script.lines)
+unfolding counted
+lines_of_one script numbered =
+    let from_none : 0 + length script.lines ≡ length script.lines = omega arith in
+    counts_up script.lines 0 numbered ∙ ap counted from_none
+
+none_of_others : (script : Script) (client : ℕ) → client ≢ 1 → AreNumberedFrom 1 script.lines → lines_of script client ≡ []
+none_of_others script client ne numbered = ap (map (λ (line : Line). line.number)) (none_of script.lines 1 client ne numbered)
+
+-- each client's lines are told in order, and all of them once the last is served
+pub fits_so_far : (opening : Opening) (script : Script) (lines faults : ℕ) (story : List Event) (namespace : Volumes) (index : ℕ) (stopped : Bool) (now : Seen) → AreNumberedFrom 1 script.lines → lines ≤ length script.lines → IsServed opening script lines faults story namespace index stopped now → Fits opening script story
+fits_so_far opening script lines faults story namespace index stopped now numbered le served = record {
+  steps = served.fits;
+  in_order = λ client. ⊎_elim
+      (λ same. subst (λ (c : ℕ). (rest : List ℕ) × (lines_of script c ≡ told_lines c story ++ rest)) (sym (eqb-true client 1 same)) first)
+      (λ other. (lines_of script client, ap (λ (l : List ℕ). l ++ lines_of script client) (sym (served.quiet.others client (not_one client other)))))
+      (cases_Bool (client == 1));
+}
+  where
+    first : (rest : List ℕ) × (lines_of script 1 ≡ told_lines 1 story ++ rest)
+    first =
+        let front = counted-front lines (length script.lines - lines) in
+        let all : length script.lines ≡ lines + (length script.lines - lines) = omega (arith, le) in
+        (front.0, lines_of_one script numbered ∙ (ap counted all ∙ (front.1 ∙ ap (λ (l : List ℕ). l ++ front.0) (sym served.quiet.all_told))))
+
+pub tells_all : (opening : Opening) (script : Script) (lines faults : ℕ) (story : List Event) (namespace : Volumes) (index : ℕ) (stopped : Bool) (now : Seen) → AreNumberedFrom 1 script.lines → lines ≡ length script.lines → IsServed opening script lines faults story namespace index stopped now → AllAreTold script story
+tells_all opening script lines faults story namespace index stopped now numbered all served client = ⊎_elim
+    (λ same. subst (λ (c : ℕ). told_lines c story ≡ lines_of script c) (sym (eqb-true client 1 same)) (served.quiet.all_told ∙ (ap counted all ∙ sym (lines_of_one script numbered))))
+    (λ other. served.quiet.others client (not_one client other) ∙ sym (none_of_others script client (not_one client other) numbered))
+    (cases_Bool (client == 1))

@@ -4,12 +4,14 @@ use Rattle.std.proofs.lemmas.List.{append-nil}
 use Rattle.std.proofs.lemmas.List.Sums.{fold-append}
 use Rattle.std.proofs.lemmas.List.Folds.{list_any-append}
 use Rattle.std.proofs.lemmas.List.Elements.{filter_map-append}
+use Rattle.std.specs.List.{AllByRecursion}
 use Rattle.oz_cluster.specs.declared.events.Event.{Event}
 use Rattle.oz_cluster.specs.declared.requests.AskId.{AskId}
 use Rattle.oz_cluster.specs.declared.requests.Request.{Request}
 use Rattle.oz_cluster.specs.declared.script.Script.{Script}
 use Rattle.oz_cluster.specs.Namespace.{Volumes}
-use Rattle.oz_cluster.specs.Story.{Opening, asks, is_asked, tells, is_told, pending_after, pending, decided_after, last_index, swapped_after, swapped_index, flushed_after, durable_index, moment_after, flushed_moment, replied_after, last_reply, line_index_after, line_index, namespace_step, namespace_from, namespace_of}
+use Rattle.oz_cluster.specs.declared.events.Node.{Node}
+use Rattle.oz_cluster.specs.Story.{Opening, halt_after, halt_of, late_step, late_from, asked_late, kept_step, kept_from, kept_namespace, asks, is_asked, tells, is_told, pending_after, pending, decided_after, last_index, swapped_after, swapped_index, flushed_after, durable_index, moment_after, flushed_moment, replied_after, last_reply, line_index_after, line_index, namespace_step, namespace_from, namespace_of}
 use Rattle.oz_cluster.specs.Law.{IsEnabled, IsLegalFrom, IsLegal}
 use Rattle.oz_cluster.specs.Fits.{EventFits, FitsFrom, told_line, told_lines}
 
@@ -57,6 +59,33 @@ namespace_from-push before namespace (e ∷ story) event =
 pub namespace_of-push : (opening : Opening) (story : List Event) (event : Event) → namespace_of opening (story ++ event ∷ []) ≡ namespace_step story (namespace_of opening story) event.kind
 namespace_of-push opening story event = namespace_from-push [] opening.namespace story event
 
+pub halt_of-push : (node : Node) (story : List Event) (event : Event) → halt_of node (story ++ event ∷ []) ≡ halt_after node (halt_of node story) event.kind
+halt_of-push node story event = fold-append (λ before (e : Event). halt_after node before e.kind) None story (event ∷ [])
+
+late_from-push : (names : AskId → Bool) (before : List Event) (late : Bool) (story : List Event) (event : Event) → late_from names before late (story ++ event ∷ []) ≡ late_step names (before ++ story) (late_from names before late story) event.kind
+unfolding late_from
+late_from-push names before late [] event = ap (λ (l : List Event). late_step names l late event.kind) (sym (append-nil before))
+late_from-push names before late (e ∷ story) event =
+    late_from-push names (before ++ e ∷ []) (late_step names before late e.kind) story event
+    ∙ ap (λ (l : List Event). late_step names l (late_from names (before ++ e ∷ []) (late_step names before late e.kind) story) event.kind) (append_assoc before (e ∷ []) story)
+
+pub asked_late-push : (names : AskId → Bool) (story : List Event) (event : Event) → asked_late names (story ++ event ∷ []) ≡ late_step names story (asked_late names story) event.kind
+asked_late-push names story event = late_from-push names [] false story event
+
+kept_from-push : (most : ℕ) (before : List Event) (namespace : Volumes) (story : List Event) (event : Event) → kept_from most before namespace (story ++ event ∷ []) ≡ kept_step most (before ++ story) (kept_from most before namespace story) event.kind
+unfolding kept_from
+kept_from-push most before namespace [] event = ap (λ (l : List Event). kept_step most l namespace event.kind) (sym (append-nil before))
+kept_from-push most before namespace (e ∷ story) event =
+    kept_from-push most (before ++ e ∷ []) (kept_step most before namespace e.kind) story event
+    ∙ ap (λ (l : List Event). kept_step most l (kept_from most (before ++ e ∷ []) (kept_step most before namespace e.kind) story) event.kind) (append_assoc before (e ∷ []) story)
+
+pub kept_namespace-push : (opening : Opening) (most : ℕ) (story : List Event) (event : Event) → kept_namespace opening most (story ++ event ∷ []) ≡ kept_step most story (kept_namespace opening most story) event.kind
+kept_namespace-push opening most story event = kept_from-push most [] opening.namespace story event
+
+pub all-push : {A : Type 0} (P : A → Type 0) (xs : List A) (x : A) → AllByRecursion P xs → P x → AllByRecursion P (xs ++ x ∷ [])
+all-push P [] x all here = (here, tt)
+all-push P (y ∷ xs) x all here = (all.0, all-push P xs x all.1 here)
+
 legal_from-push : (opening : Opening) (before story : List Event) (event : Event) → IsLegalFrom opening before story → IsEnabled opening (before ++ story) event → IsLegalFrom opening before (story ++ event ∷ [])
 unfolding IsLegalFrom
 legal_from-push opening before [] event legal enabled = (subst (λ (l : List Event). IsEnabled opening l event) (append-nil before) enabled, tt)
@@ -66,11 +95,11 @@ legal_from-push opening before (e ∷ story) event legal enabled =
 pub legal-push : (opening : Opening) (story : List Event) (event : Event) → IsLegal opening story → IsEnabled opening story event → IsLegal opening (story ++ event ∷ [])
 legal-push opening story event legal enabled = legal_from-push opening [] story event legal enabled
 
-fits_from-push : (script : Script) (before story : List Event) (event : Event) → FitsFrom script before story → EventFits script (before ++ story) event.kind → FitsFrom script before (story ++ event ∷ [])
+fits_from-push : (opening : Opening) (script : Script) (before story : List Event) (event : Event) → FitsFrom opening script before story → EventFits opening script (before ++ story) event.kind → FitsFrom opening script before (story ++ event ∷ [])
 unfolding FitsFrom
-fits_from-push script before [] event fits new = (subst (λ (l : List Event). EventFits script l event.kind) (append-nil before) new, tt)
-fits_from-push script before (e ∷ story) event fits new =
-    (fits.0, fits_from-push script (before ++ e ∷ []) story event fits.1 (subst (λ (l : List Event). EventFits script l event.kind) (sym (append_assoc before (e ∷ []) story)) new))
+fits_from-push opening script before [] event fits new = (subst (λ (l : List Event). EventFits opening script l event.kind) (append-nil before) new, tt)
+fits_from-push opening script before (e ∷ story) event fits new =
+    (fits.0, fits_from-push opening script (before ++ e ∷ []) story event fits.1 (subst (λ (l : List Event). EventFits opening script l event.kind) (sym (append_assoc before (e ∷ []) story)) new))
 
-pub fits-push : (script : Script) (story : List Event) (event : Event) → FitsFrom script [] story → EventFits script story event.kind → FitsFrom script [] (story ++ event ∷ [])
-fits-push script story event fits new = fits_from-push script [] story event fits new
+pub fits-push : (opening : Opening) (script : Script) (story : List Event) (event : Event) → FitsFrom opening script [] story → EventFits opening script story event.kind → FitsFrom opening script [] (story ++ event ∷ [])
+fits-push opening script story event fits new = fits_from-push opening script [] story event fits new

@@ -1,9 +1,10 @@
 -- When a story is that of a script.
-use Rattle.std.specs.Prelude.{◌≡◌, ℕ, ◌-◌, ◌<◌, IsTrue, ◌==◌, List, [], ◌∷◌, ◌++◌, map, filter, Option, None, Some, if◌then◌else◌}
+use Rattle.std.specs.Prelude.{◌≡◌, ◌≢◌, ℕ, ◌-◌, ◌<◌, true, IsTrue, ◌==◌, List, [], ◌∷◌, ◌++◌, map, filter, Option, None, Some, if◌then◌else◌}
 use Rattle.std.specs.List.{filter_map}
 use Rattle.oz_cluster.specs.declared.events.Event.{Event}
 use Rattle.oz_cluster.specs.declared.events.EventKind.{EventKind}
-use Rattle.oz_cluster.specs.declared.events.EventKind.TheVariants.{Ask, Decide, Swap, Flushed, Told}
+use Rattle.oz_cluster.specs.declared.events.EventKind.TheVariants.{Ask, Decide, Swap, Flushed, Halt, Told}
+use Rattle.oz_cluster.specs.declared.events.Node.TheVariants.{Manager}
 use Rattle.oz_cluster.specs.declared.requests.Answer.{Answer}
 use Rattle.oz_cluster.specs.declared.requests.Answer.TheVariants as told
 use Rattle.oz_cluster.specs.declared.requests.Reply.{Reply}
@@ -15,7 +16,7 @@ use Rattle.oz_cluster.specs.declared.script.Command.{Command}
 use Rattle.oz_cluster.specs.declared.script.Command.TheVariants.{VolumeCreate, VolumeInfo}
 use Rattle.oz_cluster.specs.declared.script.Line.{Line}
 use Rattle.oz_cluster.specs.declared.script.Script.{Script}
-use Rattle.oz_cluster.specs.Story.{is_told, last_reply}
+use Rattle.oz_cluster.specs.Story.{Opening, is_of_line, is_told, last_reply, line_index, durable_index, halt_of, asked_late}
 
 -- the one request of a line
 abbrev pub request_of : Command → Request
@@ -28,11 +29,15 @@ answer_of reply.Done = told.Ok values.Done
 answer_of (reply.Count count) = told.Ok (values.Buckets count)
 answer_of (reply.Code code) = told.Code code
 
--- the answer is what the line is to be told after this story; that there is no memory it may always be told
-abbrev pub IsDue : List Event → ℕ → ℕ → Answer → Type 0
-IsDue story client line (told.Ok values) = (given : Reply) × (last_reply client line story ≡ Some given) × (told.Ok values ≡ answer_of given)
-IsDue story client line (told.Code code) = (given : Reply) × (last_reply client line story ≡ Some given) × (told.Code code ≡ answer_of given)
-IsDue story client line told.OutOfMemory = Unit {0}
+-- The answer is what the line is to be told after this story: what its last Decide said; that this isn't acknowledged,
+-- where the manager halted before it was stable; that the manager had stopped, where the line asked only then. That there
+-- is no memory it may always be told.
+abbrev pub IsDue : Opening → List Event → ℕ → ℕ → Answer → Type 0
+IsDue opening story client line (told.Ok values) = (given : Reply) × (last_reply client line story ≡ Some given) × (told.Ok values ≡ answer_of given)
+IsDue opening story client line (told.Code code) = (given : Reply) × (last_reply client line story ≡ Some given) × (told.Code code ≡ answer_of given)
+IsDue opening story client line told.Unacknowledged = (halt_of Manager story ≢ None) × (durable_index opening story < line_index client line story)
+IsDue opening story client line told.ManagerStopped = asked_late (is_of_line client line) story ≡ true
+IsDue opening story client line told.OutOfMemory = Unit {0}
 
 -- the line that this line's `after` names was told
 abbrev pub AfterIsTold : List Event → Option (ℕ × ℕ) → Type 0
@@ -53,18 +58,19 @@ pub record IsLineOf (script : Script) (client number : ℕ) (line : Line) : Type
   pub of_number : line.number ≡ number
 
 -- what a line asks is its next step, after its start; what it is told is due, after its start
-abbrev pub EventFits : Script → List Event → EventKind → Type 0
-EventFits script story (Ask id request) =
+abbrev pub EventFits : Opening → Script → List Event → EventKind → Type 0
+EventFits opening script story (Ask id request) =
     (line : Line) × IsLineOf script id.client id.line line × HasStarted story line × (id.step ≡ 1) × (request ≡ request_of line.command)
-EventFits script story (Decide id index answer batch) = Unit {0}
-EventFits script story (Swap index) = Unit {0}
-EventFits script story (Flushed index moment) = Unit {0}
-EventFits script story (Told client number answer) =
-    (line : Line) × IsLineOf script client number line × HasStarted story line × IsDue story client number answer
+EventFits opening script story (Decide id index answer batch) = Unit {0}
+EventFits opening script story (Swap index) = Unit {0}
+EventFits opening script story (Flushed index moment) = Unit {0}
+EventFits opening script story (Halt node count) = Unit {0}
+EventFits opening script story (Told client number answer) =
+    (line : Line) × IsLineOf script client number line × HasStarted story line × IsDue opening story client number answer
 
-unfoldable pub FitsFrom : Script → List Event → List Event → Type 0
-FitsFrom script before [] = Unit {0}
-FitsFrom script before (event ∷ story) = EventFits script before event.kind × FitsFrom script (before ++ event ∷ []) story
+unfoldable pub FitsFrom : Opening → Script → List Event → List Event → Type 0
+FitsFrom opening script before [] = Unit {0}
+FitsFrom opening script before (event ∷ story) = EventFits opening script before event.kind × FitsFrom opening script (before ++ event ∷ []) story
 
 -- the numbers of a client's lines that were told, in order
 abbrev pub told_line : ℕ → EventKind → Option ℕ
@@ -72,6 +78,7 @@ told_line client (Ask id request) = None
 told_line client (Decide id index answer batch) = None
 told_line client (Swap index) = None
 told_line client (Flushed index moment) = None
+told_line client (Halt node count) = None
 told_line client (Told other number answer) = if other == client then Some number else None
 
 abbrev pub told_lines : ℕ → List Event → List ℕ
@@ -81,7 +88,11 @@ told_lines client story = filter_map (λ event. told_line client event.kind) sto
 abbrev pub lines_of : Script → ℕ → List ℕ
 lines_of script client = map (λ line. line.number) (filter (λ line. line.client == client) script.lines)
 
--- Each event is one that the script leads to, and each client's lines were told in order, all of them.
-pub record Fits (script : Script) (story : List Event) : Type 0 where
-  pub steps : FitsFrom script [] story
-  pub all_told : (client : ℕ) → told_lines client story ≡ lines_of script client
+-- Each event is one that the script leads to, and each client's lines were told in their order.
+pub record Fits (opening : Opening) (script : Script) (story : List Event) : Type 0 where
+  pub steps : FitsFrom opening script [] story
+  pub in_order : (client : ℕ) → (rest : List ℕ) × (lines_of script client ≡ told_lines client story ++ rest)
+
+-- each client's lines were told, all of them
+abbrev pub AllAreTold : Script → List Event → Type 0
+AllAreTold script story = (client : ℕ) → told_lines client story ≡ lines_of script client

@@ -1,21 +1,31 @@
 -- What a run promises of the story that it prints.
-use Rattle.std.specs.Prelude.{◌≡◌, ◌≢◌, ℕ, ◌-◌, ◌<◌, ◌≤◌, true, List, ◌∷◌, ◌++◌, length, Option, Some, IfSome}
+use Rattle.std.specs.Prelude.{◌≡◌, ◌≢◌, ◌⊎◌, ℕ, ◌-◌, ◌<◌, ◌≤◌, true, List, ◌∷◌, ◌++◌, length, Option, Some, None, IfSome}
 use Rattle.std.specs.Option.{option_map}
+use Rattle.oz_world.specs.Disk.{Images, Seen}
+use Rattle.oz_world.specs.Faults.{Rose}
+use Rattle.oz_journal.specs.Load.{IsLoadable, IsLeftAlone, loaded_at}
 use Rattle.oz_cluster.specs.declared.events.Event.{Event}
 use Rattle.oz_cluster.specs.declared.events.EventKind.TheVariants.{Ask, Decide, Told}
+use Rattle.oz_cluster.specs.declared.events.Node.TheVariants.{Manager}
 use Rattle.oz_cluster.specs.declared.requests.Answer.{Answer}
 use Rattle.oz_cluster.specs.declared.requests.Answer.TheVariants as told
 use Rattle.oz_cluster.specs.declared.requests.AskId.{AskId}
 use Rattle.oz_cluster.specs.declared.requests.Reply.{Reply}
 use Rattle.oz_cluster.specs.declared.requests.Request.{Request}
 use Rattle.oz_cluster.specs.declared.script.Script.{Script}
+use Rattle.oz_cluster.specs.declared.status.Status.{Status}
+use Rattle.oz_cluster.specs.declared.status.Status.TheVariants as ends
 use Rattle.oz_cluster.specs.Answers.{Answers}
-use Rattle.oz_cluster.specs.Fits.{Fits}
+use Rattle.oz_cluster.specs.Fits.{Fits, AllAreTold}
 use Rattle.oz_cluster.specs.Law.{IsLegal}
 use Rattle.oz_cluster.specs.Opens.{Opens, StandsAs}
-use Rattle.oz_cluster.specs.Report.{report_of}
-use Rattle.oz_cluster.specs.Refusals.{IsScriptOf}
-use Rattle.oz_cluster.specs.Story.{Opening, is_told, pending, line_index, durable_index, last_index, namespace_of}
+use Rattle.oz_cluster.specs.Report.{report_of, memory_fault}
+use Rattle.oz_cluster.specs.Refusals.{IsScriptOf, Says, IsStopped}
+use Rattle.oz_cluster.specs.Statuses.{status_number}
+use Rattle.oz_cluster.specs.Stops.{Premises, StopsHold}
+use Rattle.oz_cluster.specs.Story.{Opening, is_told, pending, line_index, durable_index, last_index, namespace_of, halt_of}
+use Rattle.oz_cluster.specs.Streams.{HoldsFront}
+use Rattle.oz_cluster.specs.Words.{IsRun}
 
 -- each reply is the one-thread namespace's at its place, to the request that its line had asked
 abbrev pub RepliesAreOneThreads : Opening → List Event → Type 0
@@ -31,29 +41,66 @@ AsksAfterTold story =
     story ≡ before ++ record { seat = seat; kind = Ask id request } ∷ behind →
     1 < id.line → is_told id.client (id.line - 1) before ≡ true
 
--- what a line is told is stable
+-- what a line is told is stable, unless it is told that this isn't so, or that there is no memory
 abbrev pub ToldIsStable : Opening → List Event → Type 0
 ToldIsStable opening story =
     (before behind : List Event) (seat client line : ℕ) (answer : Answer) →
     story ≡ before ++ record { seat = seat; kind = Told client line answer } ∷ behind →
-    answer ≢ told.OutOfMemory → line_index client line before ≤ durable_index opening before
+    answer ≢ told.Unacknowledged → answer ≢ told.OutOfMemory → line_index client line before ≤ durable_index opening before
 
--- The story is one history: it follows the law and is that of the script. Each reply is the one-thread namespace's at
--- its place, each line asks after all that its client was told, what was acknowledged is stable, and the text that was
--- written is the report of the story.
-pub record Headline (opening : Opening) (script : Script) (story : List Event) (held_before held_after : Option (List ℕ)) : Type 0 where
-  pub printed : held_after ≡ option_map (λ held. held ++ report_of (length script.lines) story) held_before
-  pub one_history : IsLegal opening story × Fits script story
+-- what is written after the work, by the status
+abbrev pub IsPrinted : Status → List ℕ → Option (List ℕ) → Option (List ℕ) → Type 0 → Type 0
+IsPrinted ends.Done report before after rose = after ≡ option_map (λ held. held ++ report) before
+IsPrinted ends.Script report before after rose = ⊥
+IsPrinted ends.Words report before after rose = ⊥
+IsPrinted ends.Read report before after rose = ⊥
+IsPrinted ends.Unwritten report before after rose = HoldsFront report before after × rose
+IsPrinted ends.Disk report before after rose = after ≡ option_map (λ held. held ++ report) before
+IsPrinted ends.Damaged report before after rose = ⊥
+IsPrinted ends.OutOfMemory report before after rose = Says report before after rose ⊎ Says memory_fault before after rose
+
+-- Whether the manager halted, by the status: it didn't where all was done, and it did where the disk is named. It halts
+-- only where its disk's count of faults rose, and with that count.
+pub record HaltIsNamed (status : Status) (halt : Option ℕ) (faults_before faults_after : ℕ) : Type 0 where
+  pub done : status ≡ ends.Done → halt ≡ None
+  pub named : status ≡ ends.Disk → halt ≢ None
+  pub cause : IfSome halt (λ count. (count ≡ faults_after) × Rose faults_before count)
+
+-- While the disk is loaded, a stop leaves what it would have left before, or at most one byte in the place of at most one.
+abbrev pub LoadingKeeps : Seen → List ℕ → Images → Type 0
+LoadingKeeps disk bytes image =
+    (moment : ℕ) (left : List ℕ) → disk.clock ≤ moment → moment ≤ loaded_at disk.clock bytes → image moment left →
+    (was : List ℕ) × disk.image disk.clock was × IsLeftAlone was left
+
+-- The story is one history: it follows the law and is that of the script, of which each line was told unless memory ran
+-- out. Each reply is the one-thread namespace's at its place, each line asks after all that its client was told, what was
+-- acknowledged is stable, and what was written is the report of the story. A stop at any moment since the disk was loaded
+-- leaves a front of the history, with all that was flushed by then.
+pub record Headline (opening : Opening) (script : Script) (story : List Event) (status : Status) (disk_before disk_after : Seen) (held_before held_after : Option (List ℕ)) (sink_rose : Type 0) : Type 0 where
+  pub printed : IsPrinted status (report_of (length script.lines) story) held_before held_after sink_rose
+  pub one_history : IsLegal opening story × Fits opening script story
+  pub all_told : status ≢ ends.OutOfMemory → AllAreTold script story
   pub at_that_point : RepliesAreOneThreads opening story
   pub after_all_seen : AsksAfterTold story
   pub acknowledged : ToldIsStable opening story
+  pub stops : (bytes : List ℕ) → Premises disk_before.told bytes (last_index opening story) → StopsHold opening story (loaded_at disk_before.clock bytes) disk_after.clock disk_after.image
 
 -- A run of a script over an opening. Where the manager's disk tells its bytes it stood for the opening, and afterwards it
--- stands for what the story led to. Where the source tells its text that said the script.
-pub record IsOneRun (disk_before disk_after left : Option (List ℕ)) (story : List Event) (held_before held_after : Option (List ℕ)) : Type 0 where
+-- stands for what the story led to, if the manager didn't halt. Where the source tells its text that said the script.
+pub record IsOneRun (words : List (List ℕ)) (left : Option (List ℕ)) (disk_before disk_after : Seen) (held_before held_after : Option (List ℕ)) (sink_rose : Type 0) (story : List Event) (status : Status) : Type 0 where
   pub opening : Opening
   pub script : Script
-  pub opens : IfSome disk_before (λ bytes. Opens bytes opening)
+  pub given : IsRun words
   pub parsed : IsScriptOf left script
-  pub headline : Headline opening script story held_before held_after
-  pub reopens : IfSome disk_before (λ bytes. StandsAs disk_after (namespace_of opening story) (last_index opening story))
+  pub opens : IfSome disk_before.told (λ bytes. Opens bytes opening)
+  pub headline : Headline opening script story status disk_before disk_after held_before held_after sink_rose
+  pub halted : HaltIsNamed status (halt_of Manager story) disk_before.faults disk_after.faults
+  pub loading : IfSome disk_before.told (λ bytes. IsLoadable bytes (disk_before.image disk_before.clock) → LoadingKeeps disk_before bytes disk_after.image)
+  pub reopens : halt_of Manager story ≡ None → IfSome disk_before.told (λ bytes. StandsAs disk_after.told (namespace_of opening story) (last_index opening story))
+
+-- A run was stopped before its work, and says why; or it worked, and its story is one history.
+abbrev pub RunEnds : List (List ℕ) → Option (List ℕ) → Seen → Seen → Option (List ℕ) → Option (List ℕ) → Type 0 → Type 0 → List Event → ℕ → Type 0
+RunEnds words left disk_before disk_after before after source_rose sink_rose story number =
+    (status : Status) × (number ≡ status_number status)
+    × (IsStopped words left disk_before.told source_rose (Rose disk_before.faults disk_after.faults) before after sink_rose story status
+    ⊎ IsOneRun words left disk_before disk_after before after sink_rose story status)

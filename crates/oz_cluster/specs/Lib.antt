@@ -16,7 +16,9 @@ pub mod Report
 pub mod Rows
 pub mod Script
 pub mod StatusCauses
+pub mod Statuses
 pub mod Steps
+pub mod Stops
 pub mod Story
 pub mod Streams
 pub mod Words

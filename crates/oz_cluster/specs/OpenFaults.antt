@@ -1,6 +1,8 @@
 -- What a fault of the journal is to the manager that opens it, and to the run.
+use Rattle.std.specs.Prelude.{Result, Ok, Err}
 use Rattle.oz_journal.specs.declared.load_fault.LoadFault.{LoadFault}
 use Rattle.oz_journal.specs.declared.load_fault.LoadFault.TheVariants as load
+use Rattle.oz_cluster.specs.declared.manager.Manager.{Manager}
 use Rattle.oz_cluster.specs.declared.opening.OpenFault.{OpenFault}
 use Rattle.oz_cluster.specs.declared.opening.OpenFault.TheVariants as fault
 use Rattle.oz_cluster.specs.declared.refusal.Refusal.{Refusal}
@@ -16,3 +18,8 @@ abbrev pub as_refusal : OpenFault → Refusal
 as_refusal fault.Disk = refusal.Disk
 as_refusal (fault.Damaged offset) = refusal.Damaged offset
 as_refusal fault.OutOfMemory = refusal.OutOfMemory
+
+-- the disk behind an opening: the manager's, or the one that comes back
+abbrev pub disk_behind : {D : Type 0} → Result (Manager D) (D × OpenFault) → D
+disk_behind (Ok manager) = manager.journal.disk
+disk_behind (Err refused) = refused.0

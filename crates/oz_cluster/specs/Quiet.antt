@@ -1,36 +1,60 @@
--- A story of one client between two of its lines: all that was asked is decided, stable and told.
-use Rattle.std.specs.Prelude.{◌≡◌, ◌≢◌, ℕ, ◌+◌, ◌≤◌, ◌<◌, zero, suc, true, false, List, [], ◌∷◌, ◌++◌, None}
+-- A story of one client between two of its lines: what was asked is decided, stable and told, or the manager has halted.
+use Rattle.std.specs.Prelude.{◌≡◌, ◌≢◌, ℕ, ◌+◌, ◌≤◌, ◌<◌, zero, suc, Bool, true, false, List, [], ◌∷◌, ◌++◌, Option, Some, None, is_some, IfSome}
+use Rattle.std.specs.List.{AllByRecursion}
+use Rattle.oz_world.specs.Disk.{Seen, IsStable}
+use Rattle.oz_world.specs.Faults.{Rose}
 use Rattle.oz_cluster.specs.declared.events.Event.{Event}
+use Rattle.oz_cluster.specs.declared.events.Node.TheVariants.{Manager}
 use Rattle.oz_cluster.specs.declared.requests.AskId.{AskId}
-use Rattle.oz_cluster.specs.Namespace.{Volumes}
-use Rattle.oz_cluster.specs.Story.{Opening, is_asked, is_told, pending, last_index, swapped_index, durable_index, flushed_moment, line_index, namespace_of}
 use Rattle.oz_cluster.specs.declared.script.Script.{Script}
 use Rattle.oz_cluster.specs.Fits.{FitsFrom, told_lines}
 use Rattle.oz_cluster.specs.Law.{IsLegal}
+use Rattle.oz_cluster.specs.Namespace.{Volumes}
+use Rattle.oz_cluster.specs.Opens.{StandsAs}
+use Rattle.oz_cluster.specs.Stops.{IsWithin, StopsHold}
+use Rattle.oz_cluster.specs.Story.{Opening, is_asked, is_told, pending, last_index, swapped_index, durable_index, flushed_moment, line_index, namespace_of, kept_namespace, halt_of}
 
 -- 1, 2 and so on, so many
 unfoldable pub counted : ℕ → List ℕ
 counted zero = []
 counted (suc n) = counted n ++ (n + 1) ∷ []
 
--- The first lines of client 1 are told, so many, and nothing is under way.
-pub record IsQuiet (opening : Opening) (story : List Event) (lines : ℕ) (namespace : Volumes) (index moment : ℕ) : Type 0 where
+-- The first lines of client 1 are told, so many, and nothing of a later line has happened. While the manager hasn't
+-- halted all that was decided is stable.
+pub record IsQuiet (opening : Opening) (story : List Event) (lines : ℕ) (namespace : Volumes) (index : ℕ) (halt : Option ℕ) : Type 0 where
   pub stands_for : namespace_of opening story ≡ namespace
+  pub kept : (most : ℕ) → index ≤ most → kept_namespace opening most story ≡ namespace
   pub decided : last_index opening story ≡ index
-  pub swapped : swapped_index opening story ≡ index
-  pub durable : durable_index opening story ≡ index
-  pub latest : flushed_moment story ≡ moment
-  pub settled : (id : AskId) → pending id story ≡ None
+  pub grown : opening.index ≤ index
+  pub halted : halt_of Manager story ≡ halt
+  pub swapped : halt ≡ None → swapped_index opening story ≡ index
+  pub durable : halt ≡ None → durable_index opening story ≡ index
+  pub settled : (id : AskId) → lines < id.line → pending id story ≡ None
   pub unasked : (id : AskId) → lines < id.line → is_asked id story ≡ false
+  pub undecided : (client line : ℕ) → lines < line → line_index client line story ≡ 0
   pub told : (line : ℕ) → 0 < line → line ≤ lines → is_told 1 line story ≡ true
   pub untold : (line : ℕ) → lines < line → is_told 1 line story ≡ false
-  pub stable : (client line : ℕ) → line_index client line story ≤ index
   pub all_told : told_lines 1 story ≡ counted lines
   pub others : (client : ℕ) → client ≢ 1 → told_lines client story ≡ []
+  pub within : (moment : ℕ) → AllByRecursion (λ event. IsWithin index moment event.kind) story
 
--- So far the story is legal and fits the script, and the disk's clock isn't behind it.
-pub record IsServed (opening : Opening) (script : Script) (story : List Event) (lines : ℕ) (namespace : Volumes) (index clock : ℕ) : Type 0 where
-  pub quiet : IsQuiet opening story lines namespace index (flushed_moment story)
+-- what a disk was when its manager was opened
+pub record IsLoaded (opening : Opening) (disk : Seen) : Type 0 where
+  pub stands : StandsAs disk.told opening.namespace opening.index
+  pub stable : (bytes : List ℕ) → disk.told ≡ Some bytes → IsStable disk.image disk.clock bytes
+
+-- While the manager hasn't halted, the disk stands for the namespace; and a stop leaves a front of the history.
+pub record IsHeld (opening : Opening) (story : List Event) (namespace : Volumes) (index first : ℕ) (now : Seen) : Type 0 where
+  pub stands : halt_of Manager story ≡ None → StandsAs now.told namespace index
+  pub stops : StopsHold opening story first now.clock now.image
+
+-- So far the story is legal and fits the script, and what it says of the disk is so. The disk's faults are counted from
+-- those that it had at first.
+pub record IsServed (opening : Opening) (script : Script) (lines faults : ℕ) (story : List Event) (namespace : Volumes) (index : ℕ) (stopped : Bool) (now : Seen) : Type 0 where
+  pub quiet : IsQuiet opening story lines namespace index (halt_of Manager story)
   pub legal : IsLegal opening story
-  pub fits : FitsFrom script [] story
-  pub past : flushed_moment story ≤ clock
+  pub fits : FitsFrom opening script [] story
+  pub past : flushed_moment story ≤ now.clock
+  pub halted : is_some (halt_of Manager story) ≡ stopped
+  pub cause : IfSome (halt_of Manager story) (λ count. (count ≡ now.faults) × Rose faults count)
+  pub never_falls : faults ≤ now.faults

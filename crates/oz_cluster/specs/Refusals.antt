@@ -1,10 +1,13 @@
 -- What stops a run before its work: its status, its text, and what is then so.
-use Rattle.std.specs.Prelude.{◌≡◌, ◌⊎◌, ℕ, List, ◌++◌, take, Option, IfSome, Ok, Err}
+use Rattle.std.specs.Prelude.{◌≡◌, ◌⊎◌, ℕ, List, [], ◌++◌, take, Option, IfSome, Ok, Err}
 use Rattle.std.specs.Option.{option_map}
 use Rattle.oz_cluster.specs.declared.refusal.Refusal.{Refusal}
 use Rattle.oz_cluster.specs.declared.refusal.Refusal.TheVariants.{Words, Read, Script, Disk, Damaged, OutOfMemory}
+use Rattle.oz_cluster.specs.declared.events.Event.{Event}
 use Rattle.oz_cluster.specs.declared.script.Script.{Script as Lines}
 use Rattle.oz_cluster.specs.declared.script.ScriptFault.TheVariants.{At}
+use Rattle.oz_cluster.specs.declared.status.Status.{Status}
+use Rattle.oz_cluster.specs.declared.status.Status.TheVariants as status
 use Rattle.oz_cluster.specs.Causes.{cause_text}
 use Rattle.oz_cluster.specs.Opens.{IsDamagedDisk}
 use Rattle.oz_cluster.specs.Report.{words_fault, script_fault, damaged_manager, disk_fault, read_fault, memory_fault}
@@ -13,13 +16,13 @@ use Rattle.oz_cluster.specs.Streams.{script_limit, HoldsFront}
 use Rattle.oz_cluster.specs.Words.{IsRun, IsFirstFault}
 
 -- the status that the program ends with
-abbrev pub status_of : Refusal → ℕ
-status_of (Script line cause) = 1
-status_of (Words place) = 2
-status_of Read = 3
-status_of Disk = 5
-status_of (Damaged offset) = 6
-status_of OutOfMemory = 7
+abbrev pub status_of : Refusal → Status
+status_of (Script line cause) = status.Script
+status_of (Words place) = status.Words
+status_of Read = status.Read
+status_of Disk = status.Disk
+status_of (Damaged offset) = status.Damaged
+status_of OutOfMemory = status.OutOfMemory
 
 -- the text that is written
 abbrev pub text_of : Refusal → List ℕ
@@ -38,15 +41,23 @@ IsScriptOf left script = IfSome left (λ text. script_of (take script_limit text
 abbrev pub IsScript : Option (List ℕ) → Type 0
 IsScript left = (script : Lines) × IsScriptOf left script
 
--- what the words, the script and the manager's disk were where this stopped the run
-abbrev pub IsSo : List (List ℕ) → Option (List ℕ) → Option (List ℕ) → Refusal → Type 0
-IsSo words left disk (Script line cause) = IsRun words × IfSome left (λ text. script_of (take script_limit text) ≡ Err (At line cause))
-IsSo words left disk (Words place) = IsFirstFault words place
-IsSo words left disk Read = IsRun words
-IsSo words left disk Disk = IsRun words × IsScript left
-IsSo words left disk (Damaged offset) = IsRun words × IsScript left × IfSome disk (λ bytes. IsDamagedDisk bytes offset)
-IsSo words left disk OutOfMemory = Unit {0}
+-- what the words, the script and the manager's disk were where this stopped the run, and whose count of faults rose
+abbrev pub IsSo : List (List ℕ) → Option (List ℕ) → Option (List ℕ) → Type 0 → Type 0 → Refusal → Type 0
+IsSo words left disk source_rose disk_rose (Script line cause) = IsRun words × IfSome left (λ text. script_of (take script_limit text) ≡ Err (At line cause))
+IsSo words left disk source_rose disk_rose (Words place) = IsFirstFault words place
+IsSo words left disk source_rose disk_rose Read = IsRun words × source_rose
+IsSo words left disk source_rose disk_rose Disk = IsRun words × IsScript left × disk_rose
+IsSo words left disk source_rose disk_rose (Damaged offset) = IsRun words × IsScript left × IfSome disk (λ bytes. IsDamagedDisk bytes offset)
+IsSo words left disk source_rose disk_rose OutOfMemory = Unit {0}
 
 -- the text was written, or a front of it where the sink failed
 abbrev pub Says : List ℕ → Option (List ℕ) → Option (List ℕ) → Type 0 → Type 0
 Says text before after rose = (after ≡ option_map (λ held. held ++ text) before) ⊎ (HoldsFront text before after × rose)
+
+-- Something stopped a run before its work. It wrote what that was, and no story was told.
+pub record IsStopped (words : List (List ℕ)) (left disk : Option (List ℕ)) (source_rose disk_rose : Type 0) (before after : Option (List ℕ)) (sink_rose : Type 0) (story : List Event) (status : Status) : Type 0 where
+  pub refusal : Refusal
+  pub so : IsSo words left disk source_rose disk_rose refusal
+  pub status_is : status ≡ status_of refusal
+  pub said : Says (text_of refusal) before after sink_rose
+  pub untold : story ≡ []

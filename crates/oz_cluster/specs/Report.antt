@@ -2,7 +2,9 @@
 use Rattle.std.specs.Prelude.{ℕ, Bool, true, false, ◌==◌, List, [], ◌∷◌, ◌++◌, codes, decimal, count_by, Option, None, Some, if◌then◌else◌}
 use Rattle.oz_cluster.specs.declared.events.Event.{Event}
 use Rattle.oz_cluster.specs.declared.events.EventKind.{EventKind}
-use Rattle.oz_cluster.specs.declared.events.EventKind.TheVariants.{Ask, Decide, Swap, Flushed, Told}
+use Rattle.oz_cluster.specs.declared.events.EventKind.TheVariants.{Ask, Decide, Swap, Flushed, Halt, Told}
+use Rattle.oz_cluster.specs.declared.events.Node.{Node}
+use Rattle.oz_cluster.specs.declared.events.Node.TheVariants.{Manager, Scm, Datanode}
 use Rattle.oz_cluster.specs.declared.requests.Answer.{Answer}
 use Rattle.oz_cluster.specs.declared.requests.Answer.TheVariants as told
 use Rattle.oz_cluster.specs.declared.requests.AskId.{AskId}
@@ -35,6 +37,8 @@ abbrev pub answer_text : Answer → List ℕ
 answer_text (told.Ok values.Done) = codes "OK"
 answer_text (told.Ok (values.Buckets count)) = codes "OK buckets " ++ decimal count
 answer_text (told.Code code) = code_text code
+answer_text told.Unacknowledged = codes "UNACKNOWLEDGED"
+answer_text told.ManagerStopped = codes "MANAGER_STOPPED"
 answer_text told.OutOfMemory = codes "OUT_OF_MEMORY"
 
 -- the line of a Decide: its client, line and step, the request and the reply
@@ -48,6 +52,16 @@ abbrev pub told_text : ℕ → ℕ → Answer → List ℕ
 told_text client line answer =
     codes "t " ++ decimal client ++ codes " " ++ decimal line ++ codes " " ++ answer_text answer ++ codes "\n"
 
+-- a node
+abbrev pub node_text : Node → List ℕ
+node_text Manager = codes "manager"
+node_text Scm = codes "scm"
+node_text (Datanode number) = codes "dn" ++ decimal number
+
+-- the line of a Halt: its node, and how often the node's disks had failed
+abbrev pub halt_text : Node → ℕ → List ℕ
+halt_text node count = codes "h " ++ node_text node ++ codes " " ++ decimal count ++ codes "\n"
+
 -- what is printed of an event behind these events
 abbrev pub event_text : List Event → EventKind → List ℕ
 event_text before (Ask id request) = []
@@ -55,6 +69,7 @@ event_text before (Decide id index answer batch) =
     if id.client == service_client then [] else decide_text id (pending id before) answer
 event_text before (Swap index) = []
 event_text before (Flushed index moment) = []
+event_text before (Halt node count) = halt_text node count
 event_text before (Told client line answer) = told_text client line answer
 
 -- what is printed of a story behind these events
@@ -68,6 +83,7 @@ is_told_kind (Ask id request) = false
 is_told_kind (Decide id index answer batch) = false
 is_told_kind (Swap index) = false
 is_told_kind (Flushed index moment) = false
+is_told_kind (Halt node count) = false
 is_told_kind (Told client line answer) = true
 
 -- how many Tolds a story has

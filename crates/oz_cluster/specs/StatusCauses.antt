@@ -1,32 +1,36 @@
--- Why a run ends with each status.
-use Rattle.std.specs.Prelude.{◌≡◌, ◌≤◌, ℕ, List, Option, IfSome}
-use Rattle.oz_cluster.specs.declared.refusal.Refusal.{Refusal}
-use Rattle.oz_cluster.specs.Opens.{Opens}
-use Rattle.oz_cluster.specs.Refusals.{status_of, text_of, IsScript, IsSo, Says}
+-- Why a run ends with each status, and with which status a wrong word, a wrong script and a wrong disk end it.
+use Rattle.std.specs.Prelude.{◌≡◌, ◌⊎◌, ℕ, ◌≤◌, List, take, Option, Some, Err, IfSome}
+use Rattle.oz_cluster.specs.declared.script.Cause.{Cause}
+use Rattle.oz_cluster.specs.declared.script.ScriptFault.TheVariants.{At}
+use Rattle.oz_cluster.specs.Opens.{Opens, IsDamagedDisk}
+use Rattle.oz_cluster.specs.Refusals.{IsScript}
+use Rattle.oz_cluster.specs.Script.{script_of}
 use Rattle.oz_cluster.specs.Story.{Opening}
-use Rattle.oz_cluster.specs.Words.{IsRun}
+use Rattle.oz_cluster.specs.Streams.{script_limit}
+use Rattle.oz_cluster.specs.Words.{IsRun, IsFirstFault}
 
 -- the run came to its work
-pub record HasBegun (given : List (List ℕ)) (left disk : Option (List ℕ)) : Type 0 where
-  pub words : IsRun given
+pub record HasBegun (words : List (List ℕ)) (left disk : Option (List ℕ)) : Type 0 where
+  pub given : IsRun words
   pub script : IsScript left
   pub opens : IfSome disk (λ bytes. (opening : Opening) × Opens bytes opening)
 
--- this stopped the run, and its text was written
-pub record HasStopped (words : List (List ℕ)) (left disk before after : Option (List ℕ)) (sink_rose : Type 0) (status : ℕ) : Type 0 where
-  pub refusal : Refusal
-  pub so : IsSo words left disk refusal
-  pub status_is : status ≡ status_of refusal
-  pub said : Says (text_of refusal) before after sink_rose
+-- the first fault of what a source has left
+abbrev pub IsFaultOf : List ℕ → ℕ → Cause → Type 0
+IsFaultOf text line cause = script_of (take script_limit text) ≡ Err (At line cause)
 
--- Statuses 1, 2 and 6 tell what was wrong with the script, the words or the disk, and write it. 3, 4 and 5 come only
--- where the source, the sink or the disk counted a fault. With 7 memory ran out.
-pub record StatusCauses (given : List (List ℕ)) (left given_disk before after : Option (List ℕ)) (source_rose sink_rose disk_rose : Type 0) (status : ℕ) : Type 0 where
+-- With 1, 2 and 6 the script, the words or the disk were wrong. 3, 4 and 5 come only where the source, the sink or the
+-- disk counted a fault. Wrong words end with 2, a wrong script with 1 where it could be read, and a wrong disk with 6
+-- where it could be read; each of them, and a run that came to its work, may end with 7, that memory ran out.
+pub record StatusCauses (words : List (List ℕ)) (left disk : Option (List ℕ)) (source_rose sink_rose disk_rose : Type 0) (status : ℕ) : Type 0 where
   pub known : status ≤ 7
-  pub answered : status ≡ 0 → HasBegun given left given_disk
-  pub script : status ≡ 1 → HasStopped given left given_disk before after sink_rose 1
-  pub words : status ≡ 2 → HasStopped given left given_disk before after sink_rose 2
-  pub read : status ≡ 3 → IsRun given × source_rose
-  pub unwritten : status ≡ 4 → HasBegun given left given_disk × sink_rose
-  pub disk_fault : status ≡ 5 → IsRun given × IsScript left × disk_rose
-  pub damaged : status ≡ 6 → HasStopped given left given_disk before after sink_rose 6
+  pub done : status ≡ 0 → HasBegun words left disk
+  pub script : status ≡ 1 → IsRun words × IfSome left (λ text. (line : ℕ) × (cause : Cause) × IsFaultOf text line cause)
+  pub words_fault : status ≡ 2 → (place : ℕ) × IsFirstFault words place
+  pub read : status ≡ 3 → IsRun words × source_rose
+  pub unwritten : status ≡ 4 → HasBegun words left disk × sink_rose
+  pub disk_fault : status ≡ 5 → IsRun words × IsScript left × disk_rose
+  pub damaged : status ≡ 6 → IsRun words × IsScript left × IfSome disk (λ bytes. (offset : ℕ) × IsDamagedDisk bytes offset)
+  pub wrong_words : (place : ℕ) → IsFirstFault words place → (status ≡ 2) ⊎ (status ≡ 7)
+  pub wrong_script : IsRun words → (text : List ℕ) (line : ℕ) (cause : Cause) → left ≡ Some text → IsFaultOf text line cause → (status ≡ 1) ⊎ ((status ≡ 3) ⊎ (status ≡ 7))
+  pub wrong_disk : IsRun words → (text bytes : List ℕ) (offset : ℕ) → left ≡ Some text → IsScript left → disk ≡ Some bytes → IsDamagedDisk bytes offset → (status ≡ 3) ⊎ ((status ≡ 5) ⊎ ((status ≡ 6) ⊎ (status ≡ 7)))

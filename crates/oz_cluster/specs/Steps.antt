@@ -1,12 +1,13 @@
 -- The events of a line that asks one thing.
 use Rattle.std.specs.Prelude.{ℕ, List}
 use Rattle.oz_cluster.specs.declared.events.Event.{Event}
-use Rattle.oz_cluster.specs.declared.events.EventKind.TheVariants.{Ask, Decide, Swap, Flushed, Told}
+use Rattle.oz_cluster.specs.declared.events.EventKind.TheVariants.{Ask, Decide, Swap, Flushed, Halt, Told}
+use Rattle.oz_cluster.specs.declared.events.Node.TheVariants.{Manager}
+use Rattle.oz_cluster.specs.declared.requests.Answer.{Answer}
 use Rattle.oz_cluster.specs.declared.requests.AskId.{AskId}
 use Rattle.oz_cluster.specs.declared.requests.Reply.{Reply}
 use Rattle.oz_cluster.specs.declared.requests.Request.{Request}
 use Rattle.oz_cluster.specs.Answers.{volume_of}
-use Rattle.oz_cluster.specs.Fits.{answer_of}
 use Rattle.oz_cluster.specs.Law.{caller_seat, flusher_seat, stripe_seat}
 use Rattle.oz_cluster.specs.Names.{stripe_of}
 
@@ -25,5 +26,8 @@ swap_event index = record { seat = flusher_seat; kind = Swap index }
 abbrev pub flushed_event : ℕ → ℕ → Event
 flushed_event index moment = record { seat = flusher_seat; kind = Flushed index moment }
 
-abbrev pub told_event : ℕ → ℕ → Reply → Event
-told_event client number reply = record { seat = caller_seat; kind = Told client number (answer_of reply) }
+abbrev pub halt_event : ℕ → Event
+halt_event count = record { seat = flusher_seat; kind = Halt Manager count }
+
+abbrev pub told_event : ℕ → ℕ → Answer → Event
+told_event client number answer = record { seat = caller_seat; kind = Told client number answer }

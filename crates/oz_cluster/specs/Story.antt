@@ -1,9 +1,11 @@
 -- What a story tells: who asked, what was decided, what is stable, who was told.
-use Rattle.std.specs.Prelude.{ℕ, Bool, false, ◌&&◌, ◌==◌, max, List, [], ◌∷◌, ◌++◌, fold, Option, None, Some, if◌then◌else◌}
+use Rattle.std.specs.Prelude.{ℕ, Bool, true, false, ◌&&◌, ◌==◌, nat_le, max, List, [], ◌∷◌, ◌++◌, fold, Option, None, Some, is_some, if◌then◌else◌}
 use Rattle.std.specs.List.{list_any}
 use Rattle.oz_cluster.specs.declared.events.Event.{Event}
 use Rattle.oz_cluster.specs.declared.events.EventKind.{EventKind}
-use Rattle.oz_cluster.specs.declared.events.EventKind.TheVariants.{Ask, Decide, Swap, Flushed, Told}
+use Rattle.oz_cluster.specs.declared.events.EventKind.TheVariants.{Ask, Decide, Swap, Flushed, Halt, Told}
+use Rattle.oz_cluster.specs.declared.events.Node.{Node}
+use Rattle.oz_cluster.specs.declared.events.Node.TheVariants.{Manager, Scm, Datanode}
 use Rattle.oz_cluster.specs.declared.requests.AskId.{AskId}
 use Rattle.oz_cluster.specs.declared.requests.Request.{Request}
 use Rattle.oz_cluster.specs.declared.requests.Reply.{Reply}
@@ -27,6 +29,7 @@ asks id (Ask other request) = is_id id other
 asks id (Decide other index reply batch) = false
 asks id (Swap index) = false
 asks id (Flushed index moment) = false
+asks id (Halt node count) = false
 asks id (Told client line answer) = false
 
 abbrev pub is_asked : AskId → List Event → Bool
@@ -38,6 +41,7 @@ tells client line (Ask id request) = false
 tells client line (Decide id index reply batch) = false
 tells client line (Swap index) = false
 tells client line (Flushed index moment) = false
+tells client line (Halt node count) = false
 tells client line (Told other number answer) = other == client && number == line
 
 abbrev pub is_told : ℕ → ℕ → List Event → Bool
@@ -49,6 +53,7 @@ pending_after id before (Ask other request) = if is_id id other then Some reques
 pending_after id before (Decide other index reply batch) = if is_id id other then None else before
 pending_after id before (Swap index) = before
 pending_after id before (Flushed index moment) = before
+pending_after id before (Halt node count) = before
 pending_after id before (Told client line answer) = before
 
 abbrev pub pending : AskId → List Event → Option Request
@@ -60,6 +65,7 @@ decided_after before (Ask id request) = before
 decided_after before (Decide id index reply batch) = index
 decided_after before (Swap index) = before
 decided_after before (Flushed index moment) = before
+decided_after before (Halt node count) = before
 decided_after before (Told client line answer) = before
 
 abbrev pub swapped_after : ℕ → EventKind → ℕ
@@ -67,6 +73,7 @@ swapped_after before (Ask id request) = before
 swapped_after before (Decide id index reply batch) = before
 swapped_after before (Swap index) = index
 swapped_after before (Flushed index moment) = before
+swapped_after before (Halt node count) = before
 swapped_after before (Told client line answer) = before
 
 abbrev pub flushed_after : ℕ → EventKind → ℕ
@@ -74,6 +81,7 @@ flushed_after before (Ask id request) = before
 flushed_after before (Decide id index reply batch) = before
 flushed_after before (Swap index) = before
 flushed_after before (Flushed index moment) = index
+flushed_after before (Halt node count) = before
 flushed_after before (Told client line answer) = before
 
 abbrev pub last_index : Opening → List Event → ℕ
@@ -91,6 +99,7 @@ moment_after before (Ask id request) = before
 moment_after before (Decide id index reply batch) = before
 moment_after before (Swap index) = before
 moment_after before (Flushed index moment) = moment
+moment_after before (Halt node count) = before
 moment_after before (Told client line answer) = before
 
 abbrev pub flushed_moment : List Event → ℕ
@@ -102,6 +111,7 @@ replied_after client line before (Ask id request) = before
 replied_after client line before (Decide id index reply batch) = if is_of_line client line id then Some reply else before
 replied_after client line before (Swap index) = before
 replied_after client line before (Flushed index moment) = before
+replied_after client line before (Halt node count) = before
 replied_after client line before (Told other number answer) = before
 
 abbrev pub last_reply : ℕ → ℕ → List Event → Option Reply
@@ -113,6 +123,7 @@ line_index_after client line before (Ask id request) = before
 line_index_after client line before (Decide id index reply batch) = if is_of_line client line id then max before index else before
 line_index_after client line before (Swap index) = before
 line_index_after client line before (Flushed index moment) = before
+line_index_after client line before (Halt node count) = before
 line_index_after client line before (Told other number answer) = before
 
 abbrev pub line_index : ℕ → ℕ → List Event → ℕ
@@ -128,6 +139,7 @@ namespace_step before namespace (Ask id request) = namespace
 namespace_step before namespace (Decide id index answer batch) = namespace_after (pending id before) namespace answer
 namespace_step before namespace (Swap index) = namespace
 namespace_step before namespace (Flushed index moment) = namespace
+namespace_step before namespace (Halt node count) = namespace
 namespace_step before namespace (Told client line answer) = namespace
 
 unfoldable pub namespace_from : List Event → Volumes → List Event → Volumes
@@ -137,3 +149,62 @@ namespace_from before namespace (event ∷ story) = namespace_from (before ++ ev
 -- the namespace after all Decides of a story, one after another
 abbrev pub namespace_of : Opening → List Event → Volumes
 namespace_of opening story = namespace_from [] opening.namespace story
+
+-- the same node
+abbrev pub is_node : Node → Node → Bool
+is_node Manager Manager = true
+is_node Manager Scm = false
+is_node Manager (Datanode number) = false
+is_node Scm Manager = false
+is_node Scm Scm = true
+is_node Scm (Datanode number) = false
+is_node (Datanode number) Manager = false
+is_node (Datanode number) Scm = false
+is_node (Datanode number) (Datanode other) = number == other
+
+-- a node's count of faults as it halted, given that before
+abbrev pub halt_after : Node → Option ℕ → EventKind → Option ℕ
+halt_after node before (Ask id request) = before
+halt_after node before (Decide id index answer batch) = before
+halt_after node before (Swap index) = before
+halt_after node before (Flushed index moment) = before
+halt_after node before (Halt other count) = if is_node node other then Some count else before
+halt_after node before (Told client line answer) = before
+
+-- a node's count of faults as it halted, None where it didn't
+abbrev pub halt_of : Node → List Event → Option ℕ
+halt_of node story = fold (λ before event. halt_after node before event.kind) None story
+
+-- whether the manager had halted when an id of this kind was last asked, given that so far
+abbrev pub late_step : (AskId → Bool) → List Event → Bool → EventKind → Bool
+late_step names before late (Ask id request) = if names id then is_some (halt_of Manager before) else late
+late_step names before late (Decide id index answer batch) = late
+late_step names before late (Swap index) = late
+late_step names before late (Flushed index moment) = late
+late_step names before late (Halt node count) = late
+late_step names before late (Told client line answer) = late
+
+unfoldable pub late_from : (AskId → Bool) → List Event → Bool → List Event → Bool
+late_from names before late [] = late
+late_from names before late (event ∷ story) = late_from names (before ++ event ∷ []) (late_step names before late event.kind) story
+
+-- whether the manager had halted when an id of this kind was last asked
+abbrev pub asked_late : (AskId → Bool) → List Event → Bool
+asked_late names story = late_from names [] false story
+
+-- what one more event leaves of a namespace, where Decides above an index are passed over
+abbrev pub kept_step : ℕ → List Event → Volumes → EventKind → Volumes
+kept_step most before namespace (Ask id request) = namespace
+kept_step most before namespace (Decide id index answer batch) = if nat_le index most then namespace_after (pending id before) namespace answer else namespace
+kept_step most before namespace (Swap index) = namespace
+kept_step most before namespace (Flushed index moment) = namespace
+kept_step most before namespace (Halt node count) = namespace
+kept_step most before namespace (Told client line answer) = namespace
+
+unfoldable pub kept_from : ℕ → List Event → Volumes → List Event → Volumes
+kept_from most before namespace [] = namespace
+kept_from most before namespace (event ∷ story) = kept_from most (before ++ event ∷ []) (kept_step most before namespace event.kind) story
+
+-- the namespace after the Decides of a story up to an index
+abbrev pub kept_namespace : Opening → ℕ → List Event → Volumes
+kept_namespace opening most story = kept_from most [] opening.namespace story

@@ -8,6 +8,15 @@ pub struct Event {
     pub kind: EventKind,
 }
 
+/// A part of the store that has disks of its own.
+#[derive(Clone, Copy, Debug, PartialEq, Eq)]
+pub enum Node {
+    Manager,
+    Scm,
+    /// A datanode by its number, from 0.
+    Datanode(u8),
+}
+
 /// What happened.
 #[derive(Debug, Drop)]
 pub enum EventKind {
@@ -32,6 +41,11 @@ pub enum EventKind {
     Flushed {
         index: u64,
         moment: u64,
+    },
+    /// A disk of the node failed, and the node takes no further part. `count` is how often its disks have failed.
+    Halt {
+        node: Node,
+        count: u64,
     },
     /// A line was answered.
     Told {

@@ -2,6 +2,7 @@
 #![tactic(auto)]
 
 pub mod events;
+pub mod laws;
 pub mod manager;
 pub mod model;
 pub mod names;
@@ -12,6 +13,7 @@ pub mod requests;
 pub mod rows;
 pub mod run;
 pub mod script;
+pub mod status;
 mod streams;
 pub mod words;
 mod work;

@@ -1,20 +1,21 @@
-ghost use Rattle.std.specs.Prelude.{List as Items, ◌≡◌, ◌≢◌, ◌≤◌, ◌<◌, ◌+◌, ◌^◌, ◌++◌, [], ◌∷◌, ℕ, None, false, length, vec_len, vec_capacity, MatchOption, OnOk, OnErr, IfOk, IsErrOf};
-ghost use Rattle.oz_world.specs.Faults.{Rose};
-ghost use Rattle.oz_journal.specs.Grammar.{StandsFor};
-ghost use Rattle.oz_journal.specs.Journal.{body_of};
+ghost use Rattle.std.specs.Prelude.{List as Items, ◌≡◌, ◌≤◌, ◌<◌, ◌+◌, ◌^◌, ◌++◌, [], ◌∷◌, ℕ, None, false, length, vec_len, vec_capacity, is_err, MatchOption, OnOk, OnErr, IfOk, IsErr};
+ghost use Rattle.oz_world.specs.Disk.{seen};
+ghost use Rattle.oz_world.specs.Faults.{HasCause};
+ghost use Rattle.oz_journal.specs.Grammar.{IsJournal, StandsFor};
+ghost use Rattle.oz_journal.specs.Journal.{body_of, IsBeforeOrAfter};
+ghost use Rattle.oz_journal.specs.Moments.{Elapses, LeavesOnly};
 ghost use Rattle.oz_cluster.specs.declared.script.Script.{Script};
 ghost use Rattle.oz_cluster.specs.Answers.{after, volume_of};
 ghost use Rattle.oz_cluster.specs.Law.{stripe_seat};
 ghost use Rattle.oz_cluster.specs.Names.{stripe_of};
 ghost use Rattle.oz_cluster.specs.Fits.{IsLineOf, request_of as request_said, answer_of as answer_due};
 ghost use Rattle.oz_cluster.specs.Namespace.{Volumes, with_volume};
-ghost use Rattle.oz_cluster.specs.Opens.{StandsAs};
-ghost use Rattle.oz_cluster.specs.Quiet.{IsServed};
+ghost use Rattle.oz_cluster.specs.Quiet.{IsServed, IsHeld};
 ghost use Rattle.oz_cluster.specs.Rows.{put_volume, body_bytes};
-ghost use Rattle.oz_cluster.specs.Steps.{ask_event, decide_event, swap_event, flushed_event, told_event};
+ghost use Rattle.oz_cluster.specs.Steps.{ask_event, decide_event, swap_event, flushed_event, halt_event, told_event};
 ghost use Rattle.oz_cluster.specs.Story.{Opening};
 
-use crate::events::{Event, EventKind};
+use crate::events::{Event, EventKind, Node};
 use crate::model::Namespace;
 use crate::names::stripe_of as stripe_number;
 use crate::requests::{Answer, AskId, Reply, Request, Values};
@@ -22,7 +23,7 @@ use crate::rows::{framed, volume_batch};
 use crate::script::{Command, Line};
 use oz_fields::{List, Name, OutOfMemory};
 use oz_journal::Journal;
-use oz_world::{Disk, Gate, Point};
+use oz_world::{Disk, Failed, Gate, Point};
 use std::alloc::{AllocError, Global};
 use std::sync::Wait;
 
@@ -31,24 +32,6 @@ const FLUSHER_SEAT: u16 = 0;
 const CALLER_SEAT: u16 = 2;
 
 const FIRST_STRIPE_SEAT: u16 = 20;
-
-/// Why a line wasn't served.
-#[derive(Clone, Copy, Debug, PartialEq, Eq)]
-pub enum Trouble {
-    OutOfMemory,
-    Disk,
-}
-
-impl From<OutOfMemory> for Trouble {
-    ghost use Rattle.std.specs.Prelude.{◌≡◌};
-    ghost use Rattle.oz_cluster.specs.declared.manager.Trouble.TheVariants.{OutOfMemory};
-
-    ghost from_gives = { λ _ trouble. trouble ≡ OutOfMemory };
-
-    fn from(_: OutOfMemory) -> Trouble {
-        Trouble::OutOfMemory
-    }
-}
 
 /// The manager on one thread: what it stands for, its journal, and the story so far.
 #[derive(Drop)]
@@ -156,7 +139,7 @@ impl<D: Disk> Manager<D> {
         ensures story { self.new.story.items ≡ self.old.story.items
             ++ ask_event client number request ∷ []
             ++ decide_event client number request self.old.index reply [] ∷ []
-            ++ told_event client number reply ∷ [] }
+            ++ told_event client number (answer_due reply) ∷ [] }
         ensures namespace { self.new.namespace ≡ self.old.namespace }
         ensures index { self.new.index ≡ self.old.index }
         ensures journal { self.new.journal ≡ self.old.journal }
@@ -190,6 +173,25 @@ impl<D: Disk> Manager<D> {
                 answer,
             },
         );
+    }
+
+    /// Asks for a line, and tells it that the manager has stopped. The room for two events was taken before.
+    fn turn_away(&mut self, client: u16, number: u16, request: Request)
+        requires { vec_len self.old.story + 2 ≤ vec_capacity self.old.story }
+        ensures story { self.new.story.items ≡ self.old.story.items
+            ++ ask_event client number request ∷ []
+            ++ told_event client number Answer.ManagerStopped ∷ [] }
+        ensures namespace { self.new.namespace ≡ self.old.namespace }
+        ensures index { self.new.index ≡ self.old.index }
+        ensures journal { self.new.journal ≡ self.old.journal }
+    {
+        let id = AskId {
+            client,
+            line: number,
+            step: 1,
+        };
+        note(&mut self.story, CALLER_SEAT, EventKind::Ask { id, request });
+        self.tell(client, number, Answer::ManagerStopped);
     }
 
     /// Asks and decides a line that makes a volume, and takes what was decided to be written. The room
@@ -240,37 +242,46 @@ impl<D: Disk> Manager<D> {
         Ok(())
     }
 
-    /// Writes what was taken, and tells the line. The room for two events was taken before.
-    fn flush<R: Wait, G: Gate>(
-        &mut self,
-        rt: &R,
-        gate: &G,
-        client: u16,
-        number: u16,
-        frame: Vec<u8>,
-    ) -> Result<(), Trouble>
-        requires room { vec_len self.old.story + 2 ≤ vec_capacity self.old.story }
+    /// Writes what was taken, and notes that it is stable or that the manager halts. The room for an event was
+    /// taken before.
+    fn flush<R: Wait, G: Gate>(&mut self, rt: &R, gate: &G, frame: Vec<u8>) -> Result<(), Failed>
+        requires room { vec_len self.old.story < vec_capacity self.old.story }
         requires running { self.old.journal.stopped ≡ false }
         requires least { 5 ≤ length frame.items }
         requires most { length frame.items ≤ 4_294_967_300 }
-        ensures story { OnOk result (self.new.story.items ≡ self.old.story.items
-            ++ flushed_event self.old.index (D.clock self.new.journal.disk) ∷ []
-            ++ told_event client number Reply.Done ∷ []) }
-        ensures later { OnOk result (D.clock self.old.journal.disk < D.clock self.new.journal.disk) }
-        ensures stands { (bodies : Items (Items ℕ)) → StandsFor (D.told self.old.journal.disk) bodies →
-            OnOk result (StandsFor (D.told self.new.journal.disk) (bodies ++ body_of frame.items ∷ [])) }
-        ensures running { OnOk result (self.new.journal.stopped ≡ false) }
+        ensures flushed { OnOk result (self.new.story.items ≡ self.old.story.items
+            ++ flushed_event self.old.index (D.clock self.new.journal.disk) ∷ []) }
+        ensures halted { OnErr result (self.new.story.items ≡ self.old.story.items
+            ++ halt_event (D.faults self.new.journal.disk) ∷ []) }
+        ensures room { vec_len self.new.story ≡ vec_len self.old.story + 1 }
+        ensures capacity { vec_capacity self.old.story ≤ vec_capacity self.new.story }
+        ensures stopped { self.new.journal.stopped ≡ is_err result }
         ensures namespace { self.new.namespace ≡ self.old.namespace }
         ensures index { self.new.index ≡ self.old.index }
-        ensures failed { result ≢ Err Trouble.OutOfMemory }
-        ensures cause { IsErrOf result Trouble.Disk →
-            Rose (D.faults self.old.journal.disk) (D.faults self.new.journal.disk) }
-        ensures never_falls { D.faults self.old.journal.disk ≤ D.faults self.new.journal.disk }
+        ensures stands { (bodies : Items (Items ℕ)) → StandsFor (D.told self.old.journal.disk) bodies →
+            OnOk result (StandsFor (D.told self.new.journal.disk) (bodies ++ body_of frame.items ∷ [])) }
+        ensures moments { (bodies : Items (Items ℕ)) → StandsFor (D.told self.old.journal.disk) bodies →
+            LeavesOnly (IsBeforeOrAfter bodies (body_of frame.items))
+            (D.clock self.old.journal.disk) (D.clock self.new.journal.disk) (D.image self.new.journal.disk) }
+        ensures acknowledged { (bodies : Items (Items ℕ)) → StandsFor (D.told self.old.journal.disk) bodies →
+            OnOk result ((left : Items ℕ) → D.image self.new.journal.disk (D.clock self.new.journal.disk) left →
+            IsJournal left (bodies ++ body_of frame.items ∷ [])) }
+        ensures later { OnOk result (D.clock self.old.journal.disk < D.clock self.new.journal.disk) }
+        ensures time { Elapses (D.clock self.old.journal.disk) (D.clock self.new.journal.disk)
+            (D.image self.old.journal.disk) (D.image self.new.journal.disk) }
+        ensures cause { HasCause (D.faults self.old.journal.disk) (D.faults self.new.journal.disk) result }
     {
         let mut frame = frame;
         gate.pass(rt, Point::ManagerWrite, FLUSHER_SEAT);
         let Ok(moment) = self.journal.append(&mut frame) else {
-            return Err(Trouble::Disk);
+            let count = self.journal.faults();
+            let node = Node::Manager;
+            note(
+                &mut self.story,
+                FLUSHER_SEAT,
+                EventKind::Halt { node, count },
+            );
+            return Err(Failed);
         };
         let index = self.index;
         note(
@@ -278,19 +289,30 @@ impl<D: Disk> Manager<D> {
             FLUSHER_SEAT,
             EventKind::Flushed { index, moment },
         );
+        Ok(())
+    }
+
+    /// Tells a line. The room for an event was taken before.
+    fn tell(&mut self, client: u16, number: u16, answer: Answer)
+        requires { vec_len self.old.story < vec_capacity self.old.story }
+        ensures story { self.new.story.items ≡ self.old.story.items ++ told_event client number answer ∷ [] }
+        ensures namespace { self.new.namespace ≡ self.old.namespace }
+        ensures index { self.new.index ≡ self.old.index }
+        ensures journal { self.new.journal ≡ self.old.journal }
+    {
         note(
             &mut self.story,
             CALLER_SEAT,
             EventKind::Told {
                 client,
                 line: number,
-                answer: Answer::Ok(Values::Done),
+                answer,
             },
         );
-        Ok(())
     }
 
-    /// Serves one line of a script: it is asked, decided, made stable and told. Without memory nothing
+    /// Serves one line of a script: it is asked, decided, made stable and told. Where the disk fails it is told
+    /// that nothing is acknowledged, and each later line that the manager has stopped. Without memory nothing
     /// happens.
     pub fn serve<R: Wait, G: Gate>(
         &mut self,
@@ -298,27 +320,41 @@ impl<D: Disk> Manager<D> {
         alloc: Global,
         gate: &G,
         line: &Line,
-    ) -> Result<(), Trouble>
-        requires running { self.old.journal.stopped ≡ false }
+    ) -> Result<(), OutOfMemory>
         requires index { self.old.index + 1 < 2 ^ 64 }
-        ensures served { OnOk result ((opening : Opening) (script : Script) (lines : ℕ) →
+        ensures served { OnOk result ((opening : Opening) (script : Script) (lines faults : ℕ) →
             IsLineOf script 1 (lines + 1) line.now → line.now.after ≡ None →
-            IsServed opening script self.old.story.items lines self.old.namespace self.old.index
-            (D.clock self.old.journal.disk) →
-            IsServed opening script self.new.story.items (lines + 1) self.new.namespace self.new.index
-            (D.clock self.new.journal.disk)) }
-        ensures reopens { StandsAs (D.told self.old.journal.disk) self.old.namespace self.old.index →
-            OnOk result (StandsAs (D.told self.new.journal.disk) self.new.namespace self.new.index) }
-        ensures unserved { IsErrOf result Trouble.OutOfMemory → IsUnchanged self.old self.new }
-        ensures running { OnOk result (self.new.journal.stopped ≡ false) }
-        ensures index { OnOk result (self.new.index ≤ self.old.index + 1) }
-        ensures cause { IsErrOf result Trouble.Disk →
-            Rose (D.faults self.old.journal.disk) (D.faults self.new.journal.disk) }
-        ensures never_falls { D.faults self.old.journal.disk ≤ D.faults self.new.journal.disk }
+            IsServed opening script lines faults self.old.story.items self.old.namespace self.old.index
+            self.old.journal.stopped (seen (D.told self.old.journal.disk) (D.clock self.old.journal.disk)
+            (D.image self.old.journal.disk) (D.faults self.old.journal.disk)) →
+            IsServed opening script (lines + 1) faults self.new.story.items self.new.namespace self.new.index
+            self.new.journal.stopped (seen (D.told self.new.journal.disk) (D.clock self.new.journal.disk)
+            (D.image self.new.journal.disk) (D.faults self.new.journal.disk))) }
+        ensures held { OnOk result ((opening : Opening) (script : Script) (lines faults first : ℕ) →
+            IsLineOf script 1 (lines + 1) line.now → line.now.after ≡ None →
+            IsServed opening script lines faults self.old.story.items self.old.namespace self.old.index
+            self.old.journal.stopped (seen (D.told self.old.journal.disk) (D.clock self.old.journal.disk)
+            (D.image self.old.journal.disk) (D.faults self.old.journal.disk)) →
+            self.new.index < 2 ^ 63 →
+            IsHeld opening self.old.story.items self.old.namespace self.old.index first
+            (seen (D.told self.old.journal.disk) (D.clock self.old.journal.disk)
+            (D.image self.old.journal.disk) (D.faults self.old.journal.disk)) →
+            IsHeld opening self.new.story.items self.new.namespace self.new.index first
+            (seen (D.told self.new.journal.disk) (D.clock self.new.journal.disk)
+            (D.image self.new.journal.disk) (D.faults self.new.journal.disk))) }
+        ensures time { Elapses (D.clock self.old.journal.disk) (D.clock self.new.journal.disk)
+            (D.image self.old.journal.disk) (D.image self.new.journal.disk) }
+        ensures unserved { IsErr result → IsUnchanged self.old self.new }
+        ensures grows { self.old.index ≤ self.new.index }
+        ensures index { self.new.index ≤ self.old.index + 1 }
     {
         let request = request_of(alloc, &line.command)?;
-        let reply = self.namespace.reply(&request);
         self.story.reserve(5)?;
+        if self.journal.stopped() {
+            self.turn_away(line.client, line.number, request);
+            return Ok(());
+        }
+        let reply = self.namespace.reply(&request);
         let Some(volume) = volume_made(&request, &reply) else {
             self.keep(alloc, line.client, line.number, request, reply);
             return Ok(());
@@ -329,7 +365,11 @@ impl<D: Disk> Manager<D> {
             frame,
         } = prepare(alloc, self.index + 1, volume)?;
         self.decide(line.client, line.number, request, volume, batch)?;
-        self.flush(rt, gate, line.client, line.number, frame)?;
+        let Ok(()) = self.flush(rt, gate, frame) else {
+            self.tell(line.client, line.number, Answer::Unacknowledged);
+            return Ok(());
+        };
+        self.tell(line.client, line.number, Answer::Ok(Values::Done));
         Ok(())
     }
 }

@@ -1,6 +1,9 @@
-ghost use Rattle.std.specs.Prelude.{◌≡◌, ◌≤◌, ◌<◌, ◌^◌, ◌⊎◌, [], ℕ, false, Some, IfOk, IfErr, IfSome, MatchOption, slice_get};
+ghost use Rattle.std.specs.Prelude.{◌≡◌, ◌≤◌, ◌<◌, ◌^◌, [], ℕ, List, false, Some, IfOk, IfErr, IfSome, MatchOption, slice_get};
+ghost use Rattle.oz_world.specs.Disk.{IsStable};
 ghost use Rattle.oz_world.specs.Faults.{Rose};
 ghost use Rattle.oz_journal.specs.Body.{bodies_in, places_in};
+ghost use Rattle.oz_journal.specs.Load.{IsLoadable, IsLeftAlone, loaded_at};
+ghost use Rattle.oz_journal.specs.Moments.{Elapses, Spans};
 ghost use Rattle.oz_cluster.specs.Namespace.{nothing};
 ghost use Rattle.oz_cluster.specs.OpenFaults.{as_open};
 ghost use Rattle.oz_cluster.specs.Opens.{IsNextBody, OpensFrom, IsWrongAt, Opens, IsDamagedDisk, StandsAs};
@@ -89,6 +92,8 @@ fn opening_of(alloc: Global, bodies: &[Body]) -> Result<(Namespace, u64), OpenFa
 }
 
 impl<D: Disk> Manager<D> {
+    ghost use Rattle.oz_cluster.specs.OpenFaults.{disk_behind};
+
     /// The manager of a disk, with a story in which nothing has happened yet.
     pub fn open(alloc: Global, disk: D) -> Result<Manager<D>, (D, OpenFault)>
         ensures opens { IfOk result (λ manager. IfSome (D.told disk) (λ bytes.
@@ -103,7 +108,19 @@ impl<D: Disk> Manager<D> {
             IfSome (D.told disk) (λ bytes. IsDamagedDisk bytes offset)) }
         ensures cause { IfErr result (λ refused.
             refused.1 ≡ OpenFault.Disk → Rose (D.faults disk) (D.faults refused.0)) }
-        ensures never_falls { IfOk result (λ manager. D.faults disk ≤ D.faults manager.journal.disk) }
+        ensures never_falls { D.faults disk ≤ D.faults (disk_behind result) }
+
+        // What a stop may leave.
+        ensures stable { IfOk result (λ manager. (bytes : List ℕ) → D.told manager.journal.disk ≡ Some bytes →
+            IsStable (D.image manager.journal.disk) (D.clock manager.journal.disk) bytes) }
+        ensures ended { IfOk result (λ manager. IfSome (D.told disk) (λ bytes.
+            D.clock manager.journal.disk ≡ loaded_at (D.clock disk) bytes)) }
+        ensures time { Elapses (D.clock disk) (D.clock (disk_behind result)) (D.image disk)
+            (D.image (disk_behind result)) }
+        ensures moments { IfSome (D.told disk) (λ bytes.
+            IsLoadable bytes (D.image disk (D.clock disk)) →
+            Spans IsLeftAlone (D.clock disk) (D.clock (disk_behind result)) (D.image disk)
+            (D.image (disk_behind result))) }
     {
         let (journal, bodies) = match Journal::load(alloc, disk) {
             Ok(loaded) => loaded,

@@ -1,6 +1,7 @@
 ghost use Rattle.std.specs.Prelude.{◌≡◌, ◌⊎◌, ◌≤◌, ◌++◌, [], ℕ, List as Items, Option, map, IfOk, IfErr};
 ghost use Rattle.std.specs.String.{string_bytes};
 ghost use Rattle.oz_world.specs.Faults.{Rose};
+ghost use Rattle.oz_cluster.specs.declared.refusal.Refusal.{Refusal};
 ghost use Rattle.oz_cluster.specs.Refusals.{status_of, text_of, IsScriptOf, IsSo, Says};
 ghost use Rattle.oz_cluster.specs.Script.{IsNumbered};
 ghost use Rattle.oz_cluster.specs.Streams.{script_limit, TakesUpTo};
@@ -8,6 +9,7 @@ ghost use Rattle.oz_cluster.specs.Words.{IsRun};
 
 use crate::report;
 use crate::script::{Cause, Script, ScriptFault, parse};
+use crate::status::Status;
 use crate::streams::{ReadFault, read_script, write_all};
 use crate::words::read_words;
 use oz_fields::OutOfMemory;
@@ -29,17 +31,17 @@ pub enum Refusal {
 }
 
 impl Refusal {
-    /// The status that the program ends with.
-    pub fn status(self) -> u8
+    /// How the run ends.
+    pub fn status(self) -> Status
         ensures { result ≡ status_of self }
     {
         match self {
-            Refusal::Script { .. } => 1,
-            Refusal::Words { .. } => 2,
-            Refusal::Read => 3,
-            Refusal::Disk => 5,
-            Refusal::Damaged { .. } => 6,
-            Refusal::OutOfMemory => 7,
+            Refusal::Script { .. } => Status::Script,
+            Refusal::Words { .. } => Status::Words,
+            Refusal::Read => Status::Read,
+            Refusal::Disk => Status::Disk,
+            Refusal::Damaged { .. } => Status::Damaged,
+            Refusal::OutOfMemory => Status::OutOfMemory,
         }
     }
 
@@ -77,15 +79,15 @@ pub fn say<K: Sink>(out: &mut K, text: &[u8])
     }
 }
 
-/// Writes why a run was stopped, and answers its status.
-pub fn refuse<K: Sink>(alloc: Global, out: &mut K, refusal: Refusal) -> u8
-    ensures stopped { (result ≡ 7) ⊎ ((result ≡ status_of refusal)
-        × Says (text_of refusal) (K.held out.old) (K.held out.new) (Rose (K.faults out.old) (K.faults out.new))) }
+/// Writes why a run was stopped, and answers how it ends.
+pub fn refuse<K: Sink>(alloc: Global, out: &mut K, refusal: Refusal) -> Status
+    ensures said { (why : Refusal) × ((why ≡ refusal) ⊎ (why ≡ Refusal.OutOfMemory)) × (result ≡ status_of why)
+        × Says (text_of why) (K.held out.old) (K.held out.new) (Rose (K.faults out.old) (K.faults out.new)) }
     ensures never_falls { K.faults out.old ≤ K.faults out.new }
 {
     let Ok(text) = refusal.text(alloc) else {
         say(out, report::out_of_memory_text().as_bytes());
-        return 7;
+        return Status::OutOfMemory;
     };
     say(out, &text);
     refusal.status()
@@ -97,11 +99,8 @@ pub fn begin<S: Source>(alloc: Global, words: &[String], source: &mut S) -> Resu
     ensures script { IfOk result (IsScriptOf (S.left source.old)) }
     ensures numbered { IfOk result IsNumbered }
     ensures so { IfErr result (λ refusal. (disk : Option (Items ℕ)) →
-        IsSo (map string_bytes words.now) (S.left source.old) disk refusal) }
-    ensures cause { IfErr result (λ refusal. refusal ≡ Refusal.Read →
-        Rose (S.faults source.old) (S.faults source.new)) }
-    ensures early { IfErr result (λ refusal. refusal ≡ Refusal.Disk → ⊥) }
-    ensures undamaged { IfErr result (λ refusal. (offset : ℕ) → refusal ≡ Refusal.Damaged offset → ⊥) }
+        IsSo (map string_bytes words.now) (S.left source.old) disk (Rose (S.faults source.old) (S.faults source.new))
+        ⊥ refusal) }
     ensures taken { TakesUpTo script_limit (S.left source.old) (S.left source.new) }
     ensures never_falls { S.faults source.old ≤ S.faults source.new }
 {

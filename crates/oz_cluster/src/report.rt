@@ -1,7 +1,7 @@
 ghost use Rattle.std.specs.Prelude.{◌≡◌, ◌++◌, IfOk, OnOk, option_copied, string_bytes};
-ghost use Rattle.oz_cluster.specs.Report.{report_of, decide_text, told_text, answer_text, request_text, reply_text, words_fault, script_fault, damaged_manager, disk_fault, read_fault, memory_fault};
+ghost use Rattle.oz_cluster.specs.Report.{report_of, decide_text, halt_text, node_text, told_text, answer_text, request_text, reply_text, words_fault, script_fault, damaged_manager, disk_fault, read_fault, memory_fault};
 
-use crate::events::{Event, EventKind};
+use crate::events::{Event, EventKind, Node};
 use crate::requests::{Answer, AskId, Reply, Request, Values};
 use oz_fields::OutOfMemory;
 use std::alloc::Global;
@@ -38,6 +38,9 @@ pub fn text(alloc: Global, lines: u64, story: &[Event]) -> Result<Vec<u8>, OutOf
                 push_told(&mut out, *client, *line, *answer)?;
                 told += 1;
             }
+            EventKind::Halt { node, count } => {
+                push_halt(&mut out, *node, *count)?;
+            }
             EventKind::Swap { .. } => {}
             EventKind::Flushed { .. } => {}
         }
@@ -60,6 +63,25 @@ fn push_decide(
     writeln!(out, "{} {}", request_text(request), reply_text(reply))
 }
 
+fn push_halt(out: &mut String, node: Node, count: u64) -> Result<(), OutOfMemory>
+    ensures { OnOk result
+        (string_bytes out.new ≡ string_bytes out.old ++ halt_text node count) }
+{
+    out.push_str("h ")?;
+    push_node(out, node)?;
+    writeln!(out, " {count}")
+}
+
+fn push_node(out: &mut String, node: Node) -> Result<(), OutOfMemory>
+    ensures { OnOk result (string_bytes out.new ≡ string_bytes out.old ++ node_text node) }
+{
+    match node {
+        Node::Manager => out.push_str("manager"),
+        Node::Scm => out.push_str("scm"),
+        Node::Datanode(number) => write!(out, "dn{number}"),
+    }
+}
+
 fn push_told(out: &mut String, client: u16, line: u16, answer: Answer) -> Result<(), OutOfMemory>
     ensures { OnOk result
         (string_bytes out.new ≡ string_bytes out.old ++ told_text client line answer) }
@@ -76,6 +98,8 @@ fn push_answer(out: &mut String, answer: Answer) -> Result<(), OutOfMemory>
         Answer::Ok(Values::Done) => out.push_str("OK"),
         Answer::Ok(Values::Buckets(count)) => write!(out, "OK buckets {count}"),
         Answer::Code(code) => out.push_str(code.text()),
+        Answer::Unacknowledged => out.push_str("UNACKNOWLEDGED"),
+        Answer::ManagerStopped => out.push_str("MANAGER_STOPPED"),
         Answer::OutOfMemory => out.push_str("OUT_OF_MEMORY"),
     }
 }

@@ -1,3 +1,6 @@
+ghost use Rattle.std.specs.Prelude.{◌≡◌};
+ghost use Rattle.oz_cluster.specs.Codes.{answer_number};
+
 use crate::names::Code;
 use oz_fields::Name;
 
@@ -32,7 +35,26 @@ pub enum Reply {
 pub enum Answer {
     Ok(Values),
     Code(Code),
+    /// The manager's disk failed before what was decided for the line was stable. It may be there or not.
+    Unacknowledged,
+    /// The manager's disk had failed when the line asked. Nothing was decided.
+    ManagerStopped,
     OutOfMemory,
+}
+
+impl Answer {
+    /// The number that stands for the answer in formats, 0 for `OK`. Those of codes are in `docs/FORMATS.md`.
+    pub fn number(self) -> u16
+        ensures { result ≡ answer_number self }
+    {
+        match self {
+            Answer::Ok(_) => 0,
+            Answer::Code(code) => code.number(),
+            Answer::Unacknowledged => 105,
+            Answer::ManagerStopped => 106,
+            Answer::OutOfMemory => 112,
+        }
+    }
 }
 
 /// What stands behind `OK`.

@@ -1,32 +1,35 @@
-ghost use Rattle.std.specs.Prelude.{◌≡◌, ◌≤◌, ◌++◌, map};
-ghost use Rattle.std.specs.Option.{option_map};
+ghost use Rattle.std.specs.Prelude.{◌≡◌, ◌≤◌, ◌⊎◌, Bool, true, false, map, IsOk};
 ghost use Rattle.std.specs.String.{string_bytes};
+ghost use Rattle.oz_world.specs.Disk.{seen};
 ghost use Rattle.oz_world.specs.Faults.{Rose};
-ghost use Rattle.oz_cluster.specs.Headline.{IsOneRun};
+ghost use Rattle.oz_cluster.specs.Headline.{IsPrinted, RunEnds};
 ghost use Rattle.oz_cluster.specs.OpenFaults.{as_refusal};
-ghost use Rattle.oz_cluster.specs.Refusals.{status_of};
 ghost use Rattle.oz_cluster.specs.Report.{report_of};
 ghost use Rattle.oz_cluster.specs.StatusCauses.{StatusCauses};
 ghost use Rattle.oz_cluster.specs.Streams.{script_limit, TakesUpTo};
 
 use crate::events::Event;
-use crate::manager::{Manager, Trouble};
+use crate::manager::Manager;
 use crate::opening::OpenFault;
 use crate::refusal::{Refusal, begin, refuse, say};
 use crate::report;
+use crate::status::Status;
 use crate::streams::write_all;
 use crate::work::serve_all;
+use oz_fields::OutOfMemory;
 use oz_world::{Disk, Gate, Sink, Source};
 use std::alloc::Global;
 use std::sync::Wait;
 
 /// The disks of a datanode.
+#[derive(Drop)]
 pub struct NodeDisks<D> {
     pub meta: D,
     pub slots: D,
 }
 
 /// The disks of a run.
+#[derive(Drop)]
 pub struct Disks<D> {
     pub manager: D,
     pub scm: D,
@@ -34,6 +37,7 @@ pub struct Disks<D> {
 }
 
 /// What a run leaves: the program's status, what happened, and the disks.
+#[derive(Drop)]
 pub struct Ended<D> {
     pub status: u8,
     pub story: Vec<Event>,
@@ -50,34 +54,34 @@ fn refusal_of(fault: OpenFault) -> Refusal
     }
 }
 
-/// Writes the report of a story, and answers the status of a run whose work went so.
+/// Writes the report of a story, and answers how a run ends whose work went so.
 fn finish<K: Sink>(
     alloc: Global,
     out: &mut K,
     lines: u64,
     story: &[Event],
-    worked: Result<(), Trouble>,
-) -> u8
-    ensures known { result ≤ 7 }
-    ensures done { result ≡ 0 → worked ≡ Ok tt }
-    ensures printed { result ≡ 0 →
-        K.held out.new ≡ option_map (λ held. held ++ report_of lines story.now) (K.held out.old) }
-    ensures unwritten { result ≡ 4 → Rose (K.faults out.old) (K.faults out.new) }
-    ensures disk { result ≡ 5 → worked ≡ Err Trouble.Disk }
-    ensures others { (result ≡ 1 → ⊥) × (result ≡ 2 → ⊥) × (result ≡ 3 → ⊥) × (result ≡ 6 → ⊥) }
+    worked: Result<(), OutOfMemory>,
+    stopped: bool,
+) -> Status
+    ensures printed { IsPrinted result (report_of lines story.now) (K.held out.old) (K.held out.new)
+        (Rose (K.faults out.old) (K.faults out.new)) }
+    ensures done { result ≡ Status.Done → stopped ≡ false }
+    ensures disk { result ≡ Status.Disk → stopped ≡ true }
+    ensures worked { (result ≡ Status.OutOfMemory) ⊎ IsOk worked }
     ensures never_falls { K.faults out.old ≤ K.faults out.new }
 {
     let Ok(text) = report::text(alloc, lines, story) else {
         say(out, report::out_of_memory_text().as_bytes());
-        return 7;
+        return Status::OutOfMemory;
     };
-    let written = write_all(out, &text);
-    match (worked, written) {
-        (Err(Trouble::OutOfMemory), _) => 7,
-        (_, Err(_)) => 4,
-        (Err(Trouble::Disk), Ok(())) => 5,
-        (Ok(()), Ok(())) => 0,
-    }
+    let Ok(()) = worked else {
+        say(out, &text);
+        return Status::OutOfMemory;
+    };
+    let Ok(()) = write_all(out, &text) else {
+        return Status::Unwritten;
+    };
+    if stopped { Status::Disk } else { Status::Done }
 }
 
 /// Runs a script over disks: each line is asked, decided, made stable and told before the next, and at
@@ -91,10 +95,14 @@ pub fn run<R: Wait, S: Source, K: Sink, D: Disk, G: Gate>(
     disks: Disks<D>,
     gate: &G,
 ) -> Ended<D>
-    ensures one_run { result.status ≡ 0 → IsOneRun (D.told disks.manager)
-        (D.told result.disks.manager) (S.left source.old) result.story.items (K.held out.old) (K.held out.new) }
-    ensures causes { StatusCauses (map string_bytes words.now) (S.left source.old) (D.told disks.manager)
+    ensures one_run { RunEnds (map string_bytes words.now) (S.left source.old)
+        (seen (D.told disks.manager) (D.clock disks.manager) (D.image disks.manager) (D.faults disks.manager))
+        (seen (D.told result.disks.manager) (D.clock result.disks.manager) (D.image result.disks.manager)
+        (D.faults result.disks.manager))
         (K.held out.old) (K.held out.new)
+        (Rose (S.faults source.old) (S.faults source.new))
+        (Rose (K.faults out.old) (K.faults out.new)) result.story.items result.status }
+    ensures causes { StatusCauses (map string_bytes words.now) (S.left source.old) (D.told disks.manager)
         (Rose (S.faults source.old) (S.faults source.new))
         (Rose (K.faults out.old) (K.faults out.new))
         (Rose (D.faults disks.manager) (D.faults result.disks.manager)) result.status }
@@ -111,7 +119,7 @@ pub fn run<R: Wait, S: Source, K: Sink, D: Disk, G: Gate>(
         Ok(script) => script,
         Err(refusal) => {
             return Ended {
-                status: refuse(alloc, out, refusal),
+                status: refuse(alloc, out, refusal).number(),
                 story: Vec::new(alloc),
                 disks: Disks {
                     manager,
@@ -125,7 +133,7 @@ pub fn run<R: Wait, S: Source, K: Sink, D: Disk, G: Gate>(
         Ok(manager) => manager,
         Err((manager, fault)) => {
             return Ended {
-                status: refuse(alloc, out, refusal_of(fault)),
+                status: refuse(alloc, out, refusal_of(fault)).number(),
                 story: Vec::new(alloc),
                 disks: Disks {
                     manager,
@@ -137,14 +145,10 @@ pub fn run<R: Wait, S: Source, K: Sink, D: Disk, G: Gate>(
     };
     let worked = serve_all(rt, alloc, gate, &script, &mut manager);
     let Manager { journal, story, .. } = manager;
+    let lines = script.lines.items().len() as u64;
+    let status = finish(alloc, out, lines, &story, worked, journal.stopped());
     Ended {
-        status: finish(
-            alloc,
-            out,
-            script.lines.items().len() as u64,
-            &story,
-            worked,
-        ),
+        status: status.number(),
         story,
         disks: Disks {
             manager: journal.into_disk(),

@@ -52,3 +52,13 @@ pub record Ticks (step : List ℕ → List ℕ → Type 0) (before now : ℕ) (o
 -- a stop at this moment leaves these bytes and no others
 abbrev pub IsStable : Images → ℕ → List ℕ → Type 0
 IsStable image now bytes = (left : List ℕ) → image now left → left ≡ bytes
+
+-- what is seen of a disk: what a read gives, the present moment, what a stop may leave, how often it has failed
+pub record Seen : Type 1 where
+  pub told : Option (List ℕ)
+  pub clock : ℕ
+  pub image : Images
+  pub faults : ℕ
+
+abbrev pub seen : Option (List ℕ) → ℕ → Images → ℕ → Seen
+seen told clock image faults = record { told = told; clock = clock; image = image; faults = faults }

@@ -1,7 +1,7 @@
 use Rattle.std.proofs.Common.{ap, ◌∙◌, string_bytes}
-use Rattle.oz_cluster.proofs.Reports.{first_printed, asked_next, decided_next, served_next, told_next, swapped_next, flushed_next, printed_on}
+use Rattle.oz_cluster.proofs.Reports.{first_printed, asked_next, decided_next, served_next, told_next, swapped_next, flushed_next, halted_next, printed_on}
 use Rattle.oz_cluster.proofs.report.text.Goals as goal
-use Rattle.oz_cluster.proofs.report.text.Goals.{in-Ask+in_ok-insert-in-Ask, in-Decide+then-id+in_ok-push_decide-in-Decide, in-Decide+else-id, in-Told+in_ok-push_told-in-Told, in-Swap, in-Flushed}
+use Rattle.oz_cluster.proofs.report.text.Goals.{in-Ask+in_ok-insert-in-Ask, in-Decide+then-id+in_ok-push_decide-in-Decide, in-Decide+else-id, in-Told+in_ok-push_told-in-Told, in-Swap, in-Flushed, in-Halt+in_ok-push_halt-in-Halt}
 
 pub loop-event-init : goal.loop-event-init
 loop-event-init c = first_printed _ c.new-pending.result c.in_ok-out.ensures.ok c.new-pending.ensures.empty
@@ -21,6 +21,9 @@ loop-event-preserved c =
       | in-Told+in_ok-push_told-in-Told w ↦
           printed_on _ _ _ _ _ _ _ _ _ c.loop-event-test.true c.event-item.is (ap string_bytes w.out-is ∙ w.in_ok-push_told-in-Told.ensures) w.pending-is w.told-is
           (told_next _ _ _ _ _ c.loop-event.invariant w.in-Told.client w.in-Told.line w.in-Told.answer w.in-Told.is)
+      | in-Halt+in_ok-push_halt-in-Halt w ↦
+          printed_on _ _ _ _ _ _ _ _ _ c.loop-event-test.true c.event-item.is (ap string_bytes w.out-is ∙ w.in_ok-push_halt-in-Halt.ensures) w.pending-is w.told-is
+          (halted_next _ _ _ _ _ c.loop-event.invariant w.in-Halt.node w.in-Halt.count w.in-Halt.is)
       | in-Swap w ↦
           printed_on _ _ _ _ _ _ _ _ _ c.loop-event-test.true c.event-item.is (ap string_bytes w.out-is) w.pending-is w.told-is
           (swapped_next _ _ _ _ _ c.loop-event.invariant w.in-Swap.index w.in-Swap.is)

@@ -1,56 +1,68 @@
-use Rattle.std.proofs.Common.{IfSome, ◌≡◌, ◌++◌, ℕ, List, length, map, OnOk, IsErrOf, refl, sym, ◌∙◌, ap, subst}
-use Rattle.std.specs.Option.{option_map}
+use Rattle.std.proofs.Common.{◌≡◌, inl, inr, ℕ, List, length, map, sym, ◌∙◌, ap, subst}
 use Rattle.std.specs.String.{string_bytes}
+use Rattle.oz_world.specs.Disk.{seen}
 use Rattle.oz_world.specs.Faults.{Rose}
 use Rattle.oz_cluster.specs.declared.events.Event.{Event}
-use Rattle.oz_cluster.specs.declared.manager.Trouble.TheVariants as trouble
-use Rattle.oz_cluster.specs.Opens.{StandsAs}
-use Rattle.oz_cluster.specs.Quiet.{IsServed}
+use Rattle.oz_cluster.specs.Headline.{IsPrinted, IsOneRun}
 use Rattle.oz_cluster.specs.Refusals.{IsSo}
 use Rattle.oz_cluster.specs.Report.{report_of}
-use Rattle.oz_cluster.specs.StatusCauses.{HasBegun}
-use Rattle.oz_cluster.specs.Story.{Opening}
-use Rattle.oz_cluster.proofs.Endings.{refused, worked, stands_then, open_so, never_read, disk_fails, some_opens, one_run}
-use Rattle.oz_cluster.proofs.Runs.{rose_later}
+use Rattle.oz_cluster.proofs.Endings.{stopped, stopped_early, open_so, causes_of, one_run, all_served}
 use Rattle.oz_cluster.proofs.run.run.Goals as goal
 
+pub returns-in-Err-clause-one_run : goal.returns-in-Err-clause-one_run
+returns-in-Err-clause-one_run g c =
+    let said = c.refuse.ensures.said in
+    (c.refuse.result, c.number.ensures, inl (stopped_early _ _ _ _ _ _ _ _ _ c.in-Err.refusal said.0 c.refuse.result (c.in-Err.ensures.so (g.D.Disk.told c.args.disks.manager)) said.1 said.2 said.3 c.new.ensures.items))
+
 pub returns-in-Err-clause-causes : goal.returns-in-Err-clause-causes
-returns-in-Err-clause-causes g c = refused _ _ _ _ _ _ _ _ c.in-Err.refusal c.refuse.result (c.in-Err.ensures.so (g.D.Disk.told c.args.disks.manager)) c.in-Err.ensures.cause (λ is. absurd (c.in-Err.ensures.early is)) c.refuse.ensures.stopped
+returns-in-Err-clause-causes g c = causes_of _ _ _ _ _ _ _ _ _ _ (returns-in-Err-clause-one_run g c)
+
+pub returns-in-Err-open-clause-one_run : goal.returns-in-Err-open-clause-one_run
+returns-in-Err-open-clause-one_run g c =
+    let said = c.refuse-in-Err-open.ensures.said in
+    let why = c.in-Err-open.fault in
+    let told = g.D.Disk.told c.args.disks.manager in
+    let source_rose = Rose (g.S.Source.faults c.args.source.now) (g.S.Source.faults c.begin.new.source) in
+    let disk_rose = Rose (g.D.Disk.faults c.args.disks.manager) (g.D.Disk.faults c.in-Err-open.manager) in
+    let so = open_so (map string_bytes c.args.words.now) (g.S.Source.left c.args.source.now) told source_rose disk_rose why c.in-Ok.ensures.words (c.in-Ok.script, c.in-Ok.ensures.script) c.in-Err-open.ensures.damaged c.in-Err-open.ensures.cause in (
+      c.refuse-in-Err-open.result,
+      c.number-in-Err-open.ensures,
+      inl (stopped _ _ _ _ _ _ _ _ _ c.refusal_of.result said.0 c.refuse-in-Err-open.result
+          (subst (IsSo (map string_bytes c.args.words.now) (g.S.Source.left c.args.source.now) told source_rose disk_rose) (sym c.refusal_of.ensures) so) said.1 said.2 said.3 c.new-in-Err-open.ensures.items),
+    )
 
 pub returns-in-Err-open-clause-causes : goal.returns-in-Err-open-clause-causes
-returns-in-Err-open-clause-causes g c =
-    let why = c.in-Err-open.fault in
-    let is = c.refusal_of.ensures in
-    let told = g.D.Disk.told c.args.disks.manager in
-    let so = open_so (map string_bytes c.args.words.now) (g.S.Source.left c.args.source.now) told why c.in-Ok.ensures.words (c.in-Ok.script, c.in-Ok.ensures.script) c.in-Err-open.ensures.damaged in
-    refused _ _ _ _ _ _ _ _ c.refusal_of.result c.refuse-in-Err-open.result
-    (subst (IsSo (map string_bytes c.args.words.now) (g.S.Source.left c.args.source.now) told) (sym is) so)
-    (λ read. absurd (never_read why (sym is ∙ read)))
-    (λ failed. c.in-Err-open.ensures.cause (disk_fails why (sym is ∙ failed)))
-    c.refuse-in-Err-open.ensures.stopped
+returns-in-Err-open-clause-causes g c = causes_of _ _ _ _ _ _ _ _ _ _ (returns-in-Err-open-clause-one_run g c)
 
 pub returns-clause-one_run : goal.returns-clause-one_run
-returns-clause-one_run g c done =
-    let manager = c.serve_all-worked.new.manager in
-    let opening : Opening = record { namespace = c.in-Ok-open.manager.namespace; index = c.in-Ok-open.manager.index } in
-    let served = subst (λ r. OnOk r (IsServed opening c.in-Ok.script manager.story.items (length c.in-Ok.script.lines) manager.namespace manager.index (g.D.Disk.clock manager.journal.disk))) (c.finish.ensures.done done) c.serve_all-worked.ensures.served in
-    let before = g.K.Sink.held c.args.out.now in
-    let after = g.K.Sink.held c.finish.new.out in
-    let lines : length c.items.result.now ≡ length c.in-Ok.script.lines = ap length c.items.ensures in
-    let printed : after ≡ option_map (λ held. held ++ report_of (length c.items.result.now) c.deref.result.now) before = c.finish.ensures.printed done in
-    let of_story = subst (λ (story : List Event). after ≡ option_map (λ held. held ++ report_of (length c.items.result.now) story) before) c.deref.ensures.value printed in
-    let report = subst (λ (n : ℕ). after ≡ option_map (λ held. held ++ report_of n manager.story.items) before) lines of_story in
-    let stands = stands_then (g.D.Disk.told c.args.disks.manager) (g.D.Disk.told c.in-Ok-open.manager.journal.disk) (g.D.Disk.told manager.journal.disk) opening.namespace manager.namespace opening.index manager.index c.in-Ok-open.ensures.stands
-    (λ was. subst (λ r. OnOk r (StandsAs (g.D.Disk.told manager.journal.disk) manager.namespace manager.index)) (c.finish.ensures.done done) (c.serve_all-worked.ensures.reopens was)) in
-    let after_all = subst (λ disk. IfSome (g.D.Disk.told c.args.disks.manager) (λ bytes. StandsAs (g.D.Disk.told disk) manager.namespace manager.index)) (sym c.into_disk.ensures) stands in
-    one_run _ _ _ _ _ opening c.in-Ok.script manager.story.items manager.namespace manager.index _ c.in-Ok.ensures.script c.in-Ok.ensures.numbered c.in-Ok-open.ensures.opens served report after_all
+returns-clause-one_run g c =
+    let first = c.in-Ok-open.manager in
+    let last = c.serve_all-worked.new.manager in
+    let script = c.in-Ok.script in
+    let disk = c.args.disks.manager in
+    let served = c.serve_all-worked.ensures.served in
+    let lines : length c.items.result.now ≡ length script.lines = ap length c.items.ensures in
+    let rose = Rose (g.K.Sink.faults c.args.out.now) (g.K.Sink.faults c.finish-status.new.out) in
+    let of_story = subst (λ (story : List Event). IsPrinted c.finish-status.result (report_of (length c.items.result.now) story) (g.K.Sink.held c.args.out.now) (g.K.Sink.held c.finish-status.new.out) rose) c.deref.ensures.value c.finish-status.ensures.printed in
+    let printed = subst (λ (n : ℕ). IsPrinted c.finish-status.result (report_of n last.story.items) (g.K.Sink.held c.args.out.now) (g.K.Sink.held c.finish-status.new.out) rose) lines of_story in
+    let run = one_run (map string_bytes c.args.words.now) (g.S.Source.left c.args.source.now)
+    (seen (g.D.Disk.told disk) (g.D.Disk.clock disk) (g.D.Disk.image disk) (g.D.Disk.faults disk))
+    (seen (g.D.Disk.told first.journal.disk) (g.D.Disk.clock first.journal.disk) (g.D.Disk.image first.journal.disk) (g.D.Disk.faults first.journal.disk))
+    (seen (g.D.Disk.told last.journal.disk) (g.D.Disk.clock last.journal.disk) (g.D.Disk.image last.journal.disk) (g.D.Disk.faults last.journal.disk))
+    (g.K.Sink.held c.args.out.now) (g.K.Sink.held c.finish-status.new.out) rose
+    (record { namespace = first.namespace; index = first.index }) script served.0 last.story.items last.namespace last.index last.journal.stopped c.finish-status.result
+    c.in-Ok.ensures.words c.in-Ok.ensures.script c.in-Ok.ensures.numbered c.in-Ok-open.ensures.opens served.1
+    c.in-Ok-open.ensures.stands c.in-Ok-open.ensures.stable c.in-Ok-open.ensures.ended c.in-Ok-open.ensures.moments c.in-Ok-open.ensures.never_falls
+    served.3 c.serve_all-worked.ensures.held c.serve_all-worked.ensures.time
+    (all_served _ _ _ _ served.2 c.finish-status.ensures.worked)
+    (λ is. sym c.stopped.ensures.stopped ∙ c.finish-status.ensures.done is) (λ is. sym c.stopped.ensures.stopped ∙ c.finish-status.ensures.disk is) printed in (
+      c.finish-status.result,
+      c.number-2.ensures,
+      inr (subst (λ d. IsOneRun (map string_bytes c.args.words.now) (g.S.Source.left c.args.source.now)
+          (seen (g.D.Disk.told disk) (g.D.Disk.clock disk) (g.D.Disk.image disk) (g.D.Disk.faults disk))
+          (seen (g.D.Disk.told d) (g.D.Disk.clock d) (g.D.Disk.image d) (g.D.Disk.faults d))
+          (g.K.Sink.held c.args.out.now) (g.K.Sink.held c.finish-status.new.out) rose last.story.items c.finish-status.result) (sym c.into_disk.ensures) run),
+    )
 
 pub returns-clause-causes : goal.returns-clause-causes
-returns-clause-causes g c =
-    let manager = c.serve_all-worked.new.manager in
-    let opening : Opening = record { namespace = c.in-Ok-open.manager.namespace; index = c.in-Ok-open.manager.index } in
-    let begun : HasBegun (map string_bytes c.args.words.now) (g.S.Source.left c.args.source.now) (g.D.Disk.told c.args.disks.manager) = record { words = c.in-Ok.ensures.words; script = (c.in-Ok.script, c.in-Ok.ensures.script); opens = some_opens (g.D.Disk.told c.args.disks.manager) opening c.in-Ok-open.ensures.opens } in
-    let failed : c.finish.result ≡ 5 → Rose (g.D.Disk.faults c.args.disks.manager) (g.D.Disk.faults manager.journal.disk) = λ is. rose_later _ _ _ c.in-Ok-open.ensures.never_falls (c.serve_all-worked.ensures.cause (subst (λ r. IsErrOf r trouble.Disk) (sym (c.finish.ensures.disk is)) refl)) in
-    worked _ _ _ _ _ _ _ _ c.finish.result c.finish.ensures.known begun c.finish.ensures.unwritten
-    (λ is. subst (λ disk. Rose (g.D.Disk.faults c.args.disks.manager) (g.D.Disk.faults disk)) (sym c.into_disk.ensures) (failed is))
-    c.finish.ensures.others.0 c.finish.ensures.others.1 c.finish.ensures.others.2 c.finish.ensures.others.3
+returns-clause-causes g c = causes_of _ _ _ _ _ _ _ _ _ _ (returns-clause-one_run g c)

@@ -3,6 +3,4 @@
 
 mod fields;
 mod journal;
-#[cfg(test)]
-mod turn;
 mod world;

@@ -6,7 +6,7 @@ use Rattle.oz_turn.specs.Ring.{TurnId}
 use Rattle.oz_turn.specs.Seat.{turn_of, number_of, taken_of, IsNewSeat}
 use Rattle.oz_turn.specs.declared.told.Told.{Ghosts}
 use Rattle.oz_turn.specs.declared.seat.Seat.{Seat}
-use Rattle.ground_tests.specs.Notes.{IsReady, AreReady}
+use Rattle.turn_tests.specs.Notes.{IsReady, AreReady}
 
 slice_get-set : {A : Type 0} (xs : List A) (n : ℕ) (y : A) (k : ℕ) (x : A) → slice_get (set xs n y) k ≡ Some x → ((k ≡ n) × (y ≡ x)) ⊎ (slice_get xs k ≡ Some x)
 slice_get-set [] n y k x e = absurd (cc)

@@ -1,7 +1,7 @@
 ghost use Rattle.std.specs.Prelude.{◌≡◌, ◌+◌, ◌≤◌, ◌<◌, [], ◌∷◌, ◌++◌, vec_len, IfOk, OnOk, IfSome, OnSome};
 ghost use Rattle.oz_turn.specs.Seat.{mine_of};
 ghost use Rattle.oz_turn.specs.Turn.{turn_id, seats_of};
-ghost use Rattle.ground_tests.specs.Notes.{IsReady, AreReady};
+ghost use Rattle.turn_tests.specs.Notes.{IsReady, AreReady};
 
 use oz_turn::{Ring, Seat, Told, Turn};
 use std::alloc::{AllocError, Global};
@@ -25,7 +25,7 @@ struct Notes {
 }
 
 impl Told for Notes {
-    ghost use Rattle.ground_tests.specs.Notes.{room_among};
+    ghost use Rattle.turn_tests.specs.Notes.{room_among};
 
     type Entry = Note;
 
@@ -294,8 +294,8 @@ struct Shelf<R: Ring> {
 impl<R: Ring> Model for Shelf<R> {
     ghost use Rattle.std.specs.Prelude.{List};
     ghost use Rattle.oz_turn.specs.Seat.{mine_of};
-    ghost use Rattle.ground_tests.specs.declared.turn.Note.{Note};
-    ghost use Rattle.ground_tests.specs.Notes.{IsReady};
+    ghost use Rattle.turn_tests.specs.declared.turn.Note.{Note};
+    ghost use Rattle.turn_tests.specs.Notes.{IsReady};
 
     ghost Value = { List Note };
 

@@ -1,6 +1,6 @@
 use Rattle.std.proofs.Common.{◌<◌, length, rules}
-use Rattle.ground_tests.proofs.Ready.{all_of_turn, all_free, any_numbered}
-use Rattle.ground_tests.proofs.turn.ended.Goals as goal
+use Rattle.turn_tests.proofs.Ready.{all_of_turn, all_free, any_numbered}
+use Rattle.turn_tests.proofs.turn.ended.Goals as goal
 
 pub close-requires-clause-turn : goal.close-requires-clause-turn
 close-requires-clause-turn c = all_of_turn _ _ c.requires.ready

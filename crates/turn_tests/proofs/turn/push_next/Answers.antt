@@ -1,9 +1,9 @@
 use Rattle.std.proofs.Common.{◌≡◌, ℕ, length, vec_len, sym, ap, ◌∙◌, subst, rules}
 use Rattle.std.specs.Prelude.{slice_get}
 use Rattle.oz_turn.specs.Turn.{turn_id}
-use Rattle.ground_tests.specs.Notes.{IsReady}
-use Rattle.ground_tests.proofs.Ready.{ready_push}
-use Rattle.ground_tests.proofs.turn.push_next.Goals as goal
+use Rattle.turn_tests.specs.Notes.{IsReady}
+use Rattle.turn_tests.proofs.Ready.{ready_push}
+use Rattle.turn_tests.proofs.turn.push_next.Goals as goal
 
 pub returns-clause-seats : goal.returns-clause-seats
 returns-clause-seats c n s e =

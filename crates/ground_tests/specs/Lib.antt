@@ -1,4 +1,3 @@
-pub mod Both
 pub mod Entry
 pub mod Kept
 pub mod Piece

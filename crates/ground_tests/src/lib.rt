@@ -2,5 +2,4 @@
 #![tactic(auto)]
 
 mod fields;
-mod journal;
 mod world;

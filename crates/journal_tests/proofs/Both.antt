@@ -1,7 +1,7 @@
 -- What each of two appended bodies may leave.
 use Rattle.std.proofs.Common.{inl, inr, ℕ, List, [], ◌∷◌, ◌++◌}
 use Rattle.oz_journal.specs.Journal.{IsBeforeOrAfter}
-use Rattle.ground_tests.specs.Both.{IsNoneOneOrBoth}
+use Rattle.journal_tests.specs.Both.{IsNoneOneOrBoth}
 
 pub from_first : (bodies : List (List ℕ)) (first second left : List ℕ) → IsBeforeOrAfter bodies first left → IsNoneOneOrBoth bodies first second left
 from_first bodies first second left (inl none) = inl none

@@ -2,7 +2,7 @@ ghost use Rattle.std.specs.Prelude.{◌≡◌, ◌≤◌, ◌++◌, [], ◌∷�
 ghost use Rattle.oz_journal.specs.Grammar.{IsJournal, StandsFor};
 ghost use Rattle.oz_journal.specs.Journal.{body_of};
 ghost use Rattle.oz_journal.specs.Moments.{LeavesOnly};
-ghost use Rattle.ground_tests.specs.Both.{IsNoneOneOrBoth};
+ghost use Rattle.journal_tests.specs.Both.{IsNoneOneOrBoth};
 
 use oz_journal::Journal;
 use oz_world::{Disk, Failed};
@@ -56,6 +56,35 @@ mod tests {
         Damaged(u64),
     }
 
+    fn holds(rt: &impl Abort, it: bool, what: &str) {
+        assert!(rt; it, "{what}");
+    }
+
+    /// The first of these bytes, so many, and the rest.
+    fn front(bytes: &[u8], count: usize) -> Option<(&[u8], &[u8])> {
+        if count <= bytes.len() {
+            Some(bytes.split_at(count))
+        } else {
+            None
+        }
+    }
+
+    /// A number with its highest byte first.
+    fn number(bytes: &[u8]) -> u64 {
+        let mut number = 0u64;
+        for byte in bytes {
+            number = number.wrapping_mul(256).wrapping_add(u64::from(*byte));
+        }
+        number
+    }
+
+    /// The body that a journal with an open gate begins with, and what follows it.
+    fn record_by_hand(journal: &[u8]) -> Option<(&[u8], &[u8])> {
+        let (_, rest) = front(journal, 1)?;
+        let (size, rest) = front(rest, 4)?;
+        front(rest, number(size) as usize)
+    }
+
     fn read_by_hand(alloc: Global, bytes: &[u8]) -> Result<Reading, AllocError> {
         let mut found = Vec::new(alloc);
         if bytes.len() < 2 {
@@ -64,18 +93,12 @@ mod tests {
         let mut rest = bytes;
         for _ in 0..=bytes.len() {
             let at = (bytes.len() as u64).saturating_sub(rest.len() as u64);
-            let [1, a, b, c, d, behind @ ..] = rest else {
-                return Ok(match rest {
-                    [] | [1, ..] => Reading::Damaged(at),
-                    _ => Reading::Bodies(found),
-                });
-            };
-            let size = ((u64::from(*a) * 256 + u64::from(*b)) * 256 + u64::from(*c)) * 256
-                + u64::from(*d);
-            if (behind.len() as u64) < size {
-                return Ok(Reading::Damaged(at));
+            if !matches!(rest, [] | [1, ..]) {
+                return Ok(Reading::Bodies(found));
             }
-            let (body, after) = behind.split_at(size as usize);
+            let Some((body, after)) = record_by_hand(rest) else {
+                return Ok(Reading::Damaged(at));
+            };
             found.push((at.saturating_add(5), body.to_vec(alloc)?))?;
             rest = after;
         }
@@ -106,9 +129,10 @@ mod tests {
 
     /// A body with room for its length and the gate behind it.
     fn framed(alloc: Global, body: &[u8]) -> Result<Vec<u8>, AllocError> {
-        let mut framed = vec![in alloc; 9; 4]?;
+        let mut framed = Vec::new(alloc);
+        framed.extend_from_slice(&[9, 9, 9, 9])?;
         framed.extend_from_slice(body)?;
-        framed.push(9)?;
+        framed.extend_from_slice(&[9])?;
         Ok(framed)
     }
 
@@ -154,6 +178,28 @@ mod tests {
         Ok((journal.into_disk(), added))
     }
 
+    /// A stop leaves so many of the bodies, or one more.
+    fn leaves_these(
+        rt: &impl Abort,
+        alloc: Global,
+        disk: &MemoryDisk,
+        bodies: &[&[u8]],
+        stable: usize,
+    ) -> Result<(), AllocError> {
+        let before = first_of(alloc, bodies, stable)?;
+        let after = first_of(alloc, bodies, stable.saturating_add(1))?;
+        for choice in 0..3 {
+            let found = loaded(rt, alloc, &disk.image(alloc, choice)?)?;
+            let is_one = found == before || found == after;
+            assert!(rt; is_one, "{choice}: {found:?}");
+        }
+        Ok(())
+    }
+
+    const CALLS: [u64; 20] = [
+        1, 2, 3, 4, 5, 6, 7, 8, 9, 10, 11, 12, 13, 14, 15, 16, 17, 18, 19, 20,
+    ];
+
     /// Whatever call fails, alone or with all after it, a stop leaves what was added, or one body more.
     fn fail_each_call(
         rt: &impl Abort,
@@ -164,109 +210,110 @@ mod tests {
     ) -> Result<(), AllocError>
         requires { kept ≤ length bodies.now }
     {
-        for first in 1..=16u64 {
-            for last in [first, 20] {
-                let mut fails = Vec::new(alloc);
-                for call in first..=last {
-                    fails.push(call)?;
-                }
-                let disk = disk_of(alloc, bytes, fails)?;
+        for first in 0..16usize {
+            for fails in [&CALLS[first..first + 1], &CALLS[first..]] {
+                let disk = disk_of(alloc, bytes, fails.to_vec(alloc)?)?;
                 let (disk, added) = add(rt, alloc, disk, &bodies[kept..])?;
-                let stable = kept.saturating_add(added);
-                for choice in 0..3 {
-                    let left = disk.image(alloc, choice)?;
-                    let found = loaded(rt, alloc, &left)?;
-                    let before = found == first_of(alloc, bodies, stable)?;
-                    let after = found == first_of(alloc, bodies, stable.saturating_add(1))?;
-                    assert!(rt;
-                        before || after,
-                        "{first} to {last}, choice {choice}: {found:?}"
-                    );
-                }
+                leaves_these(rt, alloc, &disk, bodies, kept.saturating_add(added))?;
             }
         }
         Ok(())
     }
 
+    /// The journal of a disk that doesn't fail, and how many bodies it has.
+    fn opened(rt: &impl Abort, alloc: Global, disk: MemoryDisk) -> (Journal<MemoryDisk>, usize)
+        ensures { result.0.stopped ≡ false }
+    {
+        match Journal::load(alloc, disk) {
+            Ok((journal, bodies)) => (journal, bodies.len()),
+            Err(_) => panic!(rt; "not loaded"),
+        }
+    }
+
     #[test]
     fn a_body_on_an_empty_disk(rt: HostRuntime) -> Result<(), Fail> {
-        let alloc = rt.alloc();
-        let disk = disk_of(alloc, &[], Vec::new(alloc))?;
-        let Ok((mut journal, bodies)) = Journal::load(alloc, disk) else {
-            panic!(&rt; "not loaded");
-        };
-        assert!(rt; bodies.is_empty());
+        let disk = disk_of(rt.alloc(), &[], Vec::new(rt.alloc()))?;
+        let (mut journal, count) = opened(&rt, rt.alloc(), disk);
+        holds(&rt, count == 0, "no body");
         let mut record = [9, 9, 9, 9, 97, 98, 99, 9];
         assert_eq!(rt; journal.append(&mut record), Ok(6));
         assert_eq!(rt; record, [0, 0, 0, 3, 97, 98, 99, 0]);
-        assert!(rt; !journal.stopped());
-        assert_eq!(rt; journal.faults(), 0);
+        holds(&rt, !journal.stopped(), "it goes on");
+        holds(&rt, journal.faults() == 0, "no fault");
         let disk = journal.into_disk();
-        assert_eq!(rt; disk.clock(), 6);
-        let bytes = [1, 0, 0, 0, 3, 97, 98, 99, 0];
-        assert_eq!(rt; disk.bytes(), bytes.as_slice());
-        assert_eq!(rt; loaded(&rt, alloc, &bytes)?, first_of(alloc, &[b"abc"], 1)?);
+        holds(&rt, disk.clock() == 6, "six moments");
+        assert_eq!(rt; disk.bytes(), [1, 0, 0, 0, 3, 97, 98, 99, 0].as_slice());
+        Ok(())
+    }
+
+    #[test]
+    fn a_body_by_hand(rt: HostRuntime) -> Result<(), Fail> {
+        let found = loaded(&rt, rt.alloc(), &[1, 0, 0, 0, 3, 97, 98, 99, 0])?;
+        assert_eq!(rt; found, first_of(rt.alloc(), &[b"abc"], 1)?);
         Ok(())
     }
 
     #[test]
     fn a_body_that_passes_the_end(rt: HostRuntime) -> Result<(), Fail> {
-        let alloc = rt.alloc();
-        let bytes = [1, 0, 0, 0, 5, 1, 2, 3, 4];
-        assert_eq!(rt; loaded(&rt, alloc, &bytes)?, Reading::Damaged(0));
-        let closed = [0, 0, 0, 0, 5, 1, 2, 3, 4];
-        assert_eq!(rt;
-            loaded(&rt, alloc, &closed)?,
-            Reading::Bodies(Vec::new(alloc))
-        );
+        let open = loaded(&rt, rt.alloc(), &[1, 0, 0, 0, 5, 1, 2, 3, 4])?;
+        assert_eq!(rt; open, Reading::Damaged(0));
+        let closed = loaded(&rt, rt.alloc(), &[0, 0, 0, 0, 5, 1, 2, 3, 4])?;
+        assert_eq!(rt; closed, Reading::Bodies(Vec::new(rt.alloc())));
+        Ok(())
+    }
+
+    /// Loading these bytes gives what reading them by hand does.
+    fn is_read(rt: &impl Abort, alloc: Global, bytes: &[u8]) -> Result<(), AllocError> {
+        let wanted = read_by_hand(alloc, bytes)?;
+        assert_eq!(rt; loaded(rt, alloc, bytes)?, wanted, "of {bytes:?}");
         Ok(())
     }
 
     #[test]
-    fn every_cut_and_every_byte(rt: HostRuntime) -> Result<(), Fail> {
-        let alloc = rt.alloc();
-        let whole = first_of(alloc, &[b"abc", b"", &[7, 8]], 3)?;
-        assert_eq!(rt; loaded(&rt, alloc, &THREE)?, whole);
+    fn every_cut(rt: HostRuntime) -> Result<(), Fail> {
         for size in 0..=THREE.len() {
-            let cut = &THREE[..size];
-            assert_eq!(rt;
-                loaded(&rt, alloc, cut)?,
-                read_by_hand(alloc, cut)?,
-                "at {size}"
-            );
+            is_read(&rt, rt.alloc(), &THREE[..size])?;
         }
+        Ok(())
+    }
+
+    #[test]
+    fn every_byte(rt: HostRuntime) -> Result<(), Fail> {
         for place in 0..THREE.len() {
             for byte in 0..=255u8 {
                 let mut bytes = THREE;
                 bytes[place] = byte;
-                assert_eq!(rt;
-                    loaded(&rt, alloc, &bytes)?,
-                    read_by_hand(alloc, &bytes)?,
-                    "{byte} at {place}"
-                );
+                is_read(&rt, rt.alloc(), &bytes)?;
             }
         }
         Ok(())
     }
 
+    /// So many of the three bodies, or a place of damage.
+    fn wanted(alloc: Global, count: Result<usize, u64>) -> Result<Reading, AllocError> {
+        match count {
+            Ok(count) => first_of(alloc, &[b"abc", b"", &[7, 8]], count),
+            Err(place) => Ok(Reading::Damaged(place)),
+        }
+    }
+
     #[test]
     fn cuts_by_hand(rt: HostRuntime) -> Result<(), Fail> {
-        let alloc = rt.alloc();
-        for (size, want) in [
-            (0, first_of(alloc, &[], 0)?),
-            (1, first_of(alloc, &[], 0)?),
-            (2, Reading::Damaged(0)),
-            (7, Reading::Damaged(0)),
-            (8, Reading::Damaged(8)),
-            (9, Reading::Damaged(8)),
-            (13, Reading::Damaged(13)),
-            (19, Reading::Damaged(13)),
-            (20, Reading::Damaged(20)),
-            (21, first_of(alloc, &[b"abc", b"", &[7, 8]], 3)?),
+        for (cut, count) in [
+            (&THREE[..0], Ok(0)),
+            (&THREE[..1], Ok(0)),
+            (&THREE[..2], Err(0)),
+            (&THREE[..7], Err(0)),
+            (&THREE[..8], Err(8)),
+            (&THREE[..9], Err(8)),
+            (&THREE[..13], Err(13)),
+            (&THREE[..19], Err(13)),
+            (&THREE[..20], Err(20)),
+            (&THREE[..21], Ok(3)),
+            (&THREE, Ok(3)),
         ] {
-            if size <= THREE.len() {
-                assert_eq!(rt; loaded(&rt, alloc, &THREE[..size])?, want, "at {size}");
-            }
+            let found = loaded(&rt, rt.alloc(), cut)?;
+            assert_eq!(rt; found, wanted(rt.alloc(), count)?, "of {cut:?}");
         }
         Ok(())
     }
@@ -304,9 +351,7 @@ mod tests {
     fn both_bodies_are_added(rt: HostRuntime) -> Result<(), Fail> {
         let alloc = rt.alloc();
         let disk = disk_of(alloc, &[], Vec::new(alloc))?;
-        let Ok((mut journal, _)) = Journal::load(alloc, disk) else {
-            panic!(&rt; "not loaded");
-        };
+        let (mut journal, _) = opened(&rt, alloc, disk);
         let (mut first, mut second) = ([0, 0, 0, 0, 97, 0], [0, 0, 0, 0, 98, 99, 0]);
         assert_eq!(rt; append_both(&mut journal, &mut first, &mut second), Ok(10));
         let disk = journal.into_disk();
@@ -317,45 +362,53 @@ mod tests {
         Ok(())
     }
 
-    #[test]
-    fn all_bodies_are_taken_away(rt: HostRuntime) -> Result<(), Fail> {
-        let alloc = rt.alloc();
-        for call in 4..=8u64 {
-            let mut fails = Vec::new(alloc);
-            fails.push(call)?;
-            let disk = disk_of(alloc, &THREE, fails)?;
-            let Ok((mut journal, bodies)) = Journal::load(alloc, disk) else {
-                panic!(&rt; "not loaded");
-            };
-            assert_eq!(rt; bodies.len(), 3);
-            let cleared = journal.clear().is_ok();
-            assert_eq!(rt; cleared, call == 8, "call {call}");
-            assert_eq!(rt; journal.stopped(), !cleared);
-            let disk = journal.into_disk();
-            if cleared {
-                assert_eq!(rt; disk.bytes(), [0].as_slice());
-            }
-        }
+    /// A journal of three bodies is cleared, where this call of its disk fails.
+    fn clear_where_it_fails(rt: &impl Abort, alloc: Global, call: u64) -> Result<(), AllocError> {
+        let disk = disk_of(alloc, &THREE, vec![in alloc; call]?)?;
+        let (mut journal, count) = opened(rt, alloc, disk);
+        holds(rt, count == 3, "three bodies");
+        let cleared = journal.clear().is_ok();
+        holds(rt, cleared == (call == 8), "cleared");
+        holds(rt, journal.stopped() != cleared, "stopped");
+        let disk = journal.into_disk();
+        let is_empty = disk.bytes() == [0].as_slice();
+        holds(rt, is_empty || !cleared, "no body");
         Ok(())
     }
 
     #[test]
-    fn a_failing_disk_comes_back(rt: HostRuntime) -> Result<(), Fail> {
-        let alloc = rt.alloc();
-        for (bytes, calls) in [(THREE.as_slice(), 3u64), (&[], 3)] {
-            for call in 1..=calls {
-                let mut fails = Vec::new(alloc);
-                fails.push(call)?;
-                match Journal::load(alloc, disk_of(alloc, bytes, fails)?) {
-                    Ok(_) => panic!(&rt; "call {call} failed"),
-                    Err((disk, fault)) => {
-                        assert_eq!(rt; fault, LoadFault::Disk);
-                        assert_eq!(rt; disk.faults(), 1);
-                        let found = loaded(&rt, alloc, disk.bytes())?;
-                        assert_eq!(rt; found, read_by_hand(alloc, bytes)?);
-                    }
-                }
+    fn all_bodies_are_taken_away(rt: HostRuntime) -> Result<(), Fail> {
+        for call in 4..=8u64 {
+            clear_where_it_fails(&rt, rt.alloc(), call)?;
+        }
+        Ok(())
+    }
+
+    /// Loading fails where this call of the disk does, and gives the disk back.
+    fn comes_back(
+        rt: &impl Abort,
+        alloc: Global,
+        bytes: &[u8],
+        call: u64,
+    ) -> Result<(), AllocError> {
+        let disk = disk_of(alloc, bytes, vec![in alloc; call]?)?;
+        match Journal::load(alloc, disk) {
+            Ok(_) => panic!(rt; "call {call} failed"),
+            Err((disk, fault)) => {
+                holds(rt, fault == LoadFault::Disk, "a fault of the disk");
+                holds(rt, disk.faults() == 1, "one fault");
+                let found = loaded(rt, alloc, disk.bytes())?;
+                assert_eq!(rt; found, read_by_hand(alloc, bytes)?);
+                Ok(())
             }
+        }
+    }
+
+    #[test]
+    fn a_failing_disk_comes_back(rt: HostRuntime) -> Result<(), Fail> {
+        for call in 1..=3u64 {
+            comes_back(&rt, rt.alloc(), &THREE, call)?;
+            comes_back(&rt, rt.alloc(), &[], call)?;
         }
         Ok(())
     }

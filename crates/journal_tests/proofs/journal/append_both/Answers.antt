@@ -1,9 +1,9 @@
 use Rattle.std.proofs.Common.{[], ◌∷◌, ◌++◌}
 use Rattle.oz_journal.specs.Journal.{body_of, IsBeforeOrAfter}
 use Rattle.oz_journal.proofs.Moments.{leave_then}
-use Rattle.ground_tests.specs.Both.{IsNoneOneOrBoth}
-use Rattle.ground_tests.proofs.Both.{from_first, from_second}
-use Rattle.ground_tests.proofs.journal.append_both.Goals as goal
+use Rattle.journal_tests.specs.Both.{IsNoneOneOrBoth}
+use Rattle.journal_tests.proofs.Both.{from_first, from_second}
+use Rattle.journal_tests.proofs.journal.append_both.Goals as goal
 
 pub returns-in_err-append-clause-moments : goal.returns-in_err-append-clause-moments
 returns-in_err-append-clause-moments g c bodies stands t left begins ends h =

@@ -69,6 +69,7 @@ impl<'a, R: Files<File = File>> FileDisk<'a, R> {
     fn open(&mut self)
         ensures clock { self.new.clock ≡ self.old.clock }
         ensures faults { self.new.faults ≡ self.old.faults }
+        ensures once { self.new.place ≡ None }
     {
         if let Some(place) = self.place.take() {
             self.file = opened(place.rt, place.folder, &place.path).ok();

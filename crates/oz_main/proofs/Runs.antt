@@ -1,5 +1,5 @@
 -- The words of a run have no fault, and so don't stop it.
-use Rattle.std.proofs.Common.{◌≡◌, ℕ, List, ◌++◌, take, drop, Option, subst, sym, inl, inr, arith}
+use Rattle.std.proofs.Common.{◌≡◌, ℕ, List, take, drop, Option, subst, sym, inl, inr, arith}
 use Rattle.std.proofs.lemmas.List.{take-append-drop}
 use Rattle.oz_cluster.specs.declared.refusal.Refusal.{Refusal}
 use Rattle.oz_cluster.specs.declared.refusal.Refusal.TheVariants.{Words, Read, Script, Disk, Damaged, OutOfMemory}

@@ -1,5 +1,3 @@
-pub mod Both
 pub mod Entry
 pub mod Kept
-pub mod Notes
 pub mod Piece

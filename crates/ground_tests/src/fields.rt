@@ -1,4 +1,4 @@
-ghost use Rattle.std.specs.Prelude.{◌≡◌, ◌++◌, ◌↔◌, IsTrue, IfOk, OnOk, ◌<◌, ◌^◌, length, map, sum_by, MatchOption, Some, None};
+ghost use Rattle.std.specs.Prelude.{◌≡◌, ◌+◌, ◌++◌, ◌↔◌, IsTrue, IfOk, OnOk, ◌<◌, ◌^◌, length, vec_len, map, sum_by, MatchOption, Some, None};
 ghost use Rattle.oz_fields.specs.Field.{IsField};
 ghost use Rattle.oz_fields.specs.Place.{unread};
 ghost use Rattle.ground_tests.specs.Entry.{name_of, with_block};
@@ -113,46 +113,102 @@ mod tests {
     use std::process::Abort;
     use std::test::Fail;
 
+    fn holds(rt: &impl Abort, it: bool, what: &str) {
+        assert!(rt; it, "{what}");
+    }
+
+    fn u8_by_hand(rt: &impl Abort, alloc: Global, value: u8) -> Result<(), OutOfMemory> {
+        let mut out = vec![in alloc; 7]?;
+        put_u8(alloc, &mut out, value)?;
+        holds(rt, out.as_slice() == [7, value].as_slice(), "written");
+        Ok(())
+    }
+
+    /// A number of two bytes is written so, and read back from them and not from fewer.
+    fn u16_by_hand(
+        rt: &impl Abort,
+        alloc: Global,
+        value: u16,
+        bytes: [u8; 2],
+    ) -> Result<(), OutOfMemory> {
+        let mut out = vec![in alloc; 7]?;
+        put_u16(alloc, &mut out, value)?;
+        holds(
+            rt,
+            out.as_slice() == [7, bytes[0], bytes[1]].as_slice(),
+            "written",
+        );
+        let mut reader = Reader::new(&bytes);
+        holds(rt, reader.u16() == Some(value), "read");
+        holds(rt, reader.at() == 2, "taken");
+        Ok(())
+    }
+
+    /// A number that isn't there whole is left to be read.
+    fn short_by_hand(rt: &impl Abort, byte: u8) {
+        let bytes = [byte];
+        let mut short = Reader::new(&bytes);
+        holds(rt, short.u16().is_none(), "of one byte");
+        holds(rt, short.at() == 0, "left there");
+        holds(rt, short.u8() == Some(byte), "read");
+        holds(rt, short.u8().is_none(), "of no byte");
+    }
+
     #[test]
     fn small_numbers_by_hand(rt: HostRuntime) -> Result<(), Fail> {
-        let alloc = rt.alloc();
         for value in [0, 1, 9, 255] {
-            let mut out = vec![in alloc; 7]?;
-            assert_eq!(rt; put_u8(alloc, &mut out, value), Ok(()));
-            assert_eq!(rt; out.as_slice(), [7, value].as_slice());
+            u8_by_hand(&rt, rt.alloc(), value)?;
+            short_by_hand(&rt, value);
         }
         for (value, bytes) in [(0, [0, 0]), (1, [0, 1]), (258, [1, 2]), (65535, [255, 255])] {
-            let mut out = vec![in alloc; 7]?;
-            assert_eq!(rt; put_u16(alloc, &mut out, value), Ok(()));
-            assert_eq!(rt; out.as_slice(), [7, bytes[0], bytes[1]].as_slice());
-            let mut reader = Reader::new(&bytes);
-            assert_eq!(rt; reader.u16(), Some(value));
-            assert_eq!(rt; reader.at(), 2);
-            let mut short = Reader::new(&bytes[..1]);
-            assert_eq!(rt; short.u16(), None, "{value}");
-            assert_eq!(rt; short.at(), 0);
-            assert_eq!(rt; short.u8(), Some(bytes[0]));
-            assert_eq!(rt; short.u8(), None);
+            u16_by_hand(&rt, rt.alloc(), value, bytes)?;
         }
+        Ok(())
+    }
+
+    /// A number of four bytes is written so, and read back from them and not from fewer.
+    fn u32_by_hand(
+        rt: &impl Abort,
+        alloc: Global,
+        value: u32,
+        bytes: [u8; 4],
+    ) -> Result<(), OutOfMemory> {
+        let mut out = Vec::new(alloc);
+        put_u32(alloc, &mut out, value)?;
+        holds(rt, out.as_slice() == bytes.as_slice(), "written");
+        holds(rt, Reader::new(&bytes).u32() == Some(value), "read");
+        let mut short = Reader::new(&bytes[..3]);
+        holds(rt, short.u32().is_none(), "of three bytes");
+        holds(rt, short.at() == 0, "left there");
+        Ok(())
+    }
+
+    /// A number of eight bytes is written so, and read back from them and not from fewer.
+    fn u64_by_hand(
+        rt: &impl Abort,
+        alloc: Global,
+        value: u64,
+        bytes: [u8; 8],
+    ) -> Result<(), OutOfMemory> {
+        let mut out = Vec::new(alloc);
+        put_u64(alloc, &mut out, value)?;
+        holds(rt, out.as_slice() == bytes.as_slice(), "written");
+        holds(rt, Reader::new(&bytes).u64() == Some(value), "read");
+        let mut short = Reader::new(&bytes[..7]);
+        holds(rt, short.u64().is_none(), "of seven bytes");
+        holds(rt, short.at() == 0, "left there");
         Ok(())
     }
 
     #[test]
     fn large_numbers_by_hand(rt: HostRuntime) -> Result<(), Fail> {
-        let alloc = rt.alloc();
         for (value, bytes) in [
             (0, [0, 0, 0, 0]),
             (1, [0, 0, 0, 1]),
             (0x0102_0304, [1, 2, 3, 4]),
             (u32::MAX, [255, 255, 255, 255]),
         ] {
-            let mut out = Vec::new(alloc);
-            assert_eq!(rt; put_u32(alloc, &mut out, value), Ok(()));
-            assert_eq!(rt; out.as_slice(), bytes.as_slice(), "{value}");
-            assert_eq!(rt; Reader::new(&bytes).u32(), Some(value));
-            let mut short = Reader::new(&bytes[..3]);
-            assert_eq!(rt; short.u32(), None, "{value}");
-            assert_eq!(rt; short.at(), 0);
+            u32_by_hand(&rt, rt.alloc(), value, bytes)?;
         }
         for (value, bytes) in [
             (0, [0, 0, 0, 0, 0, 0, 0, 0]),
@@ -160,13 +216,7 @@ mod tests {
             (0x0102_0304_0506_0708, [1, 2, 3, 4, 5, 6, 7, 8]),
             (u64::MAX, [255, 255, 255, 255, 255, 255, 255, 255]),
         ] {
-            let mut out = Vec::new(alloc);
-            assert_eq!(rt; put_u64(alloc, &mut out, value), Ok(()));
-            assert_eq!(rt; out.as_slice(), bytes.as_slice(), "{value}");
-            assert_eq!(rt; Reader::new(&bytes).u64(), Some(value));
-            let mut short = Reader::new(&bytes[..7]);
-            assert_eq!(rt; short.u64(), None, "{value}");
-            assert_eq!(rt; short.at(), 0);
+            u64_by_hand(&rt, rt.alloc(), value, bytes)?;
         }
         Ok(())
     }
@@ -175,134 +225,183 @@ mod tests {
         vec![in alloc; 5; count]
     }
 
-    fn expect_text(rt: &impl Abort, alloc: Global, text: &[u8], size: [u8; 2])
+    /// What a text is written as.
+    fn written(rt: &impl Abort, alloc: Global, text: &[u8], size: [u8; 2]) -> Vec<u8>
         requires { length text.now < 2 ^ 16 }
+        ensures { vec_len result ≡ 2 + length text.now }
     {
         let mut out = Vec::new(alloc);
         assert_eq!(rt; put_text(alloc, &mut out, text), Ok(()));
         assert_eq!(rt; out.len(), 2 + text.len());
-        assert!(rt; out.starts_with(&size));
-        assert!(rt; out.ends_with(text));
+        holds(rt, out.starts_with(&size), "the length comes first");
+        holds(rt, out.ends_with(text), "the text comes last");
+        out
+    }
+
+    /// A text is written so, and read back from its bytes and not from fewer.
+    fn text_by_hand(rt: &impl Abort, alloc: Global, text: &[u8], size: [u8; 2])
+        requires { length text.now < 2 ^ 16 }
+    {
+        let out = written(rt, alloc, text, size);
         let mut reader = Reader::new(&out);
-        assert!(rt; reader.text() == Some(text));
-        assert_eq!(rt; reader.at(), out.len());
+        holds(rt, reader.text() == Some(text), "read");
+        holds(rt, reader.at() == out.len(), "taken");
         let mut short = Reader::new(&out[..out.len() - 1]);
-        assert!(rt; short.text().is_none(), "{}", text.len());
-        assert_eq!(rt; short.at(), 0);
+        holds(rt, short.text().is_none(), "of one byte fewer");
+        holds(rt, short.at() == 0, "left there");
     }
 
     #[test]
     fn texts_by_hand(rt: HostRuntime) -> Result<(), Fail> {
         let alloc = rt.alloc();
-        expect_text(&rt, alloc, b"", [0, 0]);
-        expect_text(&rt, alloc, b"x", [0, 1]);
+        text_by_hand(&rt, alloc, b"", [0, 0]);
+        text_by_hand(&rt, alloc, b"x", [0, 1]);
         let longest = fives(alloc, 65535)?;
         assert_eq!(rt; longest.len(), 65535);
-        expect_text(&rt, alloc, &longest, [255, 255]);
+        text_by_hand(&rt, alloc, &longest, [255, 255]);
+        Ok(())
+    }
+
+    #[test]
+    fn two_texts_by_hand(rt: HostRuntime) {
         let mut row = Reader::new(&[0, 1, 120, 0, 2, 121, 122, 4]);
         assert!(rt; read_two_texts(&mut row) == Some((b"x".as_slice(), b"yz".as_slice())));
         assert_eq!(rt; row.at(), 7);
         assert_eq!(rt; row.u8(), Some(4));
         assert!(rt; row.text().is_none());
-        Ok(())
+    }
+
+    fn stand_in_order(
+        rt: &impl Abort,
+        first: &Name,
+        second: &Name,
+        order: Ordering,
+        is_equal: bool,
+    ) {
+        holds(rt, first.cmp(second) == order, "the first to the second");
+        holds(
+            rt,
+            second.cmp(first) == order.reverse(),
+            "the second to the first",
+        );
+        holds(rt, is_same(first, second) == is_equal, "the same");
     }
 
     #[test]
     fn names_stand_in_the_order_of_their_bytes(rt: HostRuntime) -> Result<(), Fail> {
-        for (left, right, order) in [
-            (b"".as_slice(), b"".as_slice(), Ordering::Equal),
-            (b"".as_slice(), b"a".as_slice(), Ordering::Less),
-            (b"ab".as_slice(), b"ab".as_slice(), Ordering::Equal),
-            (b"ab".as_slice(), b"b".as_slice(), Ordering::Less),
-            (b"ab".as_slice(), b"a".as_slice(), Ordering::Greater),
-            (&[200, 1], &[3, 9, 9], Ordering::Greater),
+        for (left, right, order, is_equal) in [
+            (b"".as_slice(), b"".as_slice(), Ordering::Equal, true),
+            (b"".as_slice(), b"a".as_slice(), Ordering::Less, false),
+            (b"ab".as_slice(), b"ab".as_slice(), Ordering::Equal, true),
+            (b"ab".as_slice(), b"b".as_slice(), Ordering::Less, false),
+            (b"ab".as_slice(), b"a".as_slice(), Ordering::Greater, false),
+            (&[200, 1], &[3, 9, 9], Ordering::Greater, false),
         ] {
-            let (first, second) = (
-                Name::copy(rt.alloc(), left)?,
-                Name::copy(rt.alloc(), right)?,
-            );
+            let first = Name::copy(rt.alloc(), left)?;
             assert_eq!(rt; first.bytes(), left);
-            assert_eq!(rt; first.cmp(&second), order);
-            assert_eq!(rt; second.cmp(&first), order.reverse());
-            assert_eq!(rt; is_same(&first, &second), order == Ordering::Equal);
+            let second = Name::copy(rt.alloc(), right)?;
+            stand_in_order(&rt, &first, &second, order, is_equal);
         }
         Ok(())
     }
 
-    #[test]
-    fn lists_by_hand(rt: HostRuntime) -> Result<(), Fail> {
-        let alloc = rt.alloc();
+    /// Four numbers, pushed one after another.
+    fn four_items(rt: &impl Abort, alloc: Global) -> List<u8>
+        ensures { length result ≡ 4 }
+    {
         let mut list = List::new(alloc);
         assert!(rt; list.is_empty());
         for item in [4u8, 5, 6, 7] {
             assert_eq!(rt; list.push(alloc, item), Ok(()));
         }
-        assert_eq!(rt; list.items(), [4, 5, 6, 7].as_slice());
         assert_eq!(rt; list.len(), 4);
+        list
+    }
+
+    #[test]
+    fn items_are_pushed_and_taken_out(rt: HostRuntime) {
+        let mut list = four_items(&rt, rt.alloc());
+        assert_eq!(rt; list.items(), [4, 5, 6, 7].as_slice());
         assert_eq!(rt; list.remove(1), 5);
-        assert_eq!(rt; list.len(), 3);
         assert_eq!(rt; list.replace(0, 8), 4);
-        assert_eq!(rt; list.len(), 3);
         *list.item_mut(1) = 9;
         assert_eq!(rt; list.items(), [8, 9, 7].as_slice());
+    }
+
+    #[test]
+    fn the_last_item_goes_first(rt: HostRuntime) {
+        let mut list = four_items(&rt, rt.alloc());
         assert_eq!(rt; list.pop(), Some(7));
+        assert_eq!(rt; list.len(), 3);
         let mut sum = 0u32;
         for item in &list {
             sum = sum.saturating_add(u32::from(*item));
         }
-        assert_eq!(rt; sum, 17);
+        assert_eq!(rt; sum, 15);
         let items = list.into_items();
-        assert_eq!(rt; items.as_slice(), [8, 9].as_slice());
-        let same = List::of(items);
-        assert!(rt; same == List::of(vec![in alloc; 8, 9]?));
-        assert!(rt; same != List::of(vec![in alloc; 9, 8]?));
+        assert_eq!(rt; items.as_slice(), [4, 5, 6].as_slice());
+    }
+
+    #[test]
+    fn lists_are_their_items(rt: HostRuntime) -> Result<(), Fail> {
+        let alloc = rt.alloc();
+        let list = List::of(vec![in alloc; 8u8, 9]?);
+        let same = List::of(vec![in alloc; 8, 9]?);
+        let other = List::of(vec![in alloc; 9, 8]?);
+        assert!(rt; list == same);
+        assert!(rt; list != other);
         Ok(())
     }
+
+    const FIRST: Block = Block {
+        container: 1,
+        local: 2,
+    };
+
+    const SECOND: Block = Block {
+        container: 3,
+        local: 4,
+    };
 
     #[test]
     fn entries_by_hand(rt: HostRuntime) -> Result<(), Fail> {
         let alloc = rt.alloc();
-        let (first, second) = (
-            Block {
-                container: 1,
-                local: 2,
-            },
-            Block {
-                container: 3,
-                local: 4,
-            },
-        );
         let entry = Entry::Named(Name::copy(alloc, b"key")?);
         assert_eq!(rt; name(&entry), b"key".as_slice());
-        let entry = extended(alloc, extended(alloc, entry, first)?, second)?;
-        let want = Entry::Held(
-            Name::copy(alloc, b"key")?,
-            List::of(vec![in alloc; first, second]?),
-        );
+        let entry = extended(alloc, extended(alloc, entry, FIRST)?, SECOND)?;
+        let blocks = List::of(vec![in alloc; FIRST, SECOND]?);
+        let want = Entry::Held(Name::copy(alloc, b"key")?, blocks);
         assert!(rt; entry == want);
         assert!(rt; entry != Entry::Empty);
-        let blocks = List::of(vec![in alloc; first, second]?);
-        assert_eq!(rt; locals(alloc, blocks)?.items(), [2, 4].as_slice());
         Ok(())
     }
 
     #[test]
-    fn pieces_by_hand(rt: HostRuntime) -> Result<(), Fail> {
-        let alloc = rt.alloc();
-        let piece = Piece {
-            block: Block {
-                container: 1,
-                local: 2,
-            },
-            length: 5,
-        };
-        let mut out = Vec::new(alloc);
-        assert_eq!(rt; put_piece(alloc, &mut out, &piece), Ok(()));
+    fn blocks_by_hand(rt: HostRuntime) -> Result<(), Fail> {
+        let blocks = List::of(vec![in rt.alloc(); FIRST, SECOND]?);
+        assert_eq!(rt; locals(rt.alloc(), blocks)?.items(), [2, 4].as_slice());
+        Ok(())
+    }
+
+    const PIECE: Piece = Piece {
+        block: FIRST,
+        length: 5,
+    };
+
+    #[test]
+    fn a_piece_by_hand(rt: HostRuntime) -> Result<(), Fail> {
+        let mut out = Vec::new(rt.alloc());
+        put_piece(rt.alloc(), &mut out, &PIECE)?;
         let bytes = [0, 0, 0, 0, 0, 0, 0, 1, 0, 0, 0, 0, 0, 0, 0, 2, 0, 0, 0, 5];
         assert_eq!(rt; out.as_slice(), bytes.as_slice());
-        assert_eq!(rt; read_piece(&mut Reader::new(&bytes)), Some(piece));
+        assert_eq!(rt; read_piece(&mut Reader::new(&bytes)), Some(PIECE));
         assert_eq!(rt; read_piece(&mut Reader::new(&bytes[..19])), None);
-        let mut pieces = List::of(vec![in alloc; piece, piece]?);
+        Ok(())
+    }
+
+    #[test]
+    fn lengths_by_hand(rt: HostRuntime) -> Result<(), Fail> {
+        let mut pieces = List::of(vec![in rt.alloc(); PIECE, PIECE]?);
         assert_eq!(rt; pieces.len(), 2);
         assert_eq!(rt; total_length(&pieces), 10);
         clear_lengths(&mut pieces);

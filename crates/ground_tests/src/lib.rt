@@ -2,7 +2,4 @@
 #![tactic(auto)]
 
 mod fields;
-mod journal;
-#[cfg(test)]
-mod turn;
 mod world;

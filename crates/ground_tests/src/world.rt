@@ -32,6 +32,10 @@ mod tests {
     use std::process::Abort;
     use std::test::Fail;
 
+    fn holds(rt: &impl Abort, it: bool, what: &str) {
+        assert!(rt; it, "{what}");
+    }
+
     fn disk(alloc: Global, bytes: &[u8], fails: &[u64]) -> Result<MemoryDisk, AllocError> {
         MemoryDisk::new(alloc, bytes.to_vec(alloc)?, fails.to_vec(alloc)?, 16)
     }
@@ -46,19 +50,22 @@ mod tests {
         disk.cut(size)
     }
 
+    /// A source gives five bytes to a room for three, and its second call fails.
     #[test]
     fn a_source_gives_its_bytes_in_order(rt: HostRuntime) -> Result<(), Fail> {
         let alloc = rt.alloc();
         let mut source = MemorySource::new([1, 2, 3, 4, 5].to_vec(alloc)?, [2].to_vec(alloc)?);
         let mut room = [0; 3];
-        assert_eq!(rt; source.read(&mut room), Ok(3));
-        assert_eq!(rt; room.as_slice(), [1, 2, 3].as_slice());
-        assert_eq!(rt; source.faults(), 0);
-        assert_eq!(rt; source.read(&mut room), Err(Failed));
-        assert_eq!(rt; source.faults(), 1);
-        assert_eq!(rt; source.read(&mut room), Ok(2));
-        assert_eq!(rt; room.as_slice(), [4, 5, 3].as_slice());
-        assert_eq!(rt; source.read(&mut room), Ok(0));
+        for (answer, filled, faults) in [
+            (Ok(3), [1, 2, 3], 0),
+            (Err(Failed), [1, 2, 3], 1),
+            (Ok(2), [4, 5, 3], 1),
+            (Ok(0), [4, 5, 3], 1),
+        ] {
+            holds(&rt, source.read(&mut room) == answer, "answered");
+            holds(&rt, room == filled, "filled");
+            holds(&rt, source.faults() == faults, "counted");
+        }
         Ok(())
     }
 
@@ -66,11 +73,15 @@ mod tests {
     fn a_sink_holds_what_was_written(rt: HostRuntime) -> Result<(), Fail> {
         let alloc = rt.alloc();
         let mut sink = MemorySink::new(alloc, [2].to_vec(alloc)?)?;
-        assert_eq!(rt; sink.write(&[1, 2]), Ok(2));
-        assert_eq!(rt; sink.write(&[9]), Err(Failed));
-        assert_eq!(rt; sink.write(&[3]), Ok(1));
-        assert_eq!(rt; sink.held(), [1, 2, 3].as_slice());
-        assert_eq!(rt; sink.faults(), 1);
+        for (bytes, answer) in [
+            ([1, 2].as_slice(), Ok(2)),
+            (&[9], Err(Failed)),
+            (&[3], Ok(1)),
+        ] {
+            holds(&rt, sink.write(bytes) == answer, "answered");
+        }
+        holds(&rt, sink.held() == [1, 2, 3].as_slice(), "held");
+        holds(&rt, sink.faults() == 1, "counted");
         Ok(())
     }
 
@@ -80,89 +91,119 @@ mod tests {
         disk: &MemoryDisk,
         images: [&[u8]; 3],
     ) -> Result<(), AllocError> {
-        assert_eq!(rt;
-            disk.image(alloc, 0)?.as_slice(),
-            images[0],
-            "as last synced"
+        let [synced, read, half] = images;
+        holds(
+            rt,
+            disk.image(alloc, 0)?.as_slice() == synced,
+            "as last synced",
         );
-        assert_eq!(rt;
-            disk.image(alloc, 1)?.as_slice(),
-            images[1],
-            "as a read gives"
+        holds(
+            rt,
+            disk.image(alloc, 1)?.as_slice() == read,
+            "as a read gives",
         );
-        assert_eq!(rt; disk.image(alloc, 2)?.as_slice(), images[2], "half written");
-        assert_eq!(rt;
-            disk.image(alloc, 255)?.as_slice(),
-            images[2],
-            "half written"
+        holds(rt, disk.image(alloc, 2)?.as_slice() == half, "half written");
+        holds(
+            rt,
+            disk.image(alloc, 255)?.as_slice() == half,
+            "half written",
         );
         Ok(())
+    }
+
+    const ALL: [u8; 7] = [1, 9, 5, 4, 3, 2, 1];
+
+    /// What a disk is told to do.
+    #[derive(Clone, Copy)]
+    enum Step {
+        Write(u64, &'static [u8]),
+        Cut(u64),
+        Sync,
+    }
+
+    /// Takes a step, after which a stop may leave each of these.
+    fn take(
+        rt: &impl Abort,
+        alloc: Global,
+        disk: &mut MemoryDisk,
+        step: Step,
+        images: [&[u8]; 3],
+    ) -> Result<(), AllocError> {
+        let answer = match step {
+            Step::Write(pos, bytes) => write(rt, disk, pos, bytes),
+            Step::Cut(size) => cut(rt, disk, size),
+            Step::Sync => disk.sync(),
+        };
+        assert!(rt; answer.is_ok());
+        assert_images(rt, alloc, disk, images)
     }
 
     #[test]
     fn a_stop_leaves_what_was_synced_and_part_of_the_rest(rt: HostRuntime) -> Result<(), Fail> {
         let mut disk = disk(rt.alloc(), &[1, 2, 3], &[])?;
         assert_images(&rt, rt.alloc(), &disk, [&[1, 2, 3], &[1, 2, 3], &[1, 2, 3]])?;
-        assert_eq!(rt; write(&rt, &mut disk, 1, &[9, 8, 7, 6]), Ok(()));
-        assert_images(
-            &rt,
-            rt.alloc(),
-            &disk,
-            [&[1, 2, 3], &[1, 9, 8, 7, 6], &[1, 9, 8]],
-        )?;
-        assert_eq!(rt; disk.sync(), Ok(()));
-        assert_images(
-            &rt,
-            rt.alloc(),
-            &disk,
-            [&[1, 9, 8, 7, 6], &[1, 9, 8, 7, 6], &[1, 9, 8, 7, 6]],
-        )?;
-        assert_eq!(rt; cut(&rt, &mut disk, 2), Ok(()));
-        assert_images(&rt, rt.alloc(), &disk, [&[1, 9, 8, 7, 6], &[1, 9], &[1, 9]])?;
-        assert_eq!(rt; write(&rt, &mut disk, 2, &[5, 4, 3]), Ok(()));
-        assert_images(
-            &rt,
-            rt.alloc(),
-            &disk,
-            [&[1, 9, 8, 7, 6], &[1, 9, 5, 4, 3], &[1, 9, 5]],
-        )?;
-        assert_eq!(rt; write(&rt, &mut disk, 5, &[2, 1]), Ok(()));
-        assert_images(
-            &rt,
-            rt.alloc(),
-            &disk,
-            [
-                &[1, 9, 8, 7, 6],
-                &[1, 9, 5, 4, 3, 2, 1],
-                &[1, 9, 5, 0, 0, 2],
-            ],
-        )?;
-        assert_eq!(rt; disk.sync(), Ok(()));
-        assert_eq!(rt; disk.sync(), Ok(()));
-        assert_eq!(rt; disk.bytes(), [1, 9, 5, 4, 3, 2, 1].as_slice());
-        assert_eq!(rt; disk.clock(), 7);
-        assert_eq!(rt; disk.faults(), 0);
+        for (step, images) in [
+            (
+                Step::Write(1, &[9, 8, 7, 6]),
+                [[1, 2, 3].as_slice(), &[1, 9, 8, 7, 6], &[1, 9, 8]],
+            ),
+            (
+                Step::Sync,
+                [&[1, 9, 8, 7, 6], &[1, 9, 8, 7, 6], &[1, 9, 8, 7, 6]],
+            ),
+            (Step::Cut(2), [&[1, 9, 8, 7, 6], &[1, 9], &[1, 9]]),
+            (
+                Step::Write(2, &[5, 4, 3]),
+                [&[1, 9, 8, 7, 6], &[1, 9, 5, 4, 3], &[1, 9, 5]],
+            ),
+            (
+                Step::Write(5, &[2, 1]),
+                [&[1, 9, 8, 7, 6], &ALL, &[1, 9, 5, 0, 0, 2]],
+            ),
+            (Step::Sync, [&ALL, &ALL, &ALL]),
+            (Step::Sync, [&ALL, &ALL, &ALL]),
+        ] {
+            take(&rt, rt.alloc(), &mut disk, step, images)?;
+        }
+        holds(&rt, disk.bytes() == ALL.as_slice(), "all bytes");
+        holds(&rt, disk.clock() == 7, "seven moments");
+        holds(&rt, disk.faults() == 0, "no fault");
         Ok(())
+    }
+
+    /// Calls a disk of three bytes five times, of which this one fails, and the sixth where it is 6.
+    fn call_each(rt: &impl Abort, alloc: Global, failing: u64) -> Result<MemoryDisk, AllocError> {
+        let mut disk = disk(alloc, &[1, 2, 3], &[failing])?;
+        let mut room = [0; 2];
+        holds(rt, disk.len().is_err() == (failing == 1), "len");
+        let written = write(rt, &mut disk, 3, &[4]);
+        holds(rt, written.is_err() == (failing == 2), "write_at");
+        holds(rt, disk.sync().is_err() == (failing == 3), "sync");
+        let cut = cut(rt, &mut disk, 2);
+        holds(rt, cut.is_err() == (failing == 4), "cut");
+        assert!(rt; disk.bytes().len() >= 2);
+        let read = disk.read_at(0, &mut room);
+        holds(rt, read.is_err() == (failing == 5), "read_at");
+        holds(rt, (room == [1, 2]) != (failing == 5), "filled");
+        holds(rt, (room == [0, 0]) == (failing == 5), "left alone");
+        Ok(disk)
     }
 
     #[test]
     fn each_call_of_a_disk_fails_by_its_number(rt: HostRuntime) -> Result<(), Fail> {
-        for failing in 1..7u64 {
-            let mut disk = disk(rt.alloc(), &[1, 2, 3], &[failing])?;
-            let mut room = [0; 2];
-            assert_eq!(rt; disk.len().is_err(), failing == 1);
-            assert_eq!(rt; write(&rt, &mut disk, 3, &[4]).is_err(), failing == 2);
-            assert_eq!(rt; disk.sync().is_err(), failing == 3);
-            assert_eq!(rt; cut(&rt, &mut disk, 2).is_err(), failing == 4);
-            assert!(rt; disk.bytes().len() >= 2);
-            assert_eq!(rt; disk.read_at(0, &mut room).is_err(), failing == 5);
-            assert_eq!(rt; room, if failing == 5 { [0, 0] } else { [1, 2] });
-            assert_eq!(rt; disk.clock(), 3, "at {failing}");
-            assert_eq!(rt; disk.faults(), if failing < 6 { 1 } else { 0 });
-            let present = if failing == 2 || failing != 4 { 2 } else { 4 };
-            assert_eq!(rt; disk.bytes().len(), present, "at {failing}");
-            let stable = if failing == 2 || failing == 3 { 3 } else { 4 };
-            assert_eq!(rt; disk.image(rt.alloc(), 0)?.len(), stable, "at {failing}");
+        for (failing, faults, present, stable) in [
+            (1, 1, 2, 4),
+            (2, 1, 2, 3),
+            (3, 1, 2, 3),
+            (4, 1, 4, 4),
+            (5, 1, 2, 4),
+            (6, 0, 2, 4),
+        ] {
+            let disk = call_each(&rt, rt.alloc(), failing)?;
+            holds(&rt, disk.clock() == 3, "three moments");
+            holds(&rt, disk.faults() == faults, "counted");
+            holds(&rt, disk.bytes().len() == present, "present");
+            holds(&rt, disk.image(rt.alloc(), 0)?.len() == stable, "stable");
         }
         Ok(())
     }
@@ -170,12 +211,13 @@ mod tests {
     #[test]
     fn a_write_past_the_room_is_a_fault(rt: HostRuntime) -> Result<(), Fail> {
         let mut disk = disk(rt.alloc(), &[0; 15], &[])?;
-        assert_eq!(rt; write(&rt, &mut disk, 15, &[1, 2]), Err(Failed));
-        assert_eq!(rt; disk.faults(), 1);
-        assert_eq!(rt; disk.len(), Ok(15));
-        assert_eq!(rt; disk.bytes().len(), 15);
-        assert_eq!(rt; write(&rt, &mut disk, 15, &[1]), Ok(()));
-        assert_eq!(rt; disk.len(), Ok(16));
+        let past = write(&rt, &mut disk, 15, &[1, 2]);
+        holds(&rt, past == Err(Failed), "past the room");
+        holds(&rt, disk.faults() == 1, "counted");
+        holds(&rt, disk.len() == Ok(15), "as it was");
+        let within = write(&rt, &mut disk, 15, &[1]);
+        holds(&rt, within == Ok(()), "within the room");
+        holds(&rt, disk.len() == Ok(16), "written");
         Ok(())
     }
 

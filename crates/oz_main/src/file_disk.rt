@@ -1,4 +1,5 @@
-ghost use Rattle.std.specs.Prelude.{◌≡◌, ◌≤◌, ◌<ℤ◌, pos, None, IfOk, IfSome};
+ghost use Rattle.std.specs.Prelude.{◌≡◌, ◌≤◌, ◌<ℤ◌, pos, None, IfOk, IsSomeAnd};
+ghost use Rattle.std.specs.Option.{ForSome};
 ghost use Rattle.std.specs.Fd.{file_raw_fd};
 ghost use Rattle.std.proofs.lemmas.Option.{none-some};
 ghost use Rattle.oz_world.specs.Calls.{raised};
@@ -11,24 +12,37 @@ use std::os::fd::AsRawFd;
 use std::os::unix::fs::FileExt;
 use std::rt::Files;
 
-/// A disk that is a file of the system. What the file contains, and what a stop leaves of it, is the
-/// system's to say, so it tells neither.
+/// Where a file lies.
 #[derive(Drop)]
-pub struct FileDisk {
-    /// None where there is no such file, and then each call fails.
+struct Place<'a, R> {
+    rt: &'a R,
+    folder: &'a str,
+    path: String,
+}
+
+/// A disk that is a file of the system. What the file contains, and what a stop leaves of it, is the
+/// system's to say, so it tells neither. The file is opened by the first call that needs it.
+#[derive(Drop)]
+pub struct FileDisk<'a, R> {
+    /// None where there is no such file, and once it was opened.
+    place: Option<Place<'a, R>>,
+    /// None before the file is opened, and where it can't be. Then each call fails.
     file: Option<File>,
     clock: u64,
     faults: u64,
+    ghost apart: { ForSome file (λ found. pos 2 <ℤ file_raw_fd found) },
 }
 
-impl FileDisk {
+impl<'a, R: Files<File = File>> FileDisk<'a, R> {
     /// A disk whose calls all fail.
-    pub fn without_file() -> FileDisk
+    pub fn without_file() -> FileDisk<'a, R>
+        ensures place { result.place ≡ None }
         ensures file { result.file ≡ None }
         ensures clock { result.clock ≡ 0 }
         ensures faults { result.faults ≡ 0 }
     {
         FileDisk {
+            place: None,
             file: None,
             clock: 0,
             faults: 0,
@@ -37,15 +51,28 @@ impl FileDisk {
 
     /// The file at a path in a folder, which is made where it isn't there. Where it can't be opened,
     /// the disk's calls fail.
-    pub fn open<R: Files<File = File>>(rt: &R, folder: &str, path: &str) -> FileDisk
-        ensures apart { IfSome result.file (λ found. pos 2 <ℤ file_raw_fd found) }
+    pub fn at(rt: &'a R, folder: &'a str, path: String) -> FileDisk<'a, R>
+        ensures place { IsSomeAnd result.place (λ place. (place.folder.now ≡ folder.now) × (place.path ≡ path)) }
+        ensures file { result.file ≡ None }
         ensures clock { result.clock ≡ 0 }
         ensures faults { result.faults ≡ 0 }
     {
         FileDisk {
-            file: opened(rt, folder, path).ok(),
+            place: Some(Place { rt, folder, path }),
+            file: None,
             clock: 0,
             faults: 0,
+        }
+    }
+
+    /// Opens the file, where that wasn't tried before.
+    fn open(&mut self)
+        ensures clock { self.new.clock ≡ self.old.clock }
+        ensures faults { self.new.faults ≡ self.old.faults }
+        ensures once { self.new.place ≡ None }
+    {
+        if let Some(place) = self.place.take() {
+            self.file = opened(place.rt, place.folder, &place.path).ok();
         }
     }
 
@@ -92,7 +119,7 @@ fn length_of(file: &File) -> io::Result<u64> {
     Ok(file.metadata()?.len())
 }
 
-impl Disk for FileDisk {
+impl<R: Files<File = File>> Disk for FileDisk<'_, R> {
     ghost told = { λ _. None };
 
     ghost clock = { λ disk. disk.clock };
@@ -112,6 +139,7 @@ impl Disk for FileDisk {
     }
 
     fn len(&mut self) -> Result<u64, Failed> {
+        self.open();
         let answer = match &self.file {
             Some(file) => length_of(file).ok(),
             None => None,
@@ -120,6 +148,7 @@ impl Disk for FileDisk {
     }
 
     fn read_at(&mut self, pos: u64, into: &mut [u8]) -> Result<(), Failed> {
+        self.open();
         let answer = match &self.file {
             Some(file) => file.read_exact_at(into, pos).ok(),
             None => None,
@@ -135,6 +164,7 @@ impl Disk for FileDisk {
         if pos.checked_add(bytes.len() as u64).is_none() {
             return Err(self.fail());
         }
+        self.open();
         let answer = match &self.file {
             Some(file) => file.write_all_at(bytes, pos).ok(),
             None => None,
@@ -147,6 +177,7 @@ impl Disk for FileDisk {
             return Err(self.fail());
         }
         self.clock += 1;
+        self.open();
         let answer = match &self.file {
             Some(file) => file.set_len(size).ok(),
             None => None,
@@ -159,6 +190,7 @@ impl Disk for FileDisk {
             return Err(self.fail());
         }
         self.clock += 1;
+        self.open();
         let answer = match &self.file {
             Some(file) => file.sync_all().ok(),
             None => None,

@@ -40,6 +40,7 @@ fn serve<R: Wait + AllocGlobal + Files<File = File>>(
     stdout: Stdout,
 ) -> Result<u8, OutOfMemory>
     ensures known { IfOk result (λ status. status ≤ 7) }
+    ensures refused { IfOk result (λ status. status ≡ 2 → IsRun (map string_bytes words.now) → ⊥) }
     ensures served { IfOk result (λ status. status ≡ 0 → IsRun (map string_bytes words.now)) }
 {
     let _places = take_places(rt);

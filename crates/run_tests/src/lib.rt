@@ -1,6 +1,7 @@
 //! Tests of runs, and of what a run is made of.
 #![tactic(auto)]
 
+mod damage;
 mod report;
 mod run;
 mod script;

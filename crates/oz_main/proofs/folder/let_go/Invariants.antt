@@ -1,4 +1,4 @@
 use Rattle.oz_main.proofs.folder.let_go.Given as goal
 
 abbrev pub decreases-loop-nodes : goal.decreases-loop-nodes
-decreases-loop-nodes l = l.nodes.len
+decreases-loop-nodes g l = l.nodes.len

@@ -1,0 +1,4 @@
+//! Tests of the journal on a disk.
+#![tactic(auto)]
+
+mod journal;

@@ -1,0 +1,352 @@
+#[cfg(test)]
+mod tests {
+    use oz_cluster::run::{Disks, Ended, run};
+    use oz_world::{MemoryDisk, MemorySink, MemorySource, OpenGate, OutOfMemory};
+    use std::alloc::Global;
+    use std::process::Abort;
+    use std::sync::Wait;
+    use std::test::Fail;
+
+    const ROOM: u64 = 4096;
+
+    const SIZE: usize = 67;
+
+    /// The volumes `vol1`, `abc` and `x-1.y`, of the indexes 1, 2 and 3, and a closed gate.
+    const THREE: [u8; SIZE] = [
+        1, 0, 0, 0, 17, 1, 0, 0, 0, 0, 0, 0, 0, 1, 1, 1, 0, 4, 118, 111, 108, 49, 1, 0, 0, 0, 16,
+        1, 0, 0, 0, 0, 0, 0, 0, 2, 1, 1, 0, 3, 97, 98, 99, 1, 0, 0, 0, 18, 1, 0, 0, 0, 0, 0, 0, 0,
+        3, 1, 1, 0, 5, 120, 45, 49, 46, 121, 0,
+    ];
+
+    const MAKES_THREE: &str =
+        "a volume create /vol1\na volume create /abc\na volume create /x-1.y\n";
+
+    /// Asks about each of four volumes, and makes it. The last differs from the first in one bit.
+    const ASKS: &str = "a volume info /vol1\na volume create /vol1\n\
+        a volume info /abc\na volume create /abc\n\
+        a volume info /x-1.y\na volume create /x-1.y\n\
+        a volume info /wol1\na volume create /wol1\n";
+
+    /// Which of the four volumes a disk keeps.
+    #[derive(Clone, Copy, Debug, Default, PartialEq, Eq)]
+    struct Kept {
+        vol1: bool,
+        abc: bool,
+        x1y: bool,
+        wol1: bool,
+    }
+
+    const FIRST_THREE: Kept = Kept {
+        vol1: true,
+        abc: true,
+        x1y: true,
+        wol1: false,
+    };
+
+    const ALL_FOUR: Kept = Kept {
+        vol1: true,
+        abc: true,
+        x1y: true,
+        wol1: true,
+    };
+
+    impl Kept {
+        fn add(&mut self, name: &[u8]) {
+            self.vol1 |= name == b"vol1".as_slice();
+            self.abc |= name == b"abc".as_slice();
+            self.x1y |= name == b"x-1.y".as_slice();
+            self.wol1 |= name == b"wol1".as_slice();
+        }
+    }
+
+    /// What a manager's disk stands for, or the place where it is damaged.
+    #[derive(Clone, Copy, Debug, PartialEq, Eq)]
+    enum Reading {
+        Volumes(Kept),
+        Damaged(u64),
+    }
+
+    fn is_mark(byte: u8) -> bool {
+        byte == b'-' || byte == b'.'
+    }
+
+    fn is_bad_pair(pair: &[u8]) -> bool {
+        matches!(pair, [first, second] if is_mark(*first) && is_mark(*second))
+            && pair != b"--".as_slice()
+    }
+
+    fn is_name(name: &[u8]) -> bool {
+        3 <= name.len()
+            && name.len() <= 63
+            && matches!(name, [first, .., last] if !is_mark(*first) && !is_mark(*last))
+            && name.iter().all(|byte| is_mark(*byte) || matches!(*byte, b'a'..=b'z' | b'0'..=b'9'))
+            && name.iter().any(|byte| !matches!(*byte, b'.' | b'0'..=b'9'))
+            && !name.windows(2).any(is_bad_pair)
+    }
+
+    /// The first of these bytes, so many, and the rest.
+    fn front(bytes: &[u8], count: usize) -> Option<(&[u8], &[u8])> {
+        if count <= bytes.len() {
+            Some(bytes.split_at(count))
+        } else {
+            None
+        }
+    }
+
+    /// A number with its highest byte first.
+    fn number(bytes: &[u8]) -> u64 {
+        let mut number = 0u64;
+        for byte in bytes {
+            number = number.wrapping_mul(256).wrapping_add(u64::from(*byte));
+        }
+        number
+    }
+
+    /// The index and the name of a body, which may follow one of the last index.
+    fn body_by_hand(last: u64, body: &[u8]) -> Option<(u64, &[u8])> {
+        let (layout, rest) = front(body, 1)?;
+        let (index, rest) = front(rest, 8)?;
+        let (put, rest) = front(rest, 2)?;
+        let (size, name) = front(rest, 2)?;
+        let index = number(index);
+        let fits = last < index && index < 1 << 63 && number(size) == name.len() as u64;
+        if layout == [1].as_slice() && put == [1, 1].as_slice() && fits && is_name(name) {
+            Some((index, name))
+        } else {
+            None
+        }
+    }
+
+    /// The body that a journal with an open gate begins with, and what follows it.
+    fn record_by_hand(journal: &[u8]) -> Option<(&[u8], &[u8])> {
+        let (_, rest) = front(journal, 1)?;
+        let (size, rest) = front(rest, 4)?;
+        front(rest, number(size) as usize)
+    }
+
+    /// What a disk stands for. A body is read only where the whole is a journal.
+    fn read_by_hand(bytes: &[u8]) -> Reading {
+        let mut kept = Kept::default();
+        if bytes.len() < 2 {
+            return Reading::Volumes(kept);
+        }
+        let mut rest = bytes;
+        let mut last = 0;
+        let mut wrong = None;
+        for _ in 0..=bytes.len() {
+            let at = (bytes.len() as u64).saturating_sub(rest.len() as u64);
+            if !matches!(rest, [] | [1, ..]) {
+                break;
+            }
+            let Some((body, after)) = record_by_hand(rest) else {
+                return Reading::Damaged(at);
+            };
+            match body_by_hand(last, body) {
+                Some((index, name)) => {
+                    kept.add(name);
+                    last = index;
+                }
+                None => wrong = wrong.or(Some(at.saturating_add(5))),
+            }
+            rest = after;
+        }
+        wrong.map_or(Reading::Volumes(kept), Reading::Damaged)
+    }
+
+    /// What a run left: its status, what it wrote, and the bytes of the manager's disk.
+    #[derive(Debug, Drop, PartialEq, Eq)]
+    struct Left {
+        status: u8,
+        text: String,
+        disk: Vec<u8>,
+    }
+
+    fn disk_of(alloc: Global, bytes: &[u8]) -> Result<MemoryDisk, OutOfMemory> {
+        MemoryDisk::new(alloc, bytes.to_vec(alloc)?, Vec::new(alloc), ROOM)
+    }
+
+    /// What a run of a script leaves of a manager's disk.
+    fn runs<R: Wait + AllocGlobal>(rt: &R, script: &str, disk: &[u8]) -> Result<Left, OutOfMemory> {
+        let alloc = rt.alloc();
+        let words = vec![in alloc;
+            String::from_str(alloc, "run")?,
+            String::from_str(alloc, ".")?,
+        ]?;
+        let script = script.as_bytes().to_vec(alloc)?;
+        let mut source = MemorySource::new(script, Vec::new(alloc));
+        let mut out = MemorySink::new(alloc, Vec::new(alloc))?;
+        let disks = Disks {
+            manager: disk_of(alloc, disk)?,
+            scm: disk_of(alloc, &[])?,
+            nodes: Vec::new(alloc),
+        };
+        let ended = run(rt, alloc, &words, &mut source, &mut out, disks, &OpenGate);
+        let Ended {
+            status,
+            disks: Disks {
+                manager,
+                scm: _,
+                nodes,
+            },
+            story: _,
+        } = ended;
+        nodes.destroy_empty();
+        Ok(Left {
+            status,
+            text: String::from_utf8_lossy(alloc, out.held())?,
+            disk: manager.bytes().to_vec(alloc)?,
+        })
+    }
+
+    /// What is printed for a volume that is asked about and then made, in these two lines.
+    fn told(alloc: Global, line: u8, next: u8, is_kept: bool) -> Result<String, OutOfMemory> {
+        let (found, value, made) = if is_kept {
+            ("OK", "OK buckets 0", "VOLUME_ALREADY_EXISTS")
+        } else {
+            ("VOLUME_NOT_FOUND", "VOLUME_NOT_FOUND", "OK")
+        };
+        format!(in alloc;
+            "d 1 {line} 1 InfoVolume {found}\nt 1 {line} {value}\n\
+            d 1 {next} 1 CreateVolume {made}\nt 1 {next} {made}\n"
+        )
+    }
+
+    /// The report of the questions about these volumes.
+    fn report_of(alloc: Global, kept: Kept) -> Result<String, OutOfMemory> {
+        let mut text = String::from_str(alloc, "story 1\n")?;
+        for (line, next, is_kept) in [
+            (1, 2, kept.vol1),
+            (3, 4, kept.abc),
+            (5, 6, kept.x1y),
+            (7, 8, kept.wol1),
+        ] {
+            text.push_str(told(alloc, line, next, is_kept)?.as_str())?;
+        }
+        text.push_str("end 8 of 8\n")?;
+        Ok(text)
+    }
+
+    fn holds(rt: &impl Abort, it: bool, what: &str, bytes: &[u8]) {
+        assert!(rt; it, "{what}, of {bytes:?}");
+    }
+
+    /// A run of the empty script ends with this status, and writes this.
+    fn opens<R: Wait + Abort + AllocGlobal>(
+        rt: &R,
+        bytes: &[u8],
+        status: u8,
+        text: &str,
+    ) -> Result<(), OutOfMemory> {
+        let left = runs(rt, "", bytes)?;
+        let kept = if bytes.len() < 2 { &[0] } else { bytes };
+        holds(rt, left.status == status, "status", bytes);
+        holds(rt, left.text.as_str() == text, "text", bytes);
+        holds(rt, left.disk.as_slice() == kept, "disk", bytes);
+        Ok(())
+    }
+
+    /// A run asks about the volumes and makes those that weren't there, and all are there behind it.
+    fn asks<R: Wait + Abort + AllocGlobal>(
+        rt: &R,
+        bytes: &[u8],
+        kept: Kept,
+    ) -> Result<(), OutOfMemory> {
+        let left = runs(rt, ASKS, bytes)?;
+        let text = report_of(rt.alloc(), kept)?;
+        let read = read_by_hand(&left.disk);
+        holds(rt, left.status == 0, "status", bytes);
+        holds(rt, left.text.as_str() == text.as_str(), "text", bytes);
+        holds(rt, read == Reading::Volumes(ALL_FOUR), "all four", bytes);
+        Ok(())
+    }
+
+    /// Runs over these bytes end as reading them by hand says.
+    fn ends_as_read<R: Wait + Abort + AllocGlobal>(
+        rt: &R,
+        bytes: &[u8],
+    ) -> Result<(), OutOfMemory> {
+        match read_by_hand(bytes) {
+            Reading::Damaged(at) => {
+                let text = format!(in rt.alloc(); "damaged manager at {at}\n")?;
+                opens(rt, bytes, 6, text.as_str())
+            }
+            Reading::Volumes(kept) => {
+                opens(rt, bytes, 0, "story 1\nend 0 of 0\n")?;
+                asks(rt, bytes, kept)
+            }
+        }
+    }
+
+    #[test]
+    fn what_a_run_over_three_volumes_leaves(rt: HostRuntime) -> Result<(), Fail> {
+        let left = runs(&rt, MAKES_THREE, &[])?;
+        let read = read_by_hand(&THREE);
+        holds(&rt, left.status == 0, "status", &[]);
+        holds(&rt, left.disk.as_slice() == THREE.as_slice(), "disk", &[]);
+        holds(&rt, read == Reading::Volumes(FIRST_THREE), "three", &THREE);
+        Ok(())
+    }
+
+    #[test]
+    fn every_cut_of_three_volumes(rt: HostRuntime) -> Result<(), Fail> {
+        for size in 0..=SIZE {
+            ends_as_read(&rt, &THREE[..size])?;
+        }
+        Ok(())
+    }
+
+    #[test]
+    fn every_byte_of_three_volumes(rt: HostRuntime) -> Result<(), Fail> {
+        for place in 0..SIZE {
+            let byte = THREE[place];
+            for other in [0, 1, byte ^ 1, byte ^ 0xff] {
+                let mut bytes = THREE;
+                bytes[place] = other;
+                ends_as_read(&rt, &bytes)?;
+            }
+        }
+        Ok(())
+    }
+
+    /// Cuts, with what they stand for.
+    #[test]
+    fn cuts_by_hand(rt: HostRuntime) -> Result<(), Fail> {
+        for (cut, wanted) in [
+            (&THREE[..0], Reading::Volumes(Kept::default())),
+            (&THREE[..1], Reading::Volumes(Kept::default())),
+            (&THREE[..2], Reading::Damaged(0)),
+            (&THREE[..21], Reading::Damaged(0)),
+            (&THREE[..22], Reading::Damaged(22)),
+            (&THREE[..43], Reading::Damaged(43)),
+            (&THREE[..65], Reading::Damaged(43)),
+            (&THREE[..66], Reading::Damaged(66)),
+            (&THREE, Reading::Volumes(FIRST_THREE)),
+        ] {
+            holds(&rt, read_by_hand(cut) == wanted, "a cut", cut);
+        }
+        Ok(())
+    }
+
+    /// Whatever stands behind the closed gate, the disk keeps the same volumes.
+    #[test]
+    fn bytes_behind_a_closed_gate(rt: HostRuntime) -> Result<(), Fail> {
+        let alloc = rt.alloc();
+        for tail in [
+            [0].as_slice(),
+            &[1],
+            &[255],
+            &[1, 0, 0, 0, 0, 0],
+            &[1, 255, 255, 255, 255],
+            &[0, 0, 0, 0, 0, 0, 0, 0, 0],
+            &THREE,
+            &THREE[..30],
+        ] {
+            let mut bytes = THREE.to_vec(alloc)?;
+            bytes.extend_from_slice(tail)?;
+            let read = read_by_hand(&bytes);
+            holds(&rt, read == Reading::Volumes(FIRST_THREE), "three", tail);
+            ends_as_read(&rt, &bytes)?;
+        }
+        Ok(())
+    }
+}

@@ -1,0 +1,5 @@
+//! Tests of a value that threads take in turn.
+#![tactic(auto)]
+
+#[cfg(test)]
+mod turn;

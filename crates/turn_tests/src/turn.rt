@@ -1,0 +1,338 @@
+ghost use Rattle.std.specs.Prelude.{◌≡◌, ◌+◌, ◌≤◌, ◌<◌, [], ◌∷◌, ◌++◌, vec_len, IfOk, OnOk, IfSome, OnSome};
+ghost use Rattle.oz_turn.specs.Seat.{mine_of};
+ghost use Rattle.oz_turn.specs.Turn.{turn_id, seats_of};
+ghost use Rattle.turn_tests.specs.Notes.{IsReady, AreReady};
+
+use oz_turn::{Ring, Seat, Told, Turn};
+use std::alloc::{AllocError, Global};
+use std::marker::{Brand, Model, PhantomData};
+use std::process::Abort;
+use std::sync::{Mutex, Wait};
+use std::test::Fail;
+use std::thread::{Threads, join};
+
+#[derive(Clone, Copy, PartialEq, Eq, Debug)]
+struct Note {
+    seat: u64,
+    text: u64,
+}
+
+#[derive(Drop)]
+struct Notes {
+    list: Vec<Note>,
+    first: u64,
+    second: u64,
+}
+
+impl Told for Notes {
+    ghost use Rattle.turn_tests.specs.Notes.{room_among};
+
+    type Entry = Note;
+
+    ghost entries = { λ s. s.list.items };
+
+    ghost seat_of = { λ e. e.seat };
+
+    ghost room = { λ s. room_among s.first s.second };
+
+    fn entries(&self) -> &[Note] {
+        self.list.as_slice()
+    }
+
+    fn copy(_alloc: Global, entry: &Note) -> Result<Note, AllocError> {
+        Ok(*entry)
+    }
+}
+
+fn made(alloc: Global, seats: u16) -> Result<(Turn<Notes>, Vec<Seat<Notes>>), Fail>
+    requires { (1 ≤ seats) × (seats ≤ 64) }
+    ensures seats { IfOk result (λ r. (seats_of r.0 ≡ seats) × (vec_len r.1 ≡ seats)) }
+    ensures ready { IfOk result (λ r. AreReady (turn_id r.0) r.1.items) }
+{
+    let notes = Notes {
+        list: Vec::new(alloc),
+        first: 0,
+        second: 0,
+    };
+    match Turn::make(alloc, notes, seats) {
+        Ok(made) => Ok(made),
+        Err((_, error)) => Err(error.into()),
+    }
+}
+
+fn add<R: Wait>(
+    rt: &R,
+    turn: &Turn<Notes>,
+    seat: &mut Seat<Notes>,
+    number: u64,
+    text: u64,
+) -> Option<u64>
+    requires { IsReady (turn_id turn.now) number seat.old }
+    ensures ready { IsReady (turn_id turn.now) number seat.new }
+    ensures added { IfSome result (λ _. mine_of seat.new ≡ mine_of seat.old ++ record { seat = number; text = text } ∷ []) }
+{
+    let (mut notes, held) = turn.take(rt, seat);
+    match notes.list.push(Note { seat: number, text }) {
+        Ok(()) => Some(turn.give(seat, notes, held)),
+        Err(_) => {
+            turn.give_back(seat, notes, held);
+            None
+        }
+    }
+}
+
+fn add_at<R: Wait>(
+    rt: &R,
+    turn: &Turn<Notes>,
+    seats: &mut Vec<Seat<Notes>>,
+    n: usize,
+    text: u64,
+) -> Option<u64>
+    requires within { n < vec_len seats.old }
+    requires ready { AreReady (turn_id turn.now) seats.old.items }
+    ensures count { vec_len seats.new ≡ vec_len seats.old }
+    ensures ready { AreReady (turn_id turn.now) seats.new.items }
+{
+    add(rt, turn, &mut seats[n], n as u64, text)
+}
+
+fn look_at<R: Wait>(
+    rt: &R,
+    alloc: Global,
+    turn: &Turn<Notes>,
+    seats: &mut Vec<Seat<Notes>>,
+    n: usize,
+    first: u64,
+) -> Result<Vec<Note>, AllocError>
+    requires within { n < vec_len seats.old }
+    requires ready { AreReady (turn_id turn.now) seats.old.items }
+    ensures count { vec_len seats.new ≡ vec_len seats.old }
+    ensures ready { AreReady (turn_id turn.now) seats.new.items }
+{
+    turn.look(rt, alloc, &mut seats[n], first)
+}
+
+fn pop_last(turn: &Turn<Notes>, seats: &mut Vec<Seat<Notes>>) -> Option<Seat<Notes>>
+    requires { AreReady (turn_id turn.now) seats.old.items }
+    ensures seat { IfSome result (λ s. IsReady (turn_id turn.now) (vec_len seats.new) s) }
+    ensures count { OnSome result (vec_len seats.new + 1 ≡ vec_len seats.old) }
+    ensures rest { AreReady (turn_id turn.now) seats.new.items }
+{
+    seats.pop()
+}
+
+fn push_next(
+    turn: &Turn<Notes>,
+    seats: &mut Vec<Seat<Notes>>,
+    seat: Seat<Notes>,
+) -> Result<(), AllocError>
+    requires seats { AreReady (turn_id turn.now) seats.old.items }
+    requires seat { IsReady (turn_id turn.now) (vec_len seats.old) seat }
+    ensures seats { OnOk result (AreReady (turn_id turn.now) seats.new.items) }
+    ensures count { OnOk result (vec_len seats.new ≡ vec_len seats.old + 1) }
+{
+    seats.push(seat)?;
+    Ok(())
+}
+
+fn ended(turn: Turn<Notes>, seats: Vec<Seat<Notes>>) -> Notes
+    requires seats { vec_len seats ≡ seats_of turn }
+    requires ready { AreReady (turn_id turn) seats.items }
+{
+    turn.close(seats)
+}
+
+#[test]
+fn two_seats_add_in_order(rt: HostRuntime) -> Result<(), Fail> {
+    let (turn, mut seats) = made(rt.alloc(), 2)?;
+    let five = add_at(&rt, &turn, &mut seats, 0, 5);
+    let six = add_at(&rt, &turn, &mut seats, 1, 6);
+    let seen = look_at(&rt, rt.alloc(), &turn, &mut seats, 0, 0)?;
+    let list = ended(turn, seats).list;
+    let notes = [Note { seat: 0, text: 5 }, Note { seat: 1, text: 6 }];
+    assert_eq!(rt; (five, six), (Some(1), Some(2)));
+    assert_eq!(rt; seen.as_slice(), notes.as_slice());
+    assert_eq!(rt; list.as_slice(), notes.as_slice());
+    Ok(())
+}
+
+#[test]
+fn a_look_from_beyond_the_end_finds_nothing(rt: HostRuntime) -> Result<(), Fail> {
+    let (turn, mut seats) = made(rt.alloc(), 1)?;
+    let empty = look_at(&rt, rt.alloc(), &turn, &mut seats, 0, 0)?;
+    let _ = add_at(&rt, &turn, &mut seats, 0, 5);
+    let past = look_at(&rt, rt.alloc(), &turn, &mut seats, 0, 1)?;
+    let far = look_at(&rt, rt.alloc(), &turn, &mut seats, 0, u64::MAX)?;
+    let last = look_at(&rt, rt.alloc(), &turn, &mut seats, 0, 0)?;
+    assert_eq!(rt;
+        [empty.len(), past.len(), far.len(), last.len()],
+        [0, 0, 0, 1]
+    );
+    Ok(())
+}
+
+fn change_room<R: Wait>(rt: &R, turn: &Turn<Notes>, seat: &mut Seat<Notes>, room: u64) -> u64
+    requires { IsReady (turn_id turn.now) 0 seat.old }
+    ensures { IsReady (turn_id turn.now) 0 seat.new }
+{
+    let (mut notes, held) = turn.take(rt, seat);
+    let before = notes.first;
+    notes.first = room;
+    turn.give_back(seat, notes, held);
+    before
+}
+
+#[test]
+fn a_room_is_changed_by_giving_back(rt: HostRuntime) -> Result<(), Fail> {
+    let (turn, mut seats) = made(rt.alloc(), 1)?;
+    let Some(mut seat) = pop_last(&turn, &mut seats) else {
+        return Err("no seat".into());
+    };
+    let first = change_room(&rt, &turn, &mut seat, 7);
+    let second = change_room(&rt, &turn, &mut seat, 9);
+    push_next(&turn, &mut seats, seat)?;
+    let notes = ended(turn, seats);
+    assert_eq!(rt; [first, second, notes.first, notes.second], [0, 7, 9, 0]);
+    assert_eq!(rt; notes.list.len(), 0);
+    Ok(())
+}
+
+#[test]
+fn sixty_four_seats(rt: HostRuntime) -> Result<(), Fail> {
+    let (turn, mut seats) = made(rt.alloc(), 64)?;
+    let mut last = None;
+    for n in 0..64usize {
+        last = add_at(&rt, &turn, &mut seats, n, n as u64);
+    }
+    let notes = ended(turn, seats);
+    assert_eq!(rt; (last, notes.list.len()), (Some(64), 64));
+    for (n, note) in notes.list.iter().enumerate() {
+        assert_eq!(rt;
+            *note,
+            Note {
+                seat: n as u64,
+                text: n as u64
+            }
+        );
+    }
+    Ok(())
+}
+
+const EACH: u64 = 1000;
+
+fn add_many<R: Wait>(rt: &R, turn: &Turn<Notes>, mut seat: Seat<Notes>, number: u64) -> Seat<Notes>
+    requires { IsReady (turn_id turn.now) number seat }
+    ensures { IsReady (turn_id turn.now) number result }
+{
+    for text in 0..EACH {
+        let _ = add(rt, turn, &mut seat, number, text);
+    }
+    seat
+}
+
+fn two_beside<R: Threads + Wait + Sync>(
+    rt: &R,
+    turn: &Turn<Notes>,
+    one: Seat<Notes>,
+    two: Seat<Notes>,
+) -> (Seat<Notes>, Seat<Notes>)
+    requires one { IsReady (turn_id turn.now) 0 one }
+    requires two { IsReady (turn_id turn.now) 1 two }
+    ensures one { IsReady (turn_id turn.now) 0 result.0 }
+    ensures two { IsReady (turn_id turn.now) 1 result.1 }
+{
+    join(
+        rt,
+        move || -> Seat<Notes>
+            requires { IsReady (turn_id turn.now) 0 one }
+            ensures { IsReady (turn_id turn.entry.now) 0 result }
+        { add_many(rt, turn, one, 0) },
+        move || -> Seat<Notes>
+            requires { IsReady (turn_id turn.now) 1 two }
+            ensures { IsReady (turn_id turn.entry.now) 1 result }
+        { add_many(rt, turn, two, 1) },
+    )
+}
+
+#[test]
+fn two_threads_add_a_thousand_each(rt: HostRuntime) -> Result<(), Fail> {
+    let (turn, mut seats) = made(rt.alloc(), 2)?;
+    let Some(two) = pop_last(&turn, &mut seats) else {
+        return Err("no seat".into());
+    };
+    let Some(one) = pop_last(&turn, &mut seats) else {
+        return Err("one seat".into());
+    };
+    let (one, two) = two_beside(&rt, &turn, one, two);
+    push_next(&turn, &mut seats, one)?;
+    push_next(&turn, &mut seats, two)?;
+    let notes = ended(turn, seats);
+    assert_eq!(rt; notes.list.len(), 2000);
+    check_order(&rt, notes.list.as_slice());
+    Ok(())
+}
+
+// Each seat's texts count up from 0.
+fn check_order<R: Abort>(rt: &R, notes: &[Note]) {
+    let mut next = [0u64; 2];
+    for note in notes {
+        assert!(rt; note.seat < 2);
+        let n = note.seat as usize;
+        assert!(rt; note.text == next[n] && note.text < EACH, "seat {n}");
+        next[n] = note.text + 1;
+    }
+    assert!(rt; next == [EACH, EACH]);
+}
+
+// The seat 0 under a lock, where only its type says which turn it is of. Contracts see the notes that it gave.
+#[derive(Drop)]
+struct Shelf<R: Ring> {
+    seat: Seat<Notes>,
+    of: PhantomData<R>,
+}
+
+impl<R: Ring> Model for Shelf<R> {
+    ghost use Rattle.std.specs.Prelude.{List};
+    ghost use Rattle.oz_turn.specs.Seat.{mine_of};
+    ghost use Rattle.turn_tests.specs.declared.turn.Note.{Note};
+    ghost use Rattle.turn_tests.specs.Notes.{IsReady};
+
+    ghost Value = { List Note };
+
+    ghost view = { λ s. mine_of s.seat };
+
+    ghost invariant = { λ s. IsReady R.turn 0 s.seat };
+}
+
+impl<R: Ring> Shelf<R> {
+    fn add<W: Wait>(&mut self, rt: &W, turn: &Turn<Notes>, text: u64) -> Option<u64>
+        requires { turn_id turn.now ≡ R.turn }
+        ensures { IfSome result (λ _. self.new ≡ self.old ++ record { seat = 0; text = text } ∷ []) }
+    {
+        add(rt, turn, &mut self.seat, 0, text)
+    }
+}
+
+fn add_under_a_lock<R: Ring, W: Wait>(rt: &W, turn: &Turn<Notes>, seat: Seat<Notes>) -> Option<u64>
+    requires turn { turn_id turn.now ≡ R.turn }
+    requires seat { IsReady (turn_id turn.now) 0 seat }
+{
+    let shelf: Mutex<Shelf<R>> = Mutex::new(Shelf {
+        seat,
+        of: PhantomData,
+    });
+    let first = shelf.lock(rt).add(rt, turn, 5)?;
+    let second = shelf.lock(rt).add(rt, turn, 6)?;
+    first.checked_add(second)
+}
+
+#[test]
+fn a_seat_under_a_lock_is_of_the_turn(rt: HostRuntime) -> Result<(), Fail> {
+    let (turn, mut seats) = made(rt.alloc(), 1)?;
+    let Some(seat) = pop_last(&turn, &mut seats) else {
+        return Err("no seat".into());
+    };
+    let sum = add_under_a_lock::<Brand, _>(&rt, &turn, seat);
+    assert_eq!(rt; sum, Some(3));
+    Ok(())
+}

@@ -1,5 +1,7 @@
-use Rattle.oz_main.proofs.Runs.{no_stop}
+use Rattle.oz_main.proofs.Runs.{no_fault}
 use Rattle.oz_main.proofs.serve.Goals as goal
 
 pub returns-clause-refused : goal.returns-clause-refused
-returns-clause-refused g c is run = no_stop _ _ _ _ _ _ (c.run-status.ensures.causes.words is) run
+returns-clause-refused g c is run =
+    let wrong = c.run-status.ensures.causes.words_fault is in
+    no_fault _ wrong.0 run wrong.1

@@ -50,7 +50,7 @@ pub record IsVolumeName (name : List ℕ) : Type 0 where
   pub no_number : is_number name ≡ false
 
 -- the same as a test
-abbrev pub is_volume_name : List ℕ → Bool
+unfoldable pub is_volume_name : List ℕ → Bool
 is_volume_name name = nat_le 3 (length name) && nat_le (length name) 63 && list_all is_name_byte name && not (begins_with_mark name) && not (ends_with_mark name) && not (has_bad_pair name) && not (is_number name)
 
 -- buckets and snapshots are named as volumes are
@@ -81,7 +81,7 @@ pub record IsKeyName (name : List ℕ) : Type 0 where
   pub not_reserved : is_reserved name ≡ false
 
 -- the same as a test
-abbrev pub is_key_name : List ℕ → Bool
+unfoldable pub is_key_name : List ℕ → Bool
 is_key_name name = nat_le 1 (length name) && nat_le (length name) 1024 && list_all is_key_byte name && not (is_reserved name)
 
 -- one of sixteen

@@ -53,7 +53,7 @@ volume_key_finds = finds_then volume_name_reads (λ volume volume-fits. finds_do
 
 volume_key_backs : (volume : List ℕ) → KeyFits (keys.Volume volume) → Backs volume_key_at (text_bytes volume) (keys.Volume volume)
 unfolding volume_key_at
-volume_key_backs volume fits = backs_as (simp (append_assoc, append-nil)) (backs_then _ volume volume_name_reads fits backs_done)
+volume_key_backs volume fits = backs_as (simp append-nil) (backs_then _ volume volume_name_reads fits backs_done)
 
 bucket_key_finds : Finds KeyFits key_bytes (2 ∷ []) bucket_key_at
 unfolding bucket_key_at
@@ -61,7 +61,7 @@ bucket_key_finds = finds_then volume_name_reads (λ volume volume-fits. finds_th
 
 bucket_key_backs : (volume : List ℕ) (bucket : List ℕ) → KeyFits (keys.Bucket volume bucket) → Backs bucket_key_at (text_bytes volume ++ text_bytes bucket) (keys.Bucket volume bucket)
 unfolding bucket_key_at
-bucket_key_backs volume bucket fits = backs_as (simp (append_assoc, append-nil)) (backs_then _ volume volume_name_reads fits.0 (backs_then _ bucket volume_name_reads fits.1 backs_done))
+bucket_key_backs volume bucket fits = backs_as (simp append-nil) (backs_then _ volume volume_name_reads fits.0 (backs_then _ bucket volume_name_reads fits.1 backs_done))
 
 key_key_finds : Finds KeyFits key_bytes (3 ∷ []) key_key_at
 unfolding key_key_at
@@ -117,7 +117,7 @@ stripe_key_finds = finds_then stripe_reads (λ stripe stripe-fits. finds_done st
 
 stripe_key_backs : (stripe : ℕ) → KeyFits (keys.Stripe stripe) → Backs stripe_key_at (u8_bytes stripe) (keys.Stripe stripe)
 unfolding stripe_key_at
-stripe_key_backs stripe fits = backs_as (simp (append_assoc, append-nil)) (backs_then _ stripe stripe_reads fits backs_done)
+stripe_key_backs stripe fits = backs_as (simp append-nil) (backs_then _ stripe stripe_reads fits backs_done)
 
 key_of_kind_finds : (left kind : ℕ) → Finds KeyFits key_bytes (kind ∷ []) (key_of_kind_at left kind)
 key_of_kind_finds left kind =
@@ -205,7 +205,7 @@ snapshot_key_value_reads key_volume key_bucket key_snapshot key_key = is_read (f
 
 renamed_value_back : (key_volume : List ℕ) (key_bucket : List ℕ) (key_owner : ℕ) (key_local : ℕ) (row : Row) → ValueFits (keys.Renamed key_volume key_bucket key_owner key_local) row → Backs (renamed_value_at) (value_bytes row) row
 unfolding renamed_value_at
-renamed_value_back key_volume key_bucket key_owner key_local (rows.Renamed key_name) fits = backs_as (simp (append_assoc, append-nil)) (backs_then _ key_name key_name_reads fits backs_done)
+renamed_value_back key_volume key_bucket key_owner key_local (rows.Renamed key_name) fits = backs_as (simp append-nil) (backs_then _ key_name key_name_reads fits backs_done)
 renamed_value_back key_volume key_bucket key_owner key_local row fits = absurd fits
 
 renamed_value_reads : (key_volume : List ℕ) (key_bucket : List ℕ) (key_owner : ℕ) (key_local : ℕ) → IsRead (ValueFits (keys.Renamed key_volume key_bucket key_owner key_local)) value_bytes (renamed_value_at)
@@ -214,7 +214,7 @@ renamed_value_reads key_volume key_bucket key_owner key_local = is_read (finds_t
 
 stripe_value_back : (key_stripe : ℕ) (row : Row) → ValueFits (keys.Stripe key_stripe) row → Backs (stripe_value_at) (value_bytes row) row
 unfolding stripe_value_at
-stripe_value_back key_stripe (rows.Stripe number) fits = backs_as (simp (append_assoc, append-nil)) (backs_then _ number drawn_reads fits backs_done)
+stripe_value_back key_stripe (rows.Stripe number) fits = backs_as (simp append-nil) (backs_then _ number drawn_reads fits backs_done)
 stripe_value_back key_stripe row fits = absurd fits
 
 stripe_value_reads : (key_stripe : ℕ) → IsRead (ValueFits (keys.Stripe key_stripe)) value_bytes (stripe_value_at)

@@ -1,2 +1,4 @@
 pub mod Rows
+pub mod Operations
 pub mod Reading
+pub mod Faults

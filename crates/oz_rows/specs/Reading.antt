@@ -12,6 +12,8 @@ use Rattle.oz_rows.specs.declared.row.Row.{Row}
 use Rattle.oz_rows.specs.declared.row.Row.TheVariants as rows
 use Rattle.oz_rows.specs.declared.row.SnapshotState.{SnapshotState}
 use Rattle.oz_rows.specs.declared.row.SnapshotState.TheVariants.{Live, Marked}
+use Rattle.oz_rows.specs.declared.operation.Operation.{Operation}
+use Rattle.oz_rows.specs.declared.operation.Operation.TheVariants.{Put, Remove, CopyKeys, MoveDeleted, DropKeys, DropOpen}
 use Rattle.oz_rows.specs.declared.fault.ReadFault.{ReadFault}
 use Rattle.oz_rows.specs.declared.fault.ReadFault.TheVariants as faults
 
@@ -244,6 +246,62 @@ row_at = do
   key ← key_at
   row ← value_at key
   done (key, row)
+
+unfoldable pub put_at : List ℕ → Result (Operation × List ℕ) ℕ
+put_at = do
+  row ← row_at
+  done (Put row.0 row.1)
+
+unfoldable pub remove_at : List ℕ → Result (Operation × List ℕ) ℕ
+remove_at = do
+  key ← key_at
+  done (Remove key)
+
+unfoldable pub copy_keys_at : List ℕ → Result (Operation × List ℕ) ℕ
+copy_keys_at = do
+  volume ← volume_name_at
+  bucket ← volume_name_at
+  number ← number_at
+  done (CopyKeys volume bucket number)
+
+unfoldable pub move_deleted_at : List ℕ → Result (Operation × List ℕ) ℕ
+move_deleted_at = do
+  volume ← volume_name_at
+  bucket ← volume_name_at
+  from ← owner_at
+  to ← owner_at
+  done (MoveDeleted volume bucket from to)
+
+unfoldable pub drop_keys_at : List ℕ → Result (Operation × List ℕ) ℕ
+drop_keys_at = do
+  volume ← volume_name_at
+  bucket ← volume_name_at
+  number ← number_at
+  done (DropKeys volume bucket number)
+
+unfoldable pub drop_open_at : List ℕ → Result (Operation × List ℕ) ℕ
+drop_open_at = do
+  volume ← volume_name_at
+  bucket ← volume_name_at
+  done (DropOpen volume bucket)
+
+-- the fields of an operation, nothing where there is no such operation
+abbrev pub operation_of_tag_at : ℕ → ℕ → List ℕ → Result (Operation × List ℕ) ℕ
+operation_of_tag_at left tag =
+    if tag == 1 then put_at else (if tag == 2 then remove_at else (if tag == 3 then copy_keys_at else (if tag == 4 then move_deleted_at else (if tag == 5 then drop_keys_at else (if tag == 6 then drop_open_at else (λ bytes. Err left))))))
+
+unfoldable pub operation_at : List ℕ → Result (Operation × List ℕ) ℕ
+operation_at [] = Err 0
+operation_at (tag ∷ bytes) = operation_of_tag_at (suc (length bytes)) tag bytes
+
+unfoldable pub index_at : List ℕ → Result (ℕ × List ℕ) ℕ
+index_at bytes = field u64_at (λ n. nat_le 1 n && nat_lt n (2 ^ 63)) bytes
+
+-- the head of a body: the layout 1, and the last transaction index
+unfoldable pub head_at : List ℕ → Result (ℕ × List ℕ) ℕ
+head_at = do
+  layout ← field u8_at (λ n. n == 1)
+  index_at
 
 -- What a call gave, seen by view, is what reading gives, unless memory ran out.
 abbrev pub Fails : {Y : Type 0} → ReadFault → Result Y ℕ → Type 0

@@ -268,3 +268,4 @@ fn more_blocks(before: Vec<Block>, count: u16, bytes: &[u8]) -> Result<(Vec<Bloc
     }
     Ok((gathered, rest))
 }
+

@@ -2,3 +2,4 @@ pub mod Rows
 pub mod Operations
 pub mod Reading
 pub mod Faults
+pub mod Order

@@ -82,6 +82,18 @@ abbrev pub state_number : SnapshotState → ℕ
 state_number Live = 1
 state_number Marked = 2
 
+-- the number of the kind
+abbrev pub kind_of : RowKey → ℕ
+kind_of (keys.Volume volume) = 1
+kind_of (keys.Bucket volume bucket) = 2
+kind_of (keys.Key volume bucket key) = 3
+kind_of (keys.Open volume bucket key number) = 4
+kind_of (keys.Deleted volume bucket owner key local) = 5
+kind_of (keys.Snapshot volume bucket number) = 6
+kind_of (keys.SnapshotKey volume bucket snapshot key) = 7
+kind_of (keys.Renamed volume bucket owner local) = 8
+kind_of (keys.Stripe stripe) = 9
+
 -- the kind, and the key fields
 abbrev pub key_bytes : RowKey → List ℕ
 key_bytes (keys.Volume volume) = u8_bytes 1 ++ text_bytes volume

@@ -60,6 +60,25 @@ pub enum RowKey {
 }
 
 impl RowKey {
+    ghost use Rattle.oz_rows.specs.Rows.{kind_of};
+
+    /// The number of the kind.
+    pub fn kind(&self) -> u8
+        ensures { result ≡ kind_of self.now }
+    {
+        match self {
+            RowKey::Volume { .. } => 1,
+            RowKey::Bucket { .. } => 2,
+            RowKey::Key { .. } => 3,
+            RowKey::Open { .. } => 4,
+            RowKey::Deleted { .. } => 5,
+            RowKey::Snapshot { .. } => 6,
+            RowKey::SnapshotKey { .. } => 7,
+            RowKey::Renamed { .. } => 8,
+            RowKey::Stripe { .. } => 9,
+        }
+    }
+
     /// The same key again.
     pub fn copy(&self, alloc: Global) -> Result<RowKey, OutOfMemory>
         ensures { IfOk result (λ key. key ≡ self.now) }

@@ -10,7 +10,8 @@ use crate::reading::{number_of, owner_of, volume_name_of};
 use oz_fields::Reader;
 use std::alloc::Global;
 
-const LAYOUT: u8 = 1;
+/// The layout of all bodies so far.
+pub(crate) const LAYOUT: u8 = 1;
 
 const END_OF_INDEXES: u64 = 1 << 63;
 

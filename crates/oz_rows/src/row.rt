@@ -1,4 +1,7 @@
-use oz_fields::{Block, List, Name, Piece};
+ghost use Rattle.std.specs.Prelude.{◌≡◌, IfOk};
+
+use oz_fields::{Block, List, Name, OutOfMemory, Piece};
+use std::alloc::Global;
 
 /// What a row of each kind holds.
 #[derive(Debug, Drop, PartialEq, Eq)]
@@ -35,6 +38,53 @@ pub enum Row {
     Stripe {
         number: u64,
     },
+}
+
+impl Row {
+    /// The same row again.
+    pub fn copy(&self, alloc: Global) -> Result<Row, OutOfMemory>
+        ensures { IfOk result (λ row. row ≡ self.now) }
+    {
+        Ok(match self {
+            Row::Volume => Row::Volume,
+            Row::Bucket => Row::Bucket,
+            Row::Key { number, pieces } => Row::Key {
+                number: *number,
+                pieces: pieces_again(alloc, pieces)?,
+            },
+            Row::Open { blocks } => Row::Open {
+                blocks: blocks_again(alloc, blocks)?,
+            },
+            Row::Deleted { blocks } => Row::Deleted {
+                blocks: blocks_again(alloc, blocks)?,
+            },
+            Row::Snapshot { name, previous, state } => Row::Snapshot {
+                name: Name::copy(alloc, name.bytes())?,
+                previous: *previous,
+                state: *state,
+            },
+            Row::SnapshotKey { number, pieces } => Row::SnapshotKey {
+                number: *number,
+                pieces: pieces_again(alloc, pieces)?,
+            },
+            Row::Renamed { key } => Row::Renamed {
+                key: Name::copy(alloc, key.bytes())?,
+            },
+            Row::Stripe { number } => Row::Stripe { number: *number },
+        })
+    }
+}
+
+fn pieces_again(alloc: Global, pieces: &List<Piece>) -> Result<List<Piece>, OutOfMemory>
+    ensures { IfOk result (λ again. again ≡ pieces.now) }
+{
+    Ok(List::of(Vec::from_slice(alloc, pieces.items())?))
+}
+
+fn blocks_again(alloc: Global, blocks: &List<Block>) -> Result<List<Block>, OutOfMemory>
+    ensures { IfOk result (λ again. again ≡ blocks.now) }
+{
+    Ok(List::of(Vec::from_slice(alloc, blocks.items())?))
 }
 
 /// Whether a snapshot is there, or was deleted and waits to be worked off.

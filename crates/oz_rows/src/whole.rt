@@ -3,14 +3,14 @@ ghost use Rattle.oz_rows.specs.declared.key.RowKey.{RowKey as AnyKey};
 ghost use Rattle.oz_rows.specs.declared.row.Row.{Row as AnyRow};
 ghost use Rattle.oz_rows.specs.declared.operation.Operations.{Operations as AnyBody};
 ghost use Rattle.oz_rows.specs.Rows.{IsRow};
-ghost use Rattle.oz_rows.specs.Operations.{IsBody};
-ghost use Rattle.oz_rows.specs.Faults.{IsRowFault, IsBodyFault};
+ghost use Rattle.oz_rows.specs.Operations.{IsBody, AreOperations, batch_bytes};
+ghost use Rattle.oz_rows.specs.Faults.{IsRowFault, IsBodyFault, BatchFails, place_in};
 
 use crate::decoding::row_of;
 use crate::fault::{ReadFault, RowFault};
 use crate::key::RowKey;
 use crate::operation::{Operation, Operations};
-use crate::operation_reading::{head_of, operation_of};
+use crate::operation_reading::{LAYOUT, head_of, operation_of};
 use crate::row::Row;
 use oz_fields::List;
 use std::alloc::Global;
@@ -32,7 +32,9 @@ pub fn decode(alloc: Global, bytes: &[u8]) -> Result<(RowKey, Row), RowFault>
     Ok(row)
 }
 
-fn place_of(fault: ReadFault, bytes: &[u8]) -> RowFault {
+fn place_of(fault: ReadFault, bytes: &[u8]) -> RowFault
+    ensures { result ≡ place_in bytes.now fault }
+{
     match fault {
         ReadFault::Left(left) => RowFault::At(bytes.len().saturating_sub(left)),
         ReadFault::OutOfMemory => RowFault::OutOfMemory,
@@ -47,20 +49,31 @@ pub fn operations(alloc: Global, body: &[u8]) -> Result<Operations, RowFault>
     ensures fault { IfErr result (λ fault. IsBodyFault body.now fault) }
 {
     let (index, rest) = match head_of(body) {
-        Ok(found) => found,
+        Ok(head) => head,
         Err(fault) => return Err(place_of(fault, body)),
     };
-    let mut items = List::new(alloc);
-    let mut rest = rest;
+    match batch_of(alloc, rest) {
+        Ok(items) => Ok(Operations {
+            layout: LAYOUT,
+            index,
+            items: List::of(items),
+        }),
+        Err(fault) => Err(place_of(fault, body)),
+    }
+}
+
+/// Operations to the end of the bytes.
+fn batch_of(alloc: Global, bytes: &[u8]) -> Result<Vec<Operation>, ReadFault>
+    ensures { MatchResult result
+        (λ found. AreOperations found.items × (bytes.now ≡ batch_bytes found.items))
+        (λ fault. BatchFails bytes.now fault) }
+{
+    let mut items = Vec::new(alloc);
+    let mut rest = bytes;
     while !rest.is_empty() {
-        let (operation, after) = match operation_of(alloc, rest) {
-            Ok(found) => found,
-            Err(fault) => return Err(place_of(fault, body)),
-        };
-        if items.push(alloc, operation).is_err() {
-            return Err(RowFault::OutOfMemory);
-        }
+        let (operation, after) = operation_of(alloc, rest)?;
+        items.push(operation)?;
         rest = after;
     }
-    Ok(Operations { layout: 1, index, items })
+    Ok(items)
 }

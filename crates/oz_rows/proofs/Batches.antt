@@ -1,19 +1,15 @@
 -- Operations one behind the other, to the end.
-use Rattle.std.proofs.Common.{◌≡◌, ℕ, ◌-◌, ◌<◌, ◌≤◌, List, [], ◌∷◌, ◌++◌, length, Result, Ok, Err, refl, sym, ap, subst, ◌∙◌, append_assoc, arith, inl, inr}
-use Rattle.std.specs.Prelude.{◌⊎◌}
-use Rattle.std.specs.List.{flat_map, AllByRecursion}
+use Rattle.std.proofs.Common.{◌≡◌, ℕ, ◌<◌, ◌≤◌, List, [], ◌∷◌, ◌++◌, length, Result, Ok, Err, refl, sym, ap, ◌∙◌, append_assoc, arith}
 use Rattle.std.proofs.lemmas.List.{append-nil, nil_from_length, length-append}
 use Rattle.std.proofs.lemmas.List.Concat.{flat_map-cons}
 use Rattle.oz_fields.specs.Field.{AreBytes}
 use Rattle.oz_rows.specs.declared.fault.ReadFault.{ReadFault}
 use Rattle.oz_rows.specs.declared.fault.ReadFault.TheVariants as reads
-use Rattle.oz_rows.specs.declared.fault.RowFault.TheVariants as faults
 use Rattle.oz_rows.specs.declared.operation.Operation.{Operation}
-use Rattle.oz_rows.specs.declared.operation.Operations.{Operations}
-use Rattle.oz_rows.specs.Operations.{OperationFits, operation_bytes, AreOperations, batch_bytes, IsIndex, head_bytes, IsBody}
-use Rattle.oz_rows.specs.Reading.{Fails, operation_at, head_at}
-use Rattle.oz_rows.specs.Faults.{place_in, IsLeft, HeadEnds, BatchEnds, OperationEnds, IsBodyFault, BatchFails}
-use Rattle.oz_rows.proofs.OperationReads.{operation_reads, some_bytes, head_reads}
+use Rattle.oz_rows.specs.Operations.{OperationFits, operation_bytes, AreOperations, batch_bytes}
+use Rattle.oz_rows.specs.Reading.{Fails, operation_at}
+use Rattle.oz_rows.specs.Faults.{BatchEnds, BatchFails}
+use Rattle.oz_rows.proofs.OperationReads.{operation_reads, some_bytes}
 
 abbrev Found : Type 0
 Found = Result (Operation × List ℕ) ℕ

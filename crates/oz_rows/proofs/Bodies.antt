@@ -1,14 +1,12 @@
 -- Bodies: a head, and operations to the end.
-use Rattle.std.proofs.Common.{◌≡◌, ℕ, ◌-◌, List, [], ◌∷◌, ◌++◌, length, Result, Ok, Err, refl, sym, ap, ◌∙◌, inl, inr}
-use Rattle.std.specs.Prelude.{◌⊎◌}
-use Rattle.std.proofs.lemmas.List.{append-nil}
+use Rattle.std.proofs.Common.{◌≡◌, ℕ, List, ◌++◌, Result, Ok, refl, sym, ap, ◌∙◌, inl, inr}
 use Rattle.oz_fields.specs.Field.{AreBytes}
 use Rattle.oz_rows.specs.declared.fault.ReadFault.{ReadFault}
 use Rattle.oz_rows.specs.declared.fault.ReadFault.TheVariants as reads
 use Rattle.oz_rows.specs.declared.fault.RowFault.TheVariants as faults
 use Rattle.oz_rows.specs.declared.operation.Operation.{Operation}
 use Rattle.oz_rows.specs.declared.operation.Operations.{Operations}
-use Rattle.oz_rows.specs.Operations.{AreOperations, batch_bytes, IsIndex, head_bytes, IsBody}
+use Rattle.oz_rows.specs.Operations.{AreOperations, batch_bytes, head_bytes, IsBody}
 use Rattle.oz_rows.specs.Reading.{Fails, head_at}
 use Rattle.oz_rows.specs.Faults.{place_in, IsBodyFault, BatchFails}
 use Rattle.oz_rows.proofs.OperationReads.{head_reads}

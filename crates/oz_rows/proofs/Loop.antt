@@ -3,7 +3,7 @@ use Rattle.std.proofs.Common.{◌≡◌, ℕ, suc, ◌-◌, ◌+◌, ◌≤◌, 
 use Rattle.std.proofs.lemmas.List.{append-nil}
 use Rattle.oz_rows.specs.declared.fault.ReadFault.{ReadFault}
 use Rattle.oz_rows.specs.declared.fault.ReadFault.TheVariants as faults
-use Rattle.oz_rows.specs.Reading.{goes_on, ◌>>=◌, done, with_front, items_at, Fails}
+use Rattle.oz_rows.specs.Reading.{goes_on, done, with_front, items_at, Fails}
 
 -- the items that are read behind one more
 abbrev behind : {A : Type 0} → List A → A → Result (List A × List ℕ) ℕ → Result (List A × List ℕ) ℕ

@@ -1,22 +1,21 @@
 -- Rows read as they are spelled.
-use Rattle.std.proofs.Common.{◌≡◌, ℕ, suc, ◌<◌, ◌≤◌, ◌-◌, ◌+◌, ◌^◌, Bool, true, false, cond, eqb, List, [], ◌∷◌, ◌++◌, length, Result, Ok, Err, refl, sym, ap, subst, ◌∙◌, append_assoc, arith}
+use Rattle.std.proofs.Common.{◌≡◌, ℕ, suc, ◌-◌, eqb, List, [], ◌∷◌, ◌++◌, length, Ok, refl, sym, ap, subst, ◌∙◌, append_assoc, arith}
 use Rattle.std.proofs.lemmas.Bool.{eqb-true}
 use Rattle.std.proofs.lemmas.List.{append-nil}
 use Rattle.std.proofs.lemmas.List.Concat.{flat_map-cons}
-use Rattle.std.specs.List.{flat_map, AllByRecursion}
+use Rattle.std.specs.List.{flat_map}
 use Rattle.oz_fields.specs.declared.block.Block.{Block}
 use Rattle.oz_fields.specs.Field.{AreBytes}
-use Rattle.oz_fields.specs.Number.{u8_bytes, u16_bytes, u32_bytes, u64_bytes}
+use Rattle.oz_fields.specs.Number.{u8_bytes, u16_bytes, u64_bytes}
 use Rattle.oz_fields.specs.Text.{text_bytes}
 use Rattle.oz_fields.proofs.Bytes.{AreBytes-behind}
-use Rattle.oz_names.specs.Names.{IsVolumeName, IsKeyName}
 use Rattle.oz_rows.specs.declared.key.RowKey.{RowKey}
 use Rattle.oz_rows.specs.declared.key.RowKey.TheVariants as keys
 use Rattle.oz_rows.specs.declared.row.Row.{Row}
 use Rattle.oz_rows.specs.declared.row.Row.TheVariants as rows
-use Rattle.oz_rows.specs.Rows.{IsNumber, IsOwner, IsBlockNumber, IsBlock, IsPiece, AreItems, BeginsWith, KeyFits, ValueFits, RowFits, list_bytes, block_bytes, piece_bytes, state_number, key_bytes, value_bytes, row_bytes}
-use Rattle.oz_rows.specs.Reading.{block_at, piece_at, items_at, list_at, deleted_blocks_at, done, volume_key_at, bucket_key_at, key_key_at, open_key_at, deleted_key_at, snapshot_at, snapshot_key_at, renamed_key_at, stripe_key_at, key_of_kind_at, key_at, key_value_at, open_value_at, deleted_value_at, snapshot_value_at, snapshot_key_value_at, renamed_value_at, stripe_value_at, value_at, row_at}
-use Rattle.oz_rows.proofs.Grammar.{IsRead, Finds, Backs, finds_done, finds_then, finds_last, finds_either, finds_none, backs_done, backs_then, backs_last, backs_as, is_read}
+use Rattle.oz_rows.specs.Rows.{IsBlock, AreItems, BeginsWith, KeyFits, ValueFits, RowFits, list_bytes, block_bytes, key_bytes, value_bytes, row_bytes}
+use Rattle.oz_rows.specs.Reading.{deleted_blocks_at, done, volume_key_at, bucket_key_at, key_key_at, open_key_at, deleted_key_at, snapshot_at, snapshot_key_at, renamed_key_at, stripe_key_at, key_of_kind_at, key_at, key_value_at, open_value_at, deleted_value_at, snapshot_value_at, snapshot_key_value_at, renamed_value_at, stripe_value_at, value_at, row_at}
+use Rattle.oz_rows.proofs.Grammar.{IsRead, Finds, Backs, finds_done, finds_then, finds_either, finds_none, backs_done, backs_then, backs_as, is_read}
 use Rattle.oz_rows.proofs.FieldReads.{volume_name_reads, key_name_reads, owner_reads, number_reads, block_number_reads, same_local_reads, drawn_reads, stripe_reads, state_reads, count_reads, block_reads, piece_reads, items_reads, list_reads}
 
 -- the blocks of a deleted row
@@ -24,24 +23,24 @@ deleted_finds : (local : ℕ) → Finds (λ blocks. AreItems IsBlock blocks × B
 unfolding deleted_blocks_at
 deleted_finds local =
     finds_then (count_reads 1) (λ count few. finds_then block_number_reads (λ container container-fits. finds_then (same_local_reads local) (λ own own-fits. finds_then (items_reads block_reads (count - 1)) (λ others fits.
-        finds_done ((omega (arith, few.0, few.1, fits.0), ((container-fits, own-fits.0), fits.1)), own-fits.1) (spelled count container own others (omega (arith, few.0, fits.0))))))) where
-  spelled : (count container own : ℕ) (others : List Block) → suc (length others) ≡ count → u16_bytes count ++ u64_bytes container ++ u64_bytes own ++ flat_map block_bytes others ≡ list_bytes block_bytes (record { container = container; local = own } ∷ others)
-  spelled count container own others is =
-      let first : Block = record { container = container; local = own } in
-      let items : flat_map block_bytes (first ∷ others) ≡ block_bytes first ++ flat_map block_bytes others = flat_map-cons block_bytes first others in
-      let regrouped : u16_bytes count ++ u64_bytes container ++ u64_bytes own ++ flat_map block_bytes others ≡ u16_bytes count ++ (block_bytes first ++ flat_map block_bytes others) = simp append_assoc in
-      regrouped ∙ ap (λ (text : List ℕ). u16_bytes count ++ text) (sym items) ∙ ap (λ (n : ℕ). u16_bytes n ++ flat_map block_bytes (first ∷ others)) (sym is)
+    finds_done ((omega (arith, few.0, few.1, fits.0), ((container-fits, own-fits.0), fits.1)), own-fits.1) (spelled count container own others (omega (arith, few.0, fits.0))))))) where
+      spelled : (count container own : ℕ) (others : List Block) → suc (length others) ≡ count → u16_bytes count ++ u64_bytes container ++ u64_bytes own ++ flat_map block_bytes others ≡ list_bytes block_bytes (record { container = container; local = own } ∷ others)
+      spelled count container own others is =
+          let first : Block = record { container = container; local = own } in
+          let items : flat_map block_bytes (first ∷ others) ≡ block_bytes first ++ flat_map block_bytes others = flat_map-cons block_bytes first others in
+          let regrouped : u16_bytes count ++ u64_bytes container ++ u64_bytes own ++ flat_map block_bytes others ≡ u16_bytes count ++ (block_bytes first ++ flat_map block_bytes others) = simp append_assoc in
+          regrouped ∙ ap (λ (text : List ℕ). u16_bytes count ++ text) (sym items) ∙ ap (λ (n : ℕ). u16_bytes n ++ flat_map block_bytes (first ∷ others)) (sym is)
 
 deleted_backs : (local : ℕ) (blocks : List Block) → AreItems IsBlock blocks × BeginsWith local blocks → Backs (deleted_blocks_at local) (list_bytes block_bytes blocks) blocks
 unfolding deleted_blocks_at
 deleted_backs local [] fits = absurd fits.1
 deleted_backs local (first ∷ others) fits =
     backs_as (spelled first others) (backs_then _ (suc (length others)) (count_reads 1) (omega arith, fits.0.0) (backs_then _ first.container block_number_reads fits.0.1.0.0 (backs_then _ first.local (same_local_reads local) (fits.0.1.0.1, fits.1) (backs_then _ others (items_reads block_reads (suc (length others) - 1)) (omega arith, fits.0.1.1) backs_done)))) where
-  spelled : (first : Block) (others : List Block) → u16_bytes (suc (length others)) ++ (u64_bytes first.container ++ (u64_bytes first.local ++ (flat_map block_bytes others ++ []))) ≡ list_bytes block_bytes (first ∷ others)
-  spelled first others =
-      let items : flat_map block_bytes (first ∷ others) ≡ block_bytes first ++ flat_map block_bytes others = flat_map-cons block_bytes first others in
-      let regrouped : u16_bytes (suc (length others)) ++ (u64_bytes first.container ++ (u64_bytes first.local ++ (flat_map block_bytes others ++ []))) ≡ u16_bytes (suc (length others)) ++ (block_bytes first ++ flat_map block_bytes others) = simp (append_assoc, append-nil) in
-      regrouped ∙ ap (λ (text : List ℕ). u16_bytes (suc (length others)) ++ text) (sym items)
+      spelled : (first : Block) (others : List Block) → u16_bytes (suc (length others)) ++ (u64_bytes first.container ++ (u64_bytes first.local ++ (flat_map block_bytes others ++ []))) ≡ list_bytes block_bytes (first ∷ others)
+      spelled first others =
+          let items : flat_map block_bytes (first ∷ others) ≡ block_bytes first ++ flat_map block_bytes others = flat_map-cons block_bytes first others in
+          let regrouped : u16_bytes (suc (length others)) ++ (u64_bytes first.container ++ (u64_bytes first.local ++ (flat_map block_bytes others ++ []))) ≡ u16_bytes (suc (length others)) ++ (block_bytes first ++ flat_map block_bytes others) = simp (append_assoc, append-nil) in
+          regrouped ∙ ap (λ (text : List ℕ). u16_bytes (suc (length others)) ++ text) (sym items)
 
 deleted_blocks_reads : (local : ℕ) → IsRead (λ blocks. AreItems IsBlock blocks × BeginsWith local blocks) (list_bytes block_bytes) (deleted_blocks_at local)
 deleted_blocks_reads local = is_read (deleted_finds local) (deleted_backs local)

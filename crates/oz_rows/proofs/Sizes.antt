@@ -1,11 +1,11 @@
 -- How long rows and operations are at most.
-use Rattle.std.proofs.Common.{◌≡◌, ℕ, ◌<◌, ◌≤◌, ◌+◌, ◌*◌, ◌^◌, List, [], ◌∷◌, ◌++◌, length, refl, arith}
+use Rattle.std.proofs.Common.{◌≡◌, ℕ, ◌<◌, ◌≤◌, ◌+◌, ◌*◌, ◌^◌, List, [], ◌∷◌, ◌++◌, length, refl, ap, arith}
 use Rattle.std.specs.List.{flat_map, AllByRecursion}
 use Rattle.std.proofs.lemmas.List.{length-append}
 use Rattle.std.proofs.lemmas.List.Concat.{flat_map-cons}
 use Rattle.oz_fields.specs.declared.block.Block.{Block}
 use Rattle.oz_fields.specs.declared.block.Piece.{Piece}
-use Rattle.oz_fields.specs.Number.{u8_bytes, u16_bytes, u32_bytes, u64_bytes}
+use Rattle.oz_fields.specs.Number.{u16_bytes, u32_bytes, u64_bytes}
 use Rattle.oz_fields.specs.Text.{text_bytes}
 use Rattle.oz_rows.specs.declared.key.RowKey.{RowKey}
 use Rattle.oz_rows.specs.declared.key.RowKey.TheVariants as keys
@@ -13,7 +13,7 @@ use Rattle.oz_rows.specs.declared.row.Row.{Row}
 use Rattle.oz_rows.specs.declared.row.Row.TheVariants as rows
 use Rattle.oz_rows.specs.declared.operation.Operation.{Operation}
 use Rattle.oz_rows.specs.declared.operation.Operation.TheVariants.{Put, Remove, CopyKeys, MoveDeleted, DropKeys, DropOpen}
-use Rattle.oz_rows.specs.Rows.{KeyFits, ValueFits, RowFits, list_bytes, block_bytes, piece_bytes, key_bytes, value_bytes, row_bytes}
+use Rattle.oz_rows.specs.Rows.{KeyFits, ValueFits, list_bytes, block_bytes, piece_bytes, key_bytes, value_bytes}
 use Rattle.oz_rows.specs.Operations.{OperationFits, operation_bytes}
 
 length-u16 : (n : ℕ) → length (u16_bytes n) ≡ 2
@@ -48,9 +48,9 @@ length-list item_bytes most items each =
     omega (arith, length-append (u16_bytes (length items)) (flat_map item_bytes items), length-u16 (length items), length-items item_bytes most items each)
 
 pub key_size : (key : RowKey) → KeyFits key → length (key_bytes key) ≤ 1173
-key_size (keys.Volume volume) fits = let a = fits.short_enough in simp (length-append, length-text, length-u64) (omega arith)
-key_size (keys.Bucket volume bucket) fits = let a = fits.0.short_enough in let b = fits.1.short_enough in simp (length-append, length-text, length-u64) (omega arith)
-key_size (keys.Key volume bucket key) fits = let a = fits.0.short_enough in let b = fits.1.short_enough in let k = fits.2.short_enough in simp (length-append, length-text, length-u64) (omega arith)
+key_size (keys.Volume volume) fits = let a = fits.short_enough in simp length-text (omega arith)
+key_size (keys.Bucket volume bucket) fits = let a = fits.0.short_enough in let b = fits.1.short_enough in simp (length-append, length-text) (omega arith)
+key_size (keys.Key volume bucket key) fits = let a = fits.0.short_enough in let b = fits.1.short_enough in let k = fits.2.short_enough in simp (length-append, length-text) (omega arith)
 key_size (keys.Open volume bucket key number) fits = let a = fits.0.short_enough in let b = fits.1.short_enough in let k = fits.2.short_enough in simp (length-append, length-text, length-u64) (omega arith)
 key_size (keys.Deleted volume bucket owner key local) fits = let a = fits.0.short_enough in let b = fits.1.short_enough in let k = fits.3.short_enough in simp (length-append, length-text, length-u64) (omega arith)
 key_size (keys.Snapshot volume bucket number) fits = let a = fits.0.short_enough in let b = fits.1.short_enough in simp (length-append, length-text, length-u64) (omega arith)
@@ -86,7 +86,7 @@ operation_size (Remove key) fits = omega (arith, key_size key fits)
 operation_size (CopyKeys volume bucket number) fits = let a = fits.0.short_enough in let b = fits.1.short_enough in simp (length-append, length-text, length-u64) (omega arith)
 operation_size (MoveDeleted volume bucket from to) fits = let a = fits.0.short_enough in let b = fits.1.short_enough in simp (length-append, length-text, length-u64) (omega arith)
 operation_size (DropKeys volume bucket number) fits = let a = fits.0.short_enough in let b = fits.1.short_enough in simp (length-append, length-text, length-u64) (omega arith)
-operation_size (DropOpen volume bucket) fits = let a = fits.0.short_enough in let b = fits.1.short_enough in simp (length-append, length-text, length-u64) (omega arith)
+operation_size (DropOpen volume bucket) fits = let a = fits.0.short_enough in let b = fits.1.short_enough in simp (length-append, length-text) (omega arith)
 
 abbrev pub removal : RowKey → List ℕ
 removal key = 2 ∷ key_bytes key
@@ -94,7 +94,7 @@ removal key = 2 ∷ key_bytes key
 removals_size : (rows : List RowKey) → AllByRecursion KeyFits rows → length (flat_map removal rows) ≤ length rows * 1174
 removals_size [] fits = omega arith
 removals_size (key ∷ rows) fits =
-    rw (flat_map-cons removal key rows) (omega (arith, length-append (removal key) (flat_map removal rows), key_size key fits.0, removals_size rows fits.1))
+    omega (arith, ap length (flat_map-cons removal key rows), length-append (removal key) (flat_map removal rows), key_size key fits.0, removals_size rows fits.1)
 
 pub purge_size : (rows : List RowKey) → AllByRecursion KeyFits rows → length rows ≤ 1024 → length (flat_map removal rows) < 2 ^ 21
 purge_size rows fits few = omega (arith, removals_size rows fits)

@@ -1,14 +1,13 @@
 -- Bytes that are one row, and those that aren't.
-use Rattle.std.proofs.Common.{◌≡◌, ℕ, ◌-◌, ◌≤◌, List, [], ◌∷◌, ◌++◌, length, Result, Ok, Err, refl, sym, ap, subst, ◌∙◌, arith}
+use Rattle.std.proofs.Common.{◌≡◌, ℕ, ◌-◌, ◌≤◌, List, [], ◌++◌, length, Result, Ok, refl, sym, ap, subst, ◌∙◌}
 use Rattle.std.proofs.lemmas.List.{append-nil, nil_from_length}
 use Rattle.oz_fields.specs.Field.{AreBytes}
 use Rattle.oz_rows.specs.declared.fault.ReadFault.{ReadFault}
 use Rattle.oz_rows.specs.declared.fault.ReadFault.TheVariants as reads
-use Rattle.oz_rows.specs.declared.fault.RowFault.{RowFault}
 use Rattle.oz_rows.specs.declared.fault.RowFault.TheVariants as faults
 use Rattle.oz_rows.specs.declared.key.RowKey.{RowKey}
 use Rattle.oz_rows.specs.declared.row.Row.{Row}
-use Rattle.oz_rows.specs.Rows.{RowFits, row_bytes, IsRow}
+use Rattle.oz_rows.specs.Rows.{row_bytes, IsRow}
 use Rattle.oz_rows.specs.Reading.{Fails, row_at}
 use Rattle.oz_rows.specs.Faults.{place_in, RowEnds, IsRowFault}
 use Rattle.oz_rows.proofs.RowReads.{row_reads}

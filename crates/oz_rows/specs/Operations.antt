@@ -1,5 +1,5 @@
 -- The operations of a body: their rules, and the one spelling of each.
-use Rattle.std.specs.Prelude.{◌≡◌, ℕ, ◌<◌, ◌≤◌, ◌^◌, List, [], ◌∷◌, ◌++◌}
+use Rattle.std.specs.Prelude.{◌≡◌, ℕ, ◌<◌, ◌≤◌, ◌^◌, List, ◌++◌}
 use Rattle.std.specs.List.{flat_map, AllByRecursion}
 use Rattle.oz_fields.specs.Number.{u8_bytes, u64_bytes}
 use Rattle.oz_fields.specs.Text.{text_bytes}

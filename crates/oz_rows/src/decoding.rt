@@ -5,7 +5,10 @@ ghost use Rattle.oz_rows.specs.Reading.{Gives, with_front, items_at, list_at, bl
 
 use crate::fault::ReadFault;
 use crate::key::RowKey;
-use crate::reading::{block_number_of, block_of, count_of, drawn_of, key_name_of, number_of, owner_of, piece_of, same_local_of, state_of, stripe_number_of, volume_name_of};
+use crate::reading::{
+    block_number_of, block_of, count_of, drawn_of, key_name_of, number_of, owner_of, piece_of,
+    same_local_of, state_of, stripe_number_of, volume_name_of,
+};
 use crate::row::Row;
 use oz_fields::{Block, List, Piece};
 use std::alloc::Global;
@@ -66,7 +69,14 @@ fn key_key_of(alloc: Global, bytes: &[u8]) -> Result<(RowKey, &[u8]), ReadFault>
     let (volume, rest) = volume_name_of(alloc, bytes)?;
     let (bucket, rest) = volume_name_of(alloc, rest)?;
     let (key, rest) = key_name_of(alloc, rest)?;
-    Ok((RowKey::Key { volume, bucket, key }, rest))
+    Ok((
+        RowKey::Key {
+            volume,
+            bucket,
+            key,
+        },
+        rest,
+    ))
 }
 
 #[tactic(auto, unfolding(crate::specs::Reading::open_key_at))]
@@ -77,7 +87,15 @@ fn open_key_of(alloc: Global, bytes: &[u8]) -> Result<(RowKey, &[u8]), ReadFault
     let (bucket, rest) = volume_name_of(alloc, rest)?;
     let (key, rest) = key_name_of(alloc, rest)?;
     let (number, rest) = number_of(rest)?;
-    Ok((RowKey::Open { volume, bucket, key, number }, rest))
+    Ok((
+        RowKey::Open {
+            volume,
+            bucket,
+            key,
+            number,
+        },
+        rest,
+    ))
 }
 
 #[tactic(auto, unfolding(crate::specs::Reading::deleted_key_at))]
@@ -89,7 +107,16 @@ fn deleted_key_of(alloc: Global, bytes: &[u8]) -> Result<(RowKey, &[u8]), ReadFa
     let (owner, rest) = owner_of(rest)?;
     let (key, rest) = key_name_of(alloc, rest)?;
     let (local, rest) = block_number_of(rest)?;
-    Ok((RowKey::Deleted { volume, bucket, owner, key, local }, rest))
+    Ok((
+        RowKey::Deleted {
+            volume,
+            bucket,
+            owner,
+            key,
+            local,
+        },
+        rest,
+    ))
 }
 
 #[tactic(auto, unfolding(crate::specs::Reading::snapshot_at))]
@@ -99,7 +126,14 @@ fn snapshot_of(alloc: Global, bytes: &[u8]) -> Result<(RowKey, &[u8]), ReadFault
     let (volume, rest) = volume_name_of(alloc, bytes)?;
     let (bucket, rest) = volume_name_of(alloc, rest)?;
     let (number, rest) = number_of(rest)?;
-    Ok((RowKey::Snapshot { volume, bucket, number }, rest))
+    Ok((
+        RowKey::Snapshot {
+            volume,
+            bucket,
+            number,
+        },
+        rest,
+    ))
 }
 
 #[tactic(auto, unfolding(crate::specs::Reading::snapshot_key_at))]
@@ -110,7 +144,15 @@ fn snapshot_key_of(alloc: Global, bytes: &[u8]) -> Result<(RowKey, &[u8]), ReadF
     let (bucket, rest) = volume_name_of(alloc, rest)?;
     let (snapshot, rest) = number_of(rest)?;
     let (key, rest) = key_name_of(alloc, rest)?;
-    Ok((RowKey::SnapshotKey { volume, bucket, snapshot, key }, rest))
+    Ok((
+        RowKey::SnapshotKey {
+            volume,
+            bucket,
+            snapshot,
+            key,
+        },
+        rest,
+    ))
 }
 
 #[tactic(auto, unfolding(crate::specs::Reading::renamed_key_at))]
@@ -121,7 +163,15 @@ fn renamed_key_of(alloc: Global, bytes: &[u8]) -> Result<(RowKey, &[u8]), ReadFa
     let (bucket, rest) = volume_name_of(alloc, rest)?;
     let (owner, rest) = owner_of(rest)?;
     let (local, rest) = block_number_of(rest)?;
-    Ok((RowKey::Renamed { volume, bucket, owner, local }, rest))
+    Ok((
+        RowKey::Renamed {
+            volume,
+            bucket,
+            owner,
+            local,
+        },
+        rest,
+    ))
 }
 
 #[tactic(auto, unfolding(crate::specs::Reading::stripe_key_at))]
@@ -174,7 +224,14 @@ fn snapshot_value_of(alloc: Global, bytes: &[u8]) -> Result<(Row, &[u8]), ReadFa
     let (name, rest) = volume_name_of(alloc, bytes)?;
     let (previous, rest) = owner_of(rest)?;
     let (state, rest) = state_of(rest)?;
-    Ok((Row::Snapshot { name, previous, state }, rest))
+    Ok((
+        Row::Snapshot {
+            name,
+            previous,
+            state,
+        },
+        rest,
+    ))
 }
 
 #[tactic(auto, unfolding(crate::specs::Reading::snapshot_key_value_at))]
@@ -243,7 +300,11 @@ fn blocks_of(alloc: Global, bytes: &[u8]) -> Result<(List<Block>, &[u8]), ReadFa
 
 /// At least one block, and the first has this local id.
 #[tactic(auto, unfolding(crate::specs::Reading::deleted_blocks_at))]
-fn deleted_blocks_of(alloc: Global, local: u64, bytes: &[u8]) -> Result<(List<Block>, &[u8]), ReadFault>
+fn deleted_blocks_of(
+    alloc: Global,
+    local: u64,
+    bytes: &[u8],
+) -> Result<(List<Block>, &[u8]), ReadFault>
     ensures { Gives (λ x. (x.0, x.1.now)) result (deleted_blocks_at local bytes.now) }
 {
     let (count, rest) = count_of(1, bytes)?;
@@ -256,7 +317,11 @@ fn deleted_blocks_of(alloc: Global, local: u64, bytes: &[u8]) -> Result<(List<Bl
 }
 
 /// So many more blocks behind those that are given.
-fn more_blocks(before: Vec<Block>, count: u16, bytes: &[u8]) -> Result<(Vec<Block>, &[u8]), ReadFault>
+fn more_blocks(
+    before: Vec<Block>,
+    count: u16,
+    bytes: &[u8],
+) -> Result<(Vec<Block>, &[u8]), ReadFault>
     ensures { Gives (λ x. (x.0.items, x.1.now)) result (with_front before.items (items_at block_at count) bytes.now) }
 {
     let mut gathered = before;
@@ -268,4 +333,3 @@ fn more_blocks(before: Vec<Block>, count: u16, bytes: &[u8]) -> Result<(Vec<Bloc
     }
     Ok((gathered, rest))
 }
-

@@ -54,7 +54,11 @@ pub fn put_removal(alloc: Global, out: &mut Vec<u8>, key: &RowKey) -> Result<(),
 }
 
 /// Puts an operation behind a batch.
-pub fn put_operation(alloc: Global, out: &mut Vec<u8>, operation: &Operation) -> Result<(), OutOfMemory>
+pub fn put_operation(
+    alloc: Global,
+    out: &mut Vec<u8>,
+    operation: &Operation,
+) -> Result<(), OutOfMemory>
     requires { OperationFits operation.now }
     ensures ok { OnOk result (out.new.items ≡ out.old.items ++ operation_bytes operation.now) }
     ensures err { OnErr result (out.new.items ≡ out.old.items) }
@@ -106,18 +110,31 @@ fn spelled(alloc: Global, operation: &Operation) -> Result<Vec<u8>, OutOfMemory>
     match operation {
         Operation::Put { key, row } => return row_put(alloc, key, row),
         Operation::Remove { key } => return key_removed(alloc, key),
-        Operation::CopyKeys { volume, bucket, number } => {
+        Operation::CopyKeys {
+            volume,
+            bucket,
+            number,
+        } => {
             put_u8(alloc, &mut out, COPY_KEYS)?;
             put_path(alloc, &mut out, volume, bucket)?;
             put_u64(alloc, &mut out, *number)?;
         }
-        Operation::MoveDeleted { volume, bucket, from, to } => {
+        Operation::MoveDeleted {
+            volume,
+            bucket,
+            from,
+            to,
+        } => {
             put_u8(alloc, &mut out, MOVE_DELETED)?;
             put_path(alloc, &mut out, volume, bucket)?;
             put_u64(alloc, &mut out, *from)?;
             put_u64(alloc, &mut out, *to)?;
         }
-        Operation::DropKeys { volume, bucket, number } => {
+        Operation::DropKeys {
+            volume,
+            bucket,
+            number,
+        } => {
             put_u8(alloc, &mut out, DROP_KEYS)?;
             put_path(alloc, &mut out, volume, bucket)?;
             put_u64(alloc, &mut out, *number)?;

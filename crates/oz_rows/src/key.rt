@@ -91,44 +91,71 @@ impl RowKey {
                 volume: Name::copy(alloc, volume.bytes())?,
                 bucket: Name::copy(alloc, bucket.bytes())?,
             },
-            RowKey::Key { volume, bucket, key } => RowKey::Key {
+            RowKey::Key {
+                volume,
+                bucket,
+                key,
+            } => RowKey::Key {
                 volume: Name::copy(alloc, volume.bytes())?,
                 bucket: Name::copy(alloc, bucket.bytes())?,
                 key: Name::copy(alloc, key.bytes())?,
             },
-            RowKey::Open { volume, bucket, key, number } => RowKey::Open {
+            RowKey::Open {
+                volume,
+                bucket,
+                key,
+                number,
+            } => RowKey::Open {
                 volume: Name::copy(alloc, volume.bytes())?,
                 bucket: Name::copy(alloc, bucket.bytes())?,
                 key: Name::copy(alloc, key.bytes())?,
                 number: *number,
             },
-            RowKey::Deleted { volume, bucket, owner, key, local } => RowKey::Deleted {
+            RowKey::Deleted {
+                volume,
+                bucket,
+                owner,
+                key,
+                local,
+            } => RowKey::Deleted {
                 volume: Name::copy(alloc, volume.bytes())?,
                 bucket: Name::copy(alloc, bucket.bytes())?,
                 owner: *owner,
                 key: Name::copy(alloc, key.bytes())?,
                 local: *local,
             },
-            RowKey::Snapshot { volume, bucket, number } => RowKey::Snapshot {
+            RowKey::Snapshot {
+                volume,
+                bucket,
+                number,
+            } => RowKey::Snapshot {
                 volume: Name::copy(alloc, volume.bytes())?,
                 bucket: Name::copy(alloc, bucket.bytes())?,
                 number: *number,
             },
-            RowKey::SnapshotKey { volume, bucket, snapshot, key } => RowKey::SnapshotKey {
+            RowKey::SnapshotKey {
+                volume,
+                bucket,
+                snapshot,
+                key,
+            } => RowKey::SnapshotKey {
                 volume: Name::copy(alloc, volume.bytes())?,
                 bucket: Name::copy(alloc, bucket.bytes())?,
                 snapshot: *snapshot,
                 key: Name::copy(alloc, key.bytes())?,
             },
-            RowKey::Renamed { volume, bucket, owner, local } => RowKey::Renamed {
+            RowKey::Renamed {
+                volume,
+                bucket,
+                owner,
+                local,
+            } => RowKey::Renamed {
                 volume: Name::copy(alloc, volume.bytes())?,
                 bucket: Name::copy(alloc, bucket.bytes())?,
                 owner: *owner,
                 local: *local,
             },
-            RowKey::Stripe { stripe } => RowKey::Stripe {
-                stripe: *stripe,
-            },
+            RowKey::Stripe { stripe } => RowKey::Stripe { stripe: *stripe },
         })
     }
 }

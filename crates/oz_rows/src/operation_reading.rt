@@ -57,7 +57,14 @@ fn copy_keys_of(alloc: Global, bytes: &[u8]) -> Result<(Operation, &[u8]), ReadF
     let (volume, rest) = volume_name_of(alloc, bytes)?;
     let (bucket, rest) = volume_name_of(alloc, rest)?;
     let (number, rest) = number_of(rest)?;
-    Ok((Operation::CopyKeys { volume, bucket, number }, rest))
+    Ok((
+        Operation::CopyKeys {
+            volume,
+            bucket,
+            number,
+        },
+        rest,
+    ))
 }
 
 #[tactic(auto, unfolding(crate::specs::Reading::move_deleted_at))]
@@ -68,7 +75,15 @@ fn move_deleted_of(alloc: Global, bytes: &[u8]) -> Result<(Operation, &[u8]), Re
     let (bucket, rest) = volume_name_of(alloc, rest)?;
     let (from, rest) = owner_of(rest)?;
     let (to, rest) = owner_of(rest)?;
-    Ok((Operation::MoveDeleted { volume, bucket, from, to }, rest))
+    Ok((
+        Operation::MoveDeleted {
+            volume,
+            bucket,
+            from,
+            to,
+        },
+        rest,
+    ))
 }
 
 #[tactic(auto, unfolding(crate::specs::Reading::drop_keys_at))]
@@ -78,7 +93,14 @@ fn drop_keys_of(alloc: Global, bytes: &[u8]) -> Result<(Operation, &[u8]), ReadF
     let (volume, rest) = volume_name_of(alloc, bytes)?;
     let (bucket, rest) = volume_name_of(alloc, rest)?;
     let (number, rest) = number_of(rest)?;
-    Ok((Operation::DropKeys { volume, bucket, number }, rest))
+    Ok((
+        Operation::DropKeys {
+            volume,
+            bucket,
+            number,
+        },
+        rest,
+    ))
 }
 
 #[tactic(auto, unfolding(crate::specs::Reading::drop_open_at))]

@@ -58,7 +58,11 @@ impl Row {
             Row::Deleted { blocks } => Row::Deleted {
                 blocks: blocks_again(alloc, blocks)?,
             },
-            Row::Snapshot { name, previous, state } => Row::Snapshot {
+            Row::Snapshot {
+                name,
+                previous,
+                state,
+            } => Row::Snapshot {
                 name: Name::copy(alloc, name.bytes())?,
                 previous: *previous,
                 state: *state,

@@ -7,7 +7,9 @@ ghost use Rattle.oz_rows.specs.Rows.{KeyFits, ValueFits, key_bytes, value_bytes,
 
 use crate::key::RowKey;
 use crate::row::Row;
-use oz_fields::{Block, List, Name, OutOfMemory, Piece, put_text, put_u8, put_u16, put_u32, put_u64};
+use oz_fields::{
+    Block, List, Name, OutOfMemory, Piece, put_text, put_u8, put_u16, put_u32, put_u64,
+};
 use std::alloc::Global;
 
 pub(crate) fn put_key(alloc: Global, out: &mut Vec<u8>, key: &RowKey) -> Result<(), OutOfMemory>
@@ -18,31 +20,60 @@ pub(crate) fn put_key(alloc: Global, out: &mut Vec<u8>, key: &RowKey) -> Result<
     match key {
         RowKey::Volume { volume } => put_text(alloc, out, volume.bytes()),
         RowKey::Bucket { volume, bucket } => put_path(alloc, out, volume, bucket),
-        RowKey::Key { volume, bucket, key } => {
+        RowKey::Key {
+            volume,
+            bucket,
+            key,
+        } => {
             put_path(alloc, out, volume, bucket)?;
             put_text(alloc, out, key.bytes())
         }
-        RowKey::Open { volume, bucket, key, number } => {
+        RowKey::Open {
+            volume,
+            bucket,
+            key,
+            number,
+        } => {
             put_path(alloc, out, volume, bucket)?;
             put_text(alloc, out, key.bytes())?;
             put_u64(alloc, out, *number)
         }
-        RowKey::Deleted { volume, bucket, owner, key, local } => {
+        RowKey::Deleted {
+            volume,
+            bucket,
+            owner,
+            key,
+            local,
+        } => {
             put_path(alloc, out, volume, bucket)?;
             put_u64(alloc, out, *owner)?;
             put_text(alloc, out, key.bytes())?;
             put_u64(alloc, out, *local)
         }
-        RowKey::Snapshot { volume, bucket, number } => {
+        RowKey::Snapshot {
+            volume,
+            bucket,
+            number,
+        } => {
             put_path(alloc, out, volume, bucket)?;
             put_u64(alloc, out, *number)
         }
-        RowKey::SnapshotKey { volume, bucket, snapshot, key } => {
+        RowKey::SnapshotKey {
+            volume,
+            bucket,
+            snapshot,
+            key,
+        } => {
             put_path(alloc, out, volume, bucket)?;
             put_u64(alloc, out, *snapshot)?;
             put_text(alloc, out, key.bytes())
         }
-        RowKey::Renamed { volume, bucket, owner, local } => {
+        RowKey::Renamed {
+            volume,
+            bucket,
+            owner,
+            local,
+        } => {
             put_path(alloc, out, volume, bucket)?;
             put_u64(alloc, out, *owner)?;
             put_u64(alloc, out, *local)
@@ -52,7 +83,12 @@ pub(crate) fn put_key(alloc: Global, out: &mut Vec<u8>, key: &RowKey) -> Result<
 }
 
 /// The names of a volume and of one of its buckets.
-pub(crate) fn put_path(alloc: Global, out: &mut Vec<u8>, volume: &Name, bucket: &Name) -> Result<(), OutOfMemory>
+pub(crate) fn put_path(
+    alloc: Global,
+    out: &mut Vec<u8>,
+    volume: &Name,
+    bucket: &Name,
+) -> Result<(), OutOfMemory>
     requires volume { IsVolumeName volume.now }
     requires bucket { IsBucketName bucket.now }
     ensures { OnOk result (out.new.items ≡ out.old.items ++ text_bytes volume.now ++ text_bytes bucket.now) }
@@ -62,7 +98,12 @@ pub(crate) fn put_path(alloc: Global, out: &mut Vec<u8>, volume: &Name, bucket: 
 }
 
 /// The value fields of a row of this key.
-pub(crate) fn put_value(alloc: Global, out: &mut Vec<u8>, key: &RowKey, row: &Row) -> Result<(), OutOfMemory>
+pub(crate) fn put_value(
+    alloc: Global,
+    out: &mut Vec<u8>,
+    key: &RowKey,
+    row: &Row,
+) -> Result<(), OutOfMemory>
     requires { ValueFits key.now row.now }
     ensures { OnOk result (out.new.items ≡ out.old.items ++ value_bytes row.now) }
 {
@@ -73,7 +114,11 @@ pub(crate) fn put_value(alloc: Global, out: &mut Vec<u8>, key: &RowKey, row: &Ro
             put_pieces(alloc, out, pieces)
         }
         Row::Open { blocks } | Row::Deleted { blocks } => put_blocks(alloc, out, blocks),
-        Row::Snapshot { name, previous, state } => {
+        Row::Snapshot {
+            name,
+            previous,
+            state,
+        } => {
             put_text(alloc, out, name.bytes())?;
             put_u64(alloc, out, *previous)?;
             put_u8(alloc, out, *state as u8)

@@ -1,4 +1,3 @@
-use Rattle.std.proofs.Common.{◌≡◌, ◌++◌, ◌∷◌, []}
 use Rattle.std.proofs.lemmas.Result.{err_from_is_err_and}
 use Rattle.oz_rows.specs.Reading.{with_front, items_at, block_at}
 use Rattle.oz_rows.proofs.Loop.{one_more, stops, is_done}

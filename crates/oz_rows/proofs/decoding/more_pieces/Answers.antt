@@ -1,6 +1,5 @@
-use Rattle.std.proofs.Common.{◌≡◌, ◌++◌, ◌∷◌, []}
 use Rattle.std.proofs.lemmas.Result.{err_from_is_err_and}
-use Rattle.oz_rows.specs.Reading.{with_front, items_at, piece_at}
+use Rattle.oz_rows.specs.Reading.{items_at, piece_at}
 use Rattle.oz_rows.proofs.Loop.{one_more, stops, is_done}
 use Rattle.oz_rows.proofs.decoding.more_pieces.Goals as goal
 

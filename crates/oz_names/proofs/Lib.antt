@@ -1,0 +1,2 @@
+pub mod NameRules
+pub mod NameTests

@@ -1,0 +1,8 @@
+use Rattle.oz_rows.proofs.Sizes.{operation_size, purge_size}
+use Rattle.oz_rows.proofs.laws.longest_batch.Goals as goal
+
+pub returns-clause-operation : goal.returns-clause-operation
+returns-clause-operation c = operation_size
+
+pub returns-clause-removals : goal.returns-clause-removals
+returns-clause-removals c = purge_size

@@ -1,0 +1,5 @@
+pub mod Rows
+pub mod Operations
+pub mod Reading
+pub mod Faults
+pub mod Order

@@ -1,0 +1,41 @@
+//! What holds of all rows and operations.
+
+ghost use Rattle.std.specs.Prelude.{◌≡◌, ◌≤◌, ◌<◌, ◌^◌, ◌∷◌, ◌++◌, ℕ, List, length};
+ghost use Rattle.std.specs.List.{flat_map, AllByRecursion};
+ghost use Rattle.oz_rows.specs.declared.key.RowKey.{RowKey as AnyKey};
+ghost use Rattle.oz_rows.specs.declared.row.Row.{Row as AnyRow};
+ghost use Rattle.oz_rows.specs.declared.operation.Operation.{Operation as AnyOperation};
+ghost use Rattle.oz_rows.specs.Rows.{KeyFits, RowFits, key_bytes, row_bytes};
+ghost use Rattle.oz_rows.specs.Operations.{OperationFits, operation_bytes};
+ghost use Rattle.oz_rows.specs.Order.{key_order};
+
+use crate::key::RowKey;
+
+/// No two rows have one spelling, and no spelling of a row begins that of another.
+pub fn one_row_for_a_spelling()
+    ensures { (key other : AnyKey) (row value : AnyRow) (rest left : List ℕ)
+        → RowFits key row → RowFits other value
+        → row_bytes key row ++ rest ≡ row_bytes other value ++ left
+        → (key ≡ other) × (row ≡ value) × (rest ≡ left) }
+{}
+
+/// No two operations have one spelling, and no spelling of an operation begins that of another.
+pub fn one_operation_for_a_spelling()
+    ensures { (operation other : AnyOperation) (rest left : List ℕ)
+        → OperationFits operation → OperationFits other
+        → operation_bytes operation ++ rest ≡ operation_bytes other ++ left
+        → (operation ≡ other) × (rest ≡ left) }
+{}
+
+/// An operation has at most 6,304 bytes, and the removals of 1,024 rows are below 2 MiB.
+pub fn longest_batch()
+    ensures operation { (operation : AnyOperation) → OperationFits operation
+        → length (operation_bytes operation) ≤ 6304 }
+    ensures removals { (rows : List AnyKey) → AllByRecursion KeyFits rows → length rows ≤ 1024
+        → length (flat_map (λ key. 2 ∷ key_bytes key) rows) < 2 ^ 21 }
+{}
+
+/// Row keys are in the order that the tables keep.
+pub fn keys_are_in_order()
+    ensures { (a b : AnyKey) → ⟦<RowKey as Ord>⟧.cmp a b ≡ key_order a b }
+{}

@@ -1,0 +1,24 @@
+//! The rows of the manager, the operations that change them, and how both stand in bytes.
+#![tactic(auto)]
+
+mod decoding;
+mod encoding;
+mod fault;
+mod key;
+mod laws;
+mod operation;
+mod operation_reading;
+mod reading;
+mod row;
+mod whole;
+mod writing;
+
+pub use encoding::{encode, put_head, put_operation, put_removal, put_row};
+pub use fault::RowFault;
+pub use key::RowKey;
+pub use laws::{
+    keys_are_in_order, longest_batch, one_operation_for_a_spelling, one_row_for_a_spelling,
+};
+pub use operation::{Change, Operation, Operations};
+pub use row::{Row, SnapshotState};
+pub use whole::{decode, operations};

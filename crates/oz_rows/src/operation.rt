@@ -1,0 +1,57 @@
+use crate::key::RowKey;
+use crate::row::Row;
+use oz_fields::{List, Name};
+
+/// A change of the manager's rows, as its journal keeps it.
+#[derive(Debug, Drop, PartialEq, Eq)]
+pub enum Operation {
+    /// The row has this value.
+    Put {
+        key: RowKey,
+        row: Row,
+    },
+    /// The row, which is there, is gone.
+    Remove {
+        key: RowKey,
+    },
+    /// Each key row of the bucket becomes a key row of the snapshot with this number.
+    CopyKeys {
+        volume: Name,
+        bucket: Name,
+        number: u64,
+    },
+    /// The bucket's deleted and renamed rows of one owner get another owner, 0 for the bucket itself.
+    MoveDeleted {
+        volume: Name,
+        bucket: Name,
+        from: u64,
+        to: u64,
+    },
+    /// The key rows of the snapshot with this number are gone.
+    DropKeys {
+        volume: Name,
+        bucket: Name,
+        number: u64,
+    },
+    /// Each open row of the bucket is gone, and its blocks that no key has become deleted rows.
+    DropOpen {
+        volume: Name,
+        bucket: Name,
+    },
+}
+
+/// A body of the manager's journal: its layout, the last transaction index that it reaches, and the
+/// operations up to there.
+#[derive(Debug, Drop, PartialEq, Eq)]
+pub struct Operations {
+    pub layout: u8,
+    pub index: u64,
+    pub items: List<Operation>,
+}
+
+/// What becomes of one row: its new value, or none where the row is gone.
+#[derive(Debug, Drop, PartialEq, Eq)]
+pub struct Change {
+    pub key: RowKey,
+    pub row: Option<Row>,
+}

@@ -11,7 +11,7 @@ use Rattle.oz_cluster.specs.declared.requests.Answer.{Answer}
 use Rattle.oz_cluster.specs.declared.requests.Reply.{Reply}
 use Rattle.oz_cluster.specs.declared.requests.Request.{Request}
 use Rattle.oz_cluster.specs.Answers.{after}
-use Rattle.oz_cluster.specs.Names.{IsVolumeName}
+use Rattle.oz_names.specs.Names.{IsVolumeName}
 use Rattle.oz_cluster.specs.Namespace.{Volumes, nothing, with_volume}
 use Rattle.oz_cluster.specs.Opens.{Opens, OpensFrom, StandsAs}
 use Rattle.oz_cluster.specs.Quiet.{IsHeld, IsLoaded}

@@ -1,12 +1,7 @@
 -- What loading leads to, a body further on.
-use Rattle.std.proofs.Common.{append-nil, ◌==◌, ◌&&◌, if◌then◌else◌, ◌^◌, ◌++◌, ◌≡◌, inl, IfSome, Option, None, ℕ, ◌+◌, ◌<◌, zero, suc, List, [], ◌∷◌, length, get_or, drop, Some, refl, sym, ◌∙◌, ap, subst, arith, slice_get}
-use Rattle.oz_fields.specs.Field.{◌>>=◌}
-use Rattle.oz_fields.specs.Number.{u64_bytes, u8_at, u64_at}
-use Rattle.oz_fields.specs.Text.{text_bytes, text_at}
-use Rattle.oz_fields.proofs.Numbers.{u8_field, u64_field}
-use Rattle.oz_fields.proofs.Texts.{text_field}
-use Rattle.oz_cluster.specs.Names.{IsVolumeName}
-use Rattle.oz_cluster.specs.Rows.{put_volume, body_bytes, body_at}
+use Rattle.std.proofs.Common.{◌^◌, ◌++◌, ◌≡◌, inl, IfSome, Option, None, ℕ, ◌+◌, ◌<◌, zero, suc, List, [], ◌∷◌, length, get_or, drop, Some, refl, sym, ◌∙◌, ap, subst, arith, slice_get}
+use Rattle.oz_names.specs.Names.{IsVolumeName}
+use Rattle.oz_cluster.specs.Rows.{put_volume, body_bytes}
 use Rattle.oz_journal.specs.declared.body.Body.{Body}
 use Rattle.oz_journal.specs.Body.{bodies_in, places_in}
 use Rattle.oz_cluster.specs.Namespace.{Volumes, nothing, with_volume}
@@ -58,38 +53,6 @@ damaged_journal (Some bytes) load.Disk offset damaged is = absurd (cc is)
 damaged_journal (Some bytes) (load.Damaged at) offset damaged is = inl (subst (IsDamagedAt bytes) (cc is) (damaged at refl))
 damaged_journal (Some bytes) load.OutOfMemory offset damaged is = absurd (cc is)
 
--- what a body gives, a field further on
-abbrev all_read : ℕ → ℕ → ℕ → ℕ → List ℕ × List ℕ → Option (ℕ × List ℕ)
-all_read layout index operation kind volume = if layout == 1 && operation == 1 && kind == 1 && length volume.1 == 0 then Some (index, volume.0) else None
-
-abbrev behind_kind : ℕ → ℕ → ℕ → ℕ × List ℕ → Option (ℕ × List ℕ)
-behind_kind layout index operation kind = text_at kind.1 >>= all_read layout index operation kind.0
-
-abbrev behind_operation : ℕ → ℕ → ℕ × List ℕ → Option (ℕ × List ℕ)
-behind_operation layout index operation = u8_at operation.1 >>= behind_kind layout index operation.0
-
-abbrev behind_index : ℕ → ℕ × List ℕ → Option (ℕ × List ℕ)
-behind_index layout index = u8_at index.1 >>= behind_operation layout index.0
-
-abbrev behind_layout : ℕ × List ℕ → Option (ℕ × List ℕ)
-behind_layout layout = u64_at layout.1 >>= behind_index layout.0
-
--- a body of one volume reads back
-pub body_reads : (index : ℕ) (volume : List ℕ) → index < 2 ^ 64 → length volume < 2 ^ 16 → body_at (body_bytes index (put_volume volume)) ≡ Some (index, volume)
-unfolding body_at
-body_reads index volume fits short =
-    let put : List ℕ = 1 ∷ 1 ∷ text_bytes volume in
-    let text : text_at (text_bytes volume) ≡ Some (volume, []) = subst (λ (l : List ℕ). text_at l ≡ Some (volume, [])) (append-nil (text_bytes volume)) (text_field.reads_back volume [] short) in
-    let layout : u8_at (1 ∷ u64_bytes index ++ put) ≡ Some (1, u64_bytes index ++ put) = u8_field.reads_back 1 (u64_bytes index ++ put) (omega arith) in
-    let operation : u8_at put ≡ Some (1, 1 ∷ text_bytes volume) = u8_field.reads_back 1 (1 ∷ text_bytes volume) (omega arith) in
-    let kind : u8_at (1 ∷ text_bytes volume) ≡ Some (1, text_bytes volume) = u8_field.reads_back 1 (text_bytes volume) (omega arith) in
-    let number = u64_field.reads_back index put fits in
-    ap (λ (found : Option (ℕ × List ℕ)). found >>= behind_layout) layout
-    ∙ (ap (λ (found : Option (ℕ × List ℕ)). found >>= behind_index 1) number
-    ∙ (ap (λ (found : Option (ℕ × List ℕ)). found >>= behind_operation 1 index) operation
-    ∙ (ap (λ (found : Option (ℕ × List ℕ)). found >>= behind_kind 1 index 1) kind
-    ∙ ap (λ (found : Option (List ℕ × List ℕ)). found >>= all_read 1 index 1 1) text)))
-
 -- one body more
 opens_push : (namespace : Volumes) (last : ℕ) (bodies : List (List ℕ)) (opening : Opening) (body : List ℕ) (index : ℕ) (volume : List ℕ) → OpensFrom namespace last bodies opening → IsNextBody opening.index body index volume → OpensFrom namespace last (bodies ++ body ∷ []) (record { namespace = with_volume opening.namespace volume; index = index })
 unfolding OpensFrom
@@ -100,10 +63,8 @@ opens_push namespace last (first ∷ bodies) opening body index volume opens nex
 pub opens_on : (namespace : Volumes) (index : ℕ) (volume body : List ℕ) (bodies : List (List ℕ)) → IsVolumeName volume → body ≡ body_bytes (index + 1) (put_volume volume) → index + 1 < 2 ^ 63 → OpensFrom nothing 0 bodies (record { namespace = namespace; index = index }) → OpensFrom nothing 0 (bodies ++ body ∷ []) (record { namespace = with_volume namespace volume; index = index + 1 })
 opens_on namespace index volume body bodies name is below opens =
     let next : IsNextBody index body (index + 1) volume = record {
-      bytes = ap body_at is ∙ body_reads (index + 1) volume (omega (arith, below)) (omega (arith, name.short_enough));
-      name = name;
+      body = (refl, (omega arith, below), ((name, tt), tt), is);
       rises = omega arith;
-      fits = below;
     } in
     opens_push nothing 0 bodies (record { namespace = namespace; index = index }) body (index + 1) volume opens next
 

@@ -15,7 +15,7 @@ use Rattle.oz_cluster.specs.declared.script.Command.TheVariants.{VolumeCreate, V
 use Rattle.oz_cluster.specs.declared.script.Line.{Line}
 use Rattle.oz_cluster.specs.declared.script.Script.{Script}
 use Rattle.oz_cluster.specs.declared.script.ScriptFault.{ScriptFault}
-use Rattle.oz_cluster.specs.Names.{is_digit, is_letter}
+use Rattle.oz_names.specs.Names.{is_digit, is_letter}
 use Rattle.oz_cluster.specs.PlainScript.{command_words, is_plain, plain_line, plain_text, plain_lines, plain_script, IsPlain}
 use Rattle.oz_cluster.specs.Script.{◌>>=◌, is_blank, is_visible, is_remark, is_client_name, words, with_client, next_line, with_words, with_line, with_lines, script_of, command_of}
 use Rattle.oz_cluster.proofs.Parts.{kept, parts_of}

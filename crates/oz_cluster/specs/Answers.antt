@@ -1,11 +1,11 @@
 -- What one thread replies to a request, and what it leaves.
 use Rattle.std.specs.Prelude.{◌≡◌, ℕ, List, true, false}
-use Rattle.oz_cluster.specs.declared.names.Code.TheVariants.{VolumeNotFound, VolumeAlreadyExists, InvalidVolumeName}
+use Rattle.oz_names.specs.declared.code.Code.TheVariants.{VolumeNotFound, VolumeAlreadyExists, InvalidVolumeName}
 use Rattle.oz_cluster.specs.declared.requests.Request.{Request}
 use Rattle.oz_cluster.specs.declared.requests.Request.TheVariants.{CreateVolume, InfoVolume}
 use Rattle.oz_cluster.specs.declared.requests.Reply.{Reply}
 use Rattle.oz_cluster.specs.declared.requests.Reply.TheVariants as reply
-use Rattle.oz_cluster.specs.Names.{IsVolumeName}
+use Rattle.oz_names.specs.Names.{IsVolumeName}
 use Rattle.oz_cluster.specs.Namespace.{Volumes, has_volume, with_volume}
 
 -- the volume that a request speaks of
@@ -19,15 +19,15 @@ AnswersCreateVolume namespace volume reply.Done = IsVolumeName volume × (has_vo
 AnswersCreateVolume namespace volume (reply.Count count) = ⊥
 AnswersCreateVolume namespace volume (reply.Code InvalidVolumeName) = ¬ IsVolumeName volume
 AnswersCreateVolume namespace volume (reply.Code VolumeAlreadyExists) = IsVolumeName volume × (has_volume namespace volume ≡ true)
-AnswersCreateVolume namespace volume (reply.Code VolumeNotFound) = ⊥
+AnswersCreateVolume namespace volume (reply.Code other) = ⊥
 
 -- The reply to a question about a volume: how many buckets it has, which is none.
 abbrev pub AnswersInfoVolume : Volumes → List ℕ → Reply → Type 0
 AnswersInfoVolume namespace volume reply.Done = ⊥
 AnswersInfoVolume namespace volume (reply.Count count) = IsVolumeName volume × (has_volume namespace volume ≡ true) × (count ≡ 0)
 AnswersInfoVolume namespace volume (reply.Code InvalidVolumeName) = ¬ IsVolumeName volume
-AnswersInfoVolume namespace volume (reply.Code VolumeAlreadyExists) = ⊥
 AnswersInfoVolume namespace volume (reply.Code VolumeNotFound) = IsVolumeName volume × (has_volume namespace volume ≡ false)
+AnswersInfoVolume namespace volume (reply.Code other) = ⊥
 
 -- the reply of one thread to a request
 abbrev pub Answers : Volumes → Request → Reply → Type 0

@@ -10,7 +10,7 @@ use Rattle.oz_cluster.specs.declared.requests.Answer.{Answer}
 use Rattle.oz_cluster.specs.declared.requests.Answer.TheVariants as told
 use Rattle.oz_cluster.specs.declared.requests.Request.{Request}
 use Rattle.oz_cluster.specs.declared.requests.Reply.{Reply}
-use Rattle.oz_cluster.specs.Names.{stripe_of}
+use Rattle.oz_names.specs.Names.{stripe_of}
 use Rattle.oz_cluster.specs.Answers.{Answers, after, volume_of}
 use Rattle.oz_cluster.specs.Story.{Opening, is_asked, is_id, is_of_line, is_told, halt_of, asked_late, pending, last_index, swapped_index, durable_index, flushed_moment, line_index, namespace_of}
 

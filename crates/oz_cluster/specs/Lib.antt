@@ -1,11 +1,10 @@
+pub mod AnswerNumbers
 pub mod Answers
 pub mod Causes
-pub mod Codes
 pub mod Fits
 pub mod Headline
 pub mod Law
 pub mod Manager
-pub mod Names
 pub mod Namespace
 pub mod OpenFaults
 pub mod Opens

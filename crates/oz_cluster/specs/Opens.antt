@@ -1,17 +1,15 @@
 -- What a manager's disk stands for as a run begins.
 use Rattle.std.specs.Prelude.{Option, ◌≡◌, ◌⊎◌, ℕ, ◌<◌, ◌^◌, zero, suc, List, [], ◌∷◌, Option, Some, slice_get}
 use Rattle.oz_journal.specs.Grammar.{IsJournal, StandsFor, IsDamagedAt, places}
-use Rattle.oz_cluster.specs.Names.{IsVolumeName}
 use Rattle.oz_cluster.specs.Namespace.{Volumes, nothing, with_volume}
-use Rattle.oz_cluster.specs.Rows.{body_at}
+use Rattle.oz_cluster.specs.Rows.{making}
+use Rattle.oz_rows.specs.Operations.{IsBody}
 use Rattle.oz_cluster.specs.Story.{Opening}
 
--- a body that puts a volume of a good name, with a greater index than the last
-pub record IsNextBody (last : ℕ) (body : List ℕ) (index : ℕ) (volume : List ℕ) : Type 0 where
-  pub bytes : body_at body ≡ Some (index, volume)
-  pub name : IsVolumeName volume
+-- a body that makes one volume, with a greater index than the last
+pub record IsNextBody (last : ℕ) (bytes : List ℕ) (index : ℕ) (volume : List ℕ) : Type 0 where
+  pub body : IsBody bytes (record { layout = 1; index = index; items = making volume })
   pub rises : last < index
-  pub fits : index < 2 ^ 63
 
 -- these bodies lead from a namespace and an index to the opening
 unfoldable pub OpensFrom : Volumes → ℕ → List (List ℕ) → Opening → Type 0

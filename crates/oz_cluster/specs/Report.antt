@@ -13,7 +13,7 @@ use Rattle.oz_cluster.specs.declared.requests.Reply.TheVariants as reply
 use Rattle.oz_cluster.specs.declared.requests.Request.{Request}
 use Rattle.oz_cluster.specs.declared.requests.Request.TheVariants.{CreateVolume, InfoVolume}
 use Rattle.oz_cluster.specs.declared.requests.Values.TheVariants as values
-use Rattle.oz_cluster.specs.Codes.{code_text}
+use Rattle.oz_names.specs.Codes.{code_text}
 use Rattle.oz_cluster.specs.Story.{pending}
 
 -- the client of what no line of a script asked

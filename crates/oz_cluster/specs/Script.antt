@@ -11,7 +11,7 @@ use Rattle.oz_cluster.specs.declared.script.Line.{Line}
 use Rattle.oz_cluster.specs.declared.script.Script.{Script}
 use Rattle.oz_cluster.specs.declared.script.ScriptFault.{ScriptFault}
 use Rattle.oz_cluster.specs.declared.script.ScriptFault.TheVariants.{At, OutOfMemory}
-use Rattle.oz_cluster.specs.Names.{is_digit, is_letter}
+use Rattle.oz_names.specs.Names.{is_digit, is_letter}
 
 -- one after the other, up to the first fault
 infixl 10 ◌>>=◌

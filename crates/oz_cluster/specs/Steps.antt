@@ -9,7 +9,7 @@ use Rattle.oz_cluster.specs.declared.requests.Reply.{Reply}
 use Rattle.oz_cluster.specs.declared.requests.Request.{Request}
 use Rattle.oz_cluster.specs.Answers.{volume_of}
 use Rattle.oz_cluster.specs.Law.{caller_seat, flusher_seat, stripe_seat}
-use Rattle.oz_cluster.specs.Names.{stripe_of}
+use Rattle.oz_names.specs.Names.{stripe_of}
 
 abbrev pub first_ask : ℕ → ℕ → AskId
 first_ask client number = record { client = client; line = number; step = 1 }

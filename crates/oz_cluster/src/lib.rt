@@ -5,7 +5,6 @@ pub mod events;
 pub mod laws;
 pub mod manager;
 pub mod model;
-pub mod names;
 pub mod opening;
 mod refusal;
 pub mod report;

@@ -7,7 +7,7 @@ ghost use Rattle.oz_journal.specs.Moments.{Elapses, LeavesOnly};
 ghost use Rattle.oz_cluster.specs.declared.script.Script.{Script};
 ghost use Rattle.oz_cluster.specs.Answers.{after, volume_of};
 ghost use Rattle.oz_cluster.specs.Law.{stripe_seat};
-ghost use Rattle.oz_cluster.specs.Names.{stripe_of};
+ghost use Rattle.oz_names.specs.Names.{IsVolumeName, stripe_of};
 ghost use Rattle.oz_cluster.specs.Fits.{IsLineOf, request_of as request_said, answer_of as answer_due};
 ghost use Rattle.oz_cluster.specs.Namespace.{Volumes, with_volume};
 ghost use Rattle.oz_cluster.specs.Quiet.{IsServed, IsHeld};
@@ -17,12 +17,12 @@ ghost use Rattle.oz_cluster.specs.Story.{Opening};
 
 use crate::events::{Event, EventKind, Node};
 use crate::model::Namespace;
-use crate::names::stripe_of as stripe_number;
 use crate::requests::{Answer, AskId, Reply, Request, Values};
 use crate::rows::{framed, volume_batch};
 use crate::script::{Command, Line};
 use oz_fields::{List, Name, OutOfMemory};
 use oz_journal::Journal;
+use oz_names::stripe_of as stripe_number;
 use oz_world::{Disk, Failed, Gate, Point};
 use std::alloc::{AllocError, Global};
 use std::sync::Wait;
@@ -113,7 +113,7 @@ struct Change {
 
 /// Takes the memory for a change.
 fn prepare(alloc: Global, index: u64, volume: &Name) -> Result<Change, OutOfMemory>
-    requires { length volume.now < 2 ^ 16 }
+    requires { IsVolumeName volume.now }
     ensures volume { IfOk result (λ change. change.volume ≡ volume.now) }
     ensures batch { IfOk result (λ change. change.batch ≡ put_volume volume.now) }
     ensures body { IfOk result (λ change. body_of change.frame.items ≡ body_bytes index (put_volume volume.now)) }

@@ -2,9 +2,9 @@ ghost use Rattle.std.specs.Prelude.{◌≡◌, ◌↔◌, IsTrue, OnOk, OnErr, S
 ghost use Rattle.oz_cluster.specs.Namespace.{nothing, has_volume, with_volume};
 ghost use Rattle.oz_cluster.specs.Answers.{Answers, after};
 
-use crate::names::{Code, volume_name};
 use crate::requests::{Reply, Request};
 use oz_fields::{Name, OutOfMemory};
+use oz_names::{Code, volume_name};
 use std::alloc::Global;
 use std::collections::BTreeMap;
 use std::marker::Model;

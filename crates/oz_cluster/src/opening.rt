@@ -10,15 +10,12 @@ ghost use Rattle.oz_cluster.specs.Opens.{IsNextBody, OpensFrom, IsWrongAt, Opens
 
 use crate::manager::Manager;
 use crate::model::Namespace;
-use crate::names::volume_name;
-use crate::rows::read_body;
+use crate::rows::volume_put;
 use oz_fields::{Name, OutOfMemory};
 use oz_journal::{Body, Journal, LoadFault};
+use oz_rows::{RowFault, operations};
 use oz_world::Disk;
-use std::alloc::Global;
-
-/// Transaction indexes stay below this.
-const INDEX_LIMIT: u64 = 1 << 63;
+use std::alloc::{AllocError, Global};
 
 /// Why a manager's disk wasn't opened.
 #[derive(Clone, Copy, Debug, PartialEq, Eq)]
@@ -50,18 +47,24 @@ fn open_fault(fault: LoadFault) -> OpenFault
     }
 }
 
-/// The index and the volume of a body that may follow one of the last index.
-fn next_body(last: u64, bytes: &[u8]) -> Option<(u64, &[u8])>
-    ensures { MatchOption result
+/// The index and the volume of a body that may follow one of the last index, where it is one.
+fn next_body(alloc: Global, last: u64, bytes: &[u8]) -> Result<Option<(u64, Name)>, OutOfMemory>
+    ensures { IfOk result (λ found. MatchOption found
         ((index : ℕ) (volume : _) → IsNextBody last bytes.now index volume → ⊥)
-        (λ row. IsNextBody last bytes.now row.0 row.1.now) }
+        (λ row. IsNextBody last bytes.now row.0 row.1)) }
 {
-    let (index, volume) = read_body(bytes)?;
-    if last < index && index < INDEX_LIMIT && volume_name(volume).is_ok() {
-        Some((index, volume))
-    } else {
-        None
+    let body = match operations(alloc, bytes) {
+        Ok(body) => body,
+        Err(RowFault::At(_)) => return Ok(None),
+        Err(RowFault::OutOfMemory) => return Err(AllocError),
+    };
+    let Some(volume) = volume_put(body.items.items()) else {
+        return Ok(None);
+    };
+    if body.index <= last {
+        return Ok(None);
     }
+    Ok(Some((body.index, Name::copy(alloc, volume.bytes())?)))
 }
 
 /// What bodies lead to: the namespace and the last index.
@@ -77,13 +80,12 @@ fn opening_of(alloc: Global, bodies: &[Body]) -> Result<(Namespace, u64), OpenFa
     let mut namespace = Namespace::new(alloc);
     let mut index = 0;
     for body in bodies {
-        let Some((next, volume)) = next_body(index, body.bytes.items()) else {
-            return Err(OpenFault::Damaged { offset: body.at });
+        let (next, volume) = match next_body(alloc, index, body.bytes.items()) {
+            Ok(Some(row)) => row,
+            Ok(None) => return Err(OpenFault::Damaged { offset: body.at }),
+            Err(_) => return Err(OpenFault::OutOfMemory),
         };
-        let Ok(name) = Name::copy(alloc, volume) else {
-            return Err(OpenFault::OutOfMemory);
-        };
-        let Ok(()) = namespace.add(name) else {
+        let Ok(()) = namespace.add(volume) else {
             return Err(OpenFault::OutOfMemory);
         };
         index = next;

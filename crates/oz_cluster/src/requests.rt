@@ -1,8 +1,8 @@
 ghost use Rattle.std.specs.Prelude.{◌≡◌};
-ghost use Rattle.oz_cluster.specs.Codes.{answer_number};
+ghost use Rattle.oz_cluster.specs.AnswerNumbers.{answer_number};
 
-use crate::names::Code;
 use oz_fields::Name;
+use oz_names::Code;
 
 /// What names an ask: the line of a client's script that asks, and which of the line's asks it is, from 1.
 #[derive(Clone, Copy, Debug, PartialEq, Eq, PartialOrd, Ord)]

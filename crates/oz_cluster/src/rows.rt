@@ -1,25 +1,24 @@
-ghost use Rattle.std.specs.Prelude.{◌≡◌, ◌<◌, ◌^◌, ◌+◌, ◌++◌, [], ◌∷◌, length, IfOk, MatchOption, Some, None};
-ghost use Rattle.oz_cluster.specs.Rows.{put_volume, body_bytes, body_at};
+ghost use Rattle.std.specs.Prelude.{◌≡◌, ◌≢◌, ◌+◌, ◌++◌, [], ◌∷◌, ℕ, List as Items, length, IfOk, MatchOption};
+ghost use Rattle.oz_names.specs.Names.{IsVolumeName};
+ghost use Rattle.oz_cluster.specs.Rows.{making, put_volume, body_bytes};
 
-use oz_fields::{OutOfMemory, Reader, put_text, put_u8, put_u64};
+use oz_fields::{Name, OutOfMemory, put_u8, put_u64};
+use oz_rows::{Operation, Row, RowKey, put_row};
 use std::alloc::Global;
 
 const LAYOUT: u8 = 1;
 
-const PUT: u8 = 1;
-
-const VOLUME: u8 = 1;
-
 /// The operation that puts the row of a volume.
 pub fn volume_batch(alloc: Global, volume: &[u8]) -> Result<Vec<u8>, OutOfMemory>
-    requires { length volume.now < 2 ^ 16 }
+    requires { IsVolumeName volume.now }
     ensures bytes { IfOk result (λ batch. batch.items ≡ put_volume volume.now) }
     ensures size { IfOk result (λ batch. length batch.items ≡ length volume.now + 4) }
 {
+    let key = RowKey::Volume {
+        volume: Name::copy(alloc, volume)?,
+    };
     let mut batch = Vec::new(alloc);
-    put_u8(alloc, &mut batch, PUT)?;
-    put_u8(alloc, &mut batch, VOLUME)?;
-    put_text(alloc, &mut batch, volume)?;
+    put_row(alloc, &mut batch, &key, &Row::Volume)?;
     Ok(batch)
 }
 
@@ -38,21 +37,18 @@ pub fn framed(alloc: Global, index: u64, batch: &[u8]) -> Result<Vec<u8>, OutOfM
     Ok(framed)
 }
 
-/// The index and the volume of a body that puts one volume, if it is one.
-#[tactic(auto, unfolding(crate::specs::Rows::body_at))]
-pub fn read_body(bytes: &[u8]) -> Option<(u64, &[u8])>
-    ensures { MatchOption result (body_at bytes.now ≡ None)
-        (λ row. body_at bytes.now ≡ Some (row.0, row.1.now)) }
+/// The volume that operations make, where they make one and do nothing else.
+pub fn volume_put(items: &[Operation]) -> Option<&Name>
+    ensures { MatchOption result ((volume : Items ℕ) → items.now ≢ making volume)
+        (λ volume. items.now ≡ making volume.now) }
 {
-    let mut reader = Reader::new(bytes);
-    let layout = reader.u8()?;
-    let index = reader.u64()?;
-    let operation = reader.u8()?;
-    let kind = reader.u8()?;
-    let volume = reader.text()?;
-    if layout == LAYOUT && operation == PUT && kind == VOLUME && reader.at() == bytes.len() {
-        Some((index, volume))
-    } else {
-        None
+    match items {
+        [
+            Operation::Put {
+                key: RowKey::Volume { volume },
+                row: Row::Volume,
+            },
+        ] => Some(volume),
+        _ => None,
     }
 }

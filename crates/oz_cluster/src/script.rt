@@ -2,12 +2,11 @@ ghost use Rattle.std.specs.Prelude.{◌≡◌, ℕ, List as Items, ◌+◌, ◌<
 ghost use Rattle.std.specs.List.{list_all, position};
 ghost use Rattle.std.specs.Str.Lines.{lines, strip_carriage_return};
 ghost use Rattle.oz_cluster.specs.Causes.{cause_text};
-ghost use Rattle.oz_cluster.specs.Names.{is_digit, is_letter};
+ghost use Rattle.oz_names.specs.Names.{is_digit, is_letter};
 ghost use Rattle.oz_cluster.specs.PlainScript.{IsPlain, plain_text, plain_script};
 ghost use Rattle.oz_cluster.specs.declared.script.Command.{Command as Said};
 ghost use Rattle.oz_cluster.specs.Script.{Gives, IsNumbered, is_blank, is_visible, is_client_name, words, command_of as command_said, commands_on, with_client as clients_with, next_line, with_line as script_with, script_of};
 
-use crate::names::{is_digit, is_letter};
 use oz_fields::{List, Name, OutOfMemory};
 use std::alloc::Global;
 
@@ -58,6 +57,18 @@ pub enum Cause {
     Form,
     /// Too many lines with a command stand before it.
     Many,
+}
+
+fn is_digit(byte: u8) -> bool
+    ensures { result ≡ is_digit byte }
+{
+    byte.is_ascii_digit()
+}
+
+fn is_letter(byte: u8) -> bool
+    ensures { result ≡ is_letter byte }
+{
+    byte.is_ascii_lowercase()
 }
 
 impl Cause {

@@ -2,6 +2,7 @@
 #![tactic(auto)]
 
 mod again;
+mod hex;
 mod names;
 mod order;
 mod plain;

@@ -1,65 +1,49 @@
 #[cfg(test)]
 mod tests {
-    use oz_fields::Name;
-    use oz_rows::RowKey;
-    use std::alloc::{AllocError, Global};
+    use crate::hex::bytes_of;
+    use oz_rows::{Operation, operations};
+    use std::cmp::Ordering;
     use std::test::Fail;
 
-    fn key(alloc: Global, volume: &[u8], bucket: &[u8], key: &[u8]) -> Result<RowKey, AllocError> {
-        Ok(RowKey::Key {
-            volume: Name::copy(alloc, volume)?,
-            bucket: Name::copy(alloc, bucket)?,
-            key: Name::copy(alloc, key)?,
-        })
-    }
+    /// Keys that rise, each in an operation that removes its row.
+    const KEYS: [&str; 15] = [
+        "02 01 0003 7a7a7a",
+        "02 03 0004 766f6c31 0003 626b31 0001 7a",
+        "02 03 0004 766f6c31 0004 626b3130 0001 61",
+        "02 03 0004 766f6c31 0003 626b32 0001 61",
+        "02 03 0004 766f6c31 0003 626b32 0002 6162",
+        "02 03 0004 766f6c31 0003 626b32 0001 62",
+        "02 03 0004 766f6c32 0003 616161 0001 61",
+        "02 04 0004 766f6c31 0003 626b31 0001 61 0000000000000100",
+        "02 04 0004 766f6c31 0003 626b31 0001 62 0000000000000002",
+        "02 04 0004 766f6c31 0003 626b31 0001 62 000000000000000a",
+        "02 05 0004 766f6c31 0003 626b31 0000000000000000 0001 7a 0000000000000009",
+        "02 05 0004 766f6c31 0003 626b31 0000000000000001 0001 61 000000000000012c",
+        "02 05 0004 766f6c31 0003 626b31 0000000000000001 0001 62 0000000000000002",
+        "02 09 02",
+        "02 09 0a",
+    ];
 
-    fn open(alloc: Global, name: &[u8], number: u64) -> Result<RowKey, AllocError> {
-        Ok(RowKey::Open {
-            volume: Name::copy(alloc, b"vol1")?,
-            bucket: Name::copy(alloc, b"bk1")?,
-            key: Name::copy(alloc, name)?,
-            number,
-        })
-    }
-
-    fn deleted(alloc: Global, owner: u64, name: &[u8], local: u64) -> Result<RowKey, AllocError> {
-        Ok(RowKey::Deleted {
-            volume: Name::copy(alloc, b"vol1")?,
-            bucket: Name::copy(alloc, b"bk1")?,
-            owner,
-            key: Name::copy(alloc, name)?,
-            local,
-        })
-    }
-
-    fn rising(alloc: Global) -> Result<Vec<RowKey>, AllocError> {
-        let mut keys = Vec::new(alloc);
-        keys.push(RowKey::Volume {
-            volume: Name::copy(alloc, b"zzz")?,
-        })?;
-        keys.push(key(alloc, b"vol1", b"bk1", b"z")?)?;
-        keys.push(key(alloc, b"vol1", b"bk10", b"a")?)?;
-        keys.push(key(alloc, b"vol1", b"bk2", b"a")?)?;
-        keys.push(key(alloc, b"vol1", b"bk2", b"ab")?)?;
-        keys.push(key(alloc, b"vol1", b"bk2", b"b")?)?;
-        keys.push(key(alloc, b"vol2", b"aaa", b"a")?)?;
-        keys.push(open(alloc, b"a", 256)?)?;
-        keys.push(open(alloc, b"b", 2)?)?;
-        keys.push(open(alloc, b"b", 10)?)?;
-        keys.push(deleted(alloc, 0, b"z", 9)?)?;
-        keys.push(deleted(alloc, 1, b"a", 300)?)?;
-        keys.push(deleted(alloc, 1, b"b", 2)?)?;
-        keys.push(RowKey::Stripe { stripe: 2 })?;
-        keys.push(RowKey::Stripe { stripe: 10 })?;
-        Ok(keys)
+    fn compared(left: &Operation, right: &Operation) -> Option<Ordering> {
+        match (left, right) {
+            (Operation::Remove { key: left }, Operation::Remove { key: right }) => Some(left.cmp(
+                right,
+            )),
+            _ => None,
+        }
     }
 
     #[test]
     fn keys_by_kind_and_then_by_their_fields(rt: HostRuntime) -> Result<(), Fail> {
-        let keys = rising(rt.alloc())?;
-        for (i, left) in keys.as_slice().iter().enumerate() {
-            for (j, right) in keys.as_slice().iter().enumerate() {
-                assert_eq!(rt; left.cmp(right), i.cmp(&j), "{left:?} and {right:?}");
+        let mut bytes = bytes_of(rt.alloc(), "01 0000000000000001")?;
+        for key in KEYS {
+            bytes.extend_from_slice(&bytes_of(rt.alloc(), key)?)?;
+        }
+        let body = operations(rt.alloc(), &bytes)?;
+        assert_eq!(rt; body.items.len(), 15);
+        for (i, left) in body.items.items().iter().enumerate() {
+            for (j, right) in body.items.items().iter().enumerate() {
+                assert_eq!(rt; compared(left, right), Some(i.cmp(&j)), "{i} and {j}");
             }
         }
         Ok(())

@@ -1,8 +1,9 @@
 #[cfg(test)]
 mod tests {
     use crate::again::{body_again, row_again};
+    use crate::hex::bytes_of;
     use crate::plain::{body_fault, row_fault};
-    use oz_fields::{Block, List, Name, Piece};
+    use oz_fields::{Block, Name, Piece};
     use oz_rows::{
         Operation, Operations, Row, RowFault, RowKey, SnapshotState, decode, operations,
     };
@@ -27,132 +28,131 @@ mod tests {
     const BODY: &str =
         "01 0000000000000001 01 03 0004 766f6c31 0003 626b31 0001 6b 0000000000000007 0002 0000000000000001 0000000000000002 00010000 4000000000000000 0000000000000003 00000001 02 05 0004 766f6c31 0003 626b31 0000000100000002 0001 6b 0000000000000005 03 0004 766f6c31 0003 626b31 0000000000000009 04 0004 766f6c31 0003 626b31 0000000000000009 0000000000000000 05 0004 766f6c31 0003 626b31 0000000000000009 06 0004 766f6c31 0003 626b31";
 
-    fn digit(byte: u8) -> u8 {
-        match byte {
-            b'0'..=b'9' => byte - b'0',
-            b'a'..=b'f' => byte - b'a' + 10,
-            _ => 0,
-        }
+    const VOLUME: &[u8] = b"vol1";
+
+    const BUCKET: &[u8] = b"bk1";
+
+    fn block(container: u64, local: u64) -> Block {
+        Block { container, local }
     }
 
-    fn bytes_of(alloc: Global, text: &str) -> Result<Vec<u8>, AllocError> {
-        let mut bytes = Vec::new(alloc);
-        let mut high = None;
-        for byte in text.as_bytes() {
-            if *byte == b' ' {
-                continue;
+    fn piece(container: u64, local: u64, length: u32) -> Piece {
+        let block = block(container, local);
+        Piece { block, length }
+    }
+
+    fn is_path(volume: &Name, bucket: &Name) -> bool {
+        volume.bytes() == VOLUME && bucket.bytes() == BUCKET
+    }
+
+    /// Whether these are the key fields of the row of a kind above.
+    fn is_key_of(kind: u8, key: &RowKey) -> bool {
+        match key {
+            RowKey::Volume { volume } => kind == 1 && volume.bytes() == VOLUME,
+            RowKey::Bucket { volume, bucket } => kind == 2 && is_path(volume, bucket),
+            RowKey::Key {
+                volume,
+                bucket,
+                key,
+            } => kind == 3 && is_path(volume, bucket) && key.bytes() == b"k".as_slice(),
+            RowKey::Open {
+                volume,
+                bucket,
+                key,
+                number,
+            } => {
+                kind == 4
+                    && is_path(volume, bucket)
+                    && key.bytes() == b"k".as_slice()
+                    && *number == 8
             }
-            match high {
-                None => high = Some(digit(*byte)),
-                Some(first) => {
-                    bytes.push(first.wrapping_mul(16).wrapping_add(digit(*byte)))?;
-                    high = None;
-                }
+            RowKey::Deleted {
+                volume,
+                bucket,
+                owner,
+                key,
+                local,
+            } => {
+                let numbers = *owner == 0x1_0000_0002 && *local == 5;
+                kind == 5 && is_path(volume, bucket) && numbers && key.bytes() == b"k".as_slice()
             }
+            RowKey::Snapshot {
+                volume,
+                bucket,
+                number,
+            } => kind == 6 && is_path(volume, bucket) && *number == 9,
+            RowKey::SnapshotKey {
+                volume,
+                bucket,
+                snapshot,
+                key,
+            } => {
+                kind == 7
+                    && is_path(volume, bucket)
+                    && *snapshot == 9
+                    && key.bytes() == b"k".as_slice()
+            }
+            RowKey::Renamed {
+                volume,
+                bucket,
+                owner,
+                local,
+            } => kind == 8 && is_path(volume, bucket) && *owner == 9 && *local == 5,
+            RowKey::Stripe { stripe } => kind == 9 && *stripe == 2,
         }
-        Ok(bytes)
     }
 
-    fn blocks_of(alloc: Global, numbers: &[(u64, u64)]) -> Result<List<Block>, AllocError> {
-        let mut blocks = Vec::new(alloc);
-        for (container, local) in numbers {
-            blocks.push(Block {
-                container: *container,
-                local: *local,
-            })?;
+    /// Whether these are the value fields of the row of a kind above.
+    fn is_value_of(kind: u8, row: &Row) -> bool {
+        match row {
+            Row::Volume => kind == 1,
+            Row::Bucket => kind == 2,
+            Row::Key { number, pieces } => {
+                let all = [piece(1, 2, 65_536), piece(1 << 62, 3, 1)];
+                kind == 3 && *number == 7 && pieces.items() == all.as_slice()
+            }
+            Row::Open { blocks } => kind == 4 && blocks.items() == [block(1, 4)].as_slice(),
+            Row::Deleted { blocks } => {
+                kind == 5 && blocks.items() == [block(1, 5), block(1, 6)].as_slice()
+            }
+            Row::Snapshot {
+                name,
+                previous,
+                state,
+            } => {
+                kind == 6
+                    && name.bytes() == b"s01".as_slice()
+                    && *previous == 0x3_0000_0001
+                    && *state == SnapshotState::Marked
+            }
+            Row::SnapshotKey { number, pieces } => kind == 7 && *number == 7 && pieces.is_empty(),
+            Row::Renamed { key } => kind == 8 && key.bytes() == b"old".as_slice(),
+            Row::Stripe { number } => kind == 9 && *number == 1 << 48,
         }
-        Ok(List::of(blocks))
     }
 
-    fn pieces_of(alloc: Global, numbers: &[(u64, u64, u32)]) -> Result<List<Piece>, AllocError> {
-        let mut pieces = Vec::new(alloc);
-        for (container, local, length) in numbers {
-            let block = Block {
-                container: *container,
-                local: *local,
-            };
-            pieces.push(Piece {
-                block,
-                length: *length,
-            })?;
+    fn key_copies(alloc: Global, key: &RowKey) -> Result<bool, AllocError> {
+        let copied = key.copy(alloc)?;
+        Ok(copied == *key)
+    }
+
+    fn row_copies(alloc: Global, row: &Row) -> Result<bool, AllocError> {
+        let copied = row.copy(alloc)?;
+        Ok(copied == *row)
+    }
+
+    /// Whether the key and the value are those of this kind, and are copied as they are.
+    fn is_row_of(alloc: Global, kind: u8, bytes: &[u8]) -> Result<bool, AllocError> {
+        match decode(alloc, bytes) {
+            Ok((key, row)) => {
+                let keys = is_key_of(kind, &key) && key.kind() == kind;
+                let rows = is_value_of(kind, &row);
+                let copies = matches!(key_copies(alloc, &key), Ok(true))
+                    && matches!(row_copies(alloc, &row), Ok(true));
+                Ok(keys && rows && copies)
+            }
+            Err(_) => Err(AllocError),
         }
-        Ok(List::of(pieces))
-    }
-
-    fn key_of(alloc: Global, kind: u8) -> Result<RowKey, AllocError> {
-        let volume = Name::copy(alloc, b"vol1")?;
-        let bucket = Name::copy(alloc, b"bk1")?;
-        let key = Name::copy(alloc, b"k")?;
-        Ok(match kind {
-            1 => RowKey::Volume { volume },
-            2 => RowKey::Bucket { volume, bucket },
-            3 => RowKey::Key {
-                volume,
-                bucket,
-                key,
-            },
-            4 => RowKey::Open {
-                volume,
-                bucket,
-                key,
-                number: 8,
-            },
-            5 => RowKey::Deleted {
-                volume,
-                bucket,
-                owner: 0x1_0000_0002,
-                key,
-                local: 5,
-            },
-            6 => RowKey::Snapshot {
-                volume,
-                bucket,
-                number: 9,
-            },
-            7 => RowKey::SnapshotKey {
-                volume,
-                bucket,
-                snapshot: 9,
-                key,
-            },
-            8 => RowKey::Renamed {
-                volume,
-                bucket,
-                owner: 9,
-                local: 5,
-            },
-            _ => RowKey::Stripe { stripe: 2 },
-        })
-    }
-
-    fn value_of(alloc: Global, kind: u8) -> Result<Row, AllocError> {
-        Ok(match kind {
-            1 => Row::Volume,
-            2 => Row::Bucket,
-            3 => Row::Key {
-                number: 7,
-                pieces: pieces_of(alloc, &[(1, 2, 65_536), (1 << 62, 3, 1)])?,
-            },
-            4 => Row::Open {
-                blocks: blocks_of(alloc, &[(1, 4)])?,
-            },
-            5 => Row::Deleted {
-                blocks: blocks_of(alloc, &[(1, 5), (1, 6)])?,
-            },
-            6 => Row::Snapshot {
-                name: Name::copy(alloc, b"s01")?,
-                previous: 0x3_0000_0001,
-                state: SnapshotState::Marked,
-            },
-            7 => Row::SnapshotKey {
-                number: 7,
-                pieces: pieces_of(alloc, &[])?,
-            },
-            8 => Row::Renamed {
-                key: Name::copy(alloc, b"old")?,
-            },
-            _ => Row::Stripe { number: 1 << 48 },
-        })
     }
 
     #[test]
@@ -162,67 +162,56 @@ mod tests {
         for text in ROWS {
             kind = kind.wrapping_add(1);
             let bytes = bytes_of(alloc, text)?;
-            let (key, row) = decode(alloc, &bytes)?;
-            assert_eq!(rt; key, key_of(alloc, kind)?);
-            assert_eq!(rt; row, value_of(alloc, kind)?);
-            assert_eq!(rt; key.kind(), kind);
-            assert_eq!(rt; key.copy(alloc)?, key);
-            assert_eq!(rt; row.copy(alloc)?, row);
+            assert!(rt; is_row_of(alloc, kind, &bytes)?, "{text}");
             assert_eq!(rt; row_again(alloc, &bytes)?, bytes);
         }
         Ok(())
     }
 
-    fn items(alloc: Global) -> Result<Vec<Operation>, AllocError> {
-        let volume = || Name::copy(alloc, b"vol1");
-        let bucket = || Name::copy(alloc, b"bk1");
-        let mut items = Vec::new(alloc);
-        items.push(Operation::Put {
-            key: key_of(alloc, 3)?,
-            row: value_of(alloc, 3)?,
-        })?;
-        items.push(Operation::Remove {
-            key: key_of(alloc, 5)?,
-        })?;
-        items.push(Operation::CopyKeys {
-            volume: volume()?,
-            bucket: bucket()?,
-            number: 9,
-        })?;
-        items.push(Operation::MoveDeleted {
-            volume: volume()?,
-            bucket: bucket()?,
-            from: 9,
-            to: 0,
-        })?;
-        items.push(Operation::DropKeys {
-            volume: volume()?,
-            bucket: bucket()?,
-            number: 9,
-        })?;
-        items.push(Operation::DropOpen {
-            volume: volume()?,
-            bucket: bucket()?,
-        })?;
-        Ok(items)
+    /// Whether this is the operation of a tag in the body above.
+    fn is_operation_of(tag: usize, operation: &Operation) -> bool {
+        match operation {
+            Operation::Put { key, row } => tag == 0 && is_key_of(3, key) && is_value_of(3, row),
+            Operation::Remove { key } => tag == 1 && is_key_of(5, key),
+            Operation::CopyKeys {
+                volume,
+                bucket,
+                number,
+            } => tag == 2 && is_path(volume, bucket) && *number == 9,
+            Operation::MoveDeleted {
+                volume,
+                bucket,
+                from,
+                to,
+            } => tag == 3 && is_path(volume, bucket) && *from == 9 && *to == 0,
+            Operation::DropKeys {
+                volume,
+                bucket,
+                number,
+            } => tag == 4 && is_path(volume, bucket) && *number == 9,
+            Operation::DropOpen { volume, bucket } => tag == 5 && is_path(volume, bucket),
+        }
     }
 
     #[test]
     fn an_operation_of_each_kind(rt: HostRuntime) -> Result<(), Fail> {
         let alloc = rt.alloc();
         let bytes = bytes_of(alloc, BODY)?;
-        let expected = Operations {
-            layout: 1,
-            index: 1,
-            items: List::of(items(alloc)?),
-        };
-        assert_eq!(rt; operations(alloc, &bytes)?, expected);
-        assert_eq!(rt; body_again(alloc, &bytes)?, bytes);
-        let bytes = bytes_of(alloc, "01 0000000000000001 01 01 0004 766f6c31")?;
         let body = operations(alloc, &bytes)?;
-        assert_eq!(rt; body.index, 1);
-        assert_eq!(rt; body.items.len(), 1);
-        assert_eq!(rt; body_again(alloc, &bytes)?, bytes);
+        assert_eq!(rt; (body.layout, body.index, body.items.len()), (1, 1, 6));
+        for (tag, operation) in body.items.items().iter().enumerate() {
+            assert!(rt; is_operation_of(tag, operation), "{operation:?}");
+        }
+        Ok(())
+    }
+
+    #[test]
+    fn bodies_written_again(rt: HostRuntime) -> Result<(), Fail> {
+        let alloc = rt.alloc();
+        for text in [BODY, "01 0000000000000001 01 01 0004 766f6c31"] {
+            let bytes = bytes_of(alloc, text)?;
+            assert_eq!(rt; body_again(alloc, &bytes)?, bytes);
+        }
         Ok(())
     }
 
@@ -278,21 +267,25 @@ mod tests {
         Ok(())
     }
 
+    /// Each bit of a byte turned, one after the other.
     fn bodies_changed_at(
         rt: &impl Abort,
         alloc: Global,
         bytes: &mut [u8],
         at: usize,
     ) -> Result<(), AllocError> {
-        for _ in 0..256 {
+        for bit in [1, 2, 4, 8, 16, 32, 64, 128] {
             if at < bytes.len() {
-                bytes[at] = bytes[at].wrapping_add(1);
+                bytes[at] ^= bit;
             }
             assert_eq!(rt;
                 operations_fault(alloc, bytes)?,
                 body_fault(bytes),
                 "{bytes:?}"
             );
+            if at < bytes.len() {
+                bytes[at] ^= bit;
+            }
         }
         Ok(())
     }
@@ -316,7 +309,7 @@ mod tests {
     }
 
     #[test]
-    fn the_first_fault_from_the_left(rt: HostRuntime) -> Result<(), Fail> {
+    fn the_first_fault_of_a_row(rt: HostRuntime) -> Result<(), Fail> {
         let alloc = rt.alloc();
         for (text, place) in [
             ("", 0),
@@ -362,6 +355,12 @@ mod tests {
             assert_eq!(rt; decode_fault(alloc, &bytes)?, Some(place), "{text}");
             assert_eq!(rt; row_fault(&bytes), Some(place), "{text}");
         }
+        Ok(())
+    }
+
+    #[test]
+    fn the_first_fault_of_a_body(rt: HostRuntime) -> Result<(), Fail> {
+        let alloc = rt.alloc();
         for (text, place) in [
             ("", 0),
             ("02 0000000000000001", 0),

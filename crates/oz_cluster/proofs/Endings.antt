@@ -11,9 +11,9 @@ use Rattle.oz_cluster.specs.declared.opening.OpenFault.{OpenFault}
 use Rattle.oz_cluster.specs.declared.opening.OpenFault.TheVariants as fault
 use Rattle.oz_cluster.specs.declared.refusal.Refusal.{Refusal}
 use Rattle.oz_cluster.specs.declared.refusal.Refusal.TheVariants.{Words, Read, Script, Disk, Damaged, OutOfMemory}
-use Rattle.oz_cluster.specs.declared.script.Cause.{Cause}
-use Rattle.oz_cluster.specs.declared.script.Script.{Script as Lines}
-use Rattle.oz_cluster.specs.declared.script.ScriptFault.TheVariants.{At}
+use Rattle.oz_script.specs.declared.grammar.Cause.{Cause}
+use Rattle.oz_script.specs.declared.grammar.Script.{Script as Lines}
+use Rattle.oz_script.specs.declared.grammar.ScriptFault.TheVariants.{At}
 use Rattle.oz_cluster.specs.declared.status.Status.{Status}
 use Rattle.oz_cluster.specs.declared.status.Status.TheVariants as ends
 use Rattle.oz_cluster.specs.Headline.{IsPrinted, LoadingKeeps, IsOneRun, RunEnds}
@@ -23,7 +23,7 @@ use Rattle.oz_cluster.specs.Opens.{Opens, OpensFrom, IsDamagedDisk, StandsAs}
 use Rattle.oz_cluster.specs.Quiet.{IsServed, IsHeld, IsLoaded}
 use Rattle.oz_cluster.specs.Refusals.{status_of, text_of, IsScript, IsScriptOf, IsSo, Says, IsStopped}
 use Rattle.oz_cluster.specs.Report.{report_of}
-use Rattle.oz_cluster.specs.Script.{script_of, IsNumbered}
+use Rattle.oz_script.specs.Script.{script_of, IsNumbered}
 use Rattle.oz_cluster.specs.StatusCauses.{HasBegun, IsFaultOf, StatusCauses}
 use Rattle.oz_cluster.specs.Statuses.{status_number}
 use Rattle.oz_cluster.specs.Stops.{StopsHold}

@@ -5,7 +5,7 @@ use Rattle.oz_cluster.specs.declared.events.Event.{Event}
 use Rattle.oz_cluster.specs.declared.events.EventKind.TheVariants.{Ask, Decide, Told}
 use Rattle.oz_cluster.specs.declared.requests.Answer.{Answer}
 use Rattle.oz_cluster.specs.declared.requests.Answer.TheVariants as told
-use Rattle.oz_cluster.specs.declared.script.Script.{Script}
+use Rattle.oz_script.specs.declared.grammar.Script.{Script}
 use Rattle.oz_cluster.specs.Fits.{EventFits, FitsFrom}
 use Rattle.oz_cluster.specs.Headline.{RepliesAreOneThreads, AsksAfterTold, ToldIsStable}
 use Rattle.oz_cluster.specs.Law.{IsEnabled, IsInTime, IsLegalFrom, IsLegal}

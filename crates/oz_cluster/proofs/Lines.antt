@@ -11,8 +11,8 @@ use Rattle.oz_cluster.specs.declared.requests.Answer.{Answer}
 use Rattle.oz_cluster.specs.declared.requests.AskId.{AskId}
 use Rattle.oz_cluster.specs.declared.requests.Reply.{Reply}
 use Rattle.oz_cluster.specs.declared.requests.Request.{Request}
-use Rattle.oz_cluster.specs.declared.script.Line.{Line}
-use Rattle.oz_cluster.specs.declared.script.Script.{Script}
+use Rattle.oz_script.specs.declared.grammar.Line.{Line}
+use Rattle.oz_script.specs.declared.grammar.Script.{Script}
 use Rattle.oz_cluster.specs.Answers.{Answers, after}
 use Rattle.oz_cluster.specs.Fits.{FitsFrom, AfterIsTold, HasStarted, IsLineOf, IsDue, request_of, told_lines}
 use Rattle.oz_cluster.specs.Law.{IsLegal, IsInTime}

@@ -13,8 +13,8 @@ use Rattle.oz_cluster.specs.declared.requests.Reply.TheVariants as reply
 use Rattle.oz_cluster.specs.declared.requests.Request.{Request}
 use Rattle.oz_cluster.specs.declared.requests.Request.TheVariants.{CreateVolume}
 use Rattle.oz_cluster.specs.declared.requests.Values.TheVariants as values
-use Rattle.oz_cluster.specs.declared.script.Line.{Line}
-use Rattle.oz_cluster.specs.declared.script.Script.{Script}
+use Rattle.oz_script.specs.declared.grammar.Line.{Line}
+use Rattle.oz_script.specs.declared.grammar.Script.{Script}
 use Rattle.oz_cluster.specs.Answers.{Answers, after}
 use Rattle.oz_cluster.specs.Fits.{IsLineOf, request_of, answer_of}
 use Rattle.oz_cluster.specs.Namespace.{Volumes, with_volume}

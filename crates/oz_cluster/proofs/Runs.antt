@@ -4,13 +4,13 @@ use Rattle.std.proofs.lemmas.Bool.{cases_Bool, eq-eqb, ne_eqb, eqb-true, falseâ‰
 use Rattle.std.proofs.lemmas.List.{append-nil, append_assoc}
 use Rattle.oz_world.specs.Disk.{Seen}
 use Rattle.oz_cluster.specs.declared.events.Event.{Event}
-use Rattle.oz_cluster.specs.declared.script.Line.{Line}
-use Rattle.oz_cluster.specs.declared.script.Script.{Script}
+use Rattle.oz_script.specs.declared.grammar.Line.{Line}
+use Rattle.oz_script.specs.declared.grammar.Script.{Script}
 use Rattle.oz_cluster.specs.Fits.{Fits, AllAreTold, FitsFrom, IsLineOf, lines_of, told_lines}
 use Rattle.oz_cluster.specs.Law.{IsLegalFrom}
 use Rattle.oz_cluster.specs.Namespace.{Volumes}
 use Rattle.oz_cluster.specs.Quiet.{IsServed, counted}
-use Rattle.oz_cluster.specs.Script.{AreNumberedFrom}
+use Rattle.oz_script.specs.Script.{AreNumberedFrom}
 use Rattle.oz_cluster.specs.Story.{Opening, namespace_from, kept_from}
 use Rattle.oz_cluster.proofs.Lines.{Sums}
 

@@ -13,8 +13,8 @@ use Rattle.oz_cluster.specs.declared.requests.Answer.TheVariants as told
 use Rattle.oz_cluster.specs.declared.requests.Reply.{Reply}
 use Rattle.oz_cluster.specs.declared.requests.Reply.TheVariants as reply
 use Rattle.oz_cluster.specs.declared.requests.Request.{Request}
-use Rattle.oz_cluster.specs.declared.script.Line.{Line}
-use Rattle.oz_cluster.specs.declared.script.Script.{Script}
+use Rattle.oz_script.specs.declared.grammar.Line.{Line}
+use Rattle.oz_script.specs.declared.grammar.Script.{Script}
 use Rattle.oz_cluster.specs.Answers.{Answers, after}
 use Rattle.oz_cluster.specs.Fits.{FitsFrom, IsLineOf, IsDue, request_of, answer_of}
 use Rattle.oz_cluster.specs.Law.{IsLegal, IsInTime}

@@ -12,10 +12,10 @@ use Rattle.oz_cluster.specs.declared.requests.Reply.TheVariants as reply
 use Rattle.oz_cluster.specs.declared.requests.Request.{Request}
 use Rattle.oz_cluster.specs.declared.requests.Request.TheVariants.{CreateVolume, InfoVolume}
 use Rattle.oz_cluster.specs.declared.requests.Values.TheVariants as values
-use Rattle.oz_cluster.specs.declared.script.Command.{Command}
-use Rattle.oz_cluster.specs.declared.script.Command.TheVariants.{VolumeCreate, VolumeInfo}
-use Rattle.oz_cluster.specs.declared.script.Line.{Line}
-use Rattle.oz_cluster.specs.declared.script.Script.{Script}
+use Rattle.oz_script.specs.declared.grammar.Command.{Command}
+use Rattle.oz_script.specs.declared.grammar.Command.TheVariants.{VolumeCreate, VolumeInfo}
+use Rattle.oz_script.specs.declared.grammar.Line.{Line}
+use Rattle.oz_script.specs.declared.grammar.Script.{Script}
 use Rattle.oz_cluster.specs.Story.{Opening, is_of_line, is_told, last_reply, line_index, durable_index, halt_of, asked_late}
 
 -- the one request of a line

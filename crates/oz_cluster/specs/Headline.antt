@@ -12,7 +12,7 @@ use Rattle.oz_cluster.specs.declared.requests.Answer.TheVariants as told
 use Rattle.oz_cluster.specs.declared.requests.AskId.{AskId}
 use Rattle.oz_cluster.specs.declared.requests.Reply.{Reply}
 use Rattle.oz_cluster.specs.declared.requests.Request.{Request}
-use Rattle.oz_cluster.specs.declared.script.Script.{Script}
+use Rattle.oz_script.specs.declared.grammar.Script.{Script}
 use Rattle.oz_cluster.specs.declared.status.Status.{Status}
 use Rattle.oz_cluster.specs.declared.status.Status.TheVariants as ends
 use Rattle.oz_cluster.specs.Answers.{Answers}

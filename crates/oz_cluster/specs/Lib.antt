@@ -1,6 +1,5 @@
 pub mod AnswerNumbers
 pub mod Answers
-pub mod Causes
 pub mod Fits
 pub mod Headline
 pub mod Law
@@ -8,12 +7,10 @@ pub mod Manager
 pub mod Namespace
 pub mod OpenFaults
 pub mod Opens
-pub mod PlainScript
 pub mod Quiet
 pub mod Refusals
 pub mod Report
 pub mod Rows
-pub mod Script
 pub mod StatusCauses
 pub mod Statuses
 pub mod Steps

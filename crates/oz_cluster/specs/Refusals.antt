@@ -4,14 +4,14 @@ use Rattle.std.specs.Option.{option_map}
 use Rattle.oz_cluster.specs.declared.refusal.Refusal.{Refusal}
 use Rattle.oz_cluster.specs.declared.refusal.Refusal.TheVariants.{Words, Read, Script, Disk, Damaged, OutOfMemory}
 use Rattle.oz_cluster.specs.declared.events.Event.{Event}
-use Rattle.oz_cluster.specs.declared.script.Script.{Script as Lines}
-use Rattle.oz_cluster.specs.declared.script.ScriptFault.TheVariants.{At}
+use Rattle.oz_script.specs.declared.grammar.Script.{Script as Lines}
+use Rattle.oz_script.specs.declared.grammar.ScriptFault.TheVariants.{At}
 use Rattle.oz_cluster.specs.declared.status.Status.{Status}
 use Rattle.oz_cluster.specs.declared.status.Status.TheVariants as status
-use Rattle.oz_cluster.specs.Causes.{cause_text}
+use Rattle.oz_script.specs.Causes.{cause_text}
 use Rattle.oz_cluster.specs.Opens.{IsDamagedDisk}
 use Rattle.oz_cluster.specs.Report.{words_fault, script_fault, damaged_manager, disk_fault, read_fault, memory_fault}
-use Rattle.oz_cluster.specs.Script.{script_of}
+use Rattle.oz_script.specs.Script.{script_of}
 use Rattle.oz_cluster.specs.Streams.{script_limit, HoldsFront}
 use Rattle.oz_cluster.specs.Words.{IsRun, IsFirstFault}
 

@@ -1,10 +1,10 @@
 -- Why a run ends with each status, and with which status a wrong word, a wrong script and a wrong disk end it.
 use Rattle.std.specs.Prelude.{◌≡◌, ◌⊎◌, ℕ, ◌≤◌, List, take, Option, Some, Err, IfSome}
-use Rattle.oz_cluster.specs.declared.script.Cause.{Cause}
-use Rattle.oz_cluster.specs.declared.script.ScriptFault.TheVariants.{At}
+use Rattle.oz_script.specs.declared.grammar.Cause.{Cause}
+use Rattle.oz_script.specs.declared.grammar.ScriptFault.TheVariants.{At}
 use Rattle.oz_cluster.specs.Opens.{Opens, IsDamagedDisk}
 use Rattle.oz_cluster.specs.Refusals.{IsScript}
-use Rattle.oz_cluster.specs.Script.{script_of}
+use Rattle.oz_script.specs.Script.{script_of}
 use Rattle.oz_cluster.specs.Story.{Opening}
 use Rattle.oz_cluster.specs.Streams.{script_limit}
 use Rattle.oz_cluster.specs.Words.{IsRun, IsFirstFault}

@@ -11,7 +11,6 @@ pub mod report;
 pub mod requests;
 pub mod rows;
 pub mod run;
-pub mod script;
 pub mod status;
 mod streams;
 pub mod words;

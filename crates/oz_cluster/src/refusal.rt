@@ -3,16 +3,16 @@ ghost use Rattle.std.specs.String.{string_bytes};
 ghost use Rattle.oz_world.specs.Faults.{Rose};
 ghost use Rattle.oz_cluster.specs.declared.refusal.Refusal.{Refusal};
 ghost use Rattle.oz_cluster.specs.Refusals.{status_of, text_of, IsScriptOf, IsSo, Says};
-ghost use Rattle.oz_cluster.specs.Script.{IsNumbered};
+ghost use Rattle.oz_script.specs.Script.{IsNumbered};
 ghost use Rattle.oz_cluster.specs.Streams.{script_limit, TakesUpTo};
 ghost use Rattle.oz_cluster.specs.Words.{IsRun};
 
 use crate::report;
-use crate::script::{Cause, Script, ScriptFault, parse};
 use crate::status::Status;
 use crate::streams::{ReadFault, read_script, write_all};
 use crate::words::read_words;
 use oz_fields::OutOfMemory;
+use oz_script::{Cause, Script, ScriptFault, parse};
 use oz_world::{Sink, Source};
 use std::alloc::Global;
 

@@ -2,11 +2,11 @@ ghost use Rattle.std.specs.Prelude.{◌≡◌, ◌≤◌, ◌<◌, ◌^◌, [], 
 ghost use Rattle.oz_world.specs.Disk.{seen};
 ghost use Rattle.oz_journal.specs.Moments.{Elapses};
 ghost use Rattle.oz_cluster.specs.Quiet.{IsLoaded, IsServed, IsHeld};
-ghost use Rattle.oz_cluster.specs.Script.{IsNumbered};
+ghost use Rattle.oz_script.specs.Script.{IsNumbered};
 
 use crate::manager::Manager;
-use crate::script::Script;
 use oz_fields::OutOfMemory;
+use oz_script::Script;
 use oz_world::{Disk, Gate};
 use std::alloc::Global;
 use std::sync::Wait;

@@ -1,8 +1,8 @@
 #[cfg(test)]
 mod tests {
-    use oz_cluster::names::{Code, stripe_of, volume_name};
-    use oz_cluster::script::{Command, Script, ScriptFault, parse};
     use oz_cluster::words::{Words, read_words};
+    use oz_names::{Code, stripe_of, volume_name};
+    use oz_script::{Command, Script, ScriptFault, parse};
     use std::alloc::{AllocError, Global};
     use std::test::Fail;
 

@@ -1,7 +1,7 @@
 use Rattle.std.proofs.Common.{◌≡◌, ◌<◌, ◌^◌, Bool, false, List, length, get_or, sym, subst, arith}
 use Rattle.oz_world.specs.Disk.{seen}
 use Rattle.oz_cluster.specs.declared.events.Event.{Event}
-use Rattle.oz_cluster.specs.declared.script.Line.{Line}
+use Rattle.oz_script.specs.declared.grammar.Line.{Line}
 use Rattle.oz_cluster.specs.Quiet.{IsServed, IsHeld}
 use Rattle.oz_cluster.specs.Story.{Opening}
 use Rattle.oz_cluster.proofs.Held.{held_first}

@@ -1,6 +1,6 @@
 use Rattle.std.proofs.Common.{◌∙◌, sym}
-use Rattle.oz_cluster.proofs.Parts.{first_line, last_line}
-use Rattle.oz_cluster.proofs.script.split_line.Goals as goal
+use Rattle.oz_script.proofs.Parts.{first_line, last_line}
+use Rattle.oz_script.proofs.grammar.split_line.Goals as goal
 
 pub returns-in_default-clause-parts : goal.returns-in_default-clause-parts
 returns-in_default-clause-parts c =

@@ -1,11 +1,11 @@
 -- The plainest text of a script of one client.
 use Rattle.std.specs.Prelude.{ℕ, ◌+◌, ◌<◌, ◌≤◌, Bool, IsTrue, List, [], ◌∷◌, ◌++◌, length, codes, None}
 use Rattle.std.specs.List.{list_all, flat_map, join_with_byte}
-use Rattle.oz_cluster.specs.declared.script.Command.{Command}
-use Rattle.oz_cluster.specs.declared.script.Command.TheVariants.{VolumeCreate, VolumeInfo}
-use Rattle.oz_cluster.specs.declared.script.Line.{Line}
-use Rattle.oz_cluster.specs.declared.script.Script.{Script}
-use Rattle.oz_cluster.specs.Script.{is_visible, is_client_name}
+use Rattle.oz_script.specs.declared.grammar.Command.{Command}
+use Rattle.oz_script.specs.declared.grammar.Command.TheVariants.{VolumeCreate, VolumeInfo}
+use Rattle.oz_script.specs.declared.grammar.Line.{Line}
+use Rattle.oz_script.specs.declared.grammar.Script.{Script}
+use Rattle.oz_script.specs.Script.{is_visible, is_client_name}
 
 -- the words of a command
 abbrev pub command_words : Command → List (List ℕ)

@@ -1,7 +1,7 @@
 -- The word of each fault of a script.
 use Rattle.std.specs.Prelude.{ℕ, List, codes}
-use Rattle.oz_cluster.specs.declared.script.Cause.{Cause}
-use Rattle.oz_cluster.specs.declared.script.Cause.TheVariants.{Long, Form, Many}
+use Rattle.oz_script.specs.declared.grammar.Cause.{Cause}
+use Rattle.oz_script.specs.declared.grammar.Cause.TheVariants.{Long, Form, Many}
 
 -- what the program prints
 abbrev pub cause_text : Cause → List ℕ

@@ -1,11 +1,11 @@
 ghost use Rattle.std.specs.Prelude.{◌≡◌, ℕ, List as Items, ◌+◌, ◌<◌, ◌==◌, ◌||◌, not, [], ◌∷◌, ◌++◌, length, map, IfOk, IfSome, MatchOption};
 ghost use Rattle.std.specs.List.{list_all, position};
 ghost use Rattle.std.specs.Str.Lines.{lines, strip_carriage_return};
-ghost use Rattle.oz_cluster.specs.Causes.{cause_text};
+ghost use Rattle.oz_script.specs.Causes.{cause_text};
 ghost use Rattle.oz_names.specs.Names.{is_digit, is_letter};
-ghost use Rattle.oz_cluster.specs.PlainScript.{IsPlain, plain_text, plain_script};
-ghost use Rattle.oz_cluster.specs.declared.script.Command.{Command as Said};
-ghost use Rattle.oz_cluster.specs.Script.{Gives, IsNumbered, is_blank, is_visible, is_client_name, words, command_of as command_said, commands_on, with_client as clients_with, next_line, with_line as script_with, script_of};
+ghost use Rattle.oz_script.specs.PlainScript.{IsPlain, plain_text, plain_script};
+ghost use Rattle.oz_script.specs.declared.grammar.Command.{Command as Said};
+ghost use Rattle.oz_script.specs.Script.{Gives, IsNumbered, is_blank, is_visible, is_client_name, words, command_of as command_said, commands_on, with_client as clients_with, next_line, with_line as script_with, script_of};
 
 use oz_fields::{List, Name, OutOfMemory};
 use std::alloc::Global;
@@ -85,7 +85,7 @@ impl Cause {
 }
 
 impl From<OutOfMemory> for ScriptFault {
-    ghost use Rattle.oz_cluster.specs.declared.script.ScriptFault.TheVariants.{OutOfMemory};
+    ghost use Rattle.oz_script.specs.declared.grammar.ScriptFault.TheVariants.{OutOfMemory};
 
     ghost from_gives = { λ _ fault. fault ≡ OutOfMemory };
 

@@ -1,7 +1,7 @@
 use Rattle.std.proofs.Common.{◌∙◌, sym}
-use Rattle.oz_cluster.specs.Script.{is_blank}
-use Rattle.oz_cluster.proofs.Parts.{first_word, no_word, position_else}
-use Rattle.oz_cluster.proofs.script.split_word.Goals as goal
+use Rattle.oz_script.specs.Script.{is_blank}
+use Rattle.oz_script.proofs.Parts.{first_word, no_word, position_else}
+use Rattle.oz_script.proofs.grammar.split_word.Goals as goal
 
 pub returns-in_default : goal.returns-in_default
 returns-in_default c = no_word c.args.line.now (sym c.in_default.ensures)

@@ -1,6 +1,6 @@
 use Rattle.std.proofs.Common.{length}
-use Rattle.oz_cluster.proofs.ScriptSteps.{IsReadTo}
-use Rattle.oz_cluster.proofs.script.parse.Given as goal
+use Rattle.oz_script.proofs.ScriptSteps.{IsReadTo}
+use Rattle.oz_script.proofs.grammar.parse.Given as goal
 
 abbrev pub invariant-loop-line : goal.invariant-loop-line
 invariant-loop-line l = IsReadTo l.bytes l.script l.place l.rest

@@ -7,7 +7,7 @@ use Rattle.std.proofs.lemmas.Bool.{ltb-true, ltb-false, lt-ltb}
 use Rattle.std.proofs.lemmas.List.{drop_all, take_all, length-take}
 use Rattle.std.proofs.lemmas.List.Splits.{slice_split_first}
 use Rattle.std.proofs.lemmas.List.Sums.{prefix_len-le-length}
-use Rattle.oz_cluster.specs.Script.{is_blank, words}
+use Rattle.oz_script.specs.Script.{is_blank, words}
 
 abbrev pub kept : List (List ℕ) → List (List ℕ)
 kept parts = filter (λ word. nat_lt 0 (length word)) parts

@@ -4,13 +4,13 @@ use Rattle.std.specs.List.{list_all, slice_split, filter_map}
 use Rattle.std.specs.Option.{ok_or, option_map}
 use Rattle.std.specs.Str.{bytes_eq}
 use Rattle.std.specs.Str.Lines.{lines}
-use Rattle.oz_cluster.specs.declared.script.Cause.TheVariants.{Long, Form, Many}
-use Rattle.oz_cluster.specs.declared.script.Command.{Command}
-use Rattle.oz_cluster.specs.declared.script.Command.TheVariants.{VolumeCreate, VolumeInfo}
-use Rattle.oz_cluster.specs.declared.script.Line.{Line}
-use Rattle.oz_cluster.specs.declared.script.Script.{Script}
-use Rattle.oz_cluster.specs.declared.script.ScriptFault.{ScriptFault}
-use Rattle.oz_cluster.specs.declared.script.ScriptFault.TheVariants.{At, OutOfMemory}
+use Rattle.oz_script.specs.declared.grammar.Cause.TheVariants.{Long, Form, Many}
+use Rattle.oz_script.specs.declared.grammar.Command.{Command}
+use Rattle.oz_script.specs.declared.grammar.Command.TheVariants.{VolumeCreate, VolumeInfo}
+use Rattle.oz_script.specs.declared.grammar.Line.{Line}
+use Rattle.oz_script.specs.declared.grammar.Script.{Script}
+use Rattle.oz_script.specs.declared.grammar.ScriptFault.{ScriptFault}
+use Rattle.oz_script.specs.declared.grammar.ScriptFault.TheVariants.{At, OutOfMemory}
 use Rattle.oz_names.specs.Names.{is_digit, is_letter}
 
 -- one after the other, up to the first fault

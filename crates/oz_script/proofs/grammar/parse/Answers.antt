@@ -1,6 +1,6 @@
 use Rattle.std.proofs.lemmas.Result.{err_from_is_err_and}
-use Rattle.oz_cluster.proofs.ScriptSteps.{begins, goes_on, ends, fails, too_long, commands_are}
-use Rattle.oz_cluster.proofs.script.parse.Goals as goal
+use Rattle.oz_script.proofs.ScriptSteps.{begins, goes_on, ends, fails, too_long, commands_are}
+use Rattle.oz_script.proofs.grammar.parse.Goals as goal
 
 pub returns-then-bytes-gt-MOST_BYTES-clause-exact : goal.returns-then-bytes-gt-MOST_BYTES-clause-exact
 returns-then-bytes-gt-MOST_BYTES-clause-exact c = too_long c.args.bytes.now c.if-bytes-gt-MOST_BYTES.true

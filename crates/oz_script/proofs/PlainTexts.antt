@@ -10,15 +10,15 @@ use Rattle.std.proofs.lemmas.List.Folds.{list_all-append}
 use Rattle.std.proofs.lemmas.List.Sums.{AllPass-from_list_all}
 use Rattle.std.proofs.lemmas.List.Splits.{slice_split_at, slice_split_none}
 use Rattle.std.proofs.lemmas.Slice.Eq.{bytes_eq-Decides}
-use Rattle.oz_cluster.specs.declared.script.Command.{Command}
-use Rattle.oz_cluster.specs.declared.script.Command.TheVariants.{VolumeCreate, VolumeInfo}
-use Rattle.oz_cluster.specs.declared.script.Line.{Line}
-use Rattle.oz_cluster.specs.declared.script.Script.{Script}
-use Rattle.oz_cluster.specs.declared.script.ScriptFault.{ScriptFault}
+use Rattle.oz_script.specs.declared.grammar.Command.{Command}
+use Rattle.oz_script.specs.declared.grammar.Command.TheVariants.{VolumeCreate, VolumeInfo}
+use Rattle.oz_script.specs.declared.grammar.Line.{Line}
+use Rattle.oz_script.specs.declared.grammar.Script.{Script}
+use Rattle.oz_script.specs.declared.grammar.ScriptFault.{ScriptFault}
 use Rattle.oz_names.specs.Names.{is_digit, is_letter}
-use Rattle.oz_cluster.specs.PlainScript.{command_words, is_plain, plain_line, plain_text, plain_lines, plain_script, IsPlain}
-use Rattle.oz_cluster.specs.Script.{◌>>=◌, is_blank, is_visible, is_remark, is_client_name, words, with_client, next_line, with_words, with_line, with_lines, script_of, command_of}
-use Rattle.oz_cluster.proofs.Parts.{kept, parts_of}
+use Rattle.oz_script.specs.PlainScript.{command_words, is_plain, plain_line, plain_text, plain_lines, plain_script, IsPlain}
+use Rattle.oz_script.specs.Script.{◌>>=◌, is_blank, is_visible, is_remark, is_client_name, words, with_client, next_line, with_words, with_line, with_lines, script_of, command_of}
+use Rattle.oz_script.proofs.Parts.{kept, parts_of}
 
 -- ---- tests of bytes
 

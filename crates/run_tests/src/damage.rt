@@ -1,6 +1,6 @@
 #[cfg(test)]
 mod tests {
-    use oz_cluster::run::{Disks, Ended, run};
+    use oz_cluster::run::{Disks, run};
     use oz_world::{MemoryDisk, MemorySink, MemorySource, OpenGate, OutOfMemory};
     use std::alloc::Global;
     use std::process::Abort;
@@ -181,20 +181,10 @@ mod tests {
             nodes: Vec::new(alloc),
         };
         let ended = run(rt, alloc, &words, &mut source, &mut out, disks, &OpenGate);
-        let Ended {
-            status,
-            disks: Disks {
-                manager,
-                scm: _,
-                nodes,
-            },
-            story: _,
-        } = ended;
-        nodes.destroy_empty();
         Ok(Left {
-            status,
+            status: ended.status,
             text: String::from_utf8_lossy(alloc, out.held())?,
-            disk: manager.bytes().to_vec(alloc)?,
+            disk: ended.disks.manager.bytes().to_vec(alloc)?,
         })
     }
 

@@ -2,6 +2,10 @@
 #![tactic(auto)]
 
 mod damage;
+mod faults;
+#[cfg(test)]
+mod memory_run;
 mod report;
 mod run;
 mod script;
+mod stops;

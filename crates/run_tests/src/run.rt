@@ -1,6 +1,6 @@
 #[cfg(test)]
 mod tests {
-    use oz_cluster::run::{Disks, Ended, run};
+    use oz_cluster::run::{Disks, run};
     use oz_world::{MemoryDisk, MemorySink, MemorySource, OpenGate, OutOfMemory};
     use std::alloc::Global;
     use std::process::Abort;
@@ -69,20 +69,10 @@ mod tests {
             nodes: Vec::new(alloc),
         };
         let ended = run(rt, alloc, &words, &mut source, &mut out, disks, &OpenGate);
-        let Ended {
-            status,
-            disks: Disks {
-                manager,
-                scm: _,
-                nodes,
-            },
-            story: _,
-        } = ended;
-        nodes.destroy_empty();
         Ok(Left {
-            status,
+            status: ended.status,
             text: String::from_utf8_lossy(alloc, out.held())?,
-            disk: manager.bytes().to_vec(alloc)?,
+            disk: ended.disks.manager.bytes().to_vec(alloc)?,
         })
     }
 
@@ -420,7 +410,7 @@ mod tests {
         Ok(())
     }
 
-    /// What wasn't told may be there at the next run.
+    /// What was told `UNACKNOWLEDGED` may be there at the next run.
     #[test]
     fn a_disk_that_fails_in_the_work(rt: HostRuntime) -> Result<(), Fail> {
         let alloc = rt.alloc();
@@ -429,7 +419,10 @@ mod tests {
             d 1 1 1 InfoVolume VOLUME_NOT_FOUND\n\
             t 1 1 VOLUME_NOT_FOUND\n\
             d 1 2 1 CreateVolume OK\n\
-            end 1 of 3\n";
+            h manager 1\n\
+            t 1 2 UNACKNOWLEDGED\n\
+            t 1 3 MANAGER_STOPPED\n\
+            end 3 of 3\n";
         for (call, reply) in [
             (4, "VOLUME_NOT_FOUND"),
             (5, "VOLUME_NOT_FOUND"),

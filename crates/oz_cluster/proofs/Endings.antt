@@ -21,7 +21,7 @@ use Rattle.oz_cluster.specs.Namespace.{Volumes, nothing}
 use Rattle.oz_cluster.specs.OpenFaults.{as_refusal}
 use Rattle.oz_cluster.specs.Opens.{Opens, OpensFrom, IsDamagedDisk, StandsAs}
 use Rattle.oz_cluster.specs.Quiet.{IsServed, IsHeld, IsLoaded}
-use Rattle.oz_cluster.specs.Refusals.{status_of, text_of, IsScript, IsScriptOf, IsSo, Says, IsStopped}
+use Rattle.oz_cluster.specs.Refusals.{status_of, text_of, IsScript, IsScriptOf, IsSo, Says, IsUntouched, IsLeft, Spares, IsStopped}
 use Rattle.oz_cluster.specs.Report.{report_of}
 use Rattle.oz_script.specs.Script.{script_of, IsNumbered}
 use Rattle.oz_cluster.specs.StatusCauses.{HasBegun, IsFaultOf, StatusCauses}
@@ -35,28 +35,63 @@ use Rattle.oz_cluster.proofs.Headlines.{replies, asks, acknowledges}
 use Rattle.oz_cluster.proofs.Runs.{fits_so_far, tells_all}
 use Rattle.oz_cluster.proofs.Serving.{none_there, some_there}
 
-module _ (words : List (List ℕ)) (left told before after : Option (List ℕ)) (source_rose sink_rose disk_rose : Type 0) (story : List Event) where
-  -- what stopped a run before the disk was asked
-  so_early : (refusal : Refusal) → IsSo words left told source_rose ⊥ refusal → IsSo words left told source_rose disk_rose refusal
-  so_early (Script line cause) so = so
-  so_early (Words place) so = so
-  so_early Read so = so
-  so_early Disk so = absurd so.2
-  so_early (Damaged offset) so = so
-  so_early OutOfMemory so = tt
+if_all : (told : Option (List ℕ)) (P : List ℕ → Type 0) → ((bytes : List ℕ) → told ≡ Some bytes → P bytes) → IfSome told P
+if_all None P h = tt
+if_all (Some bytes) P h = h bytes refl
 
-  -- a run that was stopped so, or that had no memory to say it
-  pub stopped : (refusal why : Refusal) (status : Status) → IsSo words left told source_rose disk_rose refusal → (why ≡ refusal) ⊎ (why ≡ OutOfMemory) → status ≡ status_of why → Says (text_of why) before after sink_rose → story ≡ [] → IsStopped words left told source_rose disk_rose before after sink_rose story status
-  stopped refusal why status so which is said untold = record {
+untouched : (disk : Seen) → IsUntouched disk disk
+untouched disk = record { contents = refl; time = record { moment = refl; images = λ t left. (λ h. h, λ h. h) }; faults = refl }
+
+left_as_is : (disk : Seen) → IsLeft disk disk
+left_as_is disk = record {
+  contents = if_all disk.told (λ bytes. 2 ≤ length bytes → disk.told ≡ Some bytes) (λ bytes is long. is);
+  images = if_all disk.told (λ bytes. IsLoadable bytes (disk.image disk.clock) → Spans IsLeftAlone disk.clock disk.clock disk.image disk.image) (λ bytes is loadable. record {
+    elapses = record { later = omega arith; kept = λ t left le. (λ h. h, λ h. h) };
+    made = λ t later lt le image. absurd (omega (arith, lt, le));
+  });
+}
+
+spared_early : (refusal : Refusal) (words : List (List ℕ)) (left : Option (List ℕ)) (source_rose : Type 0) (disk : Seen) → IsSo words left disk.told source_rose ⊥ refusal → Spares refusal disk disk
+spared_early (Script line cause) words left source_rose disk so = untouched disk
+spared_early (Words place) words left source_rose disk so = untouched disk
+spared_early Read words left source_rose disk so = untouched disk
+spared_early Disk words left source_rose disk so = absurd so.2
+spared_early (Damaged offset) words left source_rose disk so = left_as_is disk
+spared_early OutOfMemory words left source_rose disk so = left_as_is disk
+
+-- what is left of a disk that loading asked for
+spared_late : (refusal : Refusal) (fault : OpenFault) (before after : Seen) → refusal ≡ as_refusal fault → IsLeft before after → Spares refusal before after
+spared_late refusal fault.Disk before after is left = subst (λ (r : Refusal). Spares r before after) (sym is) left
+spared_late refusal (fault.Damaged offset) before after is left = subst (λ (r : Refusal). Spares r before after) (sym is) left
+spared_late refusal fault.OutOfMemory before after is left = subst (λ (r : Refusal). Spares r before after) (sym is) left
+
+so_early : (words : List (List ℕ)) (left told : Option (List ℕ)) (source_rose disk_rose : Type 0) (refusal : Refusal) → IsSo words left told source_rose ⊥ refusal → IsSo words left told source_rose disk_rose refusal
+so_early words left told source_rose disk_rose (Script line cause) so = so
+so_early words left told source_rose disk_rose (Words place) so = so
+so_early words left told source_rose disk_rose Read so = so
+so_early words left told source_rose disk_rose Disk so = absurd so.2
+so_early words left told source_rose disk_rose (Damaged offset) so = so
+so_early words left told source_rose disk_rose OutOfMemory so = tt
+
+module _ (words : List (List ℕ)) (left : Option (List ℕ)) (source_rose : Type 0) (before after : Option (List ℕ)) (sink_rose : Type 0) (story : List Event) (refusal why : Refusal) (status : Status) (which : (why ≡ refusal) ⊎ (why ≡ OutOfMemory)) (is : status ≡ status_of why) (said : Says (text_of why) before after sink_rose) (untold : story ≡ []) where
+  -- what stopped a run, or that there was no memory to say it
+  stopped : (disk_before disk_after : Seen) → IsSo words left disk_before.told source_rose (Rose disk_before.faults disk_after.faults) refusal → Spares refusal disk_before disk_after → IsLeft disk_before disk_after → IsStopped words left disk_before disk_after source_rose before after sink_rose story status
+  stopped disk_before disk_after so spared left_so = record {
     refusal = why;
-    so = ⊎_elim (λ same. subst (IsSo words left told source_rose disk_rose) (sym same) so) (λ none. subst (IsSo words left told source_rose disk_rose) (sym none) tt) which;
+    so = ⊎_elim (λ same. subst (IsSo words left disk_before.told source_rose (Rose disk_before.faults disk_after.faults)) (sym same) so) (λ none. subst (IsSo words left disk_before.told source_rose (Rose disk_before.faults disk_after.faults)) (sym none) tt) which;
     status_is = is;
     said = said;
     untold = untold;
+    spared = ⊎_elim (λ same. subst (λ (r : Refusal). Spares r disk_before disk_after) (sym same) spared) (λ none. subst (λ (r : Refusal). Spares r disk_before disk_after) (sym none) left_so) which;
   }
 
-  pub stopped_early : (refusal why : Refusal) (status : Status) → IsSo words left told source_rose ⊥ refusal → (why ≡ refusal) ⊎ (why ≡ OutOfMemory) → status ≡ status_of why → Says (text_of why) before after sink_rose → story ≡ [] → IsStopped words left told source_rose disk_rose before after sink_rose story status
-  stopped_early refusal why status so which is said untold = stopped refusal why status (so_early refusal so) which is said untold
+  -- before the disk was asked
+  pub stopped_early : (disk : Seen) → IsSo words left disk.told source_rose ⊥ refusal → IsStopped words left disk disk source_rose before after sink_rose story status
+  stopped_early disk so = stopped disk disk (so_early words left disk.told source_rose (Rose disk.faults disk.faults) refusal so) (spared_early refusal words left source_rose disk so) (left_as_is disk)
+
+  -- while it was loaded
+  pub stopped_late : (disk_before disk_after : Seen) (fault : OpenFault) → refusal ≡ as_refusal fault → IsSo words left disk_before.told source_rose (Rose disk_before.faults disk_after.faults) (as_refusal fault) → IsLeft disk_before disk_after → IsStopped words left disk_before disk_after source_rose before after sink_rose story status
+  stopped_late disk_before disk_after fault same so left_so = stopped disk_before disk_after (subst (IsSo words left disk_before.told source_rose (Rose disk_before.faults disk_after.faults)) (sym same) so) (spared_late refusal fault disk_before disk_after same left_so) left_so
 
 -- a manager that wasn't opened
 pub open_so : (words : List (List ℕ)) (left told : Option (List ℕ)) (source_rose disk_rose : Type 0) (why : OpenFault) → IsRun words → IsScript left → ((offset : ℕ) → why ≡ fault.Damaged offset → IfSome told (λ bytes. IsDamagedDisk bytes offset)) → (why ≡ fault.Disk → disk_rose) → IsSo words left told source_rose disk_rose (as_refusal why)
@@ -234,10 +269,6 @@ if_some (Some other) P bytes is h =
     let same : other ≡ bytes = cc is in
     subst P same h
 
-if_all : (told : Option (List ℕ)) (P : List ℕ → Type 0) → ((bytes : List ℕ) → told ≡ Some bytes → P bytes) → IfSome told P
-if_all None P h = tt
-if_all (Some bytes) P h = h bytes refl
-
 -- while the disk is loaded, what a stop leaves is left alone
 loading_keeps : (disk : Seen) (bytes : List ℕ) (loaded last : ℕ) (middle image : Images) → loaded ≡ loaded_at disk.clock bytes → Spans IsLeftAlone disk.clock loaded disk.image middle → Elapses loaded last middle image → LoadingKeeps disk bytes image
 loading_keeps disk bytes loaded last middle image is spans time moment left from to there =
@@ -272,6 +303,7 @@ module _ (words : List (List ℕ)) (left : Option (List ℕ)) (disk_before loade
       at_that_point = replies opening story served.legal;
       after_all_seen = asks opening script story served.fits;
       acknowledged = acknowledges opening story served.legal;
+      flushed = served.past;
       stops = λ bytes premises.
           let end = if_some disk_before.told (λ b. loaded.clock ≡ loaded_at disk_before.clock b) bytes premises.tells ended in
           subst (λ (first : ℕ). StopsHold opening story first disk_after.clock disk_after.image) end (held_of bytes premises.tells premises.fits).stops;

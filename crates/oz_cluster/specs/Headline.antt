@@ -23,7 +23,7 @@ use Rattle.oz_cluster.specs.Report.{report_of, memory_fault}
 use Rattle.oz_cluster.specs.Refusals.{IsScriptOf, Says, IsStopped}
 use Rattle.oz_cluster.specs.Statuses.{status_number}
 use Rattle.oz_cluster.specs.Stops.{Premises, StopsHold}
-use Rattle.oz_cluster.specs.Story.{Opening, is_told, pending, line_index, durable_index, last_index, namespace_of, halt_of}
+use Rattle.oz_cluster.specs.Story.{Opening, is_told, pending, line_index, durable_index, last_index, flushed_moment, namespace_of, halt_of}
 use Rattle.oz_cluster.specs.Streams.{HoldsFront}
 use Rattle.oz_cluster.specs.Words.{IsRun}
 
@@ -74,8 +74,8 @@ LoadingKeeps disk bytes image =
 
 -- The story is one history: it follows the law and is that of the script, of which each line was told unless memory ran
 -- out. Each reply is the one-thread namespace's at its place, each line asks after all that its client was told, what was
--- acknowledged is stable, and what was written is the report of the story. A stop at any moment since the disk was loaded
--- leaves a front of the history, with all that was flushed by then.
+-- acknowledged is stable, and what was written is the report of the story. What is flushed was so before the end, and a
+-- stop at any moment since the disk was loaded leaves a front of the history, with all that was flushed by then.
 pub record Headline (opening : Opening) (script : Script) (story : List Event) (status : Status) (disk_before disk_after : Seen) (held_before held_after : Option (List ℕ)) (sink_rose : Type 0) : Type 0 where
   pub printed : IsPrinted status (report_of (length script.lines) story) held_before held_after sink_rose
   pub one_history : IsLegal opening story × Fits opening script story
@@ -83,6 +83,7 @@ pub record Headline (opening : Opening) (script : Script) (story : List Event) (
   pub at_that_point : RepliesAreOneThreads opening story
   pub after_all_seen : AsksAfterTold story
   pub acknowledged : ToldIsStable opening story
+  pub flushed : flushed_moment story ≤ disk_after.clock
   pub stops : (bytes : List ℕ) → Premises disk_before.told bytes (last_index opening story) → StopsHold opening story (loaded_at disk_before.clock bytes) disk_after.clock disk_after.image
 
 -- A run of a script over an opening. Where the manager's disk tells its bytes it stood for the opening, and afterwards it
@@ -102,5 +103,5 @@ pub record IsOneRun (words : List (List ℕ)) (left : Option (List ℕ)) (disk_b
 abbrev pub RunEnds : List (List ℕ) → Option (List ℕ) → Seen → Seen → Option (List ℕ) → Option (List ℕ) → Type 0 → Type 0 → List Event → ℕ → Type 0
 RunEnds words left disk_before disk_after before after source_rose sink_rose story number =
     (status : Status) × (number ≡ status_number status)
-    × (IsStopped words left disk_before.told source_rose (Rose disk_before.faults disk_after.faults) before after sink_rose story status
+    × (IsStopped words left disk_before disk_after source_rose before after sink_rose story status
     ⊎ IsOneRun words left disk_before disk_after before after sink_rose story status)

@@ -1,8 +1,12 @@
 -- What stops a run before its work: its status, its text, and what is then so.
-use Rattle.std.specs.Prelude.{◌≡◌, ◌⊎◌, ℕ, List, [], ◌++◌, take, Option, IfSome, Ok, Err}
+use Rattle.std.specs.Prelude.{◌≡◌, ◌⊎◌, ℕ, ◌≤◌, List, [], ◌++◌, length, take, Option, Some, IfSome, Ok, Err}
 use Rattle.std.specs.Option.{option_map}
 use Rattle.oz_cluster.specs.declared.refusal.Refusal.{Refusal}
 use Rattle.oz_cluster.specs.declared.refusal.Refusal.TheVariants.{Words, Read, Script, Disk, Damaged, OutOfMemory}
+use Rattle.oz_world.specs.Disk.{Seen, Stands}
+use Rattle.oz_world.specs.Faults.{Rose}
+use Rattle.oz_journal.specs.Load.{IsLoadable, IsLeftAlone}
+use Rattle.oz_journal.specs.Moments.{Spans}
 use Rattle.oz_cluster.specs.declared.events.Event.{Event}
 use Rattle.oz_script.specs.declared.grammar.Script.{Script as Lines}
 use Rattle.oz_script.specs.declared.grammar.ScriptFault.TheVariants.{At}
@@ -54,10 +58,32 @@ IsSo words left disk source_rose disk_rose OutOfMemory = Unit {0}
 abbrev pub Says : List ℕ → Option (List ℕ) → Option (List ℕ) → Type 0 → Type 0
 Says text before after rose = (after ≡ option_map (λ held. held ++ text) before) ⊎ (HoldsFront text before after × rose)
 
--- Something stopped a run before its work. It wrote what that was, and no story was told.
-pub record IsStopped (words : List (List ℕ)) (left disk : Option (List ℕ)) (source_rose disk_rose : Type 0) (before after : Option (List ℕ)) (sink_rose : Type 0) (story : List Event) (status : Status) : Type 0 where
+-- the disk wasn't touched
+pub record IsUntouched (before after : Seen) : Type 0 where
+  pub contents : after.told ≡ before.told
+  pub time : Stands before.clock after.clock before.image after.image
+  pub faults : after.faults ≡ before.faults
+
+-- The disk was loaded or not, and has what it had: more than one byte are as they were, and a stop leaves what it would
+-- have left before, or at most one byte in the place of at most one.
+pub record IsLeft (before after : Seen) : Type 0 where
+  pub contents : IfSome before.told (λ bytes. 2 ≤ length bytes → after.told ≡ Some bytes)
+  pub images : IfSome before.told (λ bytes. IsLoadable bytes (before.image before.clock) → Spans IsLeftAlone before.clock after.clock before.image after.image)
+
+-- what becomes of the manager's disk where this stops a run
+abbrev pub Spares : Refusal → Seen → Seen → Type 0
+Spares (Script line cause) before after = IsUntouched before after
+Spares (Words place) before after = IsUntouched before after
+Spares Read before after = IsUntouched before after
+Spares Disk before after = IsLeft before after
+Spares (Damaged offset) before after = IsLeft before after
+Spares OutOfMemory before after = IsLeft before after
+
+-- Something stopped a run before its work. It wrote what that was, no story was told, and the disk lost nothing.
+pub record IsStopped (words : List (List ℕ)) (left : Option (List ℕ)) (disk_before disk_after : Seen) (source_rose : Type 0) (before after : Option (List ℕ)) (sink_rose : Type 0) (story : List Event) (status : Status) : Type 0 where
   pub refusal : Refusal
-  pub so : IsSo words left disk source_rose disk_rose refusal
+  pub so : IsSo words left disk_before.told source_rose (Rose disk_before.faults disk_after.faults) refusal
   pub status_is : status ≡ status_of refusal
   pub said : Says (text_of refusal) before after sink_rose
   pub untold : story ≡ []
+  pub spared : Spares refusal disk_before disk_after

@@ -1,4 +1,4 @@
-ghost use Rattle.std.specs.Prelude.{◌≡◌, ◌≤◌, ◌<◌, ◌^◌, [], ℕ, List, false, Some, IfOk, IfErr, IfSome, MatchOption, slice_get};
+ghost use Rattle.std.specs.Prelude.{◌≡◌, ◌≤◌, ◌<◌, ◌^◌, [], ℕ, List, length, false, Some, IfOk, IfErr, IfSome, MatchOption, slice_get};
 ghost use Rattle.oz_world.specs.Disk.{IsStable};
 ghost use Rattle.oz_world.specs.Faults.{Rose};
 ghost use Rattle.oz_journal.specs.Body.{bodies_in, places_in};
@@ -112,7 +112,9 @@ impl<D: Disk> Manager<D> {
             refused.1 ≡ OpenFault.Disk → Rose (D.faults disk) (D.faults refused.0)) }
         ensures never_falls { D.faults disk ≤ D.faults (disk_behind result) }
 
-        // What a stop may leave.
+        // What the disk has afterwards, and what a stop may leave of it.
+        ensures contents { IfSome (D.told disk) (λ bytes.
+            2 ≤ length bytes → D.told (disk_behind result) ≡ Some bytes) }
         ensures stable { IfOk result (λ manager. (bytes : List ℕ) → D.told manager.journal.disk ≡ Some bytes →
             IsStable (D.image manager.journal.disk) (D.clock manager.journal.disk) bytes) }
         ensures ended { IfOk result (λ manager. IfSome (D.told disk) (λ bytes.

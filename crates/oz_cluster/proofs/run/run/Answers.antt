@@ -4,15 +4,19 @@ use Rattle.oz_world.specs.Disk.{seen}
 use Rattle.oz_world.specs.Faults.{Rose}
 use Rattle.oz_cluster.specs.declared.events.Event.{Event}
 use Rattle.oz_cluster.specs.Headline.{IsPrinted, IsOneRun}
-use Rattle.oz_cluster.specs.Refusals.{IsSo}
 use Rattle.oz_cluster.specs.Report.{report_of}
-use Rattle.oz_cluster.proofs.Endings.{stopped, stopped_early, open_so, causes_of, one_run, all_served}
+use Rattle.oz_cluster.proofs.Endings.{stopped_late, stopped_early, open_so, causes_of, one_run, all_served}
 use Rattle.oz_cluster.proofs.run.run.Goals as goal
 
 pub returns-in-Err-clause-one_run : goal.returns-in-Err-clause-one_run
 returns-in-Err-clause-one_run g c =
     let said = c.refuse.ensures.said in
-    (c.refuse.result, c.number.ensures, inl (stopped_early _ _ _ _ _ _ _ _ _ c.in-Err.refusal said.0 c.refuse.result (c.in-Err.ensures.so (g.D.Disk.told c.args.disks.manager)) said.1 said.2 said.3 c.new.ensures.items))
+    let disk = c.args.disks.manager in (
+      c.refuse.result,
+      c.number.ensures,
+      inl (stopped_early _ _ _ _ _ _ _ c.in-Err.refusal said.0 c.refuse.result said.1 said.2 said.3 c.new.ensures.items
+          (seen (g.D.Disk.told disk) (g.D.Disk.clock disk) (g.D.Disk.image disk) (g.D.Disk.faults disk)) (c.in-Err.ensures.so (g.D.Disk.told disk))),
+    )
 
 pub returns-in-Err-clause-causes : goal.returns-in-Err-clause-causes
 returns-in-Err-clause-causes g c = causes_of _ _ _ _ _ _ _ _ _ _ (returns-in-Err-clause-one_run g c)
@@ -21,14 +25,17 @@ pub returns-in-Err-open-clause-one_run : goal.returns-in-Err-open-clause-one_run
 returns-in-Err-open-clause-one_run g c =
     let said = c.refuse-in-Err-open.ensures.said in
     let why = c.in-Err-open.fault in
-    let told = g.D.Disk.told c.args.disks.manager in
+    let disk = c.args.disks.manager in
+    let behind = c.in-Err-open.manager in
     let source_rose = Rose (g.S.Source.faults c.args.source.now) (g.S.Source.faults c.begin.new.source) in
-    let disk_rose = Rose (g.D.Disk.faults c.args.disks.manager) (g.D.Disk.faults c.in-Err-open.manager) in
-    let so = open_so (map string_bytes c.args.words.now) (g.S.Source.left c.args.source.now) told source_rose disk_rose why c.in-Ok.ensures.words (c.in-Ok.script, c.in-Ok.ensures.script) c.in-Err-open.ensures.damaged c.in-Err-open.ensures.cause in (
+    let disk_rose = Rose (g.D.Disk.faults disk) (g.D.Disk.faults behind) in
+    let so = open_so (map string_bytes c.args.words.now) (g.S.Source.left c.args.source.now) (g.D.Disk.told disk) source_rose disk_rose why c.in-Ok.ensures.words (c.in-Ok.script, c.in-Ok.ensures.script) c.in-Err-open.ensures.damaged c.in-Err-open.ensures.cause in (
       c.refuse-in-Err-open.result,
       c.number-in-Err-open.ensures,
-      inl (stopped _ _ _ _ _ _ _ _ _ c.refusal_of.result said.0 c.refuse-in-Err-open.result
-          (subst (IsSo (map string_bytes c.args.words.now) (g.S.Source.left c.args.source.now) told source_rose disk_rose) (sym c.refusal_of.ensures) so) said.1 said.2 said.3 c.new-in-Err-open.ensures.items),
+      inl (stopped_late _ _ _ _ _ _ _ c.refusal_of.result said.0 c.refuse-in-Err-open.result said.1 said.2 said.3 c.new-in-Err-open.ensures.items
+          (seen (g.D.Disk.told disk) (g.D.Disk.clock disk) (g.D.Disk.image disk) (g.D.Disk.faults disk))
+          (seen (g.D.Disk.told behind) (g.D.Disk.clock behind) (g.D.Disk.image behind) (g.D.Disk.faults behind)) why c.refusal_of.ensures so
+          (record { contents = c.in-Err-open.ensures.contents; images = c.in-Err-open.ensures.moments })),
     )
 
 pub returns-in-Err-open-clause-causes : goal.returns-in-Err-open-clause-causes

@@ -1,0 +1,121 @@
+ghost use Rattle.std.specs.Prelude.{◌≡◌, ◌<◌};
+
+use crate::draws::Draws;
+use crate::twin::{Mark, Twin};
+use oz_epochs::{EpochList, OutOfMemory, Steps};
+use oz_fields::Name;
+use std::alloc::Global;
+use std::marker::Brand;
+use std::process::Abort;
+use std::rc::Rc;
+use std::sync::ledger::{Blank, Ledger};
+use std::test::Fail;
+
+/// A key that owns memory. How often `alive` is shared says how many keys there are.
+#[derive(Drop)]
+struct Key {
+    name: Name,
+    alive: Rc<u64>,
+}
+
+impl Key {
+    fn new(alloc: Global, number: u64, alive: &Rc<u64>) -> Result<Key, OutOfMemory> {
+        Ok(Key {
+            name: Name::copy(alloc, &number.to_be_bytes())?,
+            alive: alive.clone()?,
+        })
+    }
+}
+
+fn assert_same<R: Abort>(rt: &R, found: ((u64, Key), Mark)) {
+    let ((epoch, key), mark) = found;
+    let number = mark.number.to_be_bytes();
+    assert_eq!(rt; epoch, mark.epoch);
+    assert!(rt; key.name.bytes() == number.as_slice());
+}
+
+fn assert_same_fronts<R: Abort>(rt: &R, twin: &Twin<Key>) {
+    match twin.fronts() {
+        (Some((epoch, key)), Some(mark)) => {
+            let number = mark.number.to_be_bytes();
+            assert_eq!(rt; epoch, mark.epoch);
+            assert!(rt; key.name.bytes() == number.as_slice());
+        }
+        (front, mark) => assert!(rt; front.is_none() && mark.is_none()),
+    }
+}
+
+fn remove_any<R: Abort>(rt: &R, twin: &mut Twin<Key>, draw: u64) {
+    let count = twin.len();
+    if count > 0 {
+        let found = twin.remove(draw as usize % count);
+        assert_same(rt, found);
+    }
+}
+
+fn pop<R: Abort, L: Ledger>(rt: &R, twin: &mut Twin<Key>, epoch: u64, steps: &mut Steps<L>) {
+    if let Some(found) = twin.pop_to(epoch, steps) {
+        assert!(rt; found.1.epoch <= epoch);
+        assert_same(rt, found);
+    } else if let (_, Some(mark)) = twin.fronts() {
+        assert!(rt; mark.epoch > epoch);
+    }
+}
+
+/// 10,000 calls. The epochs rise by 1 every 8 calls, and what is 40 epochs old is popped.
+fn play<R: Abort, L: Ledger>(rt: &R, alloc: Global, blank: Blank) -> Result<(), Fail>
+    requires name { blank.name ≡ L.name }
+    requires parts { blank.parts ≡ L.parts }
+    requires some { 0 < L.parts }
+{
+    let alive = Rc::new(alloc, 0)?;
+    let mut steps = Steps::<L>::start(blank);
+    let mut draws = Draws::new(1);
+    let mut twin = Twin::new(alloc);
+    for number in 0..10_000u64 {
+        let epoch = number / 8;
+        match draws.draw() % 8 {
+            0..=4 => twin.push(alloc, epoch, number, Key::new(alloc, number, &alive)?)?,
+            5 => remove_any(rt, &mut twin, draws.draw()),
+            _ => pop(rt, &mut twin, epoch.saturating_sub(40), &mut steps),
+        }
+        assert_same_fronts(rt, &twin);
+    }
+    assert!(rt; twin.len() > 100);
+    assert_eq!(rt; Rc::strong_count(&alive).checked_sub(1), Some(twin.len()));
+    drop(twin);
+    assert_eq!(rt; Rc::strong_count(&alive), 1);
+    Ok(())
+}
+
+/// What is handed to it may cross threads.
+fn crosses<T: Send + Sync>(_value: &T) {}
+
+fn pass_over<R: Abort, L: Ledger>(rt: &R, alloc: Global, blank: Blank) -> Result<(), Fail>
+    requires name { blank.name ≡ L.name }
+    requires parts { blank.parts ≡ L.parts }
+    requires some { 0 < L.parts }
+{
+    let mut steps = Steps::<L>::start(blank);
+    let mut list = EpochList::new(alloc);
+    assert_eq!(rt; list.reserve(alloc, 3), Ok(()));
+    let _a = list.push_back(1, 'a');
+    let b = list.push_back(1, 'b');
+    let _c = list.push_back(2, 'c');
+    assert_eq!(rt; list.remove(b), (1, 'b'));
+    assert_eq!(rt; list.pop_to(1, &mut steps), Some((1, 'a')));
+    assert_eq!(rt; list.pop_to(1, &mut steps), None);
+    assert_eq!(rt; list.front(), Some((2, &'c')));
+    crosses(&list);
+    Ok(())
+}
+
+#[test]
+fn random_calls_agree_with_a_plain_vector(rt: HostRuntime) -> Result<(), Fail> {
+    play::<_, Brand>(&rt, rt.alloc(), Blank::new(1))
+}
+
+#[test]
+fn a_removed_entry_is_passed_over(rt: HostRuntime) -> Result<(), Fail> {
+    pass_over::<_, Brand>(&rt, rt.alloc(), Blank::new(1))
+}

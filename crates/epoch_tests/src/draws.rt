@@ -1,0 +1,20 @@
+/// Numbers of a linear congruence, the same in each run.
+#[derive(Drop)]
+pub struct Draws {
+    state: u64,
+}
+
+impl Draws {
+    pub fn new(seed: u64) -> Draws {
+        Draws { state: seed }
+    }
+
+    /// The next number, below 2^31.
+    pub fn draw(&mut self) -> u64 {
+        self.state = self
+            .state
+            .wrapping_mul(6_364_136_223_846_793_005)
+            .wrapping_add(1_442_695_040_888_963_407);
+        self.state >> 33
+    }
+}

@@ -1,0 +1,5 @@
+pub mod Lists
+pub mod Chains
+pub mod Spares
+pub mod Orders
+pub mod Changes

@@ -1,0 +1,4 @@
+pub mod Epochs
+pub mod Block
+pub mod Links
+pub mod Sound

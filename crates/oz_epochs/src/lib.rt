@@ -1,0 +1,11 @@
+//! A list of epochs and keys, in one block, and a counter of steps.
+#![tactic(auto)]
+
+mod block;
+mod list;
+mod node;
+mod steps;
+
+pub use list::{EpochList, Place};
+pub use std::alloc::AllocError as OutOfMemory;
+pub use steps::Steps;

@@ -1,0 +1,94 @@
+-- Which key is the next one of a kind.
+use Rattle.std.proofs.Common.{◌≡◌, ℕ, zero, suc, ◌<◌, ◌≤◌, Bool, true, false, List, [], ◌∷◌, length, take, drop, get_or, Some, IsSome, cond, refl, sym, ◌∙◌, ap, subst, arith}
+use mathlib.Core.Bool.{false≢true}
+use Rattle.std.specs.List.{AllByRecursion}
+use Rattle.std.specs.Ordering.{is_eq, is_le, is_gt}
+use Rattle.std.specs.declared.cmp.Ordering.{Ordering}
+use Rattle.std.specs.declared.cmp.Ordering.TheVariants.{Less, Equal, Greater}
+use Rattle.oz_rows.specs.declared.key.RowKey.{RowKey}
+use Rattle.oz_rows.specs.Rows.{kind_of}
+use Rattle.oz_rows.specs.Order.{key_order}
+use Rattle.oz_tables.specs.declared.entry.Entry.{Entry}
+use Rattle.oz_tables.specs.Tables.{row_of, is_same, KeysRise, IsBelow, IsAbove, IsNext, HasNoNext}
+use Rattle.oz_tables.specs.Places.{IsBehind}
+use Rattle.oz_tables.proofs.Splits.{parts}
+use Rattle.oz_tables.proofs.Order.{key_order_total, equal_from_test, alike, alike_left, above_below, below_above, kinds_rise, itself}
+use Rattle.oz_tables.proofs.Lookups.{AllBelow, AllAbove, row_behind}
+
+le_below : (a b c : RowKey) (o : Ordering) → key_order a b ≡ o → is_le o ≡ true → IsBelow b c → IsBelow a c
+le_below a b c Less e le below = key_order_total.trans a b c e below
+le_below a b c Equal e le below = alike_left a b c e ∙ below
+le_below a b c Greater e le below = absurd (false≢true le)
+
+all_below : (key q : RowKey) → IsBelow key q → (a : List Entry) → AllByRecursion (λ entry. is_le (key_order entry.key key) ≡ true) a → AllBelow q a
+all_below key q below [] le = tt
+all_below key q below (x ∷ a) le = (le_below x.key key q _ refl le.0 below, all_below key q below a le.1)
+
+-- a key that has a row among greater ones is greater
+pub found_over : (key q : RowKey) (b : List Entry) → AllByRecursion (λ other. IsBelow key other.key) b → IsSome (row_of b q) → IsBelow key q
+found_over key q [] over found = absurd (false≢true found)
+found_over key q (x ∷ b) over found = by_test (is_same x.key q) refl (found_over key q b over.1)
+  where
+    by_test : (t : Bool) → is_same x.key q ≡ t → (IsSome (row_of b q) → IsBelow key q) → IsBelow key q
+    by_test true e later = sym (alike x.key q key (equal_from_test _ e)) ∙ over.0
+    by_test false e later = later (subst (λ (t : Bool). IsSome (cond t (Some x.row) (row_of b q))) e found)
+
+-- the first of rows in order is not above any that has a row
+pub first_least : (x : Entry) (b : List Entry) (q : RowKey) → KeysRise (x ∷ b) → IsSome (row_of (x ∷ b) q) → is_gt (key_order x.key q) ≡ false
+first_least x b q rise found = by_test (is_same x.key q) refl
+  where
+    by_test : (t : Bool) → is_same x.key q ≡ t → is_gt (key_order x.key q) ≡ false
+    by_test true e = ap is_gt (equal_from_test _ e)
+    by_test false e = ap is_gt (found_over x.key q b rise.0 (subst (λ (t : Bool). IsSome (cond t (Some x.row) (row_of b q))) e found))
+
+pub rise_rest : (l : List Entry) (at : ℕ) → KeysRise l → KeysRise (drop at l)
+rise_rest l zero rise = rise
+rise_rest [] (suc at) rise = rise
+rise_rest (x ∷ l) (suc at) rise = rise_rest l at rise.1
+
+pub drop_past : (l : List Entry) (at : ℕ) → length l ≤ at → drop at l ≡ []
+drop_past [] zero le = refl
+drop_past [] (suc at) le = refl
+drop_past (x ∷ l) zero le = absurd (omega arith)
+drop_past (x ∷ l) (suc at) le = drop_past l at (omega arith)
+
+pub drop_first : (l : List Entry) (at : ℕ) (d : Entry) → at < length l → drop at l ≡ get_or l at d ∷ drop (suc at) l
+drop_first [] at d lt = absurd (omega arith)
+drop_first (x ∷ l) zero d lt = refl
+drop_first (x ∷ l) (suc at) d lt = drop_first l at d (omega arith)
+
+module _ (l : List Entry) (rise : KeysRise l) (key : RowKey) (at : ℕ) (behind : IsBehind l key at) where
+  row_later : (q : RowKey) → IsBelow key q → row_of l q ≡ row_of (drop at l) q
+  row_later q below = ap (λ l. row_of l q) (parts l at) ∙ row_behind (take at l) (drop at l) q (all_below key q below (take at l) behind.before)
+
+  pub none_behind : length l ≤ at → HasNoNext l key
+  none_behind le q is_above = absurd (false≢true (subst (λ rest. IsSome (row_of rest q)) (drop_past l at le) (subst IsSome (row_later q is_above.above) is_above.has_row)))
+
+  module _ (x : Entry) (lt : at < length l) (it : x ≡ get_or l at x) where
+    rest : drop at l ≡ x ∷ drop (suc at) l
+    rest = drop_first l at x lt ∙ ap (λ y. y ∷ drop (suc at) l) (sym it)
+
+    rise_here : KeysRise (x ∷ drop (suc at) l)
+    rise_here = subst KeysRise rest (rise_rest l at rise)
+
+    above_here : AllAbove key (x ∷ drop (suc at) l)
+    above_here = subst (AllAbove key) rest behind.after
+
+    x_above : IsBelow key x.key
+    x_above = above_below x.key key above_here.0
+
+    not_below : (q : RowKey) → IsAbove l key q → is_gt (key_order x.key q) ≡ false
+    not_below q is_above = first_least x (drop (suc at) l) q rise_here (subst (λ rest. IsSome (row_of rest q)) rest (subst IsSome (row_later q is_above.above) is_above.has_row))
+
+    its_row : row_of l x.key ≡ Some x.row
+    its_row = row_later x.key x_above ∙ ap (λ rest. row_of rest x.key) rest ∙ ap (λ o. cond (is_eq o) (Some x.row) (row_of (drop (suc at) l) x.key)) (itself x.key)
+
+    pub is_next : kind_of x.key ≡ kind_of key → IsNext l key x.key x.row
+    is_next kind = record {
+      is_above = record { has_row = subst IsSome (sym its_row) refl; same_kind = kind; above = x_above };
+      its_row = its_row;
+      least = λ q is_above under. false≢true (sym (not_below q is_above) ∙ ap is_gt (below_above q x.key under));
+    }
+
+    pub other_kind : (kind_of x.key ≡ kind_of key → ⊥) → HasNoNext l key
+    other_kind apart q is_above = apart (omega (arith, kinds_rise x.key q (not_below q is_above), kinds_rise key x.key (ap is_gt x_above), is_above.same_kind))

@@ -1,0 +1,31 @@
+-- A list around a place.
+use Rattle.std.proofs.Common.{◌≡◌, ℕ, zero, suc, ◌<◌, ◌≤◌, List, [], ◌∷◌, ◌++◌, length, take, drop, get_or, set, refl, ap, arith}
+use Rattle.std.specs.List.{AllByRecursion}
+
+module _ {X : Type 0} where
+  pub parts_at : (l : List X) (i : ℕ) (d : X) → i < length l → l ≡ take i l ++ get_or l i d ∷ drop (suc i) l
+  parts_at [] i d lt = absurd (omega arith)
+  parts_at (x ∷ l) zero d lt = refl
+  parts_at (x ∷ l) (suc i) d lt = ap (λ rest. x ∷ rest) (parts_at l i d (omega arith))
+
+  pub parts : (l : List X) (i : ℕ) → l ≡ take i l ++ drop i l
+  parts l zero = refl
+  parts [] (suc i) = refl
+  parts (x ∷ l) (suc i) = ap (λ rest. x ∷ rest) (parts l i)
+
+  pub set_parts : (l : List X) (i : ℕ) (y : X) → i < length l → set l i y ≡ take i l ++ y ∷ drop (suc i) l
+  set_parts [] i y lt = absurd (omega arith)
+  set_parts (x ∷ l) zero y lt = refl
+  set_parts (x ∷ l) (suc i) y lt = ap (λ rest. x ∷ rest) (set_parts l i y (omega arith))
+
+  module _ (P : X → Type 0) where
+    pub all_front : (l : List X) (i : ℕ) → i ≤ length l → ((k : ℕ) (d : X) → k < i → P (get_or l k d)) → AllByRecursion P (take i l)
+    all_front l zero le each = tt
+    all_front [] (suc i) le each = tt
+    all_front (x ∷ l) (suc i) le each = (each 0 x (omega arith), all_front l i (omega arith) (λ k d lt. each (suc k) d (omega arith)))
+
+    pub all_rest : (l : List X) (i : ℕ) → ((k : ℕ) (d : X) → i ≤ k → k < length l → P (get_or l k d)) → AllByRecursion P (drop i l)
+    all_rest [] zero each = tt
+    all_rest [] (suc i) each = tt
+    all_rest (x ∷ l) zero each = (each 0 x (omega arith) (omega arith), all_rest l zero (λ k d le lt. each (suc k) d (omega arith) (omega arith)))
+    all_rest (x ∷ l) (suc i) each = all_rest l i (λ k d le lt. each (suc k) d (omega arith) (omega arith))

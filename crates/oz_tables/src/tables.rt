@@ -1,0 +1,184 @@
+ghost use Rattle.std.specs.Prelude.{◌≡◌, ◌+◌, ◌<◌, ◌≤◌, [], length, slice_set, insert, vec_len, vec_capacity, option_copied, None, Some, if◌then◌else◌, MatchOption, IfOk, IfErr, IsOk, OnOk, OnErr};
+ghost use Rattle.oz_rows.specs.declared.key.RowKey.{RowKey as AnyKey};
+ghost use Rattle.oz_rows.specs.Order.{key_order};
+ghost use Rattle.oz_tables.specs.Tables.{row_of, row_after, row_after_one, is_same, IsNext, HasNoNext};
+ghost use Rattle.oz_tables.specs.Places.{IsAt, IsGap, IsBehind};
+
+use crate::entry::Entry;
+use oz_fields::OutOfMemory;
+use oz_rows::{Change, Row, RowKey};
+use std::alloc::Global;
+use std::cmp::Ordering;
+use std::marker::Model;
+use std::mem::replace;
+
+/// Rows by their keys, and the index of the last transaction that they stand for.
+#[derive(Debug, Drop)]
+pub struct Tables {
+    entries: Vec<Entry>,
+    last_index: u64,
+}
+
+impl Model for Tables {
+    ghost use Rattle.std.specs.Prelude.{◌-◌, vec_len, vec_capacity};
+    ghost use Rattle.oz_tables.specs.Tables.{Contents, KeysRise};
+
+    ghost Value = { Contents };
+
+    ghost view = { λ t. record { rows = t.entries.items; last_index = t.last_index; spare = vec_capacity t.entries - vec_len t.entries } };
+
+    ghost invariant = { λ t. KeysRise t.entries.items };
+}
+
+impl Tables {
+    /// Tables without rows, of the index 0. It takes no memory.
+    pub fn new(alloc: Global) -> Tables
+        ensures rows { result.rows ≡ [] }
+        ensures last_index { result.last_index ≡ 0 }
+    {
+        Tables {
+            entries: Vec::new(alloc),
+            last_index: 0,
+        }
+    }
+
+    /// The row of a key.
+    pub fn get(&self, key: &RowKey) -> Option<&Row>
+        ensures { option_copied result ≡ row_of self.now.rows key.now }
+    {
+        match self.position(key) {
+            Ok(at) => Some(&self.entries[at].row),
+            Err(_at) => None,
+        }
+    }
+
+    /// The least key above this one that is of the same kind, and its row. The key itself may have
+    /// none.
+    pub fn next(&self, key: &RowKey) -> Option<(&RowKey, &Row)>
+        ensures { MatchOption result
+            (HasNoNext self.now.rows key.now)
+            (λ found. IsNext self.now.rows key.now found.0.now found.1.now) }
+    {
+        let entry = self.entries.get(self.behind(key))?;
+        if entry.key.kind() == key.kind() {
+            Some((&entry.key, &entry.row))
+        } else {
+            None
+        }
+    }
+
+    /// Makes room for so many changes.
+    pub fn reserve(&mut self, _alloc: Global, changes: usize) -> Result<(), OutOfMemory>
+        ensures rows { self.new.rows ≡ self.old.rows }
+        ensures last_index { self.new.last_index ≡ self.old.last_index }
+        ensures room { OnOk result (changes ≤ self.new.spare) }
+        ensures kept { self.old.spare ≤ self.new.spare }
+        ensures succeeds { changes ≤ self.old.spare → IsOk result }
+    {
+        self.entries.reserve(changes)?;
+        Ok(())
+    }
+
+    /// Applies changes in their order, and sets the index. It takes no memory. To take away a row
+    /// that is not there changes nothing.
+    pub fn apply(&mut self, index: u64, changes: Vec<Change>)
+        requires room { length changes.items ≤ self.old.spare }
+        requires above { self.old.last_index < index }
+        ensures rows { (key : AnyKey) → row_of self.new.rows key ≡ row_after changes.items key (row_of self.old.rows key) }
+        ensures last_index { self.new.last_index ≡ index }
+        ensures spare { self.old.spare ≤ self.new.spare + length changes.items }
+    {
+        self.last_index = index;
+        for change in changes {
+            self.enter(change);
+        }
+    }
+
+    /// The index of the last transaction that the rows stand for, 0 where there was none.
+    pub fn last_index(&self) -> u64
+        ensures { result ≡ self.now.last_index }
+    {
+        self.last_index
+    }
+
+    fn enter(&mut self, change: Change)
+        requires { 0 < self.old.spare }
+        ensures rows { (key : AnyKey) → row_of self.new.rows key ≡ row_after_one change key (row_of self.old.rows key) }
+        ensures last_index { self.new.last_index ≡ self.old.last_index }
+        ensures spare { self.old.spare ≤ self.new.spare + 1 }
+    {
+        let Change { key, row } = change;
+        match row {
+            Some(row) => self.put(key, row),
+            None => self.take_away(&key),
+        }
+    }
+
+    fn put(&mut self, key: RowKey, row: Row)
+        requires { 0 < self.old.spare }
+        ensures rows { (other : AnyKey) → row_of self.new.rows other ≡ (if is_same key other then Some row else row_of self.old.rows other) }
+        ensures last_index { self.new.last_index ≡ self.old.last_index }
+        ensures spare { self.old.spare ≤ self.new.spare + 1 }
+    {
+        match self.position(&key) {
+            Ok(at) => write_over(&mut self.entries, at, Entry { key, row }),
+            Err(at) => put_in(&mut self.entries, at, Entry { key, row }),
+        }
+    }
+
+    fn take_away(&mut self, key: &RowKey)
+        ensures rows { (other : AnyKey) → row_of self.new.rows other ≡ (if is_same key.now other then None else row_of self.old.rows other) }
+        ensures last_index { self.new.last_index ≡ self.old.last_index }
+        ensures spare { self.old.spare ≤ self.new.spare }
+    {
+        match self.position(key) {
+            Ok(at) => discard(self.entries.remove(at)),
+            Err(_at) => {}
+        }
+    }
+
+    /// Where the key is, or else how many keys are below it.
+    fn position(&self, key: &RowKey) -> Result<usize, usize>
+        ensures found { IfOk result (IsAt self.now.rows key.now) }
+        ensures absent { IfErr result (IsGap self.now.rows key.now) }
+    {
+        self.entries.binary_search_by(|entry| compared(entry, key))
+    }
+
+    /// How many keys are not above this one.
+    fn behind(&self, key: &RowKey) -> usize
+        ensures { IsBehind self.now.rows key.now result }
+    {
+        self.entries
+            .partition_point(|entry| compared(entry, key).is_le())
+    }
+}
+
+fn compared(entry: &Entry, key: &RowKey) -> Ordering
+    ensures { result ≡ key_order entry.now.key key.now }
+{
+    entry.key.cmp(key)
+}
+
+/// Puts an entry in the place of another.
+fn write_over(entries: &mut Vec<Entry>, at: usize, entry: Entry)
+    requires { at < vec_len entries.old }
+    ensures items { entries.new.items ≡ slice_set entries.old.items at entry }
+    ensures len { vec_len entries.new ≡ vec_len entries.old }
+    ensures capacity { vec_capacity entries.new ≡ vec_capacity entries.old }
+{
+    discard(replace(&mut entries[at], entry));
+}
+
+/// Puts an entry between others. Its room was taken before.
+fn put_in(entries: &mut Vec<Entry>, at: usize, entry: Entry)
+    requires place { at ≤ vec_len entries.old }
+    requires room { vec_len entries.old < vec_capacity entries.old }
+    ensures items { entries.new.items ≡ insert entries.old.items at entry }
+    ensures len { vec_len entries.new ≡ vec_len entries.old + 1 }
+    ensures capacity { vec_capacity entries.old ≤ vec_capacity entries.new }
+{
+    entries.insert(at, entry).unwrap();
+}
+
+fn discard(_entry: Entry) {}

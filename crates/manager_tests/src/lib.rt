@@ -7,3 +7,4 @@ mod names;
 mod order;
 mod plain;
 mod rows;
+mod tables;

@@ -5,3 +5,4 @@ pub mod Splits
 pub mod Searches
 pub mod Edits
 pub mod Following
+pub mod Same

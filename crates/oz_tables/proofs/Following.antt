@@ -61,7 +61,7 @@ module _ (l : List Entry) (rise : KeysRise l) (key : RowKey) (at : ℕ) (behind 
   row_later : (q : RowKey) → IsBelow key q → row_of l q ≡ row_of (drop at l) q
   row_later q below = ap (λ l. row_of l q) (parts l at) ∙ row_behind (take at l) (drop at l) q (all_below key q below (take at l) behind.before)
 
-  pub none_behind : length l ≤ at → HasNoNext l key
+  pub none_behind : length l ≤ at → HasNoNext (row_of l) key
   none_behind le q is_above = absurd (false≢true (subst (λ rest. IsSome (row_of rest q)) (drop_past l at le) (subst IsSome (row_later q is_above.above) is_above.has_row)))
 
   module _ (x : Entry) (lt : at < length l) (it : x ≡ get_or l at x) where
@@ -77,18 +77,18 @@ module _ (l : List Entry) (rise : KeysRise l) (key : RowKey) (at : ℕ) (behind 
     x_above : IsBelow key x.key
     x_above = above_below x.key key above_here.0
 
-    not_below : (q : RowKey) → IsAbove l key q → is_gt (key_order x.key q) ≡ false
+    not_below : (q : RowKey) → IsAbove (row_of l) key q → is_gt (key_order x.key q) ≡ false
     not_below q is_above = first_least x (drop (suc at) l) q rise_here (subst (λ rest. IsSome (row_of rest q)) rest (subst IsSome (row_later q is_above.above) is_above.has_row))
 
     its_row : row_of l x.key ≡ Some x.row
     its_row = row_later x.key x_above ∙ ap (λ rest. row_of rest x.key) rest ∙ ap (λ o. cond (is_eq o) (Some x.row) (row_of (drop (suc at) l) x.key)) (itself x.key)
 
-    pub is_next : kind_of x.key ≡ kind_of key → IsNext l key x.key x.row
+    pub is_next : kind_of x.key ≡ kind_of key → IsNext (row_of l) key x.key x.row
     is_next kind = record {
       is_above = record { has_row = subst IsSome (sym its_row) refl; same_kind = kind; above = x_above };
       its_row = its_row;
       least = λ q is_above under. false≢true (sym (not_below q is_above) ∙ ap is_gt (below_above q x.key under));
     }
 
-    pub other_kind : (kind_of x.key ≡ kind_of key → ⊥) → HasNoNext l key
+    pub other_kind : (kind_of x.key ≡ kind_of key → ⊥) → HasNoNext (row_of l) key
     other_kind apart q is_above = apart (omega (arith, kinds_rise x.key q (not_below q is_above), kinds_rise key x.key (ap is_gt x_above), is_above.same_kind))

@@ -33,20 +33,24 @@ abbrev pub row_of : List Entry → RowKey → Option Row
 row_of [] key = None
 row_of (entry ∷ others) key = if is_same entry.key key then Some entry.row else row_of others key
 
+-- which row each key has
+abbrev pub Rows : Type 0
+Rows = RowKey → Option Row
+
 -- a key of the same kind, above this one, that has a row
-pub record IsAbove (rows : List Entry) (key other : RowKey) : Type 0 where
-  pub has_row : IsSome (row_of rows other)
+pub record IsAbove (rows : Rows) (key other : RowKey) : Type 0 where
+  pub has_row : IsSome (rows other)
   pub same_kind : kind_of other ≡ kind_of key
   pub above : IsBelow key other
 
 -- the least of these keys, and its row
-pub record IsNext (rows : List Entry) (key found : RowKey) (row : Row) : Type 0 where
+pub record IsNext (rows : Rows) (key found : RowKey) (row : Row) : Type 0 where
   pub is_above : IsAbove rows key found
-  pub its_row : row_of rows found ≡ Some row
+  pub its_row : rows found ≡ Some row
   pub least : (other : RowKey) → IsAbove rows key other → IsBelow other found → ⊥
 
 -- there are none
-abbrev pub HasNoNext : List Entry → RowKey → Type 0
+abbrev pub HasNoNext : Rows → RowKey → Type 0
 HasNoNext rows key = (other : RowKey) → IsAbove rows key other → ⊥
 
 -- the row of a key after a change, which is of that key or of another

@@ -56,8 +56,8 @@ impl Tables {
     /// none.
     pub fn next(&self, key: &RowKey) -> Option<(&RowKey, &Row)>
         ensures { MatchOption result
-            (HasNoNext self.now.rows key.now)
-            (λ found. IsNext self.now.rows key.now found.0.now found.1.now) }
+            (HasNoNext (row_of self.now.rows) key.now)
+            (λ found. IsNext (row_of self.now.rows) key.now found.0.now found.1.now) }
     {
         let entry = self.entries.get(self.behind(key))?;
         if entry.key.kind() == key.kind() {

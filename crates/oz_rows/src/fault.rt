@@ -16,7 +16,7 @@ pub enum RowFault {
 
 /// Why reading stopped. `Left` has how many bytes were left from the faulty field on.
 #[derive(Clone, Copy, Debug, PartialEq, Eq)]
-pub(crate) enum ReadFault {
+pub enum ReadFault {
     Left(usize),
     OutOfMemory,
 }

@@ -14,11 +14,12 @@ mod whole;
 mod writing;
 
 pub use encoding::{encode, put_head, put_operation, put_removal, put_row};
-pub use fault::RowFault;
+pub use fault::{ReadFault, RowFault};
 pub use key::RowKey;
 pub use laws::{
     keys_are_in_order, longest_batch, one_operation_for_a_spelling, one_row_for_a_spelling,
 };
 pub use operation::{Change, Operation, Operations};
+pub use operation_reading::{head_of, operation_of};
 pub use row::{Row, SnapshotState};
 pub use whole::{decode, operations};

@@ -17,7 +17,7 @@ const END_OF_INDEXES: u64 = 1 << 63;
 
 /// The operation that the front of the bytes spells, and the bytes behind it.
 #[tactic(auto, unfolding(crate::specs::Reading::operation_at))]
-pub(crate) fn operation_of(alloc: Global, bytes: &[u8]) -> Result<(Operation, &[u8]), ReadFault>
+pub fn operation_of(alloc: Global, bytes: &[u8]) -> Result<(Operation, &[u8]), ReadFault>
     ensures { Gives (λ x. (x.0, x.1.now)) result (operation_at bytes.now) }
 {
     let [tag, rest @ ..] = bytes else {
@@ -114,7 +114,7 @@ fn drop_open_of(alloc: Global, bytes: &[u8]) -> Result<(Operation, &[u8]), ReadF
 
 /// The last transaction index in the head of a body.
 #[tactic(auto, unfolding(crate::specs::Reading::head_at))]
-pub(crate) fn head_of(bytes: &[u8]) -> Result<(u64, &[u8]), ReadFault>
+pub fn head_of(bytes: &[u8]) -> Result<(u64, &[u8]), ReadFault>
     ensures { Gives (λ x. (x.0, x.1.now)) result (head_at bytes.now) }
 {
     match bytes {

@@ -1,2 +1,4 @@
 pub mod Tables
 pub mod Places
+pub mod Effects
+pub mod Build

@@ -1,0 +1,100 @@
+-- What the operations of a body change among the rows.
+use Rattle.std.specs.Prelude.{◌≡◌, ℕ, Bool, true, false, not, ◌||◌, ◌&&◌, ◌==◌, List, [], ◌∷◌, ◌++◌, map, filter, Option, None, Some, IsSome, is_some, if◌then◌else◌}
+use Rattle.std.specs.List.{filter_map, flat_map, list_any}
+use Rattle.oz_fields.specs.declared.block.Block.{Block}
+use Rattle.oz_fields.specs.declared.block.Piece.{Piece}
+use Rattle.oz_rows.specs.declared.key.RowKey.{RowKey}
+use Rattle.oz_rows.specs.declared.key.RowKey.TheVariants as keys
+use Rattle.oz_rows.specs.declared.row.Row.{Row}
+use Rattle.oz_rows.specs.declared.row.Row.TheVariants as rows
+use Rattle.oz_rows.specs.declared.operation.Change.{Change}
+use Rattle.oz_rows.specs.declared.operation.Operation.{Operation}
+use Rattle.oz_rows.specs.declared.operation.Operation.TheVariants.{Put, Remove, CopyKeys, MoveDeleted, DropKeys, DropOpen}
+use Rattle.oz_tables.specs.declared.entry.Entry.{Entry}
+use Rattle.oz_tables.specs.Tables.{row_of, row_after, is_same, KeysRise}
+
+-- the row has this value, and the row is gone
+abbrev pub put : RowKey → Row → Change
+put key row = record { key = key; row = Some row }
+
+abbrev pub gone : RowKey → Change
+gone key = record { key = key; row = None }
+
+-- the same bucket of the same volume
+abbrev pub is_bucket : List ℕ → List ℕ → List ℕ → List ℕ → Bool
+is_bucket volume bucket other_volume other_bucket = is_same (keys.Bucket volume bucket) (keys.Bucket other_volume other_bucket)
+
+-- a key row of the bucket, as the snapshot of this number keeps it
+abbrev pub copied : List ℕ → List ℕ → ℕ → RowKey → Row → List Change
+copied volume bucket number (keys.Key of_volume of_bucket key) (rows.Key made pieces) =
+    if is_bucket volume bucket of_volume of_bucket then put (keys.SnapshotKey volume bucket number key) (rows.SnapshotKey made pieces) ∷ [] else []
+copied volume bucket number key row = []
+
+-- A deleted or renamed row of one owner goes to another. Of two renamed rows for one block that of the first owner stays,
+-- or that of the second where the first is 0.
+abbrev pub moved : List Entry → List ℕ → List ℕ → ℕ → ℕ → RowKey → Row → List Change
+moved all volume bucket from to (keys.Deleted of_volume of_bucket owner key local) row =
+    if is_bucket volume bucket of_volume of_bucket && owner == from
+    then gone (keys.Deleted volume bucket from key local) ∷ put (keys.Deleted volume bucket to key local) row ∷ []
+    else []
+moved all volume bucket from to (keys.Renamed of_volume of_bucket owner local) row =
+    if is_bucket volume bucket of_volume of_bucket && owner == from
+    then gone (keys.Renamed volume bucket from local) ∷ (if from == 0 && is_some (row_of all (keys.Renamed volume bucket to local)) then [] else put (keys.Renamed volume bucket to local) row ∷ [])
+    else []
+moved all volume bucket from to key row = []
+
+-- a snapshot key row of this number goes
+abbrev pub dropped : List ℕ → List ℕ → ℕ → RowKey → List Change
+dropped volume bucket number (keys.SnapshotKey of_volume of_bucket snapshot key) =
+    if is_bucket volume bucket of_volume of_bucket && snapshot == number then gone (keys.SnapshotKey volume bucket number key) ∷ [] else []
+dropped volume bucket number key = []
+
+-- an open row of the bucket goes
+abbrev pub closed : List ℕ → List ℕ → RowKey → List Change
+closed volume bucket (keys.Open of_volume of_bucket key number) =
+    if is_bucket volume bucket of_volume of_bucket then gone (keys.Open volume bucket key number) ∷ [] else []
+closed volume bucket key = []
+
+abbrev pub is_block : Block → Block → Bool
+is_block block other = other.container == block.container && other.local == block.local
+
+-- a key row has the block
+abbrev pub has_block : Block → Row → Bool
+has_block block (rows.Key made pieces) = list_any (λ (piece : Piece). is_block block piece.block) pieces
+has_block block row = false
+
+abbrev pub is_in_a_key : List Entry → Block → Bool
+is_in_a_key all block = list_any (λ (entry : Entry). has_block block entry.row) all
+
+-- each block of an open row of the bucket that stands in no key row gets a deleted row of its own
+abbrev pub freed : List Entry → List ℕ → List ℕ → RowKey → Row → List Change
+freed all volume bucket (keys.Open of_volume of_bucket key number) (rows.Open blocks) =
+    if is_bucket volume bucket of_volume of_bucket
+    then map (λ (block : Block). put (keys.Deleted volume bucket 0 key block.local) (rows.Deleted (block ∷ []))) (filter (λ block. not (is_in_a_key all block)) blocks)
+    else []
+freed all volume bucket key row = []
+
+-- what an operation changes among these rows, the first change first
+abbrev pub changes_of : List Entry → Operation → List Change
+changes_of all (Put key row) = put key row ∷ []
+changes_of all (Remove key) = gone key ∷ []
+changes_of all (CopyKeys volume bucket number) = flat_map (λ (entry : Entry). copied volume bucket number entry.key entry.row) all
+changes_of all (MoveDeleted volume bucket from to) = if from == to then [] else flat_map (λ (entry : Entry). moved all volume bucket from to entry.key entry.row) all
+changes_of all (DropKeys volume bucket number) = flat_map (λ (entry : Entry). dropped volume bucket number entry.key) all
+changes_of all (DropOpen volume bucket) = flat_map (λ (entry : Entry). closed volume bucket entry.key) all ++ flat_map (λ (entry : Entry). freed all volume bucket entry.key entry.row) all
+
+-- the rows after changes: in order, and each key has the row that the changes lead to
+pub record Becomes (before : List Entry) (changes : List Change) (after : List Entry) : Type 0 where
+  pub in_order : KeysRise after
+  pub rows : (key : RowKey) → row_of after key ≡ row_after changes key (row_of before key)
+
+-- a row that is removed is there
+abbrev pub IsPossible : List Entry → Operation → Type 0
+IsPossible all (Remove key) = IsSome (row_of all key)
+IsPossible all operation = Unit {0}
+
+-- operations lead from rows to rows
+unfoldable pub Leads : List Entry → List Operation → List Entry → Type 0
+Leads before [] after = after ≡ before
+Leads before (operation ∷ operations) after =
+    (between : List Entry) × IsPossible before operation × Becomes before (changes_of before operation) between × Leads between operations after

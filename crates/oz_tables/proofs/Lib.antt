@@ -6,3 +6,5 @@ pub mod Searches
 pub mod Edits
 pub mod Following
 pub mod Same
+pub mod VolumeRows
+pub mod Oneness

@@ -2,3 +2,5 @@ pub mod Tables
 pub mod Places
 pub mod Effects
 pub mod Build
+pub mod StandsFor
+pub mod Sound

@@ -1,0 +1,8 @@
+//! What the manager stands for, to one thread: volumes, their buckets, and in each bucket keys, sessions and snapshots.
+#![tactic(auto)]
+
+mod map;
+mod namespace;
+
+pub use map::{NameMap, NumberMap};
+pub use namespace::{Bucket, Namespace, Session, Snapshot};

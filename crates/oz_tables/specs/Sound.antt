@@ -1,0 +1,132 @@
+-- What holds of the rows of every manager, beside the namespace that they stand for.
+use Rattle.std.specs.Prelude.{◌≡◌, ◌≢◌, ◌⊎◌, ℕ, ◌+◌, ◌<◌, ◌≤◌, Bool, true, false, List, [], ◌∷◌, length, map, Option, None, Some, IsSome, is_some}
+use Rattle.std.specs.List.{AllByRecursion, list_any}
+use Rattle.oz_fields.specs.declared.block.Block.{Block}
+use Rattle.oz_fields.specs.declared.block.Piece.{Piece}
+use Rattle.oz_names.specs.Names.{stripe_of}
+use Rattle.oz_rows.specs.declared.key.RowKey.{RowKey}
+use Rattle.oz_rows.specs.declared.key.RowKey.TheVariants as keys
+use Rattle.oz_rows.specs.declared.row.Row.{Row}
+use Rattle.oz_rows.specs.declared.row.Row.TheVariants as rows
+use Rattle.oz_tables.specs.Effects.{is_block}
+use Rattle.oz_tables.specs.StandsFor.{IsLive, drawn_in}
+use Rattle.oz_tables.specs.Tables.{Rows}
+
+-- the blocks that a row names
+abbrev pub blocks_of : Row → List Block
+blocks_of (rows.Key number pieces) = map (λ (piece : Piece). piece.block) pieces
+blocks_of (rows.Open blocks) = blocks
+blocks_of (rows.Deleted blocks) = blocks
+blocks_of (rows.SnapshotKey number pieces) = map (λ (piece : Piece). piece.block) pieces
+blocks_of row = []
+
+-- the block stands in the row of this key
+pub record StandsIn (all : Rows) (block : Block) (key : RowKey) : Type 0 where
+  pub row : Row
+  pub there : all key ≡ Some row
+  pub has : list_any (is_block block) (blocks_of row) ≡ true
+
+-- the volume and the bucket of a row, None for the rows of no bucket
+abbrev pub place_of : RowKey → Option (List ℕ × List ℕ)
+place_of (keys.Volume volume) = None
+place_of (keys.Bucket volume bucket) = Some (volume, bucket)
+place_of (keys.Key volume bucket key) = Some (volume, bucket)
+place_of (keys.Open volume bucket key number) = Some (volume, bucket)
+place_of (keys.Deleted volume bucket owner key local) = Some (volume, bucket)
+place_of (keys.Snapshot volume bucket number) = Some (volume, bucket)
+place_of (keys.SnapshotKey volume bucket snapshot key) = Some (volume, bucket)
+place_of (keys.Renamed volume bucket owner local) = Some (volume, bucket)
+place_of (keys.Stripe stripe) = None
+
+-- the rows of keys and of deleted keys, which keep a block for the snapshots
+abbrev pub IsKeeper : RowKey → Type 0
+IsKeeper (keys.Key volume bucket key) = Unit {0}
+IsKeeper (keys.Deleted volume bucket owner key local) = Unit {0}
+IsKeeper key = ⊥
+
+-- these rows and those of open keys: a block stands in one of them
+abbrev pub IsHome : RowKey → Type 0
+IsHome (keys.Key volume bucket key) = Unit {0}
+IsHome (keys.Open volume bucket key number) = Unit {0}
+IsHome (keys.Deleted volume bucket owner key local) = Unit {0}
+IsHome key = ⊥
+
+-- a live snapshot has the block under this name
+pub record SnapshotHas (all : Rows) (volume bucket : List ℕ) (number : ℕ) (block : Block) (name : List ℕ) : Type 0 where
+  pub live : IsLive all volume bucket number
+  pub stands : StandsIn all block (keys.SnapshotKey volume bucket number name)
+
+-- two blocks stand in the same live snapshots of a bucket
+abbrev pub AreTogether : Rows → List ℕ → List ℕ → Block → Block → Type 0
+AreTogether all volume bucket block other =
+    (number : ℕ) (name : List ℕ) → SnapshotHas all volume bucket number block name → (another : List ℕ) × SnapshotHas all volume bucket number other another
+
+-- An owner that comes behind a snapshot in the chain: a later snapshot, or the bucket itself, which is 0.
+abbrev pub ComesBehind : ℕ → ℕ → Type 0
+ComesBehind number owner = (owner ≡ 0) ⊎ (number < owner)
+
+-- of the owners behind a snapshot, the first that has a renamed row of the block, and the name that it has
+pub record IsRename (all : Rows) (volume bucket : List ℕ) (number local owner : ℕ) (name : List ℕ) : Type 0 where
+  pub row : all (keys.Renamed volume bucket owner local) ≡ Some (rows.Renamed name)
+  pub behind : ComesBehind number owner
+  pub first : (other : ℕ) → ComesBehind number other → IsSome (all (keys.Renamed volume bucket other local)) → other ≢ owner → (owner ≢ 0) × ComesBehind owner other
+
+-- the block has another name later on: in a later live snapshot, or in the bucket
+abbrev pub IsNamedAnew : Rows → List ℕ → List ℕ → ℕ → Block → List ℕ → Type 0
+IsNamedAnew all volume bucket number block name =
+    ((later : ℕ) × (another : List ℕ) × (number < later) × SnapshotHas all volume bucket later block another × (another ≢ name))
+    ⊎ ((another : List ℕ) × StandsIn all block (keys.Key volume bucket another) × (another ≢ name))
+
+-- no two of a list are the same
+abbrev pub AllDiffer : {A : Type 0} → List A → Type 0
+AllDiffer [] = Unit {0}
+AllDiffer (item ∷ items) = AllByRecursion (λ other. item ≢ other) items × AllDiffer items
+
+-- so many things and no more
+abbrev pub AtMost : {A : Type 0} → ℕ → (A → Type 0) → Type 0
+AtMost {A} count Holds = (items : List A) → AllDiffer items → AllByRecursion Holds items → length items ≤ count
+
+-- a key of the bucket, or a session of it, which has a key and a number
+abbrev pub IsUsing : Rows → List ℕ → List ℕ → (List ℕ × Option ℕ) → Type 0
+IsUsing all volume bucket (key, None) = IsSome (all (keys.Key volume bucket key))
+IsUsing all volume bucket (key, Some number) = IsSome (all (keys.Open volume bucket key number))
+
+-- Where blocks stand: in the rows of one bucket, and in one row of a key, an open key or a deleted one. A live snapshot's
+-- block is kept by a row of a key or of a deleted one. What one row has is in the same live snapshots.
+pub record BlocksAreSound (all : Rows) : Type 0 where
+  pub one_bucket : (block : Block) (key other : RowKey) → StandsIn all block key → StandsIn all block other → place_of key ≡ place_of other
+  pub one_home : (block : Block) (key other : RowKey) → IsHome key → IsHome other → StandsIn all block key → StandsIn all block other → key ≡ other
+  pub one_local : (block twin : Block) (key other : RowKey) → StandsIn all block key → StandsIn all twin other → block.local ≡ twin.local → block ≡ twin
+  pub kept : (volume bucket name : List ℕ) (number : ℕ) (block : Block) → SnapshotHas all volume bucket number block name → (key : RowKey) × IsKeeper key × StandsIn all block key
+  pub deleted_together : (volume bucket key : List ℕ) (owner local : ℕ) (block other : Block) → StandsIn all block (keys.Deleted volume bucket owner key local) → StandsIn all other (keys.Deleted volume bucket owner key local) → AreTogether all volume bucket block other
+  pub key_together : (volume bucket key : List ℕ) (block other : Block) → StandsIn all block (keys.Key volume bucket key) → StandsIn all other (keys.Key volume bucket key) → AreTogether all volume bucket block other
+
+-- Under which names blocks stand: in a live snapshot under one, and a block of an open key only under that key. The first
+-- rename behind a snapshot has the snapshot's name, and there is one where the block is named anew.
+pub record NamesAreSound (all : Rows) : Type 0 where
+  pub one_name : (volume bucket name another : List ℕ) (number : ℕ) (block : Block) → SnapshotHas all volume bucket number block name → SnapshotHas all volume bucket number block another → name ≡ another
+  pub open_name : (volume bucket key name : List ℕ) (session number : ℕ) (block : Block) → StandsIn all block (keys.Open volume bucket key session) → SnapshotHas all volume bucket number block name → name ≡ key
+  pub renamed : (volume bucket name another : List ℕ) (number owner : ℕ) (block : Block) → SnapshotHas all volume bucket number block name → IsRename all volume bucket number block.local owner another → another ≡ name
+  pub noted : (volume bucket name : List ℕ) (number : ℕ) (block : Block) → SnapshotHas all volume bucket number block name → IsNamedAnew all volume bucket number block name → (owner : ℕ) × (another : List ℕ) × IsRename all volume bucket number block.local owner another
+
+-- Numbers were drawn in the stripe of their volume. An owner is a snapshot of the bucket, and a snapshot key has its
+-- snapshot.
+pub record NumbersAreSound (all : Rows) : Type 0 where
+  pub sessions : (volume bucket key : List ℕ) (number : ℕ) → IsSome (all (keys.Open volume bucket key number)) → number ≤ drawn_in (all (keys.Stripe (stripe_of volume)))
+  pub snapshots : (volume bucket : List ℕ) (number : ℕ) → IsSome (all (keys.Snapshot volume bucket number)) → number ≤ drawn_in (all (keys.Stripe (stripe_of volume)))
+  pub deleted : (volume bucket key : List ℕ) (owner local : ℕ) → IsSome (all (keys.Deleted volume bucket owner key local)) → owner ≢ 0 → IsSome (all (keys.Snapshot volume bucket owner))
+  pub renamed : (volume bucket : List ℕ) (owner local : ℕ) → IsSome (all (keys.Renamed volume bucket owner local)) → owner ≢ 0 → IsSome (all (keys.Snapshot volume bucket owner))
+  pub snapshot_keys : (volume bucket key : List ℕ) (number : ℕ) → IsSome (all (keys.SnapshotKey volume bucket number key)) → IsSome (all (keys.Snapshot volume bucket number))
+
+-- How many there are: buckets of a volume, keys and sessions of a bucket, live snapshots of a bucket, keys of each.
+pub record CountsAreSound (all : Rows) : Type 0 where
+  pub buckets : (volume : List ℕ) → AtMost 1024 (λ bucket. IsSome (all (keys.Bucket volume bucket)))
+  pub keys_and_sessions : (volume bucket : List ℕ) → AtMost 4096 (IsUsing all volume bucket)
+  pub snapshots : (volume bucket : List ℕ) → AtMost 32 (IsLive all volume bucket)
+  pub snapshot_keys : (volume bucket : List ℕ) (number : ℕ) → IsLive all volume bucket number → AtMost 4096 (λ key. IsSome (all (keys.SnapshotKey volume bucket number key)))
+
+pub record IsSound (all : Rows) : Type 0 where
+  pub blocks : BlocksAreSound all
+  pub names : NamesAreSound all
+  pub numbers : NumbersAreSound all
+  pub counts : CountsAreSound all

@@ -8,3 +8,5 @@ pub mod Following
 pub mod Same
 pub mod VolumeRows
 pub mod Oneness
+pub mod Changes
+pub mod Steps

@@ -4,3 +4,4 @@ pub mod Effects
 pub mod Build
 pub mod StandsFor
 pub mod Sound
+pub mod Batches

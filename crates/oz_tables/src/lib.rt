@@ -1,11 +1,15 @@
 //! The manager's rows in memory, as one ordered map.
 #![tactic(auto)]
 
+mod batches;
 mod entry;
 mod laws;
 mod standing;
 mod tables;
 
+pub use batches::{
+    a_batch_makes_a_body, a_put_is_a_batch, a_removal_is_a_batch, no_bytes_are_no_changes,
+};
 pub use entry::Entry;
 pub use laws::same_keys_are_one;
 pub use standing::{a_row_makes_a_volume, no_rows_stand_for_nothing, rows_stand_for_one_namespace};

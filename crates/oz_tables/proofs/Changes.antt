@@ -1,0 +1,64 @@
+-- Rows after changes.
+use Rattle.std.proofs.Common.{◌≡◌, Bool, true, false, List, [], ◌∷◌, ◌++◌, Option, None, Some, cond, refl, sym, ◌∙◌, ap, subst}
+use Rattle.std.specs.List.{AllByRecursion}
+use Rattle.std.specs.declared.cmp.Ordering.{Ordering}
+use Rattle.std.specs.declared.cmp.Ordering.TheVariants.{Less, Equal, Greater}
+use Rattle.oz_rows.specs.declared.key.RowKey.{RowKey}
+use Rattle.oz_rows.specs.declared.row.Row.{Row}
+use Rattle.oz_rows.specs.declared.operation.Change.{Change}
+use Rattle.oz_rows.specs.Order.{key_order}
+use Rattle.oz_tables.specs.declared.entry.Entry.{Entry}
+use Rattle.oz_tables.specs.Tables.{row_of, row_after, row_after_one, is_same, KeysRise, IsBelow}
+use Rattle.oz_tables.specs.Effects.{Becomes}
+use Rattle.oz_tables.proofs.Order.{key_order_total, below_above, above_below, itself}
+use Rattle.oz_tables.proofs.Lookups.{AllBelow, AllAbove, row_added, row_replaced, row_removed, row_absent}
+use Rattle.oz_tables.proofs.Rising.{rise_with, rise_without, rise_replaced, before_at, behind_at}
+
+-- where a key stands among rows in order, or would stand
+data Spot (key : RowKey) : List Entry → Type 0 where
+  at : (a b : List Entry) (x : Entry) → key_order x.key key ≡ Equal → Spot key (a ++ x ∷ b)
+  between : (a b : List Entry) → AllBelow key a → AllAbove key b → Spot key (a ++ b)
+
+all_over : (key : RowKey) (x : Entry) (l : List Entry) → IsBelow key x.key → AllByRecursion (λ other. IsBelow x.key other.key) l → AllAbove key l
+all_over key x [] below under = tt
+all_over key x (y ∷ l) below under = (below_above key y.key (key_order_total.trans key x.key y.key below under.0), all_over key x l below under.1)
+
+spot : (key : RowKey) (l : List Entry) → KeysRise l → Spot key l
+spot key [] rise = between [] [] tt tt
+spot key (x ∷ l) rise = by_order (key_order x.key key) refl (spot key l rise.1)
+  where
+    behind : key_order x.key key ≡ Less → (m : List Entry) → Spot key m → Spot key (x ∷ m)
+    behind e _ (at a b y same) = at (x ∷ a) b y same
+    behind e _ (between a b below above) = between (x ∷ a) b (e, below) above
+
+    by_order : (o : Ordering) → key_order x.key key ≡ o → Spot key l → Spot key (x ∷ l)
+    by_order Less e later = behind e l later
+    by_order Equal e later = at [] l x e
+    by_order Greater e later = between [] (x ∷ l) tt (e, all_over key x l (above_below x.key key e) rise.0)
+
+one_put : (key : RowKey) (row : Row) (l : List Entry) → KeysRise l → Spot key l → (after : List Entry) × KeysRise after × ((q : RowKey) → row_of after q ≡ cond (is_same key q) (Some row) (row_of l q))
+one_put key row _ rise (at a b x same) =
+    let new : Entry = record { key = key; row = row } in
+    (a ++ new ∷ b, rise_replaced a b x new same rise, row_replaced a b x new same (before_at a b x key same rise))
+one_put key row _ rise (between a b below above) =
+    let new : Entry = record { key = key; row = row } in
+    (a ++ new ∷ b, rise_with a b new below above rise, row_added a b new below)
+
+one_gone : (key : RowKey) (l : List Entry) → KeysRise l → Spot key l → (after : List Entry) × KeysRise after × ((q : RowKey) → row_of after q ≡ cond (is_same key q) None (row_of l q))
+one_gone key _ rise (at a b x same) = (a ++ b, rise_without a b x rise, row_removed a b x key same (before_at a b x key same rise) (behind_at a b x key same rise))
+one_gone key _ rise (between a b below above) = (a ++ b, rise, row_absent a b key below above)
+
+one_change : (change : Change) (l : List Entry) → KeysRise l → (after : List Entry) × KeysRise after × ((q : RowKey) → row_of after q ≡ row_after_one change q (row_of l q))
+one_change change l rise = by_row change.row refl
+  where
+    by_row : (row : Option Row) → change.row ≡ row → (after : List Entry) × KeysRise after × ((q : RowKey) → row_of after q ≡ row_after_one change q (row_of l q))
+    by_row (Some row) e = let made = one_put change.key row l rise (spot change.key l rise) in (made.0, made.1, λ q. made.2 q ∙ ap (λ (r : Option Row). cond (is_same change.key q) r (row_of l q)) (sym e))
+    by_row None e = let made = one_gone change.key l rise (spot change.key l rise) in (made.0, made.1, λ q. made.2 q ∙ ap (λ (r : Option Row). cond (is_same change.key q) r (row_of l q)) (sym e))
+
+-- rows in order have rows in order after any changes
+pub become : (changes : List Change) (l : List Entry) → KeysRise l → (after : List Entry) × Becomes l changes after
+become [] l rise = (l, record { in_order = rise; rows = λ q. refl })
+become (change ∷ changes) l rise =
+    let first = one_change change l rise in
+    let later = become changes first.0 first.1 in
+    (later.0, record { in_order = later.1.in_order; rows = λ q. later.1.rows q ∙ ap (row_after changes q) (first.2 q) })

@@ -53,6 +53,35 @@ fn remove_any<R: Abort>(rt: &R, twin: &mut Twin<Key>, draw: u64) {
     }
 }
 
+/// Where there is no memory, nothing is put in, and it is tried once more.
+fn push<R: Abort>(
+    rt: &R,
+    alloc: Global,
+    twin: &mut Twin<Key>,
+    epoch: u64,
+    number: u64,
+    alive: &Rc<u64>,
+) -> Result<(), OutOfMemory> {
+    let count = twin.len();
+    if try_push(alloc, twin, epoch, number, alive).is_err() {
+        assert_eq!(rt; twin.len(), count);
+        assert_eq!(rt; Rc::strong_count(alive).checked_sub(1), Some(count));
+        assert_same_fronts(rt, twin);
+        try_push(alloc, twin, epoch, number, alive)?;
+    }
+    Ok(())
+}
+
+fn try_push(
+    alloc: Global,
+    twin: &mut Twin<Key>,
+    epoch: u64,
+    number: u64,
+    alive: &Rc<u64>,
+) -> Result<(), OutOfMemory> {
+    twin.push(alloc, epoch, number, Key::new(alloc, number, alive)?)
+}
+
 fn pop<R: Abort, L: Ledger>(rt: &R, twin: &mut Twin<Key>, epoch: u64, steps: &mut Steps<L>) {
     if let Some(found) = twin.pop_to(epoch, steps) {
         assert!(rt; found.1.epoch <= epoch);
@@ -62,20 +91,30 @@ fn pop<R: Abort, L: Ledger>(rt: &R, twin: &mut Twin<Key>, epoch: u64, steps: &mu
     }
 }
 
+/// Tries once more what found no memory.
+macro_rules! twice {
+    ($call:expr) => {
+        match $call {
+            Ok(value) => value,
+            Err(_) => $call?,
+        }
+    };
+}
+
 /// 10,000 calls. The epochs rise by 1 every 8 calls, and what is 40 epochs old is popped.
 fn play<R: Abort, L: Ledger>(rt: &R, alloc: Global, blank: Blank) -> Result<(), Fail>
     requires name { blank.name ≡ L.name }
     requires parts { blank.parts ≡ L.parts }
     requires some { 0 < L.parts }
 {
-    let alive = Rc::new(alloc, 0)?;
+    let alive = twice!(Rc::new(alloc, 0));
     let mut steps = Steps::<L>::start(blank);
     let mut draws = Draws::new(1);
     let mut twin = Twin::new(alloc);
     for number in 0..10_000u64 {
         let epoch = number / 8;
         match draws.draw() % 8 {
-            0..=4 => twin.push(alloc, epoch, number, Key::new(alloc, number, &alive)?)?,
+            0..=4 => push(rt, alloc, &mut twin, epoch, number, &alive)?,
             5 => remove_any(rt, &mut twin, draws.draw()),
             _ => pop(rt, &mut twin, epoch.saturating_sub(40), &mut steps),
         }
@@ -98,7 +137,7 @@ fn pass_over<R: Abort, L: Ledger>(rt: &R, alloc: Global, blank: Blank) -> Result
 {
     let mut steps = Steps::<L>::start(blank);
     let mut list = EpochList::new(alloc);
-    assert_eq!(rt; list.reserve(alloc, 3), Ok(()));
+    twice!(list.reserve(alloc, 3));
     let _a = list.push_back(1, 'a');
     let b = list.push_back(1, 'b');
     let _c = list.push_back(2, 'c');

@@ -3,3 +3,8 @@ pub mod Chains
 pub mod Spares
 pub mod Orders
 pub mod Changes
+pub mod Held
+pub mod Last
+pub mod Blocks
+pub mod Packed
+pub mod Cited

@@ -1,22 +1,47 @@
-ghost use Rattle.std.specs.Prelude.{◌≡◌, ◌+◌, ◌<◌, ◌≤◌, [], ◌∷◌, ◌++◌, length, slice_get, slice_set, Some, OnOk};
+ghost use Rattle.std.specs.Prelude.{◌≡◌, ◌+◌, ◌<◌, ◌≤◌, [], ◌∷◌, ◌++◌, length, slice_get, slice_set, Some, OnOk, IsTrue, MatchResult};
+ghost use Rattle.std.specs.Allocator.{FitsBlock};
 
 use crate::OutOfMemory;
+use crate::places::{Places, item_bytes};
 use std::alloc::Global;
 use std::marker::Model;
 
-/// Items in one block of memory.
-#[derive(Drop)]
+const MAX_BYTES: usize = isize::MAX as usize;
+
+/// Items in one block of memory. At its end they are dropped, and the memory is given back. A block without
+/// places has none.
 pub struct Block<T> {
-    items: Vec<T>,
+    places: Places<T>,
+    count: usize,
+    capacity: usize,
+    alloc: Global,
 }
 
 impl<T> Model for Block<T> {
     ghost use Rattle.oz_epochs.specs.Block.{Contents};
-    ghost use Rattle.std.specs.Vec.{vec_capacity};
+    ghost use Rattle.std.specs.Prelude.{◌≡◌, ◌+◌, length};
 
     ghost Value = { Contents T };
 
-    ghost view = { λ b. record { items = b.items.items; capacity = vec_capacity b.items } };
+    ghost view = { λ b. record { items = b.places.items; capacity = b.capacity } };
+
+    ghost invariant = { λ b. (b.count ≡ length b.places.items) × (b.capacity ≡ length b.places.items + b.places.room) };
+}
+
+impl<T: Drop> Drop for Block<T> {
+    fn drop(mut self) {
+        while self.count > 0 {
+            self.count -= 1;
+            let _item = self.places.pull(self.count);
+        }
+        let Block {
+            places,
+            count: _,
+            capacity,
+            alloc,
+        } = self;
+        places.free(&alloc, capacity);
+    }
 }
 
 impl<T> Block<T> {
@@ -28,7 +53,10 @@ impl<T> Block<T> {
         ensures capacity { result.capacity ≡ 0 }
     {
         Block {
-            items: Vec::new(alloc),
+            places: Places::none(),
+            count: 0,
+            capacity: 0,
+            alloc,
         }
     }
 
@@ -36,20 +64,20 @@ impl<T> Block<T> {
         ensures len { result ≡ length self.now.items }
         ensures within { result ≤ self.now.capacity }
     {
-        self.items.len()
+        self.count
     }
 
     pub fn capacity(&self) -> usize
         ensures { result ≡ self.now.capacity }
     {
-        self.items.capacity()
+        self.capacity
     }
 
     pub fn get(&self, index: usize) -> &T
         requires { index < length self.now.items }
         ensures { slice_get self.now.items index ≡ Some result.now }
     {
-        &self.items[index]
+        &self.places.items(self.count)[index]
     }
 
     pub fn get_mut(&mut self, index: usize) -> &mut T
@@ -57,7 +85,7 @@ impl<T> Block<T> {
         ensures* writes_back { sem 𝓛 (Lends (the_row T.row) T.row self.entry result (λ item. record self.old { items = slice_set self.old.items index item })) }
         ensures item { slice_get self.old.items index ≡ Some result.now }
     {
-        &mut self.items[index]
+        self.places.get_mut(index)
     }
 
     pub fn replace(&mut self, index: usize, item: T) -> T
@@ -74,13 +102,50 @@ impl<T> Block<T> {
         ensures items { self.new.items ≡ self.old.items ++ item ∷ [] }
         ensures capacity { self.new.capacity ≡ self.old.capacity }
     {
-        self.items.push_reserved(item);
+        self.places.put(self.count, item);
+        self.count += 1;
     }
 
-    pub fn grow(&mut self, _alloc: Global, more: usize) -> Result<(), OutOfMemory>
+    /// Doubles the places at least, where there are too few.
+    pub fn grow(&mut self, alloc: Global, more: usize) -> Result<(), OutOfMemory>
         ensures items { self.new.items ≡ self.old.items }
         ensures room { OnOk result (length self.new.items + more ≤ self.new.capacity) }
     {
-        self.items.reserve(more)
+        let Some(needed) = self.count.checked_add(more) else {
+            return Err(OutOfMemory);
+        };
+        if needed <= self.capacity {
+            return Ok(());
+        }
+        let capacity = needed.max(self.capacity.saturating_mul(2));
+        if !fits::<T>(capacity) {
+            return Err(OutOfMemory);
+        }
+        self.enlarge(alloc, capacity)
     }
+
+    fn enlarge(&mut self, alloc: Global, capacity: usize) -> Result<(), OutOfMemory>
+        requires more { self.old.capacity ≤ capacity }
+        requires fits { FitsBlock T.row capacity }
+        ensures items { self.new.items ≡ self.old.items }
+        ensures room { OnOk result (self.new.capacity ≡ capacity) }
+    {
+        if self.capacity == 0 {
+            self.places.take(&alloc, capacity)?;
+        } else {
+            self.places
+                .widen(&alloc, self.count, self.capacity, capacity)?;
+        }
+        self.capacity = capacity;
+        Ok(())
+    }
+}
+
+/// Whether so many items are few enough for one block.
+fn fits<T>(count: usize) -> bool
+    ensures { IsTrue result → FitsBlock T.row count }
+{
+    count
+        .checked_mul(item_bytes::<T>())
+        .is_some_and(|bytes| bytes <= MAX_BYTES)
 }

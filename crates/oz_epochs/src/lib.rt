@@ -4,6 +4,7 @@
 mod block;
 mod list;
 mod node;
+mod places;
 mod steps;
 
 pub use list::{EpochList, Place};

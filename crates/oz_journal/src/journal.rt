@@ -1,8 +1,8 @@
-ghost use Rattle.std.specs.Prelude.{◌≡◌, ◌≤◌, ◌<◌, ◌+◌, ◌++◌, ◌∷◌, [], ℕ, List, length, false, Some, IfSome, IsSomeAnd, is_err, OnOk, IfOk, IfErr};
+ghost use Rattle.std.specs.Prelude.{◌≡◌, ◌^◌, ◌≤◌, ◌<◌, ◌+◌, ◌++◌, ◌∷◌, [], ℕ, List, length, false, Some, IfSome, IsSomeAnd, is_err, OnOk, IfOk, IfErr};
 ghost use Rattle.oz_world.specs.Disk.{IsStable};
 ghost use Rattle.oz_world.specs.Faults.{Rose, HasCause};
 ghost use Rattle.oz_journal.specs.Body.{bodies_in, places_in};
-ghost use Rattle.oz_journal.specs.Grammar.{sized, IsJournal, IsDamagedAt, StandsFor, places, with_body};
+ghost use Rattle.oz_journal.specs.Grammar.{sized, IsJournal, IsDamagedAt, StandsFor, records, places, with_body};
 ghost use Rattle.oz_journal.specs.Journal.{body_of, IsBeforeOrAfter};
 ghost use Rattle.oz_journal.specs.Moments.{Elapses, Spans, LeavesOnly};
 
@@ -45,6 +45,8 @@ impl<D: Disk> Journal<D> {
             IsJournal bytes (bodies_in loaded.1.items))) }
         ensures places { IfOk result (λ loaded.
             places_in loaded.1.items ≡ places 0 (bodies_in loaded.1.items)) }
+        ensures ends { IfOk result (λ loaded.
+            length (records (bodies_in loaded.1.items)) < 2 ^ 64) }
         ensures stands { IfOk result (λ loaded. IfSome (D.told disk) (λ _.
             StandsFor (D.told loaded.0.disk) (bodies_in loaded.1.items))) }
         ensures running { IfOk result (λ loaded. loaded.0.stopped ≡ false) }

@@ -2,7 +2,7 @@ ghost use Rattle.std.specs.Prelude.{◌≡◌, ◌+◌, ◌≤◌, ◌<◌, ◌^
 ghost use Rattle.oz_world.specs.Disk.{Same, IsStable};
 ghost use Rattle.oz_world.specs.Faults.{Rose};
 ghost use Rattle.oz_journal.specs.Body.{bodies_in, places_in};
-ghost use Rattle.oz_journal.specs.Grammar.{IsJournal, IsDamagedAt, places};
+ghost use Rattle.oz_journal.specs.Grammar.{IsJournal, IsDamagedAt, records, places};
 ghost use Rattle.oz_journal.specs.Journal.{IsAtRest};
 ghost use Rattle.oz_journal.specs.Load.{IsLoadable, IsLeftAlone, loaded_at};
 ghost use Rattle.oz_journal.specs.Moments.{Elapses, Spans};
@@ -45,6 +45,8 @@ pub fn open<D: Disk>(alloc: Global, disk: &mut D) -> Result<(Vec<Body>, u64), Lo
         IsJournal bytes (bodies_in found.0.items))) }
     ensures places { IfOk result (λ found.
         places_in found.0.items ≡ places 0 (bodies_in found.0.items)) }
+    ensures gate { IfOk result (λ found.
+        found.1 ≡ length (records (bodies_in found.0.items))) }
     ensures within { IfOk result (λ found. found.1 + 1 < 2 ^ 64) }
     ensures at_rest { IfOk result (λ found. (bytes : List ℕ) → D.told disk.new ≡ Some bytes →
         IsAtRest bytes found.1 (D.image disk.new) (D.clock disk.new)) }

@@ -1,9 +1,8 @@
 -- Why a run ends with its status, and what a run that worked is.
-use Rattle.std.proofs.Common.{◌≡◌, ◌≢◌, ◌⊎◌, ⊎_elim, inl, inr, ℕ, ◌≤◌, ◌<◌, ◌^◌, Bool, true, false, List, [], take, length, Option, Some, None, IfSome, Result, Ok, Err, IsOk, OnOk, refl, sym, ◌∙◌, ap, subst, arith}
+use Rattle.std.proofs.Common.{◌≡◌, ◌≢◌, ◌⊎◌, ⊎_elim, inl, inr, ℕ, ◌≤◌, Bool, true, false, List, [], take, length, Option, Some, None, IfSome, Result, Ok, Err, IsOk, OnOk, refl, sym, ◌∙◌, ap, subst, arith}
 use Rattle.std.proofs.lemmas.Bool.{cases_lt, false≢true}
 use Rattle.oz_world.specs.Disk.{Images, Seen, IsStable}
 use Rattle.oz_world.specs.Faults.{Rose}
-use Rattle.oz_journal.specs.Grammar.{StandsFor}
 use Rattle.oz_journal.specs.Load.{IsLoadable, IsLeftAlone, loaded_at}
 use Rattle.oz_journal.specs.Moments.{Elapses, Spans}
 use Rattle.oz_cluster.specs.declared.events.Event.{Event}
@@ -16,21 +15,34 @@ use Rattle.oz_script.specs.declared.grammar.Script.{Script as Lines}
 use Rattle.oz_script.specs.declared.grammar.ScriptFault.TheVariants.{At}
 use Rattle.oz_cluster.specs.declared.status.Status.{Status}
 use Rattle.oz_cluster.specs.declared.status.Status.TheVariants as ends
-use Rattle.oz_cluster.specs.Headline.{IsPrinted, LoadingKeeps, IsOneRun, RunEnds}
-use Rattle.oz_cluster.specs.Namespace.{Volumes, nothing}
+use Rattle.oz_namespace.specs.declared.namespace.Namespace.{Namespace}
+use Rattle.oz_namespace.specs.Namespace.{nothing}
+use Rattle.oz_om_bucket.specs.Meets.{Stand}
+use Rattle.oz_rows.specs.declared.key.RowKey.{RowKey}
+use Rattle.oz_rows.specs.declared.row.Row.{Row}
+use Rattle.oz_rows.specs.Rows.{RowFits}
+use Rattle.oz_tables.specs.declared.entry.Entry.{Entry}
+use Rattle.oz_tables.specs.Build.{Builds}
+use Rattle.oz_tables.specs.Sound.{IsSound}
+use Rattle.oz_tables.specs.StandsFor.{StandsFor}
+use Rattle.oz_tables.specs.Tables.{Rows, row_of}
+use Rattle.oz_cluster.specs.Fits.{AllAreTold}
+use Rattle.oz_cluster.specs.declared.events.Node.TheVariants.{Manager}
+use Rattle.oz_cluster.specs.Headline.{IsPrinted, LoadingKeeps, Headline, IsOneRun, RunEnds}
 use Rattle.oz_cluster.specs.OpenFaults.{as_refusal}
-use Rattle.oz_cluster.specs.Opens.{Opens, OpensFrom, IsDamagedDisk, StandsAs}
-use Rattle.oz_cluster.specs.Quiet.{IsServed, IsHeld, IsLoaded}
+use Rattle.oz_cluster.specs.Opens.{Loads, IsCoherent, IsDamagedDisk, Keeps, StandsAs}
+use Rattle.oz_cluster.specs.Quiet.{IsServed, IsRight, IsHeld, IsLoaded}
 use Rattle.oz_cluster.specs.Refusals.{status_of, text_of, IsScript, IsScriptOf, IsSo, Says, IsUntouched, IsLeft, Spares, IsStopped}
 use Rattle.oz_cluster.specs.Report.{report_of}
 use Rattle.oz_script.specs.Script.{script_of, IsNumbered}
 use Rattle.oz_cluster.specs.StatusCauses.{HasBegun, IsFaultOf, StatusCauses}
 use Rattle.oz_cluster.specs.Statuses.{status_number}
 use Rattle.oz_cluster.specs.Stops.{StopsHold}
-use Rattle.oz_cluster.specs.Story.{Opening, namespace_of, last_index}
+use Rattle.oz_cluster.specs.Story.{Opening, namespace_of, last_index, halt_of}
 use Rattle.oz_cluster.specs.Streams.{script_limit}
 use Rattle.oz_cluster.specs.Words.{IsRun}
-use Rattle.oz_cluster.proofs.Exact.{run_has_no_fault, opens_or_damaged}
+use Rattle.oz_cluster.proofs.Exact.{run_has_no_fault, loads_or_damaged}
+use Rattle.oz_cluster.proofs.Held.{coherent as coherent_rows}
 use Rattle.oz_cluster.proofs.Headlines.{replies, asks, acknowledges}
 use Rattle.oz_cluster.proofs.Runs.{fits_so_far, tells_all}
 use Rattle.oz_cluster.proofs.Serving.{none_there, some_there}
@@ -120,15 +132,15 @@ some_damage : (told : Option (List ℕ)) (offset : ℕ) → IfSome told (λ byte
 some_damage None offset h = tt
 some_damage (Some bytes) offset h = (offset, h)
 
-some_opens : (told : Option (List ℕ)) (opening : Opening) → IfSome told (λ bytes. Opens bytes opening) → IfSome told (λ bytes. (some : Opening) × Opens bytes some)
-some_opens None opening opens = tt
-some_opens (Some bytes) opening opens = (opening, opens)
+some_loads : (told : Option (List ℕ)) (all : List Entry) (index : ℕ) → IfSome told (λ bytes. Loads bytes all index) → IfSome told (λ bytes. (some : List Entry) × (last : ℕ) × Loads bytes some last)
+some_loads None all index loads = tt
+some_loads (Some bytes) all index loads = (all, index, loads)
 
-opens_and_damaged : (told : Option (List ℕ)) (opening : Opening) (bytes : List ℕ) (offset : ℕ) → told ≡ Some bytes → IfSome told (λ bytes. Opens bytes opening) → IsDamagedDisk bytes offset → ⊥
-opens_and_damaged None opening bytes offset is opens damaged = absurd (cc is)
-opens_and_damaged (Some other) opening bytes offset is opens damaged =
+loads_and_damaged : (told : Option (List ℕ)) (all : List Entry) (index : ℕ) (bytes : List ℕ) (offset : ℕ) → told ≡ Some bytes → IfSome told (λ bytes. Loads bytes all index) → IsDamagedDisk bytes offset → ⊥
+loads_and_damaged None all index bytes offset is loads damaged = absurd (cc is)
+loads_and_damaged (Some other) all index bytes offset is loads damaged =
     let same : other ≡ bytes = cc is in
-    opens_or_damaged bytes opening offset (subst (λ (b : List ℕ). Opens b opening) same opens) damaged
+    loads_or_damaged bytes all index offset (subst (λ (b : List ℕ). Loads b all index) same loads) damaged
 
 module _ (words : List (List ℕ)) (left told : Option (List ℕ)) (source_rose sink_rose disk_rose : Type 0) (number : ℕ) where
   -- something stopped the run before its work
@@ -213,7 +225,7 @@ module _ (words : List (List ℕ)) (left told : Option (List ℕ)) (source_rose 
   }
 
   -- the run came to its work
-  module _ (given : IsRun words) (script : Lines) (parsed : IsScriptOf left script) (opening : Opening) (opens : IfSome told (λ bytes. Opens bytes opening)) where
+  module _ (given : IsRun words) (script : Lines) (parsed : IsScriptOf left script) (all : List Entry) (index : ℕ) (loads : IfSome told (λ bytes. Loads bytes all index)) where
     work_causes : number ≤ 7 → (number ≡ 4 → sink_rose) → (number ≡ 5 → disk_rose) → (number ≡ 1 → ⊥) → (number ≡ 2 → ⊥) → (number ≡ 3 → ⊥) → (number ≡ 6 → ⊥) → StatusCauses words left told source_rose sink_rose disk_rose number
     work_causes known sink disk no_script no_words no_read no_damage = record {
       known = known;
@@ -226,11 +238,11 @@ module _ (words : List (List ℕ)) (left told : Option (List ℕ)) (source_rose 
       damaged = λ is. absurd (no_damage is);
       wrong_words = λ place wrong. absurd (run_has_no_fault words place given wrong);
       wrong_script = λ run text line cause is wrong. absurd (no_script_and_fault text line cause left is wrong (script, parsed));
-      wrong_disk = λ run text bytes offset is some there damaged. absurd (opens_and_damaged told opening bytes offset there opens damaged);
+      wrong_disk = λ run text bytes offset is some there damaged. absurd (loads_and_damaged told all index bytes offset there loads damaged);
     }
       where
         begun : HasBegun words left told
-        begun = record { given = given; script = (script, parsed); opens = some_opens told opening opens }
+        begun = record { given = given; script = (script, parsed); loads = some_loads told all index loads }
 
     pub printed_causes : (status : Status) (report : List ℕ) (before after : Option (List ℕ)) → number ≡ status_number status → IsPrinted status report before after sink_rose → (status ≡ ends.Disk → disk_rose) → StatusCauses words left told source_rose sink_rose disk_rose number
     printed_causes ends.Done report before after n printed disk = work_causes (omega (arith, n)) (λ is. absurd (omega (arith, n, is))) (λ is. absurd (omega (arith, n, is))) (λ is. omega (arith, n, is)) (λ is. omega (arith, n, is)) (λ is. omega (arith, n, is)) (λ is. omega (arith, n, is))
@@ -249,7 +261,7 @@ halt_cause (Some count) before after some cause = subst (Rose before) cause.0 ca
 pub causes_of : (words : List (List ℕ)) (left : Option (List ℕ)) (disk_before disk_after : Seen) (before after : Option (List ℕ)) (source_rose sink_rose : Type 0) (story : List Event) (number : ℕ) → RunEnds words left disk_before disk_after before after source_rose sink_rose story number → StatusCauses words left disk_before.told source_rose sink_rose (Rose disk_before.faults disk_after.faults) number
 causes_of words left disk_before disk_after before after source_rose sink_rose story number ending = ⊎_elim
     (λ stop. stop_causes words left disk_before.told source_rose sink_rose (Rose disk_before.faults disk_after.faults) number stop.refusal stop.so (ending.1 ∙ ap status_number stop.status_is))
-    (λ run. printed_causes words left disk_before.told source_rose sink_rose (Rose disk_before.faults disk_after.faults) number run.given run.script run.parsed run.opening run.opens ending.0 _ before after ending.1 run.headline.printed
+    (λ run. printed_causes words left disk_before.told source_rose sink_rose (Rose disk_before.faults disk_after.faults) number run.given run.script run.parsed run.rows run.index run.loads ending.0 _ before after ending.1 run.printed
     (λ is. halt_cause _ disk_before.faults disk_after.faults (run.halted.named is) run.halted.cause))
     ending.2
 
@@ -258,10 +270,6 @@ causes_of words left disk_before disk_after before after source_rose sink_rose s
 rises : (before loaded now : ℕ) (halt : Option ℕ) → before ≤ loaded → IfSome halt (λ count. (count ≡ now) × Rose loaded count) → IfSome halt (λ count. (count ≡ now) × Rose before count)
 rises before loaded now None le cause = tt
 rises before loaded now (Some count) le cause = (cause.0, omega (arith, le, cause.1))
-
-stands_if : (told after : Option (List ℕ)) (namespace : Volumes) (index : ℕ) → ((bytes : List ℕ) → told ≡ Some bytes → StandsAs after namespace index) → IfSome told (λ bytes. StandsAs after namespace index)
-stands_if None after namespace index h = tt
-stands_if (Some bytes) after namespace index h = h bytes refl
 
 if_some : (told : Option (List ℕ)) (P : List ℕ → Type 0) (bytes : List ℕ) → told ≡ Some bytes → IfSome told P → P bytes
 if_some None P bytes is h = absurd (cc is)
@@ -280,50 +288,91 @@ loading_keeps disk bytes loaded last middle image is spans time moment left from
     (left, subst (λ (t : ℕ). disk.image t left) same ((spans.elapses.kept moment left (omega (arith, old))).0 then), inl refl))
     (cases_lt disk.clock moment)
 
-module _ (words : List (List ℕ)) (left : Option (List ℕ)) (disk_before loaded disk_after : Seen) (before after : Option (List ℕ)) (sink_rose : Type 0) (opening : Opening) (script : Lines) (lines : ℕ) (story : List Event) (namespace : Volumes) (index : ℕ) (stopped : Bool) (status : Status)
-    (given : IsRun words) (parsed : IsScriptOf left script) (numbered : IsNumbered script) (opens : IfSome disk_before.told (λ bytes. Opens bytes opening)) (few : lines ≤ length script.lines)
-    (stands : IfSome disk_before.told (λ bytes. StandsAs loaded.told opening.namespace opening.index)) (stable : (bytes : List ℕ) → loaded.told ≡ Some bytes → IsStable loaded.image loaded.clock bytes) (ended : IfSome disk_before.told (λ bytes. loaded.clock ≡ loaded_at disk_before.clock bytes))
+module _ (words : List (List ℕ)) (left : Option (List ℕ)) (disk_before loaded disk_after : Seen) (before after : Option (List ℕ)) (sink_rose : Type 0) (all : List Entry) (first : ℕ) (rows : Rows) (script : Lines) (lines : ℕ) (story : List Event) (rows_after : Rows) (index : ℕ) (stopped : Bool) (status : Status)
+    (given : IsRun words) (parsed : IsScriptOf left script) (numbered : IsNumbered script) (loads : IfSome disk_before.told (λ bytes. Loads bytes all first)) (few : lines ≤ length script.lines)
+    (rows_are : row_of all ≡ rows) (fit : (key : RowKey) (row : Row) → rows key ≡ Some row → RowFits key row)
+    (keeps : IfSome disk_before.told (λ bytes. Keeps loaded.told rows first)) (stable : (bytes : List ℕ) → loaded.told ≡ Some bytes → IsStable loaded.image loaded.clock bytes) (ended : IfSome disk_before.told (λ bytes. loaded.clock ≡ loaded_at disk_before.clock bytes))
     (spans : IfSome disk_before.told (λ bytes. IsLoadable bytes (disk_before.image disk_before.clock) → Spans IsLeftAlone disk_before.clock loaded.clock disk_before.image loaded.image)) (falls : disk_before.faults ≤ loaded.faults)
-    (served : IsServed opening script lines loaded.faults story namespace index stopped disk_after) (held : IsLoaded opening loaded → index < 2 ^ 63 → IsHeld opening story namespace index loaded.clock disk_after) (time : Elapses loaded.clock disk_after.clock loaded.image disk_after.image)
-    (all : (status ≡ ends.OutOfMemory) ⊎ (lines ≡ length script.lines)) (done : status ≡ ends.Done → stopped ≡ false) (named : status ≡ ends.Disk → stopped ≡ true) (printed : IsPrinted status (report_of (length script.lines) story) before after sink_rose) where
-  held_of : (bytes : List ℕ) → disk_before.told ≡ Some bytes → last_index opening story < 2 ^ 63 → IsHeld opening story namespace index loaded.clock disk_after
-  held_of bytes tells below = held (record { stands = if_some disk_before.told (λ _. StandsAs loaded.told opening.namespace opening.index) bytes tells stands; stable = stable }) (omega (arith, below, served.quiet.decided))
+    (served : (namespace : Namespace) → IsServed (record { namespace = namespace; index = first }) script lines loaded.faults story index stopped disk_after)
+    (right : (namespace : Namespace) → Stand rows namespace → IsRight (record { namespace = namespace; index = first }) story rows_after index)
+    (held : (namespace : Namespace) → Stand rows namespace → IsLoaded rows first loaded → IsHeld (record { namespace = namespace; index = first }) story rows_after index loaded.clock disk_after) (time : Elapses loaded.clock disk_after.clock loaded.image disk_after.image)
+    (all_served : (status ≡ ends.OutOfMemory) ⊎ (lines ≡ length script.lines)) (done : status ≡ ends.Done → stopped ≡ false) (named : status ≡ ends.Disk → stopped ≡ true) (printed : IsPrinted status (report_of (length script.lines) story) before after sink_rose) where
+  -- what holds from any namespace on
+  abbrev plain : IsServed (record { namespace = nothing; index = first }) script lines loaded.faults story index stopped disk_after
+  plain = served nothing
+
+  told_all : status ≢ ends.OutOfMemory → AllAreTold script story
+  told_all ne = ⊎_elim (λ none. absurd (ne none)) (λ last. tells_all (record { namespace = nothing; index = first }) script lines loaded.faults story index stopped disk_after numbered.in_order last plain) all_served
+
+  module _ (namespace : Namespace) (coherent : IsCoherent all namespace) where
+    abbrev opening : Opening
+    opening = record { namespace = namespace; index = first }
+
+    stand : Stand rows namespace
+    stand = record {
+      fit = fit;
+      stands = subst (λ (r : Rows). StandsFor r namespace) rows_are coherent.stands;
+      sound = subst IsSound rows_are coherent.sound;
+    }
+
+    held_of : (bytes : List ℕ) → disk_before.told ≡ Some bytes → IsHeld opening story rows_after index loaded.clock disk_after
+    held_of bytes tells = held namespace stand (record { keeps = if_some disk_before.told (λ _. Keeps loaded.told rows first) bytes tells keeps; stable = stable })
+
+    headline : Headline opening script story status disk_before disk_after before after sink_rose
+    headline =
+        let legal = (right namespace stand).legal in
+        record {
+          printed = printed;
+          one_history = (legal, fits_so_far opening script lines loaded.faults story index stopped disk_after numbered.in_order few (served namespace));
+          all_told = told_all;
+          at_that_point = replies opening story legal;
+          after_all_seen = asks opening script story (served namespace).fits;
+          acknowledged = acknowledges opening story legal;
+          flushed = (served namespace).past;
+          stops = λ bytes tells.
+              let end = if_some disk_before.told (λ b. loaded.clock ≡ loaded_at disk_before.clock b) bytes tells ended in
+              subst (λ (from : ℕ). StopsHold opening story from disk_after.clock disk_after.image) end (held_of bytes tells).stops;
+        }
+
+    stands_afterwards : halt_of Manager story ≡ None → (bytes : List ℕ) → disk_before.told ≡ Some bytes → StandsAs disk_after.told (namespace_of opening story) (last_index opening story)
+    stands_afterwards none bytes tells =
+        let kept = (held_of bytes tells).keeps none in
+        let is = right namespace stand in (
+          kept.0,
+          kept.1,
+          kept.2,
+          subst (Builds kept.0 kept.2) (sym (served namespace).quiet.decided) kept.3,
+          subst (IsCoherent kept.2) (sym is.stands_for) (coherent_rows kept.2 rows_after is.namespace kept.4 is.stand),
+        )
 
   pub one_run : IsOneRun words left disk_before disk_after before after sink_rose story status
   one_run = record {
-    opening = opening;
+    rows = all;
+    index = first;
     script = script;
     given = given;
     parsed = parsed;
-    opens = opens;
-    headline = record {
-      printed = printed;
-      one_history = (served.legal, fits_so_far opening script lines loaded.faults story namespace index stopped disk_after numbered.in_order few served);
-      all_told = λ ne. ⊎_elim (λ none. absurd (ne none)) (λ last. tells_all opening script lines loaded.faults story namespace index stopped disk_after numbered.in_order last served) all;
-      at_that_point = replies opening story served.legal;
-      after_all_seen = asks opening script story served.fits;
-      acknowledged = acknowledges opening story served.legal;
-      flushed = served.past;
-      stops = λ bytes premises.
-          let end = if_some disk_before.told (λ b. loaded.clock ≡ loaded_at disk_before.clock b) bytes premises.tells ended in
-          subst (λ (first : ℕ). StopsHold opening story first disk_after.clock disk_after.image) end (held_of bytes premises.tells premises.fits).stops;
-    };
+    loads = loads;
+    printed = printed;
+    all_told = told_all;
+    headline = headline;
     halted = record {
-      done = λ is. none_there _ (served.halted ∙ done is);
-      named = λ is. some_there _ (served.halted ∙ named is);
-      cause = rises disk_before.faults loaded.faults disk_after.faults _ falls served.cause;
+      done = λ is. none_there _ (plain.halted ∙ done is);
+      named = λ is. some_there _ (plain.halted ∙ named is);
+      cause = rises disk_before.faults loaded.faults disk_after.faults _ falls plain.cause;
     };
     loading = if_all disk_before.told _ (λ bytes tells loadable.
         loading_keeps disk_before bytes loaded.clock disk_after.clock loaded.image disk_after.image
         (if_some disk_before.told (λ b. loaded.clock ≡ loaded_at disk_before.clock b) bytes tells ended)
         (if_some disk_before.told (λ b. IsLoadable b (disk_before.image disk_before.clock) → Spans IsLeftAlone disk_before.clock loaded.clock disk_before.image loaded.image) bytes tells spans loadable) time);
-    reopens = λ none. stands_if disk_before.told disk_after.told (namespace_of opening story) (last_index opening story) (λ bytes tells below.
-        let there = (held_of bytes tells below).stands none (omega (arith, below, served.quiet.decided)) in
-        subst (λ (n : Volumes). (bodies : List (List ℕ)) × StandsFor disk_after.told bodies × OpensFrom nothing 0 bodies (record { namespace = n; index = last_index opening story })) (sym served.quiet.stands_for)
-        (subst (λ (i : ℕ). (bodies : List (List ℕ)) × StandsFor disk_after.told bodies × OpensFrom nothing 0 bodies (record { namespace = namespace; index = i })) (sym served.quiet.decided) there));
+    reopens = λ namespace coherent none. if_all disk_before.told (λ bytes. StandsAs disk_after.told (namespace_of (record { namespace = namespace; index = first }) story) (last_index (record { namespace = namespace; index = first }) story)) (λ bytes tells. stands_afterwards namespace coherent none bytes tells);
   }
 
 -- what was served where memory didn't run out
 pub all_served : {T E : Type 0} (status : Status) (worked : Result T E) (lines all : ℕ) → OnOk worked (lines ≡ all) → (status ≡ ends.OutOfMemory) ⊎ IsOk worked → (status ≡ ends.OutOfMemory) ⊎ (lines ≡ all)
 all_served status (Ok value) lines all served worked = inr served
 all_served status (Err error) lines all served worked = ⊎_elim (λ none. inl none) (λ ok. absurd (false≢true ok)) worked
+
+-- the same index in other words
+pub loads_as : (told : Option (List ℕ)) (all : List Entry) (index other : ℕ) → index ≡ other → IfSome told (λ bytes. Loads bytes all index) → IfSome told (λ bytes. Loads bytes all other)
+loads_as told all index other same loads = subst (λ (i : ℕ). IfSome told (λ bytes. Loads bytes all i)) same loads

@@ -1,16 +1,15 @@
--- What excludes what: a run its faults, an opening its damage.
-use Rattle.std.proofs.Common.{◌≡◌, ◌++◌, ⊎_elim, inl, inr, ℕ, zero, suc, List, [], ◌∷◌, take, drop, Option, None, Some, append-nil, sym, ◌∙◌, ap, subst, arith}
+-- What rules out what: words that are a run, and a disk that opens.
+use Rattle.std.proofs.Common.{◌≡◌, ⊎_elim, inl, inr, ℕ, List, [], Some, take, drop, sym, ◌∙◌, ap, subst, arith, slice_get}
 use Rattle.std.proofs.lemmas.List.{take-append-drop}
-use Rattle.oz_journal.proofs.Readings.{one_reading, not_both}
-use Rattle.oz_cluster.specs.Namespace.{Volumes, nothing, with_volume}
-use Rattle.oz_cluster.specs.Opens.{IsNextBody, OpensFrom, IsWrongAt, Opens, IsDamagedDisk}
-use Rattle.oz_cluster.specs.Rows.{put_volume}
-use Rattle.oz_fields.specs.Number.{u64_bytes, u64_at}
-use Rattle.oz_fields.specs.Text.{text_bytes, text_at}
-use Rattle.oz_fields.proofs.Numbers.{u64_field}
-use Rattle.oz_fields.proofs.Texts.{text_field}
-use Rattle.oz_names.specs.Names.{IsVolumeName}
-use Rattle.oz_rows.specs.declared.fault.RowFault.TheVariants as fault
+use Rattle.oz_journal.proofs.Readings.{one_reading, one_damage, not_both}
+use Rattle.oz_journal.specs.Grammar.{places}
+use Rattle.oz_tables.specs.declared.entry.Entry.{Entry}
+use Rattle.oz_tables.proofs.OneThing.{builds_one, not_both as built_or_damaged, fails_one}
+use Rattle.oz_tables.proofs.Oneness.{one_namespace}
+use Rattle.oz_tables.specs.Build.{Builds, Fails}
+use Rattle.oz_tables.specs.StandsFor.{StandsFor}
+use Rattle.oz_tables.specs.Tables.{row_of}
+use Rattle.oz_cluster.specs.Opens.{Loads, Opens, IsDamagedDisk, IsFaultIn}
 use Rattle.oz_cluster.specs.Story.{Opening}
 use Rattle.oz_cluster.specs.Words.{IsRun, BeginsRun, IsFirstFault}
 
@@ -19,57 +18,35 @@ run_has_no_fault words place run fault =
     let begins : BeginsRun (take place words) = (drop place words, subst IsRun (sym (take-append-drop place words)) run) in
     ⊎_elim (λ there. there.1 begins) (λ behind. behind.1 run) fault.fault
 
-first_of : Option (ℕ × List ℕ) → ℕ
-first_of None = 0
-first_of (Some found) = found.0
+pub loads_or_damaged : (bytes : List ℕ) (all : List Entry) (index offset : ℕ) → Loads bytes all index → IsDamagedDisk bytes offset → ⊥
+loads_or_damaged bytes all index offset loads (inl damaged) = not_both bytes loads.0 offset loads.1 damaged
+loads_or_damaged bytes all index offset loads (inr wrong) =
+    let fault = wrong.2 in
+    built_or_damaged [] 0 loads.0 all index fault.count fault.at loads.2 (subst (λ (l : List (List ℕ)). Fails l fault.count fault.at) (one_reading bytes wrong.0 loads.0 wrong.1 loads.1) fault.fails)
 
-behind_it : Option (ℕ × List ℕ) → List ℕ
-behind_it None = []
-behind_it (Some found) = found.1
-
-text_of : Option (List ℕ × List ℕ) → List ℕ
-text_of None = []
-text_of (Some found) = found.0
-
-tail_of : List ℕ → List ℕ
-tail_of [] = []
-tail_of (first ∷ rest) = rest
-
--- the name in the bytes that make a volume
-named : (volume : List ℕ) → IsVolumeName volume → text_of (text_at (tail_of (tail_of (put_volume volume)))) ≡ volume
-unfolding text_of tail_of
-named volume name = ap text_of (ap text_at (append-nil (text_bytes volume ++ [])) ∙ text_field.reads_back volume [] (omega (arith, name.short_enough)))
-
-same_row : (last other index index' : ℕ) (volume volume' body : List ℕ) → IsNextBody last body index volume → IsNextBody other body index' volume' → (index ≡ index') × (volume ≡ volume')
-unfolding first_of behind_it tail_of
-same_row last other index index' volume volume' body next next' =
-    let both : u64_bytes index ++ put_volume volume ≡ u64_bytes index' ++ put_volume volume' = ap tail_of (sym next.body.3 ∙ next'.body.3) in
-    let read = sym (u64_field.reads_back index (put_volume volume) (omega (arith, next.body.1.1))) ∙ (ap u64_at both ∙ u64_field.reads_back index' (put_volume volume') (omega (arith, next'.body.1.1))) in
-    let put : put_volume volume ≡ put_volume volume' = ap behind_it read in
-    (ap first_of read, sym (named volume next.body.2.0.0) ∙ (ap (λ (l : List ℕ). text_of (text_at (tail_of (tail_of l)))) put ∙ named volume' next'.body.2.0.0))
-
-opens_or_wrong : (namespace : Volumes) (last : ℕ) (bodies : List (List ℕ)) (opening : Opening) (count : ℕ) → OpensFrom namespace last bodies opening → IsWrongAt last bodies count → ⊥
-unfolding OpensFrom IsWrongAt
-opens_or_wrong namespace last [] opening count opens wrong = wrong
-opens_or_wrong namespace last (body ∷ bodies) opening zero opens wrong = wrong opens.0 opens.1 opens.2
-opens_or_wrong namespace last (body ∷ bodies) opening (suc count) opens wrong =
-    let same = same_row last last wrong.0 opens.0 wrong.1 opens.1 body wrong.2 opens.2 in
-    opens_or_wrong (with_volume namespace opens.1) opens.0 bodies opening count opens.3 (subst (λ (i : ℕ). IsWrongAt i bodies count) same.0 wrong.3)
+-- the fault of one reading
+pub one_place : (bytes : List ℕ) (offset other : ℕ) → IsDamagedDisk bytes offset → IsDamagedDisk bytes other → offset ≡ other
+one_place bytes offset other (inl a) (inl b) = one_damage bytes offset other a b
+one_place bytes offset other (inl a) (inr b) = absurd (not_both bytes b.0 offset b.1 a)
+one_place bytes offset other (inr a) (inl b) = absurd (not_both bytes a.0 other a.1 b)
+one_place bytes offset other (inr a) (inr b) =
+    let same = one_reading bytes b.0 a.0 b.1 a.1 in
+    let there : IsFaultIn a.0 other = subst (λ (l : List (List ℕ)). IsFaultIn l other) same b.2 in
+    let one = fails_one [] 0 a.0 a.2.count a.2.at there.count there.at a.2.fails there.fails in
+    let begins : Some a.2.begin ≡ Some there.begin = sym a.2.begins ∙ ap (slice_get (places 0 a.0)) one.0 ∙ there.begins in
+    omega (arith, a.2.place, there.place, one.1, some_inside a.2.begin there.begin begins)
+  where
+    some_inside : (x y : ℕ) → Some x ≡ Some y → x ≡ y
+    some_inside x y e = cc e
 
 pub opens_or_damaged : (bytes : List ℕ) (opening : Opening) (offset : ℕ) → Opens bytes opening → IsDamagedDisk bytes offset → ⊥
-opens_or_damaged bytes opening offset opens (inl damaged) = not_both bytes opens.0 offset opens.1 damaged
-opens_or_damaged bytes opening offset opens (inr wrong) =
-    opens_or_wrong nothing 0 opens.0 opening wrong.count opens.2 (subst (λ (l : List (List ℕ)). IsWrongAt 0 l wrong.count) (one_reading bytes wrong.bodies opens.0 wrong.journal opens.1) wrong.wrong)
-
-one_end : (namespace : Volumes) (last : ℕ) (bodies : List (List ℕ)) (opening other : Opening) → OpensFrom namespace last bodies opening → OpensFrom namespace last bodies other → opening ≡ other
-unfolding OpensFrom
-one_end namespace last [] opening other opens others = opens ∙ sym others
-one_end namespace last (body ∷ bodies) opening other opens others =
-    let same = same_row last last others.0 opens.0 others.1 opens.1 body others.2 opens.2 in
-    one_end (with_volume namespace opens.1) opens.0 bodies opening other opens.3 (subst (λ (i : ℕ). OpensFrom (with_volume namespace opens.1) i bodies other) same.0 (subst (λ (v : List ℕ). OpensFrom (with_volume namespace v) others.0 bodies other) same.1 others.3))
+opens_or_damaged bytes opening offset opens damaged = loads_or_damaged bytes opens.0 opening.index offset opens.1 damaged
 
 pub one_opening : (bytes : List ℕ) (opening other : Opening) → Opens bytes opening → Opens bytes other → opening ≡ other
-one_opening bytes opening other opens others = one_end nothing 0 opens.0 opening other opens.2 (subst (λ (l : List (List ℕ)). OpensFrom nothing 0 l other) (one_reading bytes others.0 opens.0 others.1 opens.1) others.2)
-
-pub no_memory : (place : ℕ) → fault.At place ≡ fault.OutOfMemory → ⊥
-no_memory place is = absurd (cc is)
+one_opening bytes opening other opens others =
+    let same = builds_one [] 0 opens.1.0 opens.0 others.0 opening.index other.index opens.1.2 (subst (λ (l : List (List ℕ)). Builds l others.0 other.index) (one_reading bytes others.1.0 opens.1.0 others.1.1 opens.1.1) others.1.2) in
+    let namespaces = one_namespace (row_of opens.0) opening.namespace other.namespace opens.2.stands (subst (λ (l : List Entry). StandsFor (row_of l) other.namespace) (sym same.0) others.2.stands) in
+    both namespaces same.1
+  where
+    both : opening.namespace ≡ other.namespace → opening.index ≡ other.index → opening ≡ other
+    both names indexes = λ i. record { namespace = names i; index = indexes i }

@@ -2,33 +2,48 @@
 use Rattle.std.proofs.Common.{◌≡◌, ◌≢◌, ⊎_elim, ℕ, ◌+◌, ◌<◌, ◌≤◌, ◌^◌, nat_le, List, [], ◌∷◌, ◌++◌, Option, None, Some, refl, sym, ◌∙◌, ap, subst, arith}
 use Rattle.std.proofs.lemmas.Bool.{cases_Bool, cases_lt, cond-true, cond-false, leb-true}
 use Rattle.oz_world.specs.Disk.{Seen}
-use Rattle.oz_journal.specs.Grammar.{IsJournal, StandsFor}
+use Rattle.oz_journal.specs.Grammar.{IsJournal, StandsFor as TellsBodies}
 use Rattle.oz_journal.specs.Journal.{IsBeforeOrAfter}
 use Rattle.oz_journal.specs.Moments.{Elapses, LeavesOnly}
+use Rattle.oz_model.specs.Answers.{after}
+use Rattle.oz_namespace.specs.declared.namespace.Namespace.{Namespace}
+use Rattle.oz_om_bucket.specs.Meets.{Stand, Meets}
+use Rattle.oz_requests.specs.declared.answer.Answer.{Answer}
+use Rattle.oz_requests.specs.declared.reply.Reply.{Reply}
+use Rattle.oz_requests.specs.declared.request.Request.{Request}
+use Rattle.oz_rows.specs.declared.operation.Change.{Change}
+use Rattle.oz_tables.specs.declared.entry.Entry.{Entry}
+use Rattle.oz_tables.specs.Batches.{AreRows, IsBatchOf, after_changes}
+use Rattle.oz_tables.specs.Build.{Builds}
+use Rattle.oz_tables.specs.Tables.{Rows, row_of}
+use Rattle.oz_tables.proofs.Steps.{body_follows}
 use Rattle.oz_cluster.specs.declared.events.Event.{Event}
 use Rattle.oz_cluster.specs.declared.events.Node.TheVariants.{Manager}
-use Rattle.oz_cluster.specs.declared.requests.Answer.{Answer}
-use Rattle.oz_cluster.specs.declared.requests.Reply.{Reply}
-use Rattle.oz_cluster.specs.declared.requests.Request.{Request}
-use Rattle.oz_cluster.specs.Answers.{after}
-use Rattle.oz_names.specs.Names.{IsVolumeName}
-use Rattle.oz_cluster.specs.Namespace.{Volumes, nothing, with_volume}
-use Rattle.oz_cluster.specs.Opens.{Opens, OpensFrom, StandsAs}
+use Rattle.oz_cluster.specs.Opens.{IsCoherent, Opens, Keeps}
 use Rattle.oz_cluster.specs.Quiet.{IsHeld, IsLoaded}
-use Rattle.oz_cluster.specs.Rows.{put_volume, body_bytes}
+use Rattle.oz_cluster.specs.Rows.{body_bytes}
 use Rattle.oz_cluster.specs.Steps.{first_ask, ask_event, decide_event, swap_event, flushed_event, halt_event, told_event}
 use Rattle.oz_cluster.specs.Stops.{IsWithin, IsFrontOf}
 use Rattle.oz_cluster.specs.Story.{Opening, last_index, pending, namespace_after, kept_namespace, halt_of}
-use Rattle.oz_cluster.proofs.Lines.{Sums}
-use Rattle.oz_cluster.proofs.Openings.{opens_on, stands_on}
+use Rattle.oz_cluster.proofs.Lines.{Sums, Leads}
 use Rattle.oz_cluster.proofs.Stories.{last_index-push, kept_namespace-push, all-push}
+
+-- rows in order give the same rows
+are_same : (all : List Entry) (rows : Rows) → AreRows all rows → row_of all ≡ rows
+are_same all rows are = λ i key. are.rows_are key i
+
+-- rows that stand for a namespace are coherent
+pub coherent : (all : List Entry) (rows : Rows) (namespace : Namespace) → AreRows all rows → Stand rows namespace → IsCoherent all namespace
+coherent all rows namespace are stand =
+    let there = subst (λ (r : Rows). Stand r namespace) (sym (are_same all rows are)) stand in
+    record { stands = there.stands; sound = there.sound }
 
 module _ (opening : Opening) (at : ℕ) (left : List ℕ) where
   -- an event that changes nothing of a front
   abbrev front_on : (story : List Event) (event : Event) (front : IsFrontOf opening story at left) → kept_namespace opening front.index (story ++ event ∷ []) ≡ kept_namespace opening front.index story → last_index opening story ≤ last_index opening (story ++ event ∷ []) → IsWithin front.index at event.kind → IsFrontOf opening (story ++ event ∷ []) at left
   front_on story event front same grows within = record {
     index = front.index;
-    opens = subst (λ (n : Volumes). Opens left (record { namespace = n; index = front.index })) (sym same) front.opens;
+    opens = subst (λ (n : Namespace). Opens left (record { namespace = n; index = front.index })) (sym same) front.opens;
     earlier = front.earlier;
     decided = omega (arith, front.decided, grows);
     flushed = all-push _ story event front.flushed within;
@@ -61,9 +76,9 @@ module _ (opening : Opening) (at : ℕ) (left : List ℕ) where
       front_on story event front (kept_namespace-push opening front.index story event) (omega (arith, last_index-push opening story event)) there
 
   -- what was decided above all that is there, or changed nothing
-  pub front_decide : (client number : ℕ) (request : Request) (new : ℕ) (answer : Reply) (batch : List ℕ) (story : List Event) (namespace : Volumes) (index swapped stable moment : ℕ) → Sums opening story namespace index swapped stable moment None → pending (first_ask client number) story ≡ Some request
+  pub front_decide : (client number : ℕ) (request : Request) (new : ℕ) (answer : Reply) (batch : List ℕ) (story : List Event) (namespace : Namespace) (index swapped stable moment : ℕ) → Sums opening story index swapped stable moment None → Leads opening story namespace index → pending (first_ask client number) story ≡ Some request
       → index ≤ new → (new ≡ index → after namespace request answer ≡ namespace) → IsFrontOf opening story at left → IsFrontOf opening (story ++ decide_event client number request new answer batch ∷ []) at left
-  front_decide client number request new answer batch story namespace index swapped stable moment sums waiting grows same front =
+  front_decide client number request new answer batch story namespace index swapped stable moment sums leads waiting grows same front =
       let event = decide_event client number request new answer batch in
       let step = kept_namespace-push opening front.index story event in
       let last = last_index-push opening story event in
@@ -71,17 +86,17 @@ module _ (opening : Opening) (at : ℕ) (left : List ℕ) where
     where
       unchanged : new ≤ front.index → namespace_after (pending (first_ask client number) story) (kept_namespace opening front.index story) answer ≡ kept_namespace opening front.index story
       unchanged le =
-          let kept = sums.kept front.index (omega (arith, le, grows)) in
+          let kept = leads.kept front.index (omega (arith, le, grows)) in
           let is : new ≡ index = omega (arith, le, grows, front.decided, sums.decided) in
           ap (λ (r : Option Request). namespace_after r (kept_namespace opening front.index story) answer) waiting
-          ∙ (ap (λ (n : Volumes). after n request answer) kept ∙ (same is ∙ sym kept))
+          ∙ (ap (λ (n : Namespace). after n request answer) kept ∙ (same is ∙ sym kept))
 
   -- bytes that open as all that was decided
-  pub front_here : (story : List Event) (namespace : Volumes) (index swapped stable moment : ℕ) (halt : Option ℕ) → Sums opening story namespace index swapped stable moment halt → (bodies : List (List ℕ)) → IsJournal left bodies → OpensFrom nothing 0 bodies (record { namespace = namespace; index = index }) → (front : IsFrontOf opening story at left) × (front.index ≡ index)
-  front_here story namespace index swapped stable moment halt sums bodies journal opens = (
+  pub front_here : (story : List Event) (namespace : Namespace) (index swapped stable moment : ℕ) (halt : Option ℕ) → Sums opening story index swapped stable moment halt → Leads opening story namespace index → (bodies : List (List ℕ)) → IsJournal left bodies → (all : List Entry) → Builds bodies all index → IsCoherent all namespace → (front : IsFrontOf opening story at left) × (front.index ≡ index)
+  front_here story namespace index swapped stable moment halt sums leads bodies journal all builds coherent = (
     record {
       index = index;
-      opens = (bodies, journal, subst (λ (n : Volumes). OpensFrom nothing 0 bodies (record { namespace = n; index = index })) (sym (sums.kept index (omega arith))) opens);
+      opens = (all, (bodies, journal, builds), subst (IsCoherent all) (sym (leads.kept index (omega arith))) coherent);
       earlier = sums.grown;
       decided = omega (arith, sums.decided);
       flushed = sums.within at;
@@ -89,54 +104,61 @@ module _ (opening : Opening) (at : ℕ) (left : List ℕ) where
     refl,
   )
 
-module _ (opening : Opening) (story : List Event) (namespace : Volumes) (index first : ℕ) (now : Seen) (held : IsHeld opening story namespace index first now) (client number : ℕ) (request : Request) where
+module _ (opening : Opening) (story : List Event) (rows : Rows) (index first : ℕ) (now : Seen) (held : IsHeld opening story rows index first now) (client number : ℕ) (request : Request) where
   abbrev asked : List Event
   asked = story ++ ask_event client number request ∷ []
 
   -- the manager had halted
-  pub held_away : (answer : Answer) → halt_of Manager (asked ++ told_event client number answer ∷ []) ≢ None → IsHeld opening (asked ++ told_event client number answer ∷ []) namespace index first now
+  pub held_away : (answer : Answer) → halt_of Manager (asked ++ told_event client number answer ∷ []) ≢ None → IsHeld opening (asked ++ told_event client number answer ∷ []) rows index first now
   held_away answer halted = record {
-    stands = λ none. absurd (halted none);
+    keeps = λ none. absurd (halted none);
     stops = λ at left from to image. front_told opening at left client number answer asked (front_ask opening at left client number request story (held.stops at left from to image));
   }
 
-  module _ (swapped stable moment : ℕ) (sums : Sums opening asked namespace index swapped stable moment None) (waiting : pending (first_ask client number) asked ≡ Some request) (running : halt_of Manager story ≡ None) (answer : Reply) (batch : List ℕ) where
+  module _ (namespace : Namespace) (swapped stable moment : ℕ) (sums : Sums opening asked index swapped stable moment None) (leads : Leads opening asked namespace index) (waiting : pending (first_ask client number) asked ≡ Some request) (running : halt_of Manager story ≡ None) (answer : Reply) (batch : List ℕ) where
     -- nothing changed
-    pub held_kept : (said : Answer) → after namespace request answer ≡ namespace → IsHeld opening ((asked ++ decide_event client number request index answer batch ∷ []) ++ told_event client number said ∷ []) namespace index first now
+    pub held_kept : (said : Answer) → after namespace request answer ≡ namespace → IsHeld opening ((asked ++ decide_event client number request index answer batch ∷ []) ++ told_event client number said ∷ []) rows index first now
     held_kept said same = record {
-      stands = λ _. held.stands running;
+      keeps = λ _. held.keeps running;
       stops = λ at left from to image.
-          front_told opening at left client number said _ (front_decide opening at left client number request index answer batch asked namespace index swapped stable moment sums waiting (omega arith) (λ _. same) (front_ask opening at left client number request story (held.stops at left from to image)));
+          front_told opening at left client number said _ (front_decide opening at left client number request index answer batch asked namespace index swapped stable moment sums leads waiting (omega arith) (λ _. same) (front_ask opening at left client number request story (held.stops at left from to image)));
     }
 
-    -- a volume was made
-    module _ (volume body : List ℕ) (later : Seen) (made : after namespace request answer ≡ with_volume namespace volume) (name : IsVolumeName volume) (is : body ≡ body_bytes (index + 1) (put_volume volume)) (below : index + 1 < 2 ^ 63)
-        (decided_sums : Sums opening (asked ++ decide_event client number request (index + 1) answer batch ∷ []) (after namespace request answer) (index + 1) swapped stable moment None)
-        (time : Elapses now.clock later.clock now.image later.image) (moments : (bodies : List (List ℕ)) → StandsFor now.told bodies → LeavesOnly (IsBeforeOrAfter bodies body) now.clock later.clock later.image) where
+    -- a batch was written
+    module _ (changes : List Change) (rows_after : Rows) (later : Seen) (stand : Stand rows namespace) (meets : Meets rows namespace request answer batch changes) (rows_are : (key : _) → rows_after key ≡ after_changes changes rows key) (below : index + 1 < 2 ^ 63)
+        (decided_sums : Sums opening (asked ++ decide_event client number request (index + 1) answer batch ∷ []) (index + 1) swapped stable moment None)
+        (decided_leads : Leads opening (asked ++ decide_event client number request (index + 1) answer batch ∷ []) (after namespace request answer) (index + 1))
+        (time : Elapses now.clock later.clock now.image later.image) (moments : (bodies : List (List ℕ)) → TellsBodies now.told bodies → LeavesOnly (IsBeforeOrAfter bodies (body_bytes (index + 1) batch)) now.clock later.clock later.image) where
+      abbrev body : List ℕ
+      body = body_bytes (index + 1) batch
+
       abbrev decided : List Event
       decided = asked ++ decide_event client number request (index + 1) answer batch ∷ []
 
-      there : (bodies : List (List ℕ)) × StandsFor now.told bodies × OpensFrom nothing 0 bodies (record { namespace = namespace; index = index })
-      there = held.stands running (omega (arith, below))
+      there : Keeps now.told rows index
+      there = held.keeps running
+
+      follows : (next : List Entry) × Builds (there.0 ++ body ∷ []) next (index + 1) × AreRows next (after_changes changes rows)
+      follows =
+          let same = are_same there.2 rows there.4 in
+          subst (λ (r : Rows). (next : List Entry) × Builds (there.0 ++ body ∷ []) next (index + 1) × AreRows next (after_changes changes r)) same
+          (body_follows there.0 there.2 index (index + 1) batch changes there.3 (omega arith, below) (omega arith) (subst (λ (r : Rows). IsBatchOf r batch changes) (sym same) meets.batch))
 
       -- what a stop leaves of the old moments, and of the new ones without the body
       old_front : (at : ℕ) (left : List ℕ) → IsFrontOf opening asked at left → IsFrontOf opening decided at left
-      old_front at left front = front_decide opening at left client number request (index + 1) answer batch asked namespace index swapped stable moment sums waiting (omega arith) (λ e. absurd (omega (arith, e))) front
+      old_front at left front = front_decide opening at left client number request (index + 1) answer batch asked namespace index swapped stable moment sums leads waiting (omega arith) (λ e. absurd (omega (arith, e))) front
 
       before_front : (at : ℕ) (left : List ℕ) → IsJournal left there.0 → IsFrontOf opening decided at left
-      before_front at left journal = old_front at left (front_here opening at left asked namespace index swapped stable moment None sums there.0 journal there.2).0
-
-      opens_after : OpensFrom nothing 0 (there.0 ++ body ∷ []) (record { namespace = after namespace request answer; index = index + 1 })
-      opens_after = subst (λ (n : Volumes). OpensFrom nothing 0 (there.0 ++ body ∷ []) (record { namespace = n; index = index + 1 })) (sym made) (opens_on namespace index volume body there.0 name is below there.2)
+      before_front at left journal = old_front at left (front_here opening at left asked namespace index swapped stable moment None sums leads there.0 journal there.2 there.3 (coherent there.2 rows namespace there.4 stand)).0
 
       after_front : (at : ℕ) (left : List ℕ) → IsJournal left (there.0 ++ body ∷ []) → (front : IsFrontOf opening decided at left) × (front.index ≡ index + 1)
-      after_front at left journal = front_here opening at left decided (after namespace request answer) (index + 1) swapped stable moment None decided_sums (there.0 ++ body ∷ []) journal opens_after
+      after_front at left journal = front_here opening at left decided (after namespace request answer) (index + 1) swapped stable moment None decided_sums decided_leads (there.0 ++ body ∷ []) journal follows.0 follows.1 (coherent follows.0 (after_changes changes rows) (after namespace request answer) follows.2 meets.leads)
 
       -- it was made stable
-      pub held_made : (said : Answer) → ((bodies : List (List ℕ)) → StandsFor now.told bodies → StandsFor later.told (bodies ++ body ∷ [])) → ((bodies : List (List ℕ)) → StandsFor now.told bodies → (left : List ℕ) → later.image later.clock left → IsJournal left (bodies ++ body ∷ [])) → now.clock < later.clock
-          → IsHeld opening (((decided ++ swap_event (index + 1) ∷ []) ++ flushed_event (index + 1) later.clock ∷ []) ++ told_event client number said ∷ []) (after namespace request answer) (index + 1) first later
+      pub held_made : (said : Answer) → ((bodies : List (List ℕ)) → TellsBodies now.told bodies → TellsBodies later.told (bodies ++ body ∷ [])) → ((bodies : List (List ℕ)) → TellsBodies now.told bodies → (left : List ℕ) → later.image later.clock left → IsJournal left (bodies ++ body ∷ [])) → now.clock < later.clock
+          → IsHeld opening (((decided ++ swap_event (index + 1) ∷ []) ++ flushed_event (index + 1) later.clock ∷ []) ++ told_event client number said ∷ []) rows_after (index + 1) first later
       held_made said appended acknowledged goes = record {
-        stands = λ _. subst (λ (n : Volumes). StandsAs later.told n (index + 1)) (sym made) (stands_on now.told later.told namespace index volume body name is appended (held.stands running));
+        keeps = λ _. (there.0 ++ body ∷ [], appended there.0 there.1, follows.0, follows.1, record { in_order = follows.2.in_order; rows_are = λ key. follows.2.rows_are key ∙ sym (rows_are key) });
         stops = λ at left from to image. ⊎_elim (λ old. behind at left (earlier at left old from image)) (λ new. newer at left (omega (arith, new)) to image) (cases_lt at (now.clock + 1));
       }
         where
@@ -161,9 +183,9 @@ module _ (opening : Opening) (story : List Event) (namespace : Volumes) (index f
 
       -- the disk failed
       pub held_halted : (said : Answer) (count : ℕ) → halt_of Manager (((decided ++ swap_event (index + 1) ∷ []) ++ halt_event count ∷ []) ++ told_event client number said ∷ []) ≢ None
-          → IsHeld opening (((decided ++ swap_event (index + 1) ∷ []) ++ halt_event count ∷ []) ++ told_event client number said ∷ []) (after namespace request answer) (index + 1) first later
+          → IsHeld opening (((decided ++ swap_event (index + 1) ∷ []) ++ halt_event count ∷ []) ++ told_event client number said ∷ []) rows_after (index + 1) first later
       held_halted said count halted = record {
-        stands = λ none. absurd (halted none);
+        keeps = λ none. absurd (halted none);
         stops = λ at left from to image. behind at left (⊎_elim (λ old. earlier at left old from image) (λ new. newer at left (omega (arith, new)) to image) (cases_lt at (now.clock + 1)));
       }
         where
@@ -177,16 +199,16 @@ module _ (opening : Opening) (story : List Event) (namespace : Volumes) (index f
           newer at left from to image = ⊎_elim (λ old. before_front at left old) (λ new. (after_front at left new).0) (moments there.0 there.1 at left from to image)
 
 -- nothing was asked yet
-pub held_first : (opening : Opening) (disk : Seen) → IsLoaded opening disk → opening.index < 2 ^ 63 → Sums opening [] opening.namespace opening.index opening.index opening.index 0 None → IsHeld opening [] opening.namespace opening.index disk.clock disk
-held_first opening disk loaded below sums = record {
-  stands = λ _. loaded.stands;
+pub held_first : (namespace : Namespace) (rows : Rows) (index : ℕ) (disk : Seen) → Stand rows namespace → IsLoaded rows index disk → Sums (record { namespace = namespace; index = index }) [] index index index 0 None → Leads (record { namespace = namespace; index = index }) [] namespace index → IsHeld (record { namespace = namespace; index = index }) [] rows index disk.clock disk
+held_first namespace rows index disk stand loaded sums leads = record {
+  keeps = λ _. loaded.keeps;
   stops = λ at left from to image.
-      let there = loaded.stands below in
+      let there = loaded.keeps in
       let same : at ≡ disk.clock = omega (arith, from, to) in
       let journal = journal_left disk.told there.0 left refl there.1 (subst (λ (t : ℕ). disk.image t left) same image) in
-      (front_here opening at left [] opening.namespace opening.index opening.index opening.index 0 None sums there.0 journal there.2).0;
+      (front_here (record { namespace = namespace; index = index }) at left [] namespace index index index 0 None sums leads there.0 journal there.2 there.3 (coherent there.2 rows namespace there.4 stand)).0;
 }
   where
-    journal_left : (told : Option (List ℕ)) (bodies : List (List ℕ)) (left : List ℕ) → disk.told ≡ told → StandsFor told bodies → disk.image disk.clock left → IsJournal left bodies
-    journal_left None bodies left is stands image = absurd stands
-    journal_left (Some bytes) bodies left is stands image = subst (λ (l : List ℕ). IsJournal l bodies) (sym (loaded.stable bytes is left image)) stands
+    journal_left : (told : Option (List ℕ)) (bodies : List (List ℕ)) (left : List ℕ) → disk.told ≡ told → TellsBodies told bodies → disk.image disk.clock left → IsJournal left bodies
+    journal_left None bodies left is tells image = absurd tells
+    journal_left (Some bytes) bodies left is tells image = subst (λ (l : List ℕ). IsJournal l bodies) (sym (loaded.stable bytes is left image)) tells

@@ -7,16 +7,16 @@ use Rattle.std.specs.List.{AllByRecursion, cons_option}
 use Rattle.oz_cluster.specs.declared.events.Event.{Event}
 use Rattle.oz_cluster.specs.declared.events.EventKind.TheVariants.{Ask, Decide, Swap, Flushed, Halt, Told}
 use Rattle.oz_cluster.specs.declared.events.Node.TheVariants.{Manager}
-use Rattle.oz_cluster.specs.declared.requests.Answer.{Answer}
-use Rattle.oz_cluster.specs.declared.requests.AskId.{AskId}
-use Rattle.oz_cluster.specs.declared.requests.Reply.{Reply}
-use Rattle.oz_cluster.specs.declared.requests.Request.{Request}
+use Rattle.oz_requests.specs.declared.answer.Answer.{Answer}
+use Rattle.oz_requests.specs.declared.request.AskId.{AskId}
+use Rattle.oz_requests.specs.declared.reply.Reply.{Reply}
+use Rattle.oz_requests.specs.declared.request.Request.{Request}
 use Rattle.oz_script.specs.declared.grammar.Line.{Line}
 use Rattle.oz_script.specs.declared.grammar.Script.{Script}
-use Rattle.oz_cluster.specs.Answers.{Answers, after}
+use Rattle.oz_model.specs.Answers.{Answers, after}
 use Rattle.oz_cluster.specs.Fits.{FitsFrom, AfterIsTold, HasStarted, IsLineOf, IsDue, request_of, told_lines}
 use Rattle.oz_cluster.specs.Law.{IsLegal, IsInTime}
-use Rattle.oz_cluster.specs.Namespace.{Volumes}
+use Rattle.oz_namespace.specs.declared.namespace.Namespace.{Namespace}
 use Rattle.oz_cluster.specs.Quiet.{IsQuiet, counted}
 use Rattle.oz_cluster.specs.Steps.{first_ask, ask_event, decide_event, swap_event, flushed_event, halt_event, told_event}
 use Rattle.oz_cluster.specs.Stops.{IsWithin}
@@ -53,9 +53,7 @@ still_started story event line started = record {
     still_after (Some named) h = is_told-push named.0 named.1 story event ∙ or_left _ _ h
 
 -- What the story's Decides, Swaps, Flusheds and Halts add up to.
-pub record Sums (opening : Opening) (story : List Event) (namespace : Volumes) (index swapped stable moment : ℕ) (halt : Option ℕ) : Type 0 where
-  pub stands_for : namespace_of opening story ≡ namespace
-  pub kept : (most : ℕ) → index ≤ most → kept_namespace opening most story ≡ namespace
+pub record Sums (opening : Opening) (story : List Event) (index swapped stable moment : ℕ) (halt : Option ℕ) : Type 0 where
   pub decided : last_index opening story ≡ index
   pub grown : opening.index ≤ index
   pub taken : swapped_index opening story ≡ swapped
@@ -63,6 +61,16 @@ pub record Sums (opening : Opening) (story : List Event) (namespace : Volumes) (
   pub latest : flushed_moment story ≡ moment
   pub halted : halt_of Manager story ≡ halt
   pub within : (at : ℕ) → AllByRecursion (λ event. IsWithin index at event.kind) story
+
+-- The story is legal, and this is what it makes of the namespace.
+pub record Leads (opening : Opening) (story : List Event) (namespace : Namespace) (index : ℕ) : Type 0 where
+  pub stands_for : namespace_of opening story ≡ namespace
+  pub kept : (most : ℕ) → index ≤ most → kept_namespace opening most story ≡ namespace
+  pub legal : IsLegal opening story
+
+-- an event that decides nothing leads to the same
+leads_on : (opening : Opening) (story : List Event) (event : Event) (namespace : Namespace) (index : ℕ) → namespace_of opening (story ++ event ∷ []) ≡ namespace_of opening story → ((most : ℕ) → kept_namespace opening most (story ++ event ∷ []) ≡ kept_namespace opening most story) → IsLegal opening (story ++ event ∷ []) → Leads opening story namespace index → Leads opening (story ++ event ∷ []) namespace index
+leads_on opening story event namespace index same kept legal leads = record { stands_for = same ∙ leads.stands_for; kept = λ most le. kept most ∙ leads.kept most le; legal = legal }
 
 -- The first lines of client 1 are told, so many, and the next one is under way: what it asked that isn't decided, whether
 -- that was late, what was last replied to it, and the greatest index that was decided for it.
@@ -150,7 +158,7 @@ module _ (opening : Opening) (script : Script) (lines : ℕ) (line : Line) (ther
   request = request_of line.command
 
   -- the next line asks
-  module _ (namespace : Volumes) (index : ℕ) (halt : Option ℕ) (quiet : IsQuiet opening story lines namespace index halt) (alone : line.after ≡ None) where
+  module _ (index : ℕ) (halt : Option ℕ) (quiet : IsQuiet opening story lines index halt) (alone : line.after ≡ None) where
     abbrev ask : Event
     ask = ask_event 1 (lines + 1) request
 
@@ -168,14 +176,15 @@ module _ (opening : Opening) (script : Script) (lines : ℕ) (line : Line) (ther
         let number : earlier.line ≡ lines + 1 = eqb-true earlier.line (lines + 1) parts.1 in
         quiet.settled earlier (omega (arith, number))
 
-    pub ask_legal : IsLegal opening story → IsLegal opening (story ++ ask ∷ [])
-    ask_legal legal = legal-push opening story ask legal (record {
-      line_seat = inl refl;
-      unasked = quiet.unasked id (omega arith);
-      untold = quiet.untold (lines + 1) (omega arith);
-      decided = λ earlier same. earlier_settled earlier same;
-      stable = omega (arith, quiet.undecided 1 (lines + 1));
-    })
+    pub ask_leads : (namespace : Namespace) → Leads opening story namespace index → Leads opening (story ++ ask ∷ []) namespace index
+    ask_leads namespace leads = leads_on opening story ask namespace index (namespace_of-push opening story ask) (λ most. kept_namespace-push opening most story ask)
+        (legal-push opening story ask leads.legal (record {
+          line_seat = inl refl;
+          unasked = quiet.unasked id (omega arith);
+          untold = quiet.untold (lines + 1) (omega arith);
+          decided = λ earlier same. earlier_settled earlier same;
+          stable = omega (arith, quiet.undecided 1 (lines + 1));
+        })) leads
 
     pub ask_fits : FitsFrom opening script [] story → FitsFrom opening script [] (story ++ ask ∷ [])
     ask_fits fits = fits-push opening script story ask fits (line, there, has_started, refl, refl)
@@ -197,10 +206,8 @@ module _ (opening : Opening) (script : Script) (lines : ℕ) (line : Line) (ther
       others = λ client ne. told_lines-push client story ask ∙ (append-nil _ ∙ quiet.others client ne);
     }
 
-    pub ask_sums : Sums opening (story ++ ask ∷ []) namespace index (swapped_index opening story) (durable_index opening story) (flushed_moment story) halt
+    pub ask_sums : Sums opening (story ++ ask ∷ []) index (swapped_index opening story) (durable_index opening story) (flushed_moment story) halt
     ask_sums = record {
-      stands_for = namespace_of-push opening story ask ∙ quiet.stands_for;
-      kept = λ most le. kept_namespace-push opening most story ask ∙ quiet.kept most le;
       decided = last_index-push opening story ask ∙ quiet.decided;
       grown = quiet.grown;
       taken = swapped_index-push opening story ask;
@@ -211,22 +218,35 @@ module _ (opening : Opening) (script : Script) (lines : ℕ) (line : Line) (ther
     }
 
   -- what it asked is decided
-  module _ (namespace : Volumes) (index swapped stable moment : ℕ) (before : Option Reply) (own : ℕ) (sums : Sums opening story namespace index swapped stable moment None) (course : Course story lines line (Some request) false before own)
-      (new : ℕ) (answer : Reply) (batch : List ℕ) (given : Answers namespace request answer) (changes : after namespace request answer ≢ namespace → new ≡ index + 1) (keeps : after namespace request answer ≡ namespace → new ≡ index) (recorded : (batch ≡ []) ↔ (new ≡ index)) (grows : index ≤ new) where
+  module _ (index swapped stable moment : ℕ) (before : Option Reply) (own : ℕ) (sums : Sums opening story index swapped stable moment None) (course : Course story lines line (Some request) false before own) (new : ℕ) (answer : Reply) (batch : List ℕ) (grows : index ≤ new) where
     abbrev decide : Event
     decide = decide_event 1 (lines + 1) request new answer batch
 
-    pub decide_legal : IsLegal opening story → IsLegal opening (story ++ decide ∷ [])
-    decide_legal legal = legal-push opening story decide legal (record {
-      request = request;
-      asked = course.waiting;
-      in_time = course.late_ask;
-      seat_of_stripe = refl;
-      one_thread = subst (λ (n : Volumes). Answers n request answer) (sym sums.stands_for) given;
-      changes = λ ne. changes (λ same. ne (ap (λ (n : Volumes). after n request answer) sums.stands_for ∙ (same ∙ sym sums.stands_for))) ∙ ap (λ (n : ℕ). n + 1) (sym sums.decided);
-      keeps = λ same. keeps (ap (λ (n : Volumes). after n request answer) (sym sums.stands_for) ∙ (same ∙ sums.stands_for)) ∙ sym sums.decided;
-      recorded = (λ h. recorded.0 h ∙ sym sums.decided, λ h. recorded.1 (h ∙ sums.decided));
-    })
+    module _ (namespace : Namespace) (given : Answers namespace request answer) (changes : after namespace request answer ≢ namespace → new ≡ index + 1) (keeps : after namespace request answer ≡ namespace → new ≡ index) (recorded : (batch ≡ []) ↔ (new ≡ index)) (leads : Leads opening story namespace index) where
+      decide_legal : IsLegal opening (story ++ decide ∷ [])
+      decide_legal = legal-push opening story decide leads.legal (record {
+        request = request;
+        asked = course.waiting;
+        in_time = course.late_ask;
+        seat_of_stripe = refl;
+        one_thread = subst (λ (n : Namespace). Answers n request answer) (sym leads.stands_for) given;
+        changes = λ ne. changes (λ same. ne (ap (λ (n : Namespace). after n request answer) leads.stands_for ∙ (same ∙ sym leads.stands_for))) ∙ ap (λ (n : ℕ). n + 1) (sym sums.decided);
+        keeps = λ same. keeps (ap (λ (n : Namespace). after n request answer) (sym leads.stands_for) ∙ (same ∙ leads.stands_for)) ∙ sym sums.decided;
+        recorded = (λ h. recorded.0 h ∙ sym sums.decided, λ h. recorded.1 (h ∙ sums.decided));
+      })
+
+      pub decide_leads : Leads opening (story ++ decide ∷ []) (after namespace request answer) new
+      decide_leads =
+          let told : namespace_after (pending id story) (namespace_of opening story) answer ≡ after namespace request answer =
+          ap (λ (r : Option Request). namespace_after r (namespace_of opening story) answer) course.waiting ∙ ap (λ (n : Namespace). after n request answer) leads.stands_for in
+          record {
+            stands_for = namespace_of-push opening story decide ∙ told;
+            kept = λ most le.
+                kept_namespace-push opening most story decide
+                ∙ (cond-true (nat_le new most) (namespace_after (pending id story) (kept_namespace opening most story) answer) (kept_namespace opening most story) (le-leb new most le)
+                ∙ (ap (λ (r : Option Request). namespace_after r (kept_namespace opening most story) answer) course.waiting ∙ ap (λ (n : Namespace). after n request answer) (leads.kept most (omega (arith, le, grows)))));
+            legal = decide_legal;
+          }
 
     pub decide_fits : FitsFrom opening script [] story → FitsFrom opening script [] (story ++ decide ∷ [])
     decide_fits fits = fits-push opening script story decide fits tt
@@ -262,35 +282,28 @@ module _ (opening : Opening) (script : Script) (lines : ℕ) (line : Line) (ther
         further (Halt node count) h = tt
         further (Told client number answer) h = tt
 
-    pub decide_sums : Sums opening (story ++ decide ∷ []) (after namespace request answer) new swapped stable moment None
-    decide_sums =
-        let told : namespace_after (pending id story) (namespace_of opening story) answer ≡ after namespace request answer =
-        ap (λ (r : Option Request). namespace_after r (namespace_of opening story) answer) course.waiting ∙ ap (λ (n : Volumes). after n request answer) sums.stands_for in
-        record {
-          stands_for = namespace_of-push opening story decide ∙ told;
-          kept = λ most le.
-              kept_namespace-push opening most story decide
-              ∙ (cond-true (nat_le new most) (namespace_after (pending id story) (kept_namespace opening most story) answer) (kept_namespace opening most story) (le-leb new most le)
-              ∙ (ap (λ (r : Option Request). namespace_after r (kept_namespace opening most story) answer) course.waiting ∙ ap (λ (n : Volumes). after n request answer) (sums.kept most (omega (arith, le, grows)))));
-          decided = last_index-push opening story decide;
-          grown = omega (arith, sums.grown);
-          taken = swapped_index-push opening story decide ∙ sums.taken;
-          durable = durable_index-push opening story decide ∙ sums.durable;
-          latest = flushed_moment-push story decide ∙ sums.latest;
-          halted = halt_of-push Manager story decide ∙ sums.halted;
-          within = λ at. all-push _ story decide (still_within at story (sums.within at)) tt;
-        }
+    pub decide_sums : Sums opening (story ++ decide ∷ []) new swapped stable moment None
+    decide_sums = record {
+      decided = last_index-push opening story decide;
+      grown = omega (arith, sums.grown);
+      taken = swapped_index-push opening story decide ∙ sums.taken;
+      durable = durable_index-push opening story decide ∙ sums.durable;
+      latest = flushed_moment-push story decide ∙ sums.latest;
+      halted = halt_of-push Manager story decide ∙ sums.halted;
+      within = λ at. all-push _ story decide (still_within at story (sums.within at)) tt;
+    }
 
-  module _ (namespace : Volumes) (index moment : ℕ) where
+  module _ (index moment : ℕ) where
     -- it is taken
-    pub swap_legal : (stable : ℕ) → Sums opening story namespace index stable stable moment None → stable < index → IsLegal opening story → IsLegal opening (story ++ swap_event index ∷ [])
-    swap_legal stable sums lt legal = legal-push opening story (swap_event index) legal (record {
-      seat_of_flusher = refl;
-      running = sums.halted;
-      none_open = sums.taken ∙ sym sums.durable;
-      all_decided = sym sums.decided;
-      some = omega (arith, sums.taken);
-    })
+    pub swap_leads : (stable : ℕ) → Sums opening story index stable stable moment None → stable < index → (namespace : Namespace) → Leads opening story namespace index → Leads opening (story ++ swap_event index ∷ []) namespace index
+    swap_leads stable sums lt namespace leads = leads_on opening story (swap_event index) namespace index (namespace_of-push opening story (swap_event index)) (λ most. kept_namespace-push opening most story (swap_event index))
+        (legal-push opening story (swap_event index) leads.legal (record {
+          seat_of_flusher = refl;
+          running = sums.halted;
+          none_open = sums.taken ∙ sym sums.durable;
+          all_decided = sym sums.decided;
+          some = omega (arith, sums.taken);
+        })) leads
 
     pub swap_fits : FitsFrom opening script [] story → FitsFrom opening script [] (story ++ swap_event index ∷ [])
     swap_fits fits = fits-push opening script story (swap_event index) fits tt
@@ -298,10 +311,8 @@ module _ (opening : Opening) (script : Script) (lines : ℕ) (line : Line) (ther
     pub swap_course : (reply : Option Reply) (own : ℕ) → Course story lines line None false reply own → Course (story ++ swap_event index ∷ []) lines line None false reply own
     swap_course reply own course = stays story (swap_event index) lines line None false reply own (silent_swap index) course
 
-    pub swap_sums : (stable : ℕ) → Sums opening story namespace index stable stable moment None → Sums opening (story ++ swap_event index ∷ []) namespace index index stable moment None
+    pub swap_sums : (stable : ℕ) → Sums opening story index stable stable moment None → Sums opening (story ++ swap_event index ∷ []) index index stable moment None
     swap_sums stable sums = record {
-      stands_for = namespace_of-push opening story (swap_event index) ∙ sums.stands_for;
-      kept = λ most le. kept_namespace-push opening most story (swap_event index) ∙ sums.kept most le;
       decided = last_index-push opening story (swap_event index) ∙ sums.decided;
       grown = sums.grown;
       taken = swapped_index-push opening story (swap_event index);
@@ -312,14 +323,15 @@ module _ (opening : Opening) (script : Script) (lines : ℕ) (line : Line) (ther
     }
 
     -- it is stable
-    pub flush_legal : (stable now : ℕ) → Sums opening story namespace index index stable moment None → stable < index → moment < now → IsLegal opening story → IsLegal opening (story ++ flushed_event index now ∷ [])
-    flush_legal stable now sums lt later legal = legal-push opening story (flushed_event index now) legal (record {
-      seat_of_flusher = refl;
-      running = sums.halted;
-      swapped = sym sums.taken;
-      unstable = omega (arith, sums.durable);
-      later = omega (arith, sums.latest);
-    })
+    pub flush_leads : (stable now : ℕ) → Sums opening story index index stable moment None → stable < index → moment < now → (namespace : Namespace) → Leads opening story namespace index → Leads opening (story ++ flushed_event index now ∷ []) namespace index
+    flush_leads stable now sums lt later namespace leads = leads_on opening story (flushed_event index now) namespace index (namespace_of-push opening story (flushed_event index now)) (λ most. kept_namespace-push opening most story (flushed_event index now))
+        (legal-push opening story (flushed_event index now) leads.legal (record {
+          seat_of_flusher = refl;
+          running = sums.halted;
+          swapped = sym sums.taken;
+          unstable = omega (arith, sums.durable);
+          later = omega (arith, sums.latest);
+        })) leads
 
     pub flush_fits : (now : ℕ) → FitsFrom opening script [] story → FitsFrom opening script [] (story ++ flushed_event index now ∷ [])
     flush_fits now fits = fits-push opening script story (flushed_event index now) fits tt
@@ -327,10 +339,8 @@ module _ (opening : Opening) (script : Script) (lines : ℕ) (line : Line) (ther
     pub flush_course : (now : ℕ) (reply : Option Reply) (own : ℕ) → Course story lines line None false reply own → Course (story ++ flushed_event index now ∷ []) lines line None false reply own
     flush_course now reply own course = stays story (flushed_event index now) lines line None false reply own (silent_flushed index now) course
 
-    pub flush_sums : (stable now : ℕ) → Sums opening story namespace index index stable moment None → Sums opening (story ++ flushed_event index now ∷ []) namespace index index index now None
+    pub flush_sums : (stable now : ℕ) → Sums opening story index index stable moment None → Sums opening (story ++ flushed_event index now ∷ []) index index index now None
     flush_sums stable now sums = record {
-      stands_for = namespace_of-push opening story (flushed_event index now) ∙ sums.stands_for;
-      kept = λ most le. kept_namespace-push opening most story (flushed_event index now) ∙ sums.kept most le;
       decided = last_index-push opening story (flushed_event index now) ∙ sums.decided;
       grown = sums.grown;
       taken = swapped_index-push opening story (flushed_event index now) ∙ sums.taken;
@@ -341,12 +351,13 @@ module _ (opening : Opening) (script : Script) (lines : ℕ) (line : Line) (ther
     }
 
     -- the manager halts
-    pub halt_legal : (swapped stable count : ℕ) → Sums opening story namespace index swapped stable moment None → 1 ≤ count → IsLegal opening story → IsLegal opening (story ++ halt_event count ∷ [])
-    halt_legal swapped stable count sums positive legal = legal-push opening story (halt_event count) legal (record {
-      seat_of_node = refl;
-      running = sums.halted;
-      counted = positive;
-    })
+    pub halt_leads : (swapped stable count : ℕ) → Sums opening story index swapped stable moment None → 1 ≤ count → (namespace : Namespace) → Leads opening story namespace index → Leads opening (story ++ halt_event count ∷ []) namespace index
+    halt_leads swapped stable count sums positive namespace leads = leads_on opening story (halt_event count) namespace index (namespace_of-push opening story (halt_event count)) (λ most. kept_namespace-push opening most story (halt_event count))
+        (legal-push opening story (halt_event count) leads.legal (record {
+          seat_of_node = refl;
+          running = sums.halted;
+          counted = positive;
+        })) leads
 
     pub halt_fits : (count : ℕ) → FitsFrom opening script [] story → FitsFrom opening script [] (story ++ halt_event count ∷ [])
     halt_fits count fits = fits-push opening script story (halt_event count) fits tt
@@ -354,10 +365,8 @@ module _ (opening : Opening) (script : Script) (lines : ℕ) (line : Line) (ther
     pub halt_course : (count : ℕ) (reply : Option Reply) (own : ℕ) → Course story lines line None false reply own → Course (story ++ halt_event count ∷ []) lines line None false reply own
     halt_course count reply own course = stays story (halt_event count) lines line None false reply own (silent_halt count) course
 
-    pub halt_sums : (swapped stable count : ℕ) → Sums opening story namespace index swapped stable moment None → Sums opening (story ++ halt_event count ∷ []) namespace index swapped stable moment (Some count)
+    pub halt_sums : (swapped stable count : ℕ) → Sums opening story index swapped stable moment None → Sums opening (story ++ halt_event count ∷ []) index swapped stable moment (Some count)
     halt_sums swapped stable count sums = record {
-      stands_for = namespace_of-push opening story (halt_event count) ∙ sums.stands_for;
-      kept = λ most le. kept_namespace-push opening most story (halt_event count) ∙ sums.kept most le;
       decided = last_index-push opening story (halt_event count) ∙ sums.decided;
       grown = sums.grown;
       taken = swapped_index-push opening story (halt_event count) ∙ sums.taken;
@@ -368,25 +377,24 @@ module _ (opening : Opening) (script : Script) (lines : ℕ) (line : Line) (ther
     }
 
   -- the line is told
-  module _ (namespace : Volumes) (index swapped stable moment : ℕ) (halt : Option ℕ) (open_request : Option Request) (late : Bool) (reply : Option Reply) (own : ℕ)
-      (sums : Sums opening story namespace index swapped stable moment halt) (course : Course story lines line open_request late reply own) (answer : Answer) where
+  module _ (index swapped stable moment : ℕ) (halt : Option ℕ) (open_request : Option Request) (late : Bool) (reply : Option Reply) (own : ℕ)
+      (sums : Sums opening story index swapped stable moment halt) (course : Course story lines line open_request late reply own) (answer : Answer) where
     abbrev tell : Event
     tell = told_event 1 (lines + 1) answer
 
-    pub told_legal : IsInTime opening story 1 (lines + 1) answer → IsLegal opening story → IsLegal opening (story ++ tell ∷ [])
-    told_legal in_time legal = legal-push opening story tell legal (record {
-      line_seat = inl refl;
-      untold = course.untold (lines + 1) (omega arith);
-      in_time = in_time;
-    })
+    pub told_leads : IsInTime opening story 1 (lines + 1) answer → (namespace : Namespace) → Leads opening story namespace index → Leads opening (story ++ tell ∷ []) namespace index
+    told_leads in_time namespace leads = leads_on opening story tell namespace index (namespace_of-push opening story tell) (λ most. kept_namespace-push opening most story tell)
+        (legal-push opening story tell leads.legal (record {
+          line_seat = inl refl;
+          untold = course.untold (lines + 1) (omega arith);
+          in_time = in_time;
+        })) leads
 
     pub told_fits : IsDue opening story 1 (lines + 1) answer → FitsFrom opening script [] story → FitsFrom opening script [] (story ++ tell ∷ [])
     told_fits due fits = fits-push opening script story tell fits (line, there, course.started, due)
 
-    pub quiet_again : (halt ≡ None → swapped ≡ index) → (halt ≡ None → stable ≡ index) → IsQuiet opening (story ++ tell ∷ []) (lines + 1) namespace index halt
+    pub quiet_again : (halt ≡ None → swapped ≡ index) → (halt ≡ None → stable ≡ index) → IsQuiet opening (story ++ tell ∷ []) (lines + 1) index halt
     quiet_again all_taken all_stable = record {
-      stands_for = namespace_of-push opening story tell ∙ sums.stands_for;
-      kept = λ most le. kept_namespace-push opening most story tell ∙ sums.kept most le;
       decided = last_index-push opening story tell ∙ sums.decided;
       grown = sums.grown;
       halted = halt_of-push Manager story tell ∙ sums.halted;

@@ -8,19 +8,16 @@ use Rattle.oz_script.specs.declared.grammar.Line.{Line}
 use Rattle.oz_script.specs.declared.grammar.Script.{Script}
 use Rattle.oz_cluster.specs.Fits.{Fits, AllAreTold, FitsFrom, IsLineOf, lines_of, told_lines}
 use Rattle.oz_cluster.specs.Law.{IsLegalFrom}
-use Rattle.oz_cluster.specs.Namespace.{Volumes}
 use Rattle.oz_cluster.specs.Quiet.{IsServed, counted}
 use Rattle.oz_script.specs.Script.{AreNumberedFrom}
 use Rattle.oz_cluster.specs.Story.{Opening, namespace_from, kept_from}
-use Rattle.oz_cluster.proofs.Lines.{Sums}
+use Rattle.oz_cluster.proofs.Lines.{Sums, Leads}
 
 -- nothing was asked yet
-pub begins : (opening : Opening) (script : Script) (now : Seen) → IsServed opening script 0 now.faults [] opening.namespace opening.index false now
-unfolding namespace_from kept_from IsLegalFrom FitsFrom counted
+pub begins : (opening : Opening) (script : Script) (now : Seen) → IsServed opening script 0 now.faults [] opening.index false now
+unfolding FitsFrom counted
 begins opening script now = record {
   quiet = record {
-    stands_for = refl;
-    kept = λ most le. refl;
     decided = refl;
     grown = omega arith;
     halted = refl;
@@ -35,7 +32,6 @@ begins opening script now = record {
     others = λ client ne. refl;
     within = λ moment. tt;
   };
-  legal = tt;
   fits = tt;
   past = omega arith;
   halted = refl;
@@ -43,11 +39,12 @@ begins opening script now = record {
   never_falls = omega arith;
 }
 
-pub sums_first : (opening : Opening) → Sums opening [] opening.namespace opening.index opening.index opening.index 0 None
-unfolding namespace_from kept_from
+pub leads_first : (opening : Opening) → Leads opening [] opening.namespace opening.index
+unfolding namespace_from kept_from IsLegalFrom
+leads_first opening = record { stands_for = refl; kept = λ most le. refl; legal = tt }
+
+pub sums_first : (opening : Opening) → Sums opening [] opening.index opening.index opening.index 0 None
 sums_first opening = record {
-  stands_for = refl;
-  kept = λ most le. refl;
   decided = refl;
   grown = omega arith;
   taken = refl;
@@ -143,8 +140,8 @@ none_of_others : (script : Script) (client : ℕ) → client ≢ 1 → AreNumber
 none_of_others script client ne numbered = ap (map (λ (line : Line). line.number)) (none_of script.lines 1 client ne numbered)
 
 -- each client's lines are told in order, and all of them once the last is served
-pub fits_so_far : (opening : Opening) (script : Script) (lines faults : ℕ) (story : List Event) (namespace : Volumes) (index : ℕ) (stopped : Bool) (now : Seen) → AreNumberedFrom 1 script.lines → lines ≤ length script.lines → IsServed opening script lines faults story namespace index stopped now → Fits opening script story
-fits_so_far opening script lines faults story namespace index stopped now numbered le served = record {
+pub fits_so_far : (opening : Opening) (script : Script) (lines faults : ℕ) (story : List Event) (index : ℕ) (stopped : Bool) (now : Seen) → AreNumberedFrom 1 script.lines → lines ≤ length script.lines → IsServed opening script lines faults story index stopped now → Fits opening script story
+fits_so_far opening script lines faults story index stopped now numbered le served = record {
   steps = served.fits;
   in_order = λ client. ⊎_elim
       (λ same. subst (λ (c : ℕ). (rest : List ℕ) × (lines_of script c ≡ told_lines c story ++ rest)) (sym (eqb-true client 1 same)) first)
@@ -158,8 +155,8 @@ fits_so_far opening script lines faults story namespace index stopped now number
         let all : length script.lines ≡ lines + (length script.lines - lines) = omega (arith, le) in
         (front.0, lines_of_one script numbered ∙ (ap counted all ∙ (front.1 ∙ ap (λ (l : List ℕ). l ++ front.0) (sym served.quiet.all_told))))
 
-pub tells_all : (opening : Opening) (script : Script) (lines faults : ℕ) (story : List Event) (namespace : Volumes) (index : ℕ) (stopped : Bool) (now : Seen) → AreNumberedFrom 1 script.lines → lines ≡ length script.lines → IsServed opening script lines faults story namespace index stopped now → AllAreTold script story
-tells_all opening script lines faults story namespace index stopped now numbered all served client = ⊎_elim
+pub tells_all : (opening : Opening) (script : Script) (lines faults : ℕ) (story : List Event) (index : ℕ) (stopped : Bool) (now : Seen) → AreNumberedFrom 1 script.lines → lines ≡ length script.lines → IsServed opening script lines faults story index stopped now → AllAreTold script story
+tells_all opening script lines faults story index stopped now numbered all served client = ⊎_elim
     (λ same. subst (λ (c : ℕ). told_lines c story ≡ lines_of script c) (sym (eqb-true client 1 same)) (served.quiet.all_told ∙ (ap counted all ∙ sym (lines_of_one script numbered))))
     (λ other. served.quiet.others client (not_one client other) ∙ sym (none_of_others script client (not_one client other) numbered))
     (cases_Bool (client == 1))

@@ -1,25 +1,13 @@
 -- How long the parts of a body are.
-use Rattle.std.proofs.Common.{◌≡◌, ℕ, ◌+◌, ◌-◌, append-nil, List, [], ◌∷◌, ◌++◌, length, take, drop, refl, ◌∙◌, ap, arith, length-append}
+use Rattle.std.proofs.Common.{◌≡◌, ℕ, ◌+◌, ◌-◌, List, [], ◌∷◌, ◌++◌, length, take, drop, refl, ◌∙◌, ap, arith, length-append}
 use Rattle.std.proofs.lemmas.List.{take_at}
-use Rattle.oz_fields.specs.Number.{u16_bytes, u64_bytes}
-use Rattle.oz_fields.specs.Text.{text_bytes}
+use Rattle.oz_fields.specs.Number.{u64_bytes}
 use Rattle.oz_journal.specs.Journal.{body_of}
-use Rattle.oz_cluster.specs.Rows.{put_volume, body_bytes}
-
-length-u16_bytes : (n : ℕ) → length (u16_bytes n) ≡ 2
-unfolding u16_bytes
-length-u16_bytes n = refl
+use Rattle.oz_cluster.specs.Rows.{body_bytes}
 
 length-u64_bytes : (n : ℕ) → length (u64_bytes n) ≡ 8
 unfolding u64_bytes
 length-u64_bytes n = refl
-
-length-text_bytes : (text : List ℕ) → length (text_bytes text) ≡ length text + 2
-unfolding text_bytes
-length-text_bytes text = omega (arith, length-append (u16_bytes (length text)) text, length-u16_bytes (length text))
-
-pub length-put_volume : (volume : List ℕ) → length (put_volume volume) ≡ length volume + 4
-length-put_volume volume = omega (arith, length-text_bytes volume, ap length (append-nil (text_bytes volume)), ap length (append-nil (text_bytes volume ++ [])))
 
 pub length-body_bytes : (index : ℕ) (batch : List ℕ) → length (body_bytes index batch) ≡ length batch + 9
 length-body_bytes index batch = omega (arith, length-append (u64_bytes index) batch, length-u64_bytes index)

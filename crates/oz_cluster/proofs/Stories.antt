@@ -6,10 +6,10 @@ use Rattle.std.proofs.lemmas.List.Folds.{list_any-append}
 use Rattle.std.proofs.lemmas.List.Elements.{filter_map-append}
 use Rattle.std.specs.List.{AllByRecursion}
 use Rattle.oz_cluster.specs.declared.events.Event.{Event}
-use Rattle.oz_cluster.specs.declared.requests.AskId.{AskId}
-use Rattle.oz_cluster.specs.declared.requests.Request.{Request}
+use Rattle.oz_requests.specs.declared.request.AskId.{AskId}
+use Rattle.oz_requests.specs.declared.request.Request.{Request}
 use Rattle.oz_script.specs.declared.grammar.Script.{Script}
-use Rattle.oz_cluster.specs.Namespace.{Volumes}
+use Rattle.oz_namespace.specs.declared.namespace.Namespace.{Namespace}
 use Rattle.oz_cluster.specs.declared.events.Node.{Node}
 use Rattle.oz_cluster.specs.Story.{Opening, halt_after, halt_of, late_step, late_from, asked_late, kept_step, kept_from, kept_namespace, asks, is_asked, tells, is_told, pending_after, pending, decided_after, last_index, swapped_after, swapped_index, flushed_after, durable_index, moment_after, flushed_moment, replied_after, last_reply, line_index_after, line_index, namespace_step, namespace_from, namespace_of}
 use Rattle.oz_cluster.specs.Law.{IsEnabled, IsLegalFrom, IsLegal}
@@ -49,7 +49,7 @@ line_index-push client line story event = fold-append (λ (before : ℕ) (e : Ev
 pub told_lines-push : (client : ℕ) (story : List Event) (event : Event) → told_lines client (story ++ event ∷ []) ≡ told_lines client story ++ told_lines client (event ∷ [])
 told_lines-push client story event = filter_map-append (λ (e : Event). told_line client e.kind) story (event ∷ [])
 
-namespace_from-push : (before : List Event) (namespace : Volumes) (story : List Event) (event : Event) → namespace_from before namespace (story ++ event ∷ []) ≡ namespace_step (before ++ story) (namespace_from before namespace story) event.kind
+namespace_from-push : (before : List Event) (namespace : Namespace) (story : List Event) (event : Event) → namespace_from before namespace (story ++ event ∷ []) ≡ namespace_step (before ++ story) (namespace_from before namespace story) event.kind
 unfolding namespace_from
 namespace_from-push before namespace [] event = ap (λ (l : List Event). namespace_step l namespace event.kind) (sym (append-nil before))
 namespace_from-push before namespace (e ∷ story) event =
@@ -72,7 +72,7 @@ late_from-push names before late (e ∷ story) event =
 pub asked_late-push : (names : AskId → Bool) (story : List Event) (event : Event) → asked_late names (story ++ event ∷ []) ≡ late_step names story (asked_late names story) event.kind
 asked_late-push names story event = late_from-push names [] false story event
 
-kept_from-push : (most : ℕ) (before : List Event) (namespace : Volumes) (story : List Event) (event : Event) → kept_from most before namespace (story ++ event ∷ []) ≡ kept_step most (before ++ story) (kept_from most before namespace story) event.kind
+kept_from-push : (most : ℕ) (before : List Event) (namespace : Namespace) (story : List Event) (event : Event) → kept_from most before namespace (story ++ event ∷ []) ≡ kept_step most (before ++ story) (kept_from most before namespace story) event.kind
 unfolding kept_from
 kept_from-push most before namespace [] event = ap (λ (l : List Event). kept_step most l namespace event.kind) (sym (append-nil before))
 kept_from-push most before namespace (e ∷ story) event =

@@ -5,15 +5,15 @@ use Rattle.oz_cluster.specs.declared.events.Event.{Event}
 use Rattle.oz_cluster.specs.declared.events.EventKind.{EventKind}
 use Rattle.oz_cluster.specs.declared.events.EventKind.TheVariants.{Ask, Decide, Swap, Flushed, Halt, Told}
 use Rattle.oz_cluster.specs.declared.events.Node.TheVariants.{Manager}
-use Rattle.oz_cluster.specs.declared.requests.Answer.{Answer}
-use Rattle.oz_cluster.specs.declared.requests.Answer.TheVariants as told
-use Rattle.oz_cluster.specs.declared.requests.Reply.{Reply}
-use Rattle.oz_cluster.specs.declared.requests.Reply.TheVariants as reply
-use Rattle.oz_cluster.specs.declared.requests.Request.{Request}
-use Rattle.oz_cluster.specs.declared.requests.Request.TheVariants.{CreateVolume, InfoVolume}
-use Rattle.oz_cluster.specs.declared.requests.Values.TheVariants as values
+use Rattle.oz_requests.specs.declared.answer.Answer.{Answer}
+use Rattle.oz_requests.specs.declared.answer.Answer.TheVariants as told
+use Rattle.oz_requests.specs.declared.reply.Reply.{Reply}
+use Rattle.oz_requests.specs.declared.reply.Reply.TheVariants as reply
+use Rattle.oz_requests.specs.declared.request.Request.{Request}
+use Rattle.oz_requests.specs.declared.request.Request.TheVariants.{CreateVolume, InfoVolume, DeleteVolume, CreateBucket, InfoBucket, DeleteBucket, ListBuckets}
+use Rattle.oz_requests.specs.declared.answer.Values.TheVariants as values
 use Rattle.oz_script.specs.declared.grammar.Command.{Command}
-use Rattle.oz_script.specs.declared.grammar.Command.TheVariants.{VolumeCreate, VolumeInfo}
+use Rattle.oz_script.specs.declared.grammar.Command.TheVariants.{VolumeCreate, VolumeInfo, VolumeDelete, BucketCreate, BucketInfo, BucketDelete, BucketList}
 use Rattle.oz_script.specs.declared.grammar.Line.{Line}
 use Rattle.oz_script.specs.declared.grammar.Script.{Script}
 use Rattle.oz_cluster.specs.Story.{Opening, is_of_line, is_told, last_reply, line_index, durable_index, halt_of, asked_late}
@@ -22,11 +22,18 @@ use Rattle.oz_cluster.specs.Story.{Opening, is_of_line, is_told, last_reply, lin
 abbrev pub request_of : Command → Request
 request_of (VolumeCreate volume) = CreateVolume volume
 request_of (VolumeInfo volume) = InfoVolume volume
+request_of (VolumeDelete volume) = DeleteVolume volume
+request_of (BucketCreate volume bucket) = CreateBucket volume bucket
+request_of (BucketInfo volume bucket) = InfoBucket volume bucket
+request_of (BucketDelete volume bucket) = DeleteBucket volume bucket
+request_of (BucketList volume) = ListBuckets volume
 
 -- what a line is told whose request had this reply
 abbrev pub answer_of : Reply → Answer
 answer_of reply.Done = told.Ok values.Done
 answer_of (reply.Count count) = told.Ok (values.Buckets count)
+answer_of (reply.Counts counts) = told.Ok (values.Counts counts)
+answer_of (reply.Names names) = told.Ok (values.Names names)
 answer_of (reply.Code code) = told.Code code
 
 -- The answer is what the line is to be told after this story: what its last Decide said; that this isn't acknowledged,

@@ -4,25 +4,27 @@ use Rattle.std.specs.Option.{option_map}
 use Rattle.oz_world.specs.Disk.{Images, Seen}
 use Rattle.oz_world.specs.Faults.{Rose}
 use Rattle.oz_journal.specs.Load.{IsLoadable, IsLeftAlone, loaded_at}
+use Rattle.oz_namespace.specs.declared.namespace.Namespace.{Namespace}
+use Rattle.oz_tables.specs.declared.entry.Entry.{Entry}
 use Rattle.oz_cluster.specs.declared.events.Event.{Event}
 use Rattle.oz_cluster.specs.declared.events.EventKind.TheVariants.{Ask, Decide, Told}
 use Rattle.oz_cluster.specs.declared.events.Node.TheVariants.{Manager}
-use Rattle.oz_cluster.specs.declared.requests.Answer.{Answer}
-use Rattle.oz_cluster.specs.declared.requests.Answer.TheVariants as told
-use Rattle.oz_cluster.specs.declared.requests.AskId.{AskId}
-use Rattle.oz_cluster.specs.declared.requests.Reply.{Reply}
-use Rattle.oz_cluster.specs.declared.requests.Request.{Request}
+use Rattle.oz_requests.specs.declared.answer.Answer.{Answer}
+use Rattle.oz_requests.specs.declared.answer.Answer.TheVariants as told
+use Rattle.oz_requests.specs.declared.request.AskId.{AskId}
+use Rattle.oz_requests.specs.declared.reply.Reply.{Reply}
+use Rattle.oz_requests.specs.declared.request.Request.{Request}
 use Rattle.oz_script.specs.declared.grammar.Script.{Script}
 use Rattle.oz_cluster.specs.declared.status.Status.{Status}
 use Rattle.oz_cluster.specs.declared.status.Status.TheVariants as ends
-use Rattle.oz_cluster.specs.Answers.{Answers}
+use Rattle.oz_model.specs.Answers.{Answers}
 use Rattle.oz_cluster.specs.Fits.{Fits, AllAreTold}
 use Rattle.oz_cluster.specs.Law.{IsLegal}
-use Rattle.oz_cluster.specs.Opens.{Opens, StandsAs}
+use Rattle.oz_cluster.specs.Opens.{Loads, IsCoherent, StandsAs}
 use Rattle.oz_cluster.specs.Report.{report_of, memory_fault}
 use Rattle.oz_cluster.specs.Refusals.{IsScriptOf, Says, IsStopped}
 use Rattle.oz_cluster.specs.Statuses.{status_number}
-use Rattle.oz_cluster.specs.Stops.{Premises, StopsHold}
+use Rattle.oz_cluster.specs.Stops.{StopsHold}
 use Rattle.oz_cluster.specs.Story.{Opening, is_told, pending, line_index, durable_index, last_index, flushed_moment, namespace_of, halt_of}
 use Rattle.oz_cluster.specs.Streams.{HoldsFront}
 use Rattle.oz_cluster.specs.Words.{IsRun}
@@ -84,20 +86,24 @@ pub record Headline (opening : Opening) (script : Script) (story : List Event) (
   pub after_all_seen : AsksAfterTold story
   pub acknowledged : ToldIsStable opening story
   pub flushed : flushed_moment story ≤ disk_after.clock
-  pub stops : (bytes : List ℕ) → Premises disk_before.told bytes (last_index opening story) → StopsHold opening story (loaded_at disk_before.clock bytes) disk_after.clock disk_after.image
+  pub stops : (bytes : List ℕ) → disk_before.told ≡ Some bytes → StopsHold opening story (loaded_at disk_before.clock bytes) disk_after.clock disk_after.image
 
--- A run of a script over an opening. Where the manager's disk tells its bytes it stood for the opening, and afterwards it
--- stands for what the story led to, if the manager didn't halt. Where the source tells its text that said the script.
+-- A run of a script over a disk that made these rows. What it wrote is the report of its story. Where the rows are sound and
+-- stand for a namespace, the story is one history from there; and if the manager didn't halt, the disk stands afterwards for
+-- what the story led to. Where the source tells its text that said the script.
 pub record IsOneRun (words : List (List ℕ)) (left : Option (List ℕ)) (disk_before disk_after : Seen) (held_before held_after : Option (List ℕ)) (sink_rose : Type 0) (story : List Event) (status : Status) : Type 0 where
-  pub opening : Opening
+  pub rows : List Entry
+  pub index : ℕ
   pub script : Script
   pub given : IsRun words
   pub parsed : IsScriptOf left script
-  pub opens : IfSome disk_before.told (λ bytes. Opens bytes opening)
-  pub headline : Headline opening script story status disk_before disk_after held_before held_after sink_rose
+  pub loads : IfSome disk_before.told (λ bytes. Loads bytes rows index)
+  pub printed : IsPrinted status (report_of (length script.lines) story) held_before held_after sink_rose
+  pub all_told : status ≢ ends.OutOfMemory → AllAreTold script story
+  pub headline : (namespace : Namespace) → IsCoherent rows namespace → Headline (record { namespace = namespace; index = index }) script story status disk_before disk_after held_before held_after sink_rose
   pub halted : HaltIsNamed status (halt_of Manager story) disk_before.faults disk_after.faults
   pub loading : IfSome disk_before.told (λ bytes. IsLoadable bytes (disk_before.image disk_before.clock) → LoadingKeeps disk_before bytes disk_after.image)
-  pub reopens : halt_of Manager story ≡ None → IfSome disk_before.told (λ bytes. StandsAs disk_after.told (namespace_of opening story) (last_index opening story))
+  pub reopens : (namespace : Namespace) → IsCoherent rows namespace → halt_of Manager story ≡ None → IfSome disk_before.told (λ bytes. StandsAs disk_after.told (namespace_of (record { namespace = namespace; index = index }) story) (last_index (record { namespace = namespace; index = index }) story))
 
 -- A run was stopped before its work, and says why; or it worked, and its story is one history.
 abbrev pub RunEnds : List (List ℕ) → Option (List ℕ) → Seen → Seen → Option (List ℕ) → Option (List ℕ) → Type 0 → Type 0 → List Event → ℕ → Type 0

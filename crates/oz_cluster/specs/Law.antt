@@ -5,13 +5,14 @@ use Rattle.oz_cluster.specs.declared.events.EventKind.{EventKind}
 use Rattle.oz_cluster.specs.declared.events.EventKind.TheVariants.{Ask, Decide, Swap, Flushed, Halt, Told}
 use Rattle.oz_cluster.specs.declared.events.Node.{Node}
 use Rattle.oz_cluster.specs.declared.events.Node.TheVariants.{Manager, Scm, Datanode}
-use Rattle.oz_cluster.specs.declared.requests.AskId.{AskId}
-use Rattle.oz_cluster.specs.declared.requests.Answer.{Answer}
-use Rattle.oz_cluster.specs.declared.requests.Answer.TheVariants as told
-use Rattle.oz_cluster.specs.declared.requests.Request.{Request}
-use Rattle.oz_cluster.specs.declared.requests.Reply.{Reply}
+use Rattle.oz_requests.specs.declared.request.AskId.{AskId}
+use Rattle.oz_requests.specs.declared.answer.Answer.{Answer}
+use Rattle.oz_requests.specs.declared.answer.Answer.TheVariants as told
+use Rattle.oz_requests.specs.declared.request.Request.{Request}
+use Rattle.oz_requests.specs.declared.reply.Reply.{Reply}
 use Rattle.oz_names.specs.Names.{stripe_of}
-use Rattle.oz_cluster.specs.Answers.{Answers, after, volume_of}
+use Rattle.oz_model.specs.Answers.{Answers, after}
+use Rattle.oz_requests.specs.Names.{volume_in}
 use Rattle.oz_cluster.specs.Story.{Opening, is_asked, is_id, is_of_line, is_told, halt_of, asked_late, pending, last_index, swapped_index, durable_index, flushed_moment, line_index, namespace_of}
 
 -- the seats: the flusher's, the caller's, the SCM's, the first datanode's, the first stripe's, the first worker's
@@ -48,7 +49,7 @@ pub record DecideIsEnabled (opening : Opening) (story : List Event) (seat : ℕ)
   pub request : Request
   pub asked : pending id story ≡ Some request
   pub in_time : asked_late (is_id id) story ≡ false
-  pub seat_of_stripe : seat ≡ stripe_seat (stripe_of (volume_of request))
+  pub seat_of_stripe : seat ≡ stripe_seat (stripe_of (volume_in request))
   pub one_thread : Answers (namespace_of opening story) request answer
   pub changes : after (namespace_of opening story) request answer ≢ namespace_of opening story → index ≡ last_index opening story + 1
   pub keeps : after (namespace_of opening story) request answer ≡ namespace_of opening story → index ≡ last_index opening story

@@ -1,16 +1,14 @@
-pub mod AnswerNumbers
-pub mod Answers
 pub mod Fits
 pub mod Headline
 pub mod Law
 pub mod Manager
-pub mod Namespace
 pub mod OpenFaults
 pub mod Opens
 pub mod Quiet
 pub mod Refusals
 pub mod Report
 pub mod Rows
+pub mod Serves
 pub mod StatusCauses
 pub mod Statuses
 pub mod Steps

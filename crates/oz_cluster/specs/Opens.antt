@@ -1,44 +1,45 @@
 -- What a manager's disk stands for as a run begins.
-use Rattle.std.specs.Prelude.{Option, ◌≡◌, ◌⊎◌, ℕ, ◌<◌, ◌^◌, zero, suc, List, [], ◌∷◌, Option, Some, slice_get}
-use Rattle.oz_journal.specs.Grammar.{IsJournal, StandsFor, IsDamagedAt, places}
-use Rattle.oz_cluster.specs.Namespace.{Volumes, nothing, with_volume}
-use Rattle.oz_cluster.specs.Rows.{making}
-use Rattle.oz_rows.specs.Operations.{IsBody}
+use Rattle.std.specs.Prelude.{◌≡◌, ◌⊎◌, ℕ, ◌+◌, List, Option, Some, slice_get}
+use Rattle.oz_journal.specs.Grammar.{IsJournal, StandsFor as TellsBodies, IsDamagedAt, places}
+use Rattle.oz_namespace.specs.declared.namespace.Namespace.{Namespace}
+use Rattle.oz_tables.specs.declared.entry.Entry.{Entry}
+use Rattle.oz_tables.specs.Batches.{AreRows}
+use Rattle.oz_tables.specs.Build.{Builds, Fails}
+use Rattle.oz_tables.specs.Sound.{IsSound}
+use Rattle.oz_tables.specs.StandsFor.{StandsFor}
+use Rattle.oz_tables.specs.Tables.{Rows, row_of}
 use Rattle.oz_cluster.specs.Story.{Opening}
 
--- a body that makes one volume, with a greater index than the last
-pub record IsNextBody (last : ℕ) (bytes : List ℕ) (index : ℕ) (volume : List ℕ) : Type 0 where
-  pub body : IsBody bytes (record { layout = 1; index = index; items = making volume })
-  pub rises : last < index
+-- the bodies of a disk's journal make these rows, with this last index
+abbrev pub Loads : List ℕ → List Entry → ℕ → Type 0
+Loads bytes all index = (bodies : List (List ℕ)) × IsJournal bytes bodies × Builds bodies all index
 
--- these bodies lead from a namespace and an index to the opening
-unfoldable pub OpensFrom : Volumes → ℕ → List (List ℕ) → Opening → Type 0
-OpensFrom namespace last [] opening = opening ≡ record { namespace = namespace; index = last }
-OpensFrom namespace last (body ∷ bodies) opening =
-    (index : ℕ) × (volume : List ℕ) × IsNextBody last body index volume × OpensFrom (with_volume namespace volume) index bodies opening
+-- sound rows, which stand for this namespace
+pub record IsCoherent (all : List Entry) (namespace : Namespace) : Type 0 where
+  pub stands : StandsFor (row_of all) namespace
+  pub sound : IsSound (row_of all)
 
--- behind so many good bodies stands one that isn't
-unfoldable pub IsWrongAt : ℕ → List (List ℕ) → ℕ → Type 0
-IsWrongAt last [] count = ⊥
-IsWrongAt last (body ∷ bodies) zero = (index : ℕ) (volume : List ℕ) → IsNextBody last body index volume → ⊥
-IsWrongAt last (body ∷ bodies) (suc count) = (index : ℕ) × (volume : List ℕ) × IsNextBody last body index volume × IsWrongAt index bodies count
-
--- the manager's disk stands for this opening
+-- They make rows like this, for the opening's namespace and with its last index.
 abbrev pub Opens : List ℕ → Opening → Type 0
-Opens bytes opening = (bodies : List (List ℕ)) × IsJournal bytes bodies × OpensFrom nothing 0 bodies opening
+Opens bytes opening = (all : List Entry) × Loads bytes all opening.index × IsCoherent all opening.namespace
 
--- a body of the journal is wrong, which stands at this place
-pub record IsWrongBodyAt (bytes : List ℕ) (offset : ℕ) : Type 0 where
-  pub bodies : List (List ℕ)
-  pub journal : IsJournal bytes bodies
+-- one of these bodies of a journal is damaged, and the field at fault has this place on the disk
+pub record IsFaultIn (bodies : List (List ℕ)) (offset : ℕ) : Type 0 where
   pub count : ℕ
-  pub wrong : IsWrongAt 0 bodies count
-  pub place : slice_get (places 0 bodies) count ≡ Some offset
+  pub at : ℕ
+  pub fails : Fails bodies count at
+  pub begin : ℕ
+  pub begins : slice_get (places 0 bodies) count ≡ Some begin
+  pub place : offset ≡ begin + at
 
--- the manager's disk is no journal, or one of its bodies is wrong
+-- the manager's disk is no journal, or one of its bodies is damaged
 abbrev pub IsDamagedDisk : List ℕ → ℕ → Type 0
-IsDamagedDisk bytes offset = IsDamagedAt bytes offset ⊎ IsWrongBodyAt bytes offset
+IsDamagedDisk bytes offset = IsDamagedAt bytes offset ⊎ ((bodies : List (List ℕ)) × IsJournal bytes bodies × IsFaultIn bodies offset)
 
--- What a disk tells stands for this namespace and this last index, while the index stays below 2^63.
-abbrev pub StandsAs : Option (List ℕ) → Volumes → ℕ → Type 0
-StandsAs told namespace index = index < 2 ^ 63 → (bodies : List (List ℕ)) × StandsFor told bodies × OpensFrom nothing 0 bodies (record { namespace = namespace; index = index })
+-- A disk that tells its bytes keeps these rows, with this last index.
+abbrev pub Keeps : Option (List ℕ) → Rows → ℕ → Type 0
+Keeps told rows index = (bodies : List (List ℕ)) × TellsBodies told bodies × (all : List Entry) × Builds bodies all index × AreRows all rows
+
+-- What a disk tells stands for this namespace and this last index.
+abbrev pub StandsAs : Option (List ℕ) → Namespace → ℕ → Type 0
+StandsAs told namespace index = (bodies : List (List ℕ)) × TellsBodies told bodies × (all : List Entry) × Builds bodies all index × IsCoherent all namespace

@@ -5,12 +5,14 @@ use Rattle.oz_world.specs.Disk.{Seen, IsStable}
 use Rattle.oz_world.specs.Faults.{Rose}
 use Rattle.oz_cluster.specs.declared.events.Event.{Event}
 use Rattle.oz_cluster.specs.declared.events.Node.TheVariants.{Manager}
-use Rattle.oz_cluster.specs.declared.requests.AskId.{AskId}
+use Rattle.oz_requests.specs.declared.request.AskId.{AskId}
 use Rattle.oz_script.specs.declared.grammar.Script.{Script}
 use Rattle.oz_cluster.specs.Fits.{FitsFrom, told_lines}
 use Rattle.oz_cluster.specs.Law.{IsLegal}
-use Rattle.oz_cluster.specs.Namespace.{Volumes}
-use Rattle.oz_cluster.specs.Opens.{StandsAs}
+use Rattle.oz_namespace.specs.declared.namespace.Namespace.{Namespace}
+use Rattle.oz_om_bucket.specs.Meets.{Stand}
+use Rattle.oz_tables.specs.Tables.{Rows}
+use Rattle.oz_cluster.specs.Opens.{Keeps}
 use Rattle.oz_cluster.specs.Stops.{IsWithin, StopsHold}
 use Rattle.oz_cluster.specs.Story.{Opening, is_asked, is_told, pending, last_index, swapped_index, durable_index, flushed_moment, line_index, namespace_of, kept_namespace, halt_of}
 
@@ -21,9 +23,7 @@ counted (suc n) = counted n ++ (n + 1) ∷ []
 
 -- The first lines of client 1 are told, so many, and nothing of a later line has happened. While the manager hasn't
 -- halted all that was decided is stable.
-pub record IsQuiet (opening : Opening) (story : List Event) (lines : ℕ) (namespace : Volumes) (index : ℕ) (halt : Option ℕ) : Type 0 where
-  pub stands_for : namespace_of opening story ≡ namespace
-  pub kept : (most : ℕ) → index ≤ most → kept_namespace opening most story ≡ namespace
+pub record IsQuiet (opening : Opening) (story : List Event) (lines index : ℕ) (halt : Option ℕ) : Type 0 where
   pub decided : last_index opening story ≡ index
   pub grown : opening.index ≤ index
   pub halted : halt_of Manager story ≡ halt
@@ -38,23 +38,30 @@ pub record IsQuiet (opening : Opening) (story : List Event) (lines : ℕ) (names
   pub others : (client : ℕ) → client ≢ 1 → told_lines client story ≡ []
   pub within : (moment : ℕ) → AllByRecursion (λ event. IsWithin index moment event.kind) story
 
--- what a disk was when its manager was opened
-pub record IsLoaded (opening : Opening) (disk : Seen) : Type 0 where
-  pub stands : StandsAs disk.told opening.namespace opening.index
-  pub stable : (bytes : List ℕ) → disk.told ≡ Some bytes → IsStable disk.image disk.clock bytes
-
--- While the manager hasn't halted, the disk stands for the namespace; and a stop leaves a front of the history.
-pub record IsHeld (opening : Opening) (story : List Event) (namespace : Volumes) (index first : ℕ) (now : Seen) : Type 0 where
-  pub stands : halt_of Manager story ≡ None → StandsAs now.told namespace index
-  pub stops : StopsHold opening story first now.clock now.image
-
--- So far the story is legal and fits the script, and what it says of the disk is so. The disk's faults are counted from
--- those that it had at first.
-pub record IsServed (opening : Opening) (script : Script) (lines faults : ℕ) (story : List Event) (namespace : Volumes) (index : ℕ) (stopped : Bool) (now : Seen) : Type 0 where
-  pub quiet : IsQuiet opening story lines namespace index (halt_of Manager story)
-  pub legal : IsLegal opening story
+-- So far the story fits the script, and what it says of the disk is so. The disk's faults are counted from those that it
+-- had at first.
+pub record IsServed (opening : Opening) (script : Script) (lines faults : ℕ) (story : List Event) (index : ℕ) (stopped : Bool) (now : Seen) : Type 0 where
+  pub quiet : IsQuiet opening story lines index (halt_of Manager story)
   pub fits : FitsFrom opening script [] story
   pub past : flushed_moment story ≤ now.clock
   pub halted : is_some (halt_of Manager story) ≡ stopped
   pub cause : IfSome (halt_of Manager story) (λ count. (count ≡ now.faults) × Rose faults count)
   pub never_falls : faults ≤ now.faults
+
+-- So far the story is legal, and the rows stand for what it leads to.
+pub record IsRight (opening : Opening) (story : List Event) (rows : Rows) (index : ℕ) : Type 0 where
+  pub namespace : Namespace
+  pub stand : Stand rows namespace
+  pub stands_for : namespace_of opening story ≡ namespace
+  pub kept : (most : ℕ) → index ≤ most → kept_namespace opening most story ≡ namespace
+  pub legal : IsLegal opening story
+
+-- what a disk was when its manager was opened
+pub record IsLoaded (rows : Rows) (index : ℕ) (disk : Seen) : Type 0 where
+  pub keeps : Keeps disk.told rows index
+  pub stable : (bytes : List ℕ) → disk.told ≡ Some bytes → IsStable disk.image disk.clock bytes
+
+-- While the manager hasn't halted, the disk keeps its rows; and a stop leaves a front of the history.
+pub record IsHeld (opening : Opening) (story : List Event) (rows : Rows) (index first : ℕ) (now : Seen) : Type 0 where
+  pub keeps : halt_of Manager story ≡ None → Keeps now.told rows index
+  pub stops : StopsHold opening story first now.clock now.image

@@ -1,18 +1,20 @@
 -- The text that a run prints.
-use Rattle.std.specs.Prelude.{ℕ, Bool, true, false, ◌==◌, List, [], ◌∷◌, ◌++◌, codes, decimal, count_by, Option, None, Some, if◌then◌else◌}
+use Rattle.std.specs.Prelude.{ℕ, Bool, true, false, ◌==◌, List, [], ◌∷◌, ◌++◌, codes, decimal, count_by, length, Option, None, Some, if◌then◌else◌}
+use Rattle.std.specs.List.{flat_map}
 use Rattle.oz_cluster.specs.declared.events.Event.{Event}
 use Rattle.oz_cluster.specs.declared.events.EventKind.{EventKind}
 use Rattle.oz_cluster.specs.declared.events.EventKind.TheVariants.{Ask, Decide, Swap, Flushed, Halt, Told}
 use Rattle.oz_cluster.specs.declared.events.Node.{Node}
 use Rattle.oz_cluster.specs.declared.events.Node.TheVariants.{Manager, Scm, Datanode}
-use Rattle.oz_cluster.specs.declared.requests.Answer.{Answer}
-use Rattle.oz_cluster.specs.declared.requests.Answer.TheVariants as told
-use Rattle.oz_cluster.specs.declared.requests.AskId.{AskId}
-use Rattle.oz_cluster.specs.declared.requests.Reply.{Reply}
-use Rattle.oz_cluster.specs.declared.requests.Reply.TheVariants as reply
-use Rattle.oz_cluster.specs.declared.requests.Request.{Request}
-use Rattle.oz_cluster.specs.declared.requests.Request.TheVariants.{CreateVolume, InfoVolume}
-use Rattle.oz_cluster.specs.declared.requests.Values.TheVariants as values
+use Rattle.oz_requests.specs.declared.answer.Answer.{Answer}
+use Rattle.oz_requests.specs.declared.answer.Answer.TheVariants as told
+use Rattle.oz_requests.specs.declared.request.AskId.{AskId}
+use Rattle.oz_requests.specs.declared.reply.Counts.{Counts}
+use Rattle.oz_requests.specs.declared.reply.Reply.{Reply}
+use Rattle.oz_requests.specs.declared.reply.Reply.TheVariants as reply
+use Rattle.oz_requests.specs.declared.request.Request.{Request}
+use Rattle.oz_requests.specs.declared.request.Request.TheVariants.{CreateVolume, InfoVolume, DeleteVolume, CreateBucket, InfoBucket, DeleteBucket, ListBuckets}
+use Rattle.oz_requests.specs.declared.answer.Values.TheVariants as values
 use Rattle.oz_names.specs.Codes.{code_text}
 use Rattle.oz_cluster.specs.Story.{pending}
 
@@ -25,17 +27,34 @@ abbrev pub request_text : Option Request → List ℕ
 request_text None = []
 request_text (Some (CreateVolume volume)) = codes "CreateVolume"
 request_text (Some (InfoVolume volume)) = codes "InfoVolume"
+request_text (Some (DeleteVolume volume)) = codes "DeleteVolume"
+request_text (Some (CreateBucket volume bucket)) = codes "CreateBucket"
+request_text (Some (InfoBucket volume bucket)) = codes "InfoBucket"
+request_text (Some (DeleteBucket volume bucket)) = codes "DeleteBucket"
+request_text (Some (ListBuckets volume)) = codes "ListBuckets"
 
 -- a reply; what it counts is told and not printed here
 abbrev pub reply_text : Reply → List ℕ
 reply_text reply.Done = codes "OK"
 reply_text (reply.Count count) = codes "OK"
+reply_text (reply.Counts counts) = codes "OK"
+reply_text (reply.Names names) = codes "OK"
 reply_text (reply.Code code) = code_text code
+
+-- how many keys, sessions and snapshots a bucket has
+abbrev pub counts_text : Counts → List ℕ
+counts_text counts = codes "OK keys " ++ decimal counts.keys ++ codes " sessions " ++ decimal counts.sessions ++ codes " snapshots " ++ decimal counts.snapshots
+
+-- how many names, and a blank before each
+abbrev pub list_text : List (List ℕ) → List ℕ
+list_text names = codes "OK " ++ decimal (length names) ++ flat_map (λ name. codes " " ++ name) names
 
 -- what a line is told
 abbrev pub answer_text : Answer → List ℕ
 answer_text (told.Ok values.Done) = codes "OK"
 answer_text (told.Ok (values.Buckets count)) = codes "OK buckets " ++ decimal count
+answer_text (told.Ok (values.Counts counts)) = counts_text counts
+answer_text (told.Ok (values.Names names)) = list_text names
 answer_text (told.Code code) = code_text code
 answer_text told.Unacknowledged = codes "UNACKNOWLEDGED"
 answer_text told.ManagerStopped = codes "MANAGER_STOPPED"

@@ -3,11 +3,11 @@ use Rattle.std.specs.Prelude.{ℕ, List}
 use Rattle.oz_cluster.specs.declared.events.Event.{Event}
 use Rattle.oz_cluster.specs.declared.events.EventKind.TheVariants.{Ask, Decide, Swap, Flushed, Halt, Told}
 use Rattle.oz_cluster.specs.declared.events.Node.TheVariants.{Manager}
-use Rattle.oz_cluster.specs.declared.requests.Answer.{Answer}
-use Rattle.oz_cluster.specs.declared.requests.AskId.{AskId}
-use Rattle.oz_cluster.specs.declared.requests.Reply.{Reply}
-use Rattle.oz_cluster.specs.declared.requests.Request.{Request}
-use Rattle.oz_cluster.specs.Answers.{volume_of}
+use Rattle.oz_requests.specs.declared.answer.Answer.{Answer}
+use Rattle.oz_requests.specs.declared.request.AskId.{AskId}
+use Rattle.oz_requests.specs.declared.reply.Reply.{Reply}
+use Rattle.oz_requests.specs.declared.request.Request.{Request}
+use Rattle.oz_requests.specs.Names.{volume_in}
 use Rattle.oz_cluster.specs.Law.{caller_seat, flusher_seat, stripe_seat}
 use Rattle.oz_names.specs.Names.{stripe_of}
 
@@ -18,7 +18,7 @@ abbrev pub ask_event : ℕ → ℕ → Request → Event
 ask_event client number request = record { seat = caller_seat; kind = Ask (first_ask client number) request }
 
 abbrev pub decide_event : ℕ → ℕ → Request → ℕ → Reply → List ℕ → Event
-decide_event client number request index reply batch = record { seat = stripe_seat (stripe_of (volume_of request)); kind = Decide (first_ask client number) index reply batch }
+decide_event client number request index reply batch = record { seat = stripe_seat (stripe_of (volume_in request)); kind = Decide (first_ask client number) index reply batch }
 
 abbrev pub swap_event : ℕ → Event
 swap_event index = record { seat = flusher_seat; kind = Swap index }

@@ -1,5 +1,5 @@
 -- What a stop leaves of the manager's disk: a front of the history.
-use Rattle.std.specs.Prelude.{◌≡◌, ℕ, ◌<◌, ◌≤◌, ◌^◌, List, Option, Some}
+use Rattle.std.specs.Prelude.{ℕ, ◌≤◌, List}
 use Rattle.std.specs.List.{AllByRecursion}
 use Rattle.oz_world.specs.Disk.{Images}
 use Rattle.oz_cluster.specs.declared.events.Event.{Event}
@@ -29,8 +29,3 @@ pub record IsFrontOf (opening : Opening) (story : List Event) (moment : ℕ) (le
 -- at each moment from the first to the last, a stop leaves a front of the history
 abbrev pub StopsHold : Opening → List Event → ℕ → ℕ → Images → Type 0
 StopsHold opening story first last image = (moment : ℕ) (left : List ℕ) → first ≤ moment → moment ≤ last → image moment left → IsFrontOf opening story moment left
-
--- What is taken as given of the manager's disk: it tells its bytes, and the last index stays below 2^63.
-pub record Premises (told : Option (List ℕ)) (bytes : List ℕ) (last : ℕ) : Type 0 where
-  pub tells : told ≡ Some bytes
-  pub fits : last < 2 ^ 63

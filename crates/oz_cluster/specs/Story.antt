@@ -6,15 +6,15 @@ use Rattle.oz_cluster.specs.declared.events.EventKind.{EventKind}
 use Rattle.oz_cluster.specs.declared.events.EventKind.TheVariants.{Ask, Decide, Swap, Flushed, Halt, Told}
 use Rattle.oz_cluster.specs.declared.events.Node.{Node}
 use Rattle.oz_cluster.specs.declared.events.Node.TheVariants.{Manager, Scm, Datanode}
-use Rattle.oz_cluster.specs.declared.requests.AskId.{AskId}
-use Rattle.oz_cluster.specs.declared.requests.Request.{Request}
-use Rattle.oz_cluster.specs.declared.requests.Reply.{Reply}
-use Rattle.oz_cluster.specs.Namespace.{Volumes}
-use Rattle.oz_cluster.specs.Answers.{after}
+use Rattle.oz_requests.specs.declared.request.AskId.{AskId}
+use Rattle.oz_requests.specs.declared.request.Request.{Request}
+use Rattle.oz_requests.specs.declared.reply.Reply.{Reply}
+use Rattle.oz_namespace.specs.declared.namespace.Namespace.{Namespace}
+use Rattle.oz_model.specs.Answers.{after}
 
 -- what the loaded disks stand for
 pub record Opening : Type 0 where
-  pub namespace : Volumes
+  pub namespace : Namespace
   pub index : ℕ
 
 abbrev pub is_of_line : ℕ → ℕ → AskId → Bool
@@ -130,11 +130,11 @@ abbrev pub line_index : ℕ → ℕ → List Event → ℕ
 line_index client line story = fold (λ before event. line_index_after client line before event.kind) 0 story
 
 -- what one more event leaves of a namespace, behind these events
-abbrev pub namespace_after : Option Request → Volumes → Reply → Volumes
+abbrev pub namespace_after : Option Request → Namespace → Reply → Namespace
 namespace_after None namespace answer = namespace
 namespace_after (Some request) namespace answer = after namespace request answer
 
-abbrev pub namespace_step : List Event → Volumes → EventKind → Volumes
+abbrev pub namespace_step : List Event → Namespace → EventKind → Namespace
 namespace_step before namespace (Ask id request) = namespace
 namespace_step before namespace (Decide id index answer batch) = namespace_after (pending id before) namespace answer
 namespace_step before namespace (Swap index) = namespace
@@ -142,12 +142,12 @@ namespace_step before namespace (Flushed index moment) = namespace
 namespace_step before namespace (Halt node count) = namespace
 namespace_step before namespace (Told client line answer) = namespace
 
-unfoldable pub namespace_from : List Event → Volumes → List Event → Volumes
+unfoldable pub namespace_from : List Event → Namespace → List Event → Namespace
 namespace_from before namespace [] = namespace
 namespace_from before namespace (event ∷ story) = namespace_from (before ++ event ∷ []) (namespace_step before namespace event.kind) story
 
 -- the namespace after all Decides of a story, one after another
-abbrev pub namespace_of : Opening → List Event → Volumes
+abbrev pub namespace_of : Opening → List Event → Namespace
 namespace_of opening story = namespace_from [] opening.namespace story
 
 -- the same node
@@ -193,7 +193,7 @@ abbrev pub asked_late : (AskId → Bool) → List Event → Bool
 asked_late names story = late_from names [] false story
 
 -- what one more event leaves of a namespace, where Decides above an index are passed over
-abbrev pub kept_step : ℕ → List Event → Volumes → EventKind → Volumes
+abbrev pub kept_step : ℕ → List Event → Namespace → EventKind → Namespace
 kept_step most before namespace (Ask id request) = namespace
 kept_step most before namespace (Decide id index answer batch) = if nat_le index most then namespace_after (pending id before) namespace answer else namespace
 kept_step most before namespace (Swap index) = namespace
@@ -201,10 +201,10 @@ kept_step most before namespace (Flushed index moment) = namespace
 kept_step most before namespace (Halt node count) = namespace
 kept_step most before namespace (Told client line answer) = namespace
 
-unfoldable pub kept_from : ℕ → List Event → Volumes → List Event → Volumes
+unfoldable pub kept_from : ℕ → List Event → Namespace → List Event → Namespace
 kept_from most before namespace [] = namespace
 kept_from most before namespace (event ∷ story) = kept_from most (before ++ event ∷ []) (kept_step most before namespace event.kind) story
 
 -- the namespace after the Decides of a story up to an index
-abbrev pub kept_namespace : Opening → ℕ → List Event → Volumes
+abbrev pub kept_namespace : Opening → ℕ → List Event → Namespace
 kept_namespace opening most story = kept_from most [] opening.namespace story

@@ -1,5 +1,5 @@
-use crate::requests::{Answer, AskId, Reply, Request};
 use oz_fields::List;
+use oz_requests::{Answer, AskId, Reply, Request};
 
 /// One thing that happened, and the number of the seat that gave it.
 #[derive(Debug, Drop)]

@@ -10,4 +10,6 @@ pub fn a_disk_opens_as_one_thing()
         Opens bytes opening → Opens bytes other → opening ≡ other }
     ensures not_both { (bytes : List ℕ) (opening : Opening) (offset : ℕ) →
         Opens bytes opening → IsDamagedDisk bytes offset → ⊥ }
+    ensures one_fault { (bytes : List ℕ) (offset other : ℕ) →
+        IsDamagedDisk bytes offset → IsDamagedDisk bytes other → offset ≡ other }
 {}

@@ -1,27 +1,31 @@
-ghost use Rattle.std.specs.Prelude.{◌≡◌, ◌≤◌, ◌<◌, ◌^◌, [], ℕ, List, length, false, Some, IfOk, IfErr, IfSome, MatchOption, slice_get};
+ghost use Rattle.std.specs.Prelude.{◌≡◌, ◌≤◌, ◌<◌, ◌+◌, ◌^◌, [], ℕ, List, length, false, Some, IfOk, IfErr, IfSome};
 ghost use Rattle.oz_world.specs.Disk.{IsStable};
 ghost use Rattle.oz_world.specs.Faults.{Rose};
+ghost use Rattle.oz_cache.specs.Cache.{newest, last_epoch};
 ghost use Rattle.oz_journal.specs.Body.{bodies_in, places_in};
+ghost use Rattle.oz_journal.specs.Grammar.{places, records};
 ghost use Rattle.oz_journal.specs.Load.{IsLoadable, IsLeftAlone, loaded_at};
 ghost use Rattle.oz_journal.specs.Moments.{Elapses, Spans};
-ghost use Rattle.oz_cluster.specs.Namespace.{nothing};
+ghost use Rattle.oz_rows.specs.declared.key.RowKey.{RowKey as AnyKey};
+ghost use Rattle.oz_rows.specs.declared.row.Row.{Row as AnyRow};
+ghost use Rattle.oz_rows.specs.Rows.{RowFits};
+ghost use Rattle.oz_tables.specs.Build.{Builds, Fails};
 ghost use Rattle.oz_cluster.specs.OpenFaults.{as_open};
-ghost use Rattle.oz_cluster.specs.Opens.{IsNextBody, OpensFrom, IsWrongAt, Opens, IsDamagedDisk, StandsAs};
+ghost use Rattle.oz_cluster.specs.Opens.{Loads, IsFaultIn, IsDamagedDisk, Keeps};
 
 use crate::manager::Manager;
-use crate::model::Namespace;
-use crate::rows::volume_put;
-use oz_fields::{Name, OutOfMemory};
+use oz_cache::Cached;
+use oz_fields::OutOfMemory;
 use oz_journal::{Body, Journal, LoadFault};
-use oz_rows::{RowFault, operations};
+use oz_tables::{BuildFault, Tables, build};
 use oz_world::Disk;
-use std::alloc::{AllocError, Global};
+use std::alloc::Global;
 
 /// Why a manager's disk wasn't opened.
 #[derive(Clone, Copy, Debug, PartialEq, Eq)]
 pub enum OpenFault {
     Disk,
-    /// The place on the disk where it isn't a manager's.
+    /// The place on the disk of the first field that is at fault.
     Damaged { offset: u64 },
     OutOfMemory,
 }
@@ -47,50 +51,28 @@ fn open_fault(fault: LoadFault) -> OpenFault
     }
 }
 
-/// The index and the volume of a body that may follow one of the last index, where it is one.
-fn next_body(alloc: Global, last: u64, bytes: &[u8]) -> Result<Option<(u64, Name)>, OutOfMemory>
-    ensures { IfOk result (λ found. MatchOption found
-        ((index : ℕ) (volume : _) → IsNextBody last bytes.now index volume → ⊥)
-        (λ row. IsNextBody last bytes.now row.0 row.1)) }
-{
-    let body = match operations(alloc, bytes) {
-        Ok(body) => body,
-        Err(RowFault::At(_)) => return Ok(None),
-        Err(RowFault::OutOfMemory) => return Err(AllocError),
-    };
-    let Some(volume) = volume_put(body.items.items()) else {
-        return Ok(None);
-    };
-    if body.index <= last {
-        return Ok(None);
-    }
-    Ok(Some((body.index, Name::copy(alloc, volume.bytes())?)))
-}
-
-/// What bodies lead to: the namespace and the last index.
-fn opening_of(alloc: Global, bodies: &[Body]) -> Result<(Namespace, u64), OpenFault>
-    ensures opens { IfOk result (λ opening. OpensFrom nothing 0 (bodies_in bodies.now)
-        (record { namespace = opening.0; index = opening.1 })) }
-    ensures fits { IfOk result (λ opening. opening.1 < 2 ^ 63) }
+/// The tables of a journal's bodies.
+fn tables_of(alloc: Global, bodies: &[Body]) -> Result<Tables, OpenFault>
+    requires places { places_in bodies.now ≡ places 0 (bodies_in bodies.now) }
+    requires ends { length (records (bodies_in bodies.now)) < 2 ^ 64 }
+    ensures built { IfOk result (λ tables. Builds (bodies_in bodies.now) tables.rows tables.last_index) }
+    ensures index { IfOk result (λ tables. tables.last_index < 2 ^ 63) }
     ensures damaged { IfErr result (λ fault. (offset : ℕ) → fault ≡ OpenFault.Damaged offset →
-        (count : ℕ) × IsWrongAt 0 (bodies_in bodies.now) count
-        × (slice_get (places_in bodies.now) count ≡ Some offset)) }
+        IsFaultIn (bodies_in bodies.now) offset) }
     ensures disk { IfErr result (λ fault. fault ≡ OpenFault.Disk → ⊥) }
 {
-    let mut namespace = Namespace::new(alloc);
-    let mut index = 0;
-    for body in bodies {
-        let (next, volume) = match next_body(alloc, index, body.bytes.items()) {
-            Ok(Some(row)) => row,
-            Ok(None) => return Err(OpenFault::Damaged { offset: body.at }),
-            Err(_) => return Err(OpenFault::OutOfMemory),
-        };
-        let Ok(()) = namespace.add(volume) else {
-            return Err(OpenFault::OutOfMemory);
-        };
-        index = next;
+    match build(alloc, bodies) {
+        Ok(tables) => Ok(tables),
+        Err(BuildFault::Damaged { body, at }) => {
+            let Some(damaged) = bodies.get(body) else {
+                unreachable!()
+            };
+            Err(OpenFault::Damaged {
+                offset: damaged.at + at as u64,
+            })
+        }
+        Err(BuildFault::OutOfMemory) => Err(OpenFault::OutOfMemory),
     }
-    Ok((namespace, index))
 }
 
 impl<D: Disk> Manager<D> {
@@ -98,13 +80,16 @@ impl<D: Disk> Manager<D> {
 
     /// The manager of a disk, with a story in which nothing has happened yet.
     pub fn open(alloc: Global, disk: D) -> Result<Manager<D>, (D, OpenFault)>
-        ensures opens { IfOk result (λ manager. IfSome (D.told disk) (λ bytes.
-            Opens bytes (record { namespace = manager.namespace; index = manager.index }))) }
-        ensures stands { IfOk result (λ manager. IfSome (D.told disk) (λ _.
-            StandsAs (D.told manager.journal.disk) manager.namespace manager.index)) }
+        ensures loads { IfOk result (λ manager. IfSome (D.told disk) (λ bytes.
+            Loads bytes manager.rows.durable.rows manager.rows.durable.last_index)) }
+        ensures fresh { IfOk result (λ manager. manager.rows.entered ≡ []) }
+        ensures keeps { IfOk result (λ manager. IfSome (D.told disk) (λ _.
+            Keeps (D.told manager.journal.disk) (newest manager.rows) (last_epoch manager.rows))) }
+        ensures fit { IfOk result (λ manager. (key : AnyKey) (row : AnyRow) →
+            newest manager.rows key ≡ Some row → RowFits key row) }
         ensures story { IfOk result (λ manager. manager.story.items ≡ []) }
         ensures running { IfOk result (λ manager. manager.journal.stopped ≡ false) }
-        ensures index { IfOk result (λ manager. manager.index < 2 ^ 63) }
+        ensures index { IfOk result (λ manager. last_epoch manager.rows < 2 ^ 63) }
         ensures damaged { IfErr result (λ refused. (offset : ℕ) →
             refused.1 ≡ OpenFault.Damaged offset →
             IfSome (D.told disk) (λ bytes. IsDamagedDisk bytes offset)) }
@@ -130,11 +115,10 @@ impl<D: Disk> Manager<D> {
             Ok(loaded) => loaded,
             Err((disk, fault)) => return Err((disk, open_fault(fault))),
         };
-        match opening_of(alloc, &bodies) {
-            Ok((namespace, index)) => Ok(Manager {
-                namespace,
+        match tables_of(alloc, &bodies) {
+            Ok(tables) => Ok(Manager {
+                rows: Cached::over(alloc, tables),
                 journal,
-                index,
                 story: Vec::new(alloc),
             }),
             Err(fault) => Err((journal.into_disk(), fault)),

@@ -1,12 +1,11 @@
-ghost use Rattle.std.specs.Prelude.{◌≡◌, ◌++◌, IfOk, OnOk, option_copied, string_bytes};
-ghost use Rattle.oz_cluster.specs.Report.{report_of, decide_text, halt_text, node_text, told_text, answer_text, request_text, reply_text, words_fault, script_fault, damaged_manager, disk_fault, read_fault, memory_fault};
+ghost use Rattle.std.specs.Prelude.{◌≡◌, ◌++◌, IfOk, OnOk, option_copied};
+ghost use Rattle.oz_cluster.specs.Report.{report_of, decide_text, halt_text, node_text, told_text, answer_text, counts_text, list_text, request_text, reply_text, words_fault, script_fault, damaged_manager, disk_fault, read_fault, memory_fault};
 
 use crate::events::{Event, EventKind, Node};
-use crate::requests::{Answer, AskId, Reply, Request, Values};
-use oz_fields::OutOfMemory;
+use oz_fields::{Name, OutOfMemory};
+use oz_requests::{Answer, AskId, Counts, Reply, Request, Values};
 use std::alloc::Global;
 use std::collections::BTreeMap;
-use std::fmt::Write;
 
 /// The client of what no line of a script asked.
 const SERVICE_CLIENT: u16 = 65535;
@@ -16,7 +15,7 @@ const SERVICE_CLIENT: u16 = 65535;
 pub fn text(alloc: Global, lines: u64, story: &[Event]) -> Result<Vec<u8>, OutOfMemory>
     ensures { IfOk result (λ text. text.items ≡ report_of lines story.now) }
 {
-    let mut out = String::from_str(alloc, "story 1\n")?;
+    let mut out = Vec::from_slice(alloc, b"story 1\n")?;
     let mut pending: BTreeMap<AskId, &Request> = BTreeMap::new(alloc);
     let mut told: u64 = 0;
     for event in story {
@@ -27,7 +26,7 @@ pub fn text(alloc: Global, lines: u64, story: &[Event]) -> Result<Vec<u8>, OutOf
             EventKind::Decide { id, reply, .. } => {
                 let request = pending.remove(id);
                 if id.client != SERVICE_CLIENT {
-                    push_decide(&mut out, *id, request, *reply)?;
+                    push_decide(alloc, &mut out, *id, request, reply)?;
                 }
             }
             EventKind::Told {
@@ -35,73 +34,117 @@ pub fn text(alloc: Global, lines: u64, story: &[Event]) -> Result<Vec<u8>, OutOf
                 line,
                 answer,
             } => {
-                push_told(&mut out, *client, *line, *answer)?;
+                push_told(alloc, &mut out, *client, *line, answer)?;
                 told += 1;
             }
             EventKind::Halt { node, count } => {
-                push_halt(&mut out, *node, *count)?;
+                push_halt(alloc, &mut out, *node, *count)?;
             }
             EventKind::Swap { .. } => {}
             EventKind::Flushed { .. } => {}
         }
     }
-    writeln!(out, "end {told} of {lines}")?;
-    Ok(out.into_bytes())
+    push_text(&mut out, &format!(in alloc; "end {told} of {lines}\n")?)?;
+    Ok(out)
+}
+
+fn push_text(out: &mut Vec<u8>, text: &str) -> Result<(), OutOfMemory>
+    ensures { OnOk result (out.new.items ≡ out.old.items ++ text.now) }
+{
+    out.extend_from_slice(text.as_bytes())
 }
 
 fn push_decide(
-    out: &mut String,
+    alloc: Global,
+    out: &mut Vec<u8>,
     id: AskId,
     request: Option<&Request>,
-    reply: Reply,
+    reply: &Reply,
 ) -> Result<(), OutOfMemory>
     ensures { OnOk result
-        (string_bytes out.new ≡
-        string_bytes out.old ++ decide_text id (option_copied request.entry) reply) }
+        (out.new.items ≡ out.old.items ++ decide_text id (option_copied request.entry) reply.now) }
 {
-    write!(out, "d {} {} {} ", id.client, id.line, id.step)?;
-    writeln!(out, "{} {}", request_text(request), reply_text(reply))
+    let AskId { client, line, step } = id;
+    push_text(out, &format!(in alloc; "d {client} {line} {step} ")?)?;
+    push_text(out, request_text(request))?;
+    push_text(out, " ")?;
+    push_text(out, reply_text(reply))?;
+    push_text(out, "\n")
 }
 
-fn push_halt(out: &mut String, node: Node, count: u64) -> Result<(), OutOfMemory>
-    ensures { OnOk result
-        (string_bytes out.new ≡ string_bytes out.old ++ halt_text node count) }
+fn push_halt(alloc: Global, out: &mut Vec<u8>, node: Node, count: u64) -> Result<(), OutOfMemory>
+    ensures { OnOk result (out.new.items ≡ out.old.items ++ halt_text node count) }
 {
-    out.push_str("h ")?;
-    push_node(out, node)?;
-    writeln!(out, " {count}")
+    push_text(out, "h ")?;
+    push_node(alloc, out, node)?;
+    push_text(out, &format!(in alloc; " {count}\n")?)
 }
 
-fn push_node(out: &mut String, node: Node) -> Result<(), OutOfMemory>
-    ensures { OnOk result (string_bytes out.new ≡ string_bytes out.old ++ node_text node) }
+fn push_node(alloc: Global, out: &mut Vec<u8>, node: Node) -> Result<(), OutOfMemory>
+    ensures { OnOk result (out.new.items ≡ out.old.items ++ node_text node) }
 {
     match node {
-        Node::Manager => out.push_str("manager"),
-        Node::Scm => out.push_str("scm"),
-        Node::Datanode(number) => write!(out, "dn{number}"),
+        Node::Manager => push_text(out, "manager"),
+        Node::Scm => push_text(out, "scm"),
+        Node::Datanode(number) => push_text(out, &format!(in alloc; "dn{number}")?),
     }
 }
 
-fn push_told(out: &mut String, client: u16, line: u16, answer: Answer) -> Result<(), OutOfMemory>
-    ensures { OnOk result
-        (string_bytes out.new ≡ string_bytes out.old ++ told_text client line answer) }
+fn push_told(
+    alloc: Global,
+    out: &mut Vec<u8>,
+    client: u16,
+    line: u16,
+    answer: &Answer,
+) -> Result<(), OutOfMemory>
+    ensures { OnOk result (out.new.items ≡ out.old.items ++ told_text client line answer.now) }
 {
-    write!(out, "t {client} {line} ")?;
-    push_answer(out, answer)?;
-    out.push_str("\n")
+    push_text(out, &format!(in alloc; "t {client} {line} ")?)?;
+    push_answer(alloc, out, answer)?;
+    push_text(out, "\n")
 }
 
-fn push_answer(out: &mut String, answer: Answer) -> Result<(), OutOfMemory>
-    ensures { OnOk result (string_bytes out.new ≡ string_bytes out.old ++ answer_text answer) }
+fn push_answer(alloc: Global, out: &mut Vec<u8>, answer: &Answer) -> Result<(), OutOfMemory>
+    ensures { OnOk result (out.new.items ≡ out.old.items ++ answer_text answer.now) }
 {
     match answer {
-        Answer::Ok(Values::Done) => out.push_str("OK"),
-        Answer::Ok(Values::Buckets(count)) => write!(out, "OK buckets {count}"),
-        Answer::Code(code) => out.push_str(code.text()),
-        Answer::Unacknowledged => out.push_str("UNACKNOWLEDGED"),
-        Answer::ManagerStopped => out.push_str("MANAGER_STOPPED"),
-        Answer::OutOfMemory => out.push_str("OUT_OF_MEMORY"),
+        Answer::Ok(Values::Done) => push_text(out, "OK"),
+        Answer::Ok(Values::Buckets(count)) => {
+            push_text(out, &format!(in alloc; "OK buckets {count}")?)
+        }
+        Answer::Ok(Values::Counts(counts)) => push_counts(alloc, out, *counts),
+        Answer::Ok(Values::Names(names)) => push_names(alloc, out, names.items()),
+        Answer::Code(code) => push_text(out, code.text()),
+        Answer::Unacknowledged => push_text(out, "UNACKNOWLEDGED"),
+        Answer::ManagerStopped => push_text(out, "MANAGER_STOPPED"),
+        Answer::OutOfMemory => push_text(out, "OUT_OF_MEMORY"),
     }
+}
+
+fn push_counts(alloc: Global, out: &mut Vec<u8>, counts: Counts) -> Result<(), OutOfMemory>
+    ensures { OnOk result (out.new.items ≡ out.old.items ++ counts_text counts) }
+{
+    let Counts {
+        keys,
+        sessions,
+        snapshots,
+    } = counts;
+    push_text(
+        out,
+        &format!(in alloc; "OK keys {keys} sessions {sessions}")?,
+    )?;
+    push_text(out, &format!(in alloc; " snapshots {snapshots}")?)
+}
+
+fn push_names(alloc: Global, out: &mut Vec<u8>, names: &[Name]) -> Result<(), OutOfMemory>
+    ensures { OnOk result (out.new.items ≡ out.old.items ++ list_text names.now) }
+{
+    push_text(out, &format!(in alloc; "OK {}", names.len())?)?;
+    for name in names {
+        out.push(b' ')?;
+        out.extend_from_slice(name.bytes())?;
+    }
+    Ok(())
 }
 
 fn request_text(request: Option<&Request>) -> &'static str
@@ -111,14 +154,19 @@ fn request_text(request: Option<&Request>) -> &'static str
         None => "",
         Some(Request::CreateVolume { .. }) => "CreateVolume",
         Some(Request::InfoVolume { .. }) => "InfoVolume",
+        Some(Request::DeleteVolume { .. }) => "DeleteVolume",
+        Some(Request::CreateBucket { .. }) => "CreateBucket",
+        Some(Request::InfoBucket { .. }) => "InfoBucket",
+        Some(Request::DeleteBucket { .. }) => "DeleteBucket",
+        Some(Request::ListBuckets { .. }) => "ListBuckets",
     }
 }
 
-fn reply_text(reply: Reply) -> &'static str
-    ensures { result.now ≡ reply_text reply }
+fn reply_text(reply: &Reply) -> &'static str
+    ensures { result.now ≡ reply_text reply.now }
 {
     match reply {
-        Reply::Done | Reply::Count(_) => "OK",
+        Reply::Done | Reply::Count(_) | Reply::Counts(_) | Reply::Names(_) => "OK",
         Reply::Code(code) => code.text(),
     }
 }

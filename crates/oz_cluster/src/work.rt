@@ -1,8 +1,11 @@
 ghost use Rattle.std.specs.Prelude.{◌≡◌, ◌≤◌, ◌<◌, ◌^◌, [], ℕ, false, length, OnOk};
 ghost use Rattle.oz_world.specs.Disk.{seen};
+ghost use Rattle.oz_cache.specs.Cache.{newest, last_epoch};
 ghost use Rattle.oz_journal.specs.Moments.{Elapses};
-ghost use Rattle.oz_cluster.specs.Quiet.{IsLoaded, IsServed, IsHeld};
+ghost use Rattle.oz_namespace.specs.declared.namespace.Namespace.{Namespace as AnyNamespace};
+ghost use Rattle.oz_om_bucket.specs.Meets.{Stand};
 ghost use Rattle.oz_script.specs.Script.{IsNumbered};
+ghost use Rattle.oz_cluster.specs.Quiet.{IsLoaded, IsServed, IsRight, IsHeld};
 
 use crate::manager::Manager;
 use oz_fields::OutOfMemory;
@@ -22,20 +25,27 @@ pub fn serve_all<R: Wait, D: Disk, G: Gate>(
     requires numbered { IsNumbered script.now }
     requires unserved { manager.old.story.items ≡ [] }
     requires running { manager.old.journal.stopped ≡ false }
-    requires index { manager.old.index < 2 ^ 63 }
+    requires index { last_epoch manager.old.rows < 2 ^ 63 }
     ensures served { (lines : ℕ) × (lines ≤ length script.now.lines)
         × OnOk result (lines ≡ length script.now.lines)
-        × IsServed (record { namespace = manager.old.namespace; index = manager.old.index }) script.now
-        lines (D.faults manager.old.journal.disk)
-        manager.new.story.items manager.new.namespace manager.new.index manager.new.journal.stopped
+        × ((namespace : AnyNamespace) →
+        IsServed (record { namespace = namespace; index = last_epoch manager.old.rows }) script.now
+        lines (D.faults manager.old.journal.disk) manager.new.story.items (last_epoch manager.new.rows)
+        manager.new.journal.stopped
         (seen (D.told manager.new.journal.disk) (D.clock manager.new.journal.disk)
-        (D.image manager.new.journal.disk) (D.faults manager.new.journal.disk)) }
-    ensures held { IsLoaded (record { namespace = manager.old.namespace; index = manager.old.index })
+        (D.image manager.new.journal.disk) (D.faults manager.new.journal.disk))) }
+
+    // Where the rows stand for a namespace, they go on doing so.
+    ensures right { (namespace : AnyNamespace) → Stand (newest manager.old.rows) namespace →
+        IsRight (record { namespace = namespace; index = last_epoch manager.old.rows })
+        manager.new.story.items (newest manager.new.rows) (last_epoch manager.new.rows) }
+    ensures held { (namespace : AnyNamespace) → Stand (newest manager.old.rows) namespace →
+        IsLoaded (newest manager.old.rows) (last_epoch manager.old.rows)
         (seen (D.told manager.old.journal.disk) (D.clock manager.old.journal.disk)
         (D.image manager.old.journal.disk) (D.faults manager.old.journal.disk)) →
-        manager.new.index < 2 ^ 63 →
-        IsHeld (record { namespace = manager.old.namespace; index = manager.old.index })
-        manager.new.story.items manager.new.namespace manager.new.index (D.clock manager.old.journal.disk)
+        IsHeld (record { namespace = namespace; index = last_epoch manager.old.rows })
+        manager.new.story.items (newest manager.new.rows) (last_epoch manager.new.rows)
+        (D.clock manager.old.journal.disk)
         (seen (D.told manager.new.journal.disk) (D.clock manager.new.journal.disk)
         (D.image manager.new.journal.disk) (D.faults manager.new.journal.disk)) }
     ensures time { Elapses (D.clock manager.old.journal.disk) (D.clock manager.new.journal.disk)

@@ -1,6 +1,6 @@
 -- What one thread replies to a request, and what it leaves.
-use Rattle.std.specs.Prelude.{◌≡◌, ℕ, Bool, true, false, not, ◌||◌, nat_lt, nat_le, List, [], ◌∷◌, length, Option, None, Some, is_some, if◌then◌else◌}
-use Rattle.std.specs.FinMap.{empty, len, keys, get, insert, remove}
+use Rattle.std.specs.Prelude.{◌≡◌, ℕ, Bool, not, ◌||◌, nat_lt, nat_le, List, [], ◌∷◌, length, Option, None, Some, if◌then◌else◌}
+use Rattle.std.specs.FinMap.{empty, len, keys, insert, remove}
 use Rattle.oz_names.specs.declared.code.Code.{Code}
 use Rattle.oz_names.specs.declared.code.Code.TheVariants.{VolumeNotFound, VolumeAlreadyExists, VolumeNotEmpty, BucketNotFound, BucketAlreadyExists, BucketNotEmpty, ContainsSnapshot, InvalidVolumeName, InvalidBucketName, BucketLimit}
 use Rattle.oz_names.specs.Names.{is_volume_name}

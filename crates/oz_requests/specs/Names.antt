@@ -1,5 +1,5 @@
 -- The names of requests.
-use Rattle.std.specs.Prelude.{ℕ, List, Option, None, Some, not, if◌then◌else◌}
+use Rattle.std.specs.Prelude.{ℕ, List, Option, None, Some, if◌then◌else◌}
 use Rattle.oz_names.specs.declared.code.Code.{Code}
 use Rattle.oz_names.specs.declared.code.Code.TheVariants.{InvalidVolumeName, InvalidBucketName}
 use Rattle.oz_names.specs.Names.{is_volume_name}

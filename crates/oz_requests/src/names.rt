@@ -23,6 +23,21 @@ impl Request {
             | Request::DeleteBucket { volume, .. } => volume.bytes(),
         }
     }
+
+    /// The code of the first name that is none, the volume's before the bucket's.
+    pub fn name_fault(&self) -> Option<Code>
+        ensures { result ≡ name_fault self.now }
+    {
+        match self {
+            Request::CreateVolume { volume }
+            | Request::InfoVolume { volume }
+            | Request::DeleteVolume { volume }
+            | Request::ListBuckets { volume } => volume_fault(volume),
+            Request::CreateBucket { volume, bucket }
+            | Request::InfoBucket { volume, bucket }
+            | Request::DeleteBucket { volume, bucket } => bucket_fault(volume, bucket),
+        }
+    }
 }
 
 /// Tests the names of a request, and nothing else. It comes back, with the code of the first name that is
@@ -31,23 +46,9 @@ pub fn pre_execute(request: Request) -> Result<Request, (Request, Code)>
     ensures ok { IfOk result (λ same. (same ≡ request) × (name_fault request ≡ None)) }
     ensures err { IfErr result (λ refused. (refused.0 ≡ request) × (name_fault request ≡ Some refused.1)) }
 {
-    match fault_of(&request) {
+    match request.name_fault() {
         Some(code) => Err((request, code)),
         None => Ok(request),
-    }
-}
-
-fn fault_of(request: &Request) -> Option<Code>
-    ensures { result ≡ name_fault request.now }
-{
-    match request {
-        Request::CreateVolume { volume }
-        | Request::InfoVolume { volume }
-        | Request::DeleteVolume { volume }
-        | Request::ListBuckets { volume } => volume_fault(volume),
-        Request::CreateBucket { volume, bucket }
-        | Request::InfoBucket { volume, bucket }
-        | Request::DeleteBucket { volume, bucket } => bucket_fault(volume, bucket),
     }
 }
 

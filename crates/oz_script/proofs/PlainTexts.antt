@@ -1,23 +1,27 @@
 -- The plain text of a script is read as what it says.
-use Rattle.std.proofs.Common.{◌≡◌, ℕ, ◌+◌, ◌-◌, ◌<◌, ◌≤◌, Bool, true, false, eqb, List, [], ◌∷◌, ◌++◌, length, get_or, take, Result, Ok, Some, refl, sym, ap, ◌∙◌, append_assoc, All, arith}
-use Rattle.std.specs.Prelude.{◌||◌, ◌&&◌, nat_lt, nat_le, ◌==◌}
+use Rattle.std.proofs.Common.{◌≡◌, ℕ, ◌+◌, ◌-◌, ◌<◌, ◌≤◌, Bool, true, false, eqb, List, [], ◌∷◌, ◌++◌, length, get_or, take, drop, Result, Ok, Option, Some, refl, sym, ap, ◌∙◌, append_assoc, All, arith}
+use Rattle.std.specs.Prelude.{not, ◌||◌, ◌&&◌, nat_lt, nat_le, ◌==◌}
 use Rattle.std.specs.List.{list_all, join_with_byte, position_or_len}
 use Rattle.std.specs.Str.Lines.{lines, lines_of_parts, strip_carriage_return}
-use Rattle.std.proofs.lemmas.Bool.{lt-ltb, le-ltb, leb-true, eqb-true, and_parts, or_right}
+use Rattle.std.proofs.lemmas.Bool.{lt-ltb, le-ltb, leb-true, eqb-true, and_parts, or_right, not-true}
 use Rattle.std.proofs.lemmas.Bool.Decides.{nat_tests}
 use Rattle.std.proofs.lemmas.List.{append-nil, length-append}
 use Rattle.std.proofs.lemmas.List.Folds.{list_all-append}
-use Rattle.std.proofs.lemmas.List.Sums.{AllPass-from_list_all}
+use Rattle.std.proofs.lemmas.List.Sums.{AllPass-from_list_all, position_or_len_is}
 use Rattle.std.proofs.lemmas.List.Splits.{slice_split_at, slice_split_none}
+use Rattle.std.proofs.Math.ListN.{get_or-append}
+use Rattle.std.proofs.Math.Seq.{get_or-append_seam, take-append_seam, drop-append-add}
 use Rattle.std.proofs.lemmas.Slice.Eq.{bytes_eq-Decides}
 use Rattle.oz_script.specs.declared.grammar.Command.{Command}
-use Rattle.oz_script.specs.declared.grammar.Command.TheVariants.{VolumeCreate, VolumeInfo}
+use Rattle.oz_script.specs.declared.grammar.Command.TheVariants.{VolumeCreate, VolumeDelete, VolumeInfo, BucketList, BucketCreate, BucketDelete, BucketInfo}
 use Rattle.oz_script.specs.declared.grammar.Line.{Line}
 use Rattle.oz_script.specs.declared.grammar.Script.{Script}
 use Rattle.oz_script.specs.declared.grammar.ScriptFault.{ScriptFault}
 use Rattle.oz_names.specs.Names.{is_digit, is_letter}
-use Rattle.oz_script.specs.PlainScript.{command_words, is_plain, plain_line, plain_text, plain_lines, plain_script, IsPlain}
-use Rattle.oz_script.specs.Script.{◌>>=◌, is_blank, is_visible, is_remark, is_client_name, words, with_client, next_line, with_words, with_line, with_lines, script_of, command_of}
+use Rattle.oz_names.specs.Paths.{is_slash, front, back}
+use Rattle.oz_script.specs.Commands.{on_bucket, command_of}
+use Rattle.oz_script.specs.PlainScript.{spelling_of, command_words, are_parts, is_plain, plain_line, plain_text, plain_lines, plain_script, IsPlain}
+use Rattle.oz_script.specs.Script.{◌>>=◌, is_blank, is_visible, is_remark, is_client_name, words, with_client, next_line, with_words, with_line, with_lines, script_of}
 use Rattle.oz_script.proofs.Parts.{kept, parts_of}
 
 -- ---- tests of bytes
@@ -101,10 +105,42 @@ line-then line rest e =
 
 -- ---- commands
 
-command-again : (command : Command) → command_of (command_words command) ≡ Some command
+-- a path of two parts is cut between them
+slash-between : (volume bucket : List ℕ) → list_all (λ byte. not (is_slash byte)) volume ≡ true → position_or_len is_slash (volume ++ 47 ∷ bucket) ≡ length volume
+slash-between volume bucket e =
+    position_or_len_is is_slash (volume ++ 47 ∷ bucket) (length volume) 0 (omega (arith, length-append volume (47 ∷ bucket)))
+    (λ k lt. ap is_slash (get_or-append volume (47 ∷ bucket) 0 k lt) ∙ not-true (is_slash (get_or volume k 0)) (AllPass-from_list_all (λ byte. not (is_slash byte)) volume e k 0 lt))
+    (λ lt. ap is_slash (get_or-append_seam volume 47 bucket 0))
+
+front-between : (volume bucket : List ℕ) → list_all (λ byte. not (is_slash byte)) volume ≡ true → front (volume ++ 47 ∷ bucket) ≡ volume
+front-between volume bucket e = ap (λ (n : ℕ). take n (volume ++ 47 ∷ bucket)) (slash-between volume bucket e) ∙ take-append_seam volume (47 ∷ bucket)
+
+back-between : (volume bucket : List ℕ) → list_all (λ byte. not (is_slash byte)) volume ≡ true → back (volume ++ 47 ∷ bucket) ≡ bucket
+back-between volume bucket e = ap (λ (n : ℕ). drop (n + 1) (volume ++ 47 ∷ bucket)) (slash-between volume bucket e) ∙ drop-append-add volume (47 ∷ bucket) 1
+
+parts_so : (command : Command) → is_plain command ≡ true → are_parts (spelling_of command).parts ≡ true
+parts_so command e = (and_parts (list_all (list_all is_visible) (command_words command)) (are_parts (spelling_of command).parts) e).1
+
+no_slash : (volume bucket : List ℕ) → are_parts (volume ∷ bucket ∷ []) ≡ true → list_all (λ byte. not (is_slash byte)) volume ≡ true
+no_slash volume bucket e = (and_parts (list_all (λ byte. not (is_slash byte)) volume) true e).0
+
+abbrev some_command : Command → Option Command
+some_command command = Some command
+
+on_bucket-again : (command : List ℕ → List ℕ → Command) (volume bucket : List ℕ) → are_parts (volume ∷ bucket ∷ []) ≡ true → on_bucket command (join_with_byte 47 (volume ∷ bucket ∷ [])) ≡ command volume bucket
+on_bucket-again command volume bucket e =
+    let alone = no_slash volume bucket e in
+    rw (front-between volume bucket alone, back-between volume bucket alone) refl
+
+command-again : (command : Command) → is_plain command ≡ true → command_of (command_words command) ≡ Some command
 unfolding command_of
-command-again (VolumeCreate volume) = refl
-command-again (VolumeInfo volume) = refl
+command-again (VolumeCreate volume) e = refl
+command-again (VolumeDelete volume) e = refl
+command-again (VolumeInfo volume) e = refl
+command-again (BucketList volume) e = refl
+command-again (BucketCreate volume bucket) e = ap some_command (on_bucket-again BucketCreate volume bucket (parts_so (BucketCreate volume bucket) e))
+command-again (BucketDelete volume bucket) e = ap some_command (on_bucket-again BucketDelete volume bucket (parts_so (BucketDelete volume bucket) e))
+command-again (BucketInfo volume bucket) e = ap some_command (on_bucket-again BucketInfo volume bucket (parts_so (BucketInfo volume bucket) e))
 
 -- a client's name is a word
 record IsClient (client : List ℕ) : Type 0 where
@@ -122,13 +158,28 @@ client_of client e =
       name = e;
     }
 
-last_word : (volume : List ℕ) → (list_all is_visible volume && true) ≡ true → IsWord (47 ∷ volume)
-last_word volume e = record { some = omega arith; seen = (and_parts (list_all is_visible volume) true e).0 }
+words_so : (kind verb path : List ℕ) → 0 < length kind → 0 < length verb → list_all (list_all is_visible) (kind ∷ verb ∷ (47 ∷ path) ∷ []) ≡ true → AreWords (kind ∷ verb ∷ (47 ∷ path) ∷ [])
+unfolding AreWords
+words_so kind verb path some_kind some_verb e =
+    let first = and_parts (list_all is_visible kind) (list_all (list_all is_visible) (verb ∷ (47 ∷ path) ∷ [])) e in
+    let second = and_parts (list_all is_visible verb) (list_all (list_all is_visible) ((47 ∷ path) ∷ [])) first.1 in
+    let third = and_parts (list_all is_visible path) true second.1 in
+    (record { some = some_kind; seen = first.0 }, (record { some = some_verb; seen = second.0 }, (record { some = omega arith; seen = third.0 }, tt)))
+
+some_verbs : (command : Command) → (0 < length (spelling_of command).kind) × (0 < length (spelling_of command).verb)
+some_verbs (VolumeCreate volume) = (omega arith, omega arith)
+some_verbs (VolumeDelete volume) = (omega arith, omega arith)
+some_verbs (VolumeInfo volume) = (omega arith, omega arith)
+some_verbs (BucketList volume) = (omega arith, omega arith)
+some_verbs (BucketCreate volume bucket) = (omega arith, omega arith)
+some_verbs (BucketDelete volume bucket) = (omega arith, omega arith)
+some_verbs (BucketInfo volume bucket) = (omega arith, omega arith)
 
 words_of : (command : Command) → is_plain command ≡ true → AreWords (command_words command)
-unfolding AreWords
-words_of (VolumeCreate volume) e = (record { some = omega arith; seen = refl }, (record { some = omega arith; seen = refl }, (last_word volume e, tt)))
-words_of (VolumeInfo volume) e = (record { some = omega arith; seen = refl }, (record { some = omega arith; seen = refl }, (last_word volume e, tt)))
+words_of command e =
+    let some = some_verbs command in
+    let said = spelling_of command in
+    words_so said.kind said.verb (join_with_byte 47 said.parts) some.0 some.1 (and_parts (list_all (list_all is_visible) (command_words command)) (are_parts said.parts) e).0
 
 no_remark : (client : List ℕ) (rest : List (List ℕ)) → 0 < length client → list_all named client ≡ true → is_remark (join_with_byte 32 (client ∷ rest)) ≡ false
 no_remark [] rest some e = absurd (omega arith)
@@ -143,7 +194,7 @@ said-line client command script place is e speaks few =
     let first : with_line script place (plain_line client command) ≡ with_words script place (words (plain_line client command)) =
     rw (no_remark client (command_words command) is.word.some is.named_bytes, plain-join client (command_words command) said) refl in
     let more : nat_lt (length script.lines) 4096 ≡ true = lt-ltb (length script.lines) 4096 few in
-    first ∙ ap (with_words script place) (words-join client (command_words command) said) ∙ rw (speaks, command-again command, more) refl
+    first ∙ ap (with_words script place) (words-join client (command_words command) said) ∙ rw (speaks, command-again command e, more) refl
 
 lines-plain : (client : List ℕ) (command : Command) (rest : List Command) → IsClient client → is_plain command ≡ true → lines (plain_text client (command ∷ rest)) ≡ plain_line client command ∷ lines (plain_text client rest)
 unfolding AreWords

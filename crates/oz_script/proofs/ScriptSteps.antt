@@ -3,6 +3,7 @@ use Rattle.std.proofs.Common.{◌≡◌, ℕ, ◌+◌, ◌<◌, ◌≤◌, Bool,
 use Rattle.std.specs.Prelude.{◌⊎◌, ◌||◌, nat_lt}
 use Rattle.std.specs.List.{list_all, cons_option}
 use Rattle.std.specs.Str.{bytes_eq}
+use Rattle.oz_script.specs.Commands.{command_of}
 use Rattle.oz_script.specs.declared.grammar.Cause.TheVariants.{Long, Form, Many}
 use Rattle.std.specs.Option.{ok_or, option_to_list}
 use Rattle.std.specs.Str.Lines.{lines}
@@ -13,7 +14,7 @@ use Rattle.oz_script.specs.declared.grammar.Line.{Line}
 use Rattle.oz_script.specs.declared.grammar.Script.{Script}
 use Rattle.oz_script.specs.declared.grammar.ScriptFault.{ScriptFault}
 use Rattle.oz_script.specs.declared.grammar.ScriptFault.TheVariants.{At, OutOfMemory}
-use Rattle.oz_script.specs.Script.{◌>>=◌, is_blank, is_visible, is_remark, is_client_name, words, with_client, next_line, with_words, with_line, with_lines, script_of, command_of, command_behind, command_on, commands_on, Gives, AreNumberedFrom, IsNumbered}
+use Rattle.oz_script.specs.Script.{◌>>=◌, is_blank, is_visible, is_remark, is_client_name, words, with_client, next_line, with_words, with_line, with_lines, script_of, command_behind, command_on, commands_on, Gives, AreNumberedFrom, IsNumbered}
 
 -- the lines before the rest gave the script, and the rest begins at this place
 pub record IsReadTo (bytes : List ℕ) (script : Script) (place : ℕ) (rest : List ℕ) : Type 0 where

@@ -1,12 +1,12 @@
 -- The grammar of a script: what its bytes say, or which line has the first fault.
-use Rattle.std.specs.Prelude.{◌≡◌, ℕ, ◌+◌, ◌≤◌, Bool, false, nat_lt, nat_le, ◌==◌, ◌&&◌, ◌||◌, List, [], ◌∷◌, ◌++◌, length, filter, codes, Option, None, Some, Result, Ok, Err, if◌then◌else◌}
+use Rattle.std.specs.Prelude.{◌≡◌, ℕ, ◌+◌, ◌≤◌, Bool, false, nat_lt, nat_le, ◌==◌, ◌&&◌, ◌||◌, List, [], ◌∷◌, ◌++◌, length, filter, Option, None, Some, Result, Ok, Err, if◌then◌else◌}
 use Rattle.std.specs.List.{list_all, slice_split, filter_map}
-use Rattle.std.specs.Option.{ok_or, option_map}
+use Rattle.std.specs.Option.{ok_or}
 use Rattle.std.specs.Str.{bytes_eq}
 use Rattle.std.specs.Str.Lines.{lines}
+use Rattle.oz_script.specs.Commands.{command_of}
 use Rattle.oz_script.specs.declared.grammar.Cause.TheVariants.{Long, Form, Many}
 use Rattle.oz_script.specs.declared.grammar.Command.{Command}
-use Rattle.oz_script.specs.declared.grammar.Command.TheVariants.{VolumeCreate, VolumeInfo}
 use Rattle.oz_script.specs.declared.grammar.Line.{Line}
 use Rattle.oz_script.specs.declared.grammar.Script.{Script}
 use Rattle.oz_script.specs.declared.grammar.ScriptFault.{ScriptFault}
@@ -39,19 +39,6 @@ is_remark (first ∷ rest) = first == 35
 -- a client's name
 abbrev pub is_client_name : List ℕ → Bool
 is_client_name name = nat_le 1 (length name) && nat_le (length name) 16 && list_all (λ byte. is_letter byte || is_digit byte) name
-
--- what stands behind the `/` that a word begins with
-abbrev pub behind_slash : List ℕ → Option (List ℕ)
-behind_slash [] = None
-behind_slash (first ∷ name) = if first == 47 then Some name else None
-
--- the command of these words
-unfoldable pub command_of : List (List ℕ) → Option Command
-command_of (kind ∷ verb ∷ volume ∷ []) =
-    if bytes_eq kind (codes "volume") && bytes_eq verb (codes "create") then option_map VolumeCreate (behind_slash volume)
-    else if bytes_eq kind (codes "volume") && bytes_eq verb (codes "info") then option_map VolumeInfo (behind_slash volume)
-    else None
-command_of words = None
 
 -- The clients, where the one of this name speaks. Only one is served yet.
 abbrev pub with_client : List (List ℕ) → List ℕ → Option (List (List ℕ))

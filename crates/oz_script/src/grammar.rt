@@ -1,13 +1,17 @@
-ghost use Rattle.std.specs.Prelude.{◌≡◌, ℕ, List as Items, ◌+◌, ◌<◌, ◌==◌, ◌||◌, not, [], ◌∷◌, ◌++◌, length, map, IfOk, IfSome, MatchOption};
+ghost use Rattle.std.specs.Prelude.{◌≡◌, ℕ, List as Items, ◌+◌, ◌<◌, ◌==◌, ◌||◌, not, [], ◌∷◌, ◌++◌, length, map, IfOk, IfSome, MatchOption, codes};
 ghost use Rattle.std.specs.List.{list_all, position};
+ghost use Rattle.std.specs.Option.{option_map};
 ghost use Rattle.std.specs.Str.Lines.{lines, strip_carriage_return};
+ghost use Rattle.oz_names.specs.Paths.{volume_part, bucket_part};
 ghost use Rattle.oz_script.specs.Causes.{cause_text};
+ghost use Rattle.oz_script.specs.Commands.{behind_slash, command_of as command_said};
 ghost use Rattle.oz_names.specs.Names.{is_digit, is_letter};
 ghost use Rattle.oz_script.specs.PlainScript.{IsPlain, plain_text, plain_script};
 ghost use Rattle.oz_script.specs.declared.grammar.Command.{Command as Said};
-ghost use Rattle.oz_script.specs.Script.{Gives, IsNumbered, is_blank, is_visible, is_client_name, words, command_of as command_said, commands_on, with_client as clients_with, next_line, with_line as script_with, script_of};
+ghost use Rattle.oz_script.specs.Script.{Gives, IsNumbered, is_blank, is_visible, is_client_name, words, commands_on, with_client as clients_with, next_line, with_line as script_with, script_of};
 
 use oz_fields::{List, Name, OutOfMemory};
+use oz_names::split_path;
 use std::alloc::Global;
 
 /// A script has at most so many bytes.
@@ -37,7 +41,12 @@ pub struct Line {
 #[derive(Debug, Drop)]
 pub enum Command {
     VolumeCreate { volume: Name },
+    VolumeDelete { volume: Name },
     VolumeInfo { volume: Name },
+    BucketList { volume: Name },
+    BucketCreate { volume: Name, bucket: Name },
+    BucketDelete { volume: Name, bucket: Name },
+    BucketInfo { volume: Name, bucket: Name },
 }
 
 /// Why bytes are no script.
@@ -279,7 +288,7 @@ fn with_command(
 }
 
 /// The command of a line's words behind the client; None where there is none of these words.
-#[tactic(auto, unfolding(crate::specs::Script::command_of))]
+#[tactic(auto, unfolding(crate::specs::Commands::command_of))]
 fn command_of(alloc: Global, line: &[u8]) -> Result<Option<Command>, OutOfMemory>
     ensures { IfOk result (λ command. command ≡ command_said (words line.now)) }
 {
@@ -295,21 +304,80 @@ fn command_of(alloc: Global, line: &[u8]) -> Result<Option<Command>, OutOfMemory
     if split_word(rest).is_some() {
         return Ok(None);
     }
-    let [b'/', name @ ..] = path else {
+    if kind == b"volume".as_slice() {
+        return volume_command(alloc, verb, path);
+    }
+    if kind == b"bucket".as_slice() {
+        return bucket_command(alloc, verb, path);
+    }
+    Ok(None)
+}
+
+#[tactic(auto, unfolding(crate::specs::Commands::command_of))]
+fn volume_command(alloc: Global, verb: &[u8], path: &[u8]) -> Result<Option<Command>, OutOfMemory>
+    ensures { IfOk result (λ command.
+        command ≡ command_said (codes "volume" ∷ verb.now ∷ path.now ∷ [])) }
+{
+    let Some(volume) = volume_of(alloc, path)? else {
         return Ok(None);
     };
-    if kind != b"volume".as_slice() {
-        return Ok(None);
-    }
     if verb == b"create".as_slice() {
-        let volume = Name::copy(alloc, name)?;
         return Ok(Some(Command::VolumeCreate { volume }));
     }
+    if verb == b"delete".as_slice() {
+        return Ok(Some(Command::VolumeDelete { volume }));
+    }
     if verb == b"info".as_slice() {
-        let volume = Name::copy(alloc, name)?;
         return Ok(Some(Command::VolumeInfo { volume }));
     }
     Ok(None)
+}
+
+#[tactic(auto, unfolding(crate::specs::Commands::command_of))]
+fn bucket_command(alloc: Global, verb: &[u8], path: &[u8]) -> Result<Option<Command>, OutOfMemory>
+    ensures { IfOk result (λ command.
+        command ≡ command_said (codes "bucket" ∷ verb.now ∷ path.now ∷ [])) }
+{
+    if verb == b"list".as_slice() {
+        let volume = volume_of(alloc, path)?;
+        return Ok(volume.map(|volume| Command::BucketList { volume }));
+    }
+    let Some((volume, bucket)) = bucket_of(alloc, path)? else {
+        return Ok(None);
+    };
+    if verb == b"create".as_slice() {
+        return Ok(Some(Command::BucketCreate { volume, bucket }));
+    }
+    if verb == b"delete".as_slice() {
+        return Ok(Some(Command::BucketDelete { volume, bucket }));
+    }
+    if verb == b"info".as_slice() {
+        return Ok(Some(Command::BucketInfo { volume, bucket }));
+    }
+    Ok(None)
+}
+
+/// The volume that a path of one part names.
+fn volume_of(alloc: Global, path: &[u8]) -> Result<Option<Name>, OutOfMemory>
+    ensures { IfOk result (λ volume. volume ≡ option_map (volume_part 1) (behind_slash path.now)) }
+{
+    let Some(parts) = split_path(path, 1) else {
+        return Ok(None);
+    };
+    Ok(Some(Name::copy(alloc, parts.volume)?))
+}
+
+/// The volume and the bucket that a path of two parts names.
+fn bucket_of(alloc: Global, path: &[u8]) -> Result<Option<(Name, Name)>, OutOfMemory>
+    ensures { IfOk result (λ names. names
+        ≡ option_map (λ rest. (volume_part 2 rest, bucket_part 2 rest)) (behind_slash path.now)) }
+{
+    let Some(parts) = split_path(path, 2) else {
+        return Ok(None);
+    };
+    let volume = Name::copy(alloc, parts.volume)?;
+    let bucket = Name::copy(alloc, parts.bucket)?;
+    Ok(Some((volume, bucket)))
 }
 
 /// Whatever the client and the commands, their plain text is read as they are.

@@ -1,5 +1,5 @@
 -- Rows after changes.
-use Rattle.std.proofs.Common.{◌≡◌, Bool, true, false, List, [], ◌∷◌, ◌++◌, Option, None, Some, cond, refl, sym, ◌∙◌, ap, subst}
+use Rattle.std.proofs.Common.{◌≡◌, List, [], ◌∷◌, ◌++◌, Option, None, Some, cond, refl, sym, ◌∙◌, ap}
 use Rattle.std.specs.List.{AllByRecursion}
 use Rattle.std.specs.declared.cmp.Ordering.{Ordering}
 use Rattle.std.specs.declared.cmp.Ordering.TheVariants.{Less, Equal, Greater}
@@ -10,12 +10,12 @@ use Rattle.oz_rows.specs.Order.{key_order}
 use Rattle.oz_tables.specs.declared.entry.Entry.{Entry}
 use Rattle.oz_tables.specs.Tables.{row_of, row_after, row_after_one, is_same, KeysRise, IsBelow}
 use Rattle.oz_tables.specs.Effects.{Becomes}
-use Rattle.oz_tables.proofs.Order.{key_order_total, below_above, above_below, itself}
+use Rattle.oz_tables.proofs.Order.{key_order_total, below_above, above_below}
 use Rattle.oz_tables.proofs.Lookups.{AllBelow, AllAbove, row_added, row_replaced, row_removed, row_absent}
 use Rattle.oz_tables.proofs.Rising.{rise_with, rise_without, rise_replaced, before_at, behind_at}
 
 -- where a key stands among rows in order, or would stand
-data Spot (key : RowKey) : List Entry → Type 0 where
+pub data Spot (key : RowKey) : List Entry → Type 0 where
   at : (a b : List Entry) (x : Entry) → key_order x.key key ≡ Equal → Spot key (a ++ x ∷ b)
   between : (a b : List Entry) → AllBelow key a → AllAbove key b → Spot key (a ++ b)
 
@@ -23,7 +23,7 @@ all_over : (key : RowKey) (x : Entry) (l : List Entry) → IsBelow key x.key →
 all_over key x [] below under = tt
 all_over key x (y ∷ l) below under = (below_above key y.key (key_order_total.trans key x.key y.key below under.0), all_over key x l below under.1)
 
-spot : (key : RowKey) (l : List Entry) → KeysRise l → Spot key l
+pub spot : (key : RowKey) (l : List Entry) → KeysRise l → Spot key l
 spot key [] rise = between [] [] tt tt
 spot key (x ∷ l) rise = by_order (key_order x.key key) refl (spot key l rise.1)
   where

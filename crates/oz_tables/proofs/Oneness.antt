@@ -1,7 +1,7 @@
 -- Rows stand for one namespace alone.
-use Rattle.std.proofs.Common.{◌≡◌, ◌≢◌, ◌<◌, ℕ, Bool, true, false, ◌||◌, ◌==◌, List, [], ◌∷◌, Option, None, Some, IsSome, is_some, cond, refl, sym, ◌∙◌, ap, subst, arith}
+use Rattle.std.proofs.Common.{◌≡◌, ◌<◌, ℕ, Bool, true, false, ◌||◌, ◌==◌, List, [], ◌∷◌, Option, None, Some, is_some, refl, sym, ◌∙◌, ap, subst, arith}
 use mathlib.Core.Bool.{false≢true}
-use Rattle.std.specs.List.{AllByRecursion, list_any}
+use Rattle.std.specs.List.{AllByRecursion}
 use Rattle.std.specs.Ordering.{nat_cmp}
 use Rattle.std.specs.Cmp.Lexicographic.{slice_cmp}
 use Rattle.std.proofs.lemmas.Cmp.{nat_list_cmp_total, nat_cmp_total}
@@ -10,7 +10,6 @@ use Rattle.std.specs.FinMap.{get, same_map, IsAntisymmetric, nat_cmp-IsAntisymme
 use Rattle.std.specs.Option.{option_and_then}
 use Rattle.oz_namespace.specs.declared.namespace.Bucket.{Bucket}
 use Rattle.oz_namespace.specs.declared.namespace.Namespace.{Namespace}
-use Rattle.oz_namespace.specs.declared.namespace.Session.{Session}
 use Rattle.oz_namespace.specs.declared.namespace.Snapshot.{Snapshot}
 use Rattle.oz_namespace.specs.Namespace.{ByName, bucket_of, buckets_of, session_of, snapshots_in}
 use Rattle.oz_rows.specs.declared.row.Row.{Row}
@@ -98,7 +97,7 @@ module _ (all : Rows) where
   same_snapshots v b (n ∷ numbers) (x ∷ s) [] one two = absurd two
   same_snapshots v b (n ∷ numbers) (x ∷ s) (y ∷ t) one two = λ i. same_snapshot v b n x y one.0 two.0 i ∷ same_snapshots v b numbers s t one.1 two.1 i
 
-  alive : (v b : List ℕ) (numbers : List ℕ) (s : List Snapshot) → AreSnapshots all v b numbers s → (n : ℕ) → is_among n numbers ≡ true → IsLive all v b n
+  pub alive : (v b : List ℕ) (numbers : List ℕ) (s : List Snapshot) → AreSnapshots all v b numbers s → (n : ℕ) → is_among n numbers ≡ true → IsLive all v b n
   alive v b [] s are n e = absurd (false≢true e)
   alive v b (m ∷ numbers) [] are n e = absurd are
   alive v b (m ∷ numbers) (x ∷ s) are n e = among_cases n m numbers e (λ same. subst (IsLive all v b) (sym same) (x.name, are.0.previous, are.0.row)) (alive v b numbers s are.1 n)

@@ -33,7 +33,7 @@ greater Equal e = absurd (false≢true (sym e))
 greater Greater e = refl
 
 module _ (l : List Entry) (rise : KeysRise l) (key : RowKey) where
-  comparisons_rise : IsNonDecreasingBy (λ entry. ordering_index (key_order entry.key key)) l
+  pub comparisons_rise : IsNonDecreasingBy (λ entry. ordering_index (key_order entry.key key)) l
   comparisons_rise = searchable_from_sorted key_order_total (λ (entry : Entry). entry.key) l key (λ k d le lt.
       let next : suc k ≡ k + 1 = omega arith in
       subst (λ n. is_lt (key_order (get_or l n d).key (get_or l k d).key) ≡ false) next (ap is_lt (below_above (get_or l k d).key (get_or l (suc k) d).key (each_rises l rise k d (omega arith)))))

@@ -8,19 +8,19 @@ use Rattle.oz_rows.specs.declared.operation.Operation.{Operation}
 use Rattle.oz_rows.specs.declared.operation.Operation.TheVariants.{Put, Remove}
 use Rattle.oz_rows.specs.declared.operation.Operations.{Operations}
 use Rattle.oz_rows.specs.Rows.{RowFits, KeyFits, row_bytes, key_bytes}
-use Rattle.oz_rows.specs.Operations.{IsIndex, AreOperations, IsBody, batch_bytes, head_bytes}
+use Rattle.oz_rows.specs.Operations.{IsIndex, head_bytes}
 use Rattle.oz_tables.specs.declared.entry.Entry.{Entry}
 use Rattle.oz_tables.specs.Tables.{Rows, row_of, is_same, KeysRise}
 use Rattle.oz_tables.specs.Effects.{Leads, put, gone}
-use Rattle.oz_tables.specs.Build.{base_of, IsOrphan, AllAreBased, Builds, BuildsFrom, IsNextBody}
-use Rattle.oz_tables.specs.Batches.{AreRows, ComesTo, IsBatchOf, after_changes}
+use Rattle.oz_tables.specs.Build.{base_of, AllAreBased, Builds, BuildsFrom, IsNextBody}
+use Rattle.oz_tables.specs.Batches.{AreRows, IsBatchOf, after_changes}
 use Rattle.oz_tables.proofs.Same.{same_is_one}
 use Rattle.oz_tables.proofs.Changes.{become}
 
-some_apart : {A : Type 0} {a : A} → Some a ≡ None → ⊥
+pub some_apart : {A : Type 0} {a : A} → Some a ≡ None → ⊥
 some_apart e = false≢true (sym (ap is_some e))
 
-some_inside : {A : Type 0} (d a b : A) → Some a ≡ Some b → a ≡ b
+pub some_inside : {A : Type 0} (d a b : A) → Some a ≡ Some b → a ≡ b
 some_inside {A} d a b e = ap inside e
   where
     inside : Option A → A
@@ -114,7 +114,7 @@ based_from before last (first ∷ bodies) all index builds based = based_from bu
 pub bodies_based : (bodies : List (List ℕ)) (all : List Entry) (last : ℕ) → Builds bodies all last → AllAreBased all
 bodies_based bodies all last builds = based_from [] 0 bodies all last builds (λ key base orphan. some_apart (sym orphan.stands))
 
-leads_rise : (before : List Entry) (items : List Operation) (after : List Entry) → Leads before items after → KeysRise before → KeysRise after
+pub leads_rise : (before : List Entry) (items : List Operation) (after : List Entry) → Leads before items after → KeysRise before → KeysRise after
 unfolding Leads
 leads_rise before [] after leads rise = subst KeysRise (sym leads) rise
 leads_rise before (item ∷ items) after leads rise = leads_rise leads.0 items after leads.3 leads.2.in_order

@@ -5,3 +5,6 @@ pub mod Build
 pub mod StandsFor
 pub mod Sound
 pub mod Batches
+pub mod Counts
+pub mod Parts
+pub mod Steps

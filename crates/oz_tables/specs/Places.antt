@@ -1,11 +1,12 @@
 -- Places of keys among rows in order.
-use Rattle.std.specs.Prelude.{◌≡◌, ℕ, ◌<◌, ◌≤◌, List, length, take, drop, true}
+use Rattle.std.specs.Prelude.{◌≡◌, ℕ, ◌<◌, ◌≤◌, List, length, take, drop, true, slice_index_or}
 use Rattle.std.specs.List.{AllByRecursion, HoldsAt}
 use Rattle.std.specs.Ordering.{is_le}
 use Rattle.std.specs.declared.cmp.Ordering.TheVariants.{Less, Equal, Greater}
 use Rattle.oz_rows.specs.declared.key.RowKey.{RowKey}
 use Rattle.oz_rows.specs.Order.{key_order}
 use Rattle.oz_tables.specs.declared.entry.Entry.{Entry}
+use Rattle.oz_tables.specs.Tables.{IsBelow}
 
 -- the key is there
 pub record IsAt (rows : List Entry) (key : RowKey) (place : ℕ) : Type 0 where
@@ -23,3 +24,9 @@ pub record IsBehind (rows : List Entry) (key : RowKey) (place : ℕ) : Type 0 wh
   pub in_range : place ≤ length rows
   pub before : AllByRecursion (λ entry. is_le (key_order entry.key key) ≡ true) (take place rows)
   pub after : AllByRecursion (λ entry. key_order entry.key key ≡ Greater) (drop place rows)
+
+-- the keys before the place are below this one, and those from it on aren't
+pub record IsRank (rows : List Entry) (key : RowKey) (place : ℕ) : Type 0 where
+  pub in_range : place ≤ length rows
+  pub before : (k : ℕ) (d : Entry) → k < place → IsBelow (slice_index_or rows k d).key key
+  pub after : (k : ℕ) (d : Entry) → place ≤ k → k < length rows → IsBelow (slice_index_or rows k d).key key → ⊥

@@ -1,5 +1,5 @@
 -- Which namespace rows stand for: its maps, one clause a map.
-use Rattle.std.specs.Prelude.{◌≡◌, ◌↔◌, ℕ, ◌<◌, ◌==◌, Bool, true, List, [], ◌∷◌, map, Option, None, Some, IsSome, is_some}
+use Rattle.std.specs.Prelude.{◌≡◌, ◌↔◌, ℕ, ◌<◌, ◌==◌, Bool, true, List, [], ◌∷◌, map, Option, None, Some, is_some}
 use Rattle.std.specs.List.{AllByRecursion, list_any}
 use Rattle.std.specs.FinMap.{get}
 use Rattle.oz_fields.specs.declared.block.Piece.{Piece}
@@ -10,7 +10,7 @@ use Rattle.oz_namespace.specs.Namespace.{sixteen, has_volume, has_bucket, pieces
 use Rattle.oz_rows.specs.declared.key.RowKey.TheVariants as keys
 use Rattle.oz_rows.specs.declared.row.Row.{Row}
 use Rattle.oz_rows.specs.declared.row.Row.TheVariants as rows
-use Rattle.oz_rows.specs.declared.row.SnapshotState.TheVariants.{Live, Marked}
+use Rattle.oz_rows.specs.declared.row.SnapshotState.TheVariants.{Live}
 use Rattle.oz_tables.specs.Tables.{Rows}
 
 -- the pieces that a key row or a snapshot key row has

@@ -1,10 +1,24 @@
-//! What holds of all keys.
+//! What holds of all keys, and of all bodies of a journal.
 
-ghost use Rattle.std.specs.Prelude.{◌≡◌, true};
+ghost use Rattle.std.specs.Prelude.{◌≡◌, ◌≤◌, true, ℕ, List, Some, length, slice_get};
 ghost use Rattle.oz_rows.specs.declared.key.RowKey.{RowKey as AnyKey};
+ghost use Rattle.oz_tables.specs.declared.entry.Entry.{Entry as AnyEntry};
 ghost use Rattle.oz_tables.specs.Tables.{is_same};
+ghost use Rattle.oz_tables.specs.Build.{Builds, Fails};
 
 /// Keys that the order takes for the same are one key.
 pub fn same_keys_are_one()
     ensures { (a b : AnyKey) → is_same a b ≡ true → a ≡ b }
+{}
+
+/// The bodies of a journal make one thing, or are damaged.
+pub fn bodies_make_one_thing()
+    ensures one_table { (bodies : List (List ℕ)) (all other : List AnyEntry) (index last : ℕ)
+        → Builds bodies all index → Builds bodies other last → (all ≡ other) × (index ≡ last) }
+    ensures not_both { (bodies : List (List ℕ)) (all : List AnyEntry) (index count place : ℕ)
+        → Builds bodies all index → Fails bodies count place → ⊥ }
+    ensures one_fault { (bodies : List (List ℕ)) (count place other at : ℕ)
+        → Fails bodies count place → Fails bodies other at → (count ≡ other) × (place ≡ at) }
+    ensures within { (bodies : List (List ℕ)) (count place : ℕ) → Fails bodies count place
+        → (body : List ℕ) × (slice_get bodies count ≡ Some body) × (place ≤ length body) }
 {}

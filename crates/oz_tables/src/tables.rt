@@ -1,8 +1,9 @@
-ghost use Rattle.std.specs.Prelude.{◌≡◌, ◌+◌, ◌<◌, ◌≤◌, [], length, slice_set, insert, vec_len, vec_capacity, option_copied, None, Some, if◌then◌else◌, MatchOption, IfOk, IfErr, IsOk, OnOk, OnErr};
+ghost use Rattle.std.specs.Prelude.{◌≡◌, ◌+◌, ◌^◌, ◌<◌, ◌≤◌, [], length, slice_set, insert, vec_len, vec_capacity, option_copied, None, Some, if◌then◌else◌, MatchOption, IfOk, IfErr, IsOk, OnOk, OnErr};
 ghost use Rattle.oz_rows.specs.declared.key.RowKey.{RowKey as AnyKey};
 ghost use Rattle.oz_rows.specs.Order.{key_order};
-ghost use Rattle.oz_tables.specs.Tables.{row_of, row_after, row_after_one, is_same, IsNext, HasNoNext};
-ghost use Rattle.oz_tables.specs.Places.{IsAt, IsGap, IsBehind};
+ghost use Rattle.oz_tables.specs.Tables.{row_of, row_after, row_after_one, is_same, KeysRise, IsNext, HasNoNext};
+ghost use Rattle.oz_tables.specs.Places.{IsAt, IsGap, IsBehind, IsRank};
+ghost use Rattle.oz_tables.specs.Counts.{IsCount};
 
 use crate::entry::Entry;
 use oz_fields::OutOfMemory;
@@ -67,6 +68,15 @@ impl Tables {
         }
     }
 
+    /// How many keys from one on and below another have a row. It takes two searches by halving.
+    pub fn count(&self, from: &RowKey, to: &RowKey) -> usize
+        ensures count { IsCount (row_of self.now.rows) from.now to.now result }
+        ensures small { result < 2 ^ 63 }
+        ensures in_order { KeysRise self.now.rows }
+    {
+        self.rank(to).saturating_sub(self.rank(from))
+    }
+
     /// Makes room for so many changes.
     pub fn reserve(&mut self, _alloc: Global, changes: usize) -> Result<(), OutOfMemory>
         ensures rows { self.new.rows ≡ self.old.rows }
@@ -88,10 +98,8 @@ impl Tables {
         ensures last_index { self.new.last_index ≡ index }
         ensures spare { self.old.spare ≤ self.new.spare + length changes.items }
     {
-        self.last_index = index;
-        for change in changes {
-            self.enter(change);
-        }
+        self.enter_all(changes);
+        self.reach(index);
     }
 
     /// The index of the last transaction that the rows stand for, 0 where there was none.
@@ -99,6 +107,35 @@ impl Tables {
         ensures { result ≡ self.now.last_index }
     {
         self.last_index
+    }
+
+    /// All rows, in the order of their keys.
+    pub(crate) fn rows(&self) -> &[Entry]
+        ensures rows { result.now ≡ self.now.rows }
+        ensures in_order { KeysRise result.now }
+    {
+        self.entries.as_slice()
+    }
+
+    /// Applies changes in their order, the index left as it is.
+    pub(crate) fn enter_all(&mut self, changes: Vec<Change>)
+        requires { length changes.items ≤ self.old.spare }
+        ensures rows { (key : AnyKey) → row_of self.new.rows key ≡ row_after changes.items key (row_of self.old.rows key) }
+        ensures last_index { self.new.last_index ≡ self.old.last_index }
+        ensures spare { self.old.spare ≤ self.new.spare + length changes.items }
+    {
+        for change in changes {
+            self.enter(change);
+        }
+    }
+
+    /// Sets the index.
+    pub(crate) fn reach(&mut self, index: u64)
+        ensures rows { self.new.rows ≡ self.old.rows }
+        ensures last_index { self.new.last_index ≡ index }
+        ensures spare { self.old.spare ≤ self.new.spare }
+    {
+        self.last_index = index;
     }
 
     fn enter(&mut self, change: Change)
@@ -151,6 +188,16 @@ impl Tables {
     {
         self.entries
             .partition_point(|entry| compared(entry, key).is_le())
+    }
+
+    /// How many keys are below this one.
+    fn rank(&self, key: &RowKey) -> usize
+        ensures in_order { KeysRise self.now.rows }
+        ensures rank { IsRank self.now.rows key.now result }
+        ensures small { result < 2 ^ 63 }
+    {
+        self.entries
+            .partition_point(|entry| compared(entry, key).is_lt())
     }
 }
 

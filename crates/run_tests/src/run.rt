@@ -1,114 +1,10 @@
 #[cfg(test)]
 mod tests {
-    use oz_cluster::run::{Disks, run};
-    use oz_world::{MemoryDisk, MemorySink, MemorySource, OpenGate, OutOfMemory};
-    use std::alloc::Global;
+    use crate::memory_run::{Fails, NEVER, ONE, leaves, runs, writes};
+    use oz_world::OutOfMemory;
     use std::process::Abort;
     use std::sync::Wait;
     use std::test::Fail;
-
-    const ROOM: u64 = 4096;
-
-    /// A disk with the volume `vol1`, of index 1.
-    const ONE: [u8; 23] = [
-        1, 0, 0, 0, 17, 1, 0, 0, 0, 0, 0, 0, 0, 1, 1, 1, 0, 4, 118, 111, 108, 49, 0,
-    ];
-
-    /// The numbers, from 1, of the calls that fail, and 0 where none does.
-    #[derive(Clone, Copy)]
-    struct Fails {
-        source: u64,
-        sink: u64,
-        disk: u64,
-    }
-
-    const NEVER: Fails = Fails {
-        source: 0,
-        sink: 0,
-        disk: 0,
-    };
-
-    /// What a run left: its status, what it wrote, and the bytes of the manager's disk.
-    #[derive(Debug, Drop, PartialEq, Eq)]
-    struct Left {
-        status: u8,
-        text: String,
-        disk: Vec<u8>,
-    }
-
-    /// The words between the commas; none where the line is empty.
-    fn words_of(alloc: Global, line: &str) -> Result<Vec<String>, OutOfMemory> {
-        let mut words = Vec::new(alloc);
-        if !line.is_empty() {
-            for word in line.split(',') {
-                words.push(String::from_str(alloc, word)?)?;
-            }
-        }
-        Ok(words)
-    }
-
-    fn disk_of(alloc: Global, bytes: &[u8], fails: u64) -> Result<MemoryDisk, OutOfMemory> {
-        MemoryDisk::new(alloc, bytes.to_vec(alloc)?, vec![in alloc; fails]?, ROOM)
-    }
-
-    /// What a run with these words leaves of a disk, where some calls fail.
-    fn runs<R: Wait + AllocGlobal>(
-        rt: &R,
-        words: &str,
-        script: &[u8],
-        disk: &[u8],
-        fails: Fails,
-    ) -> Result<Left, OutOfMemory> {
-        let alloc = rt.alloc();
-        let words = words_of(alloc, words)?;
-        let mut source = MemorySource::new(script.to_vec(alloc)?, vec![in alloc; fails.source]?);
-        let mut out = MemorySink::new(alloc, vec![in alloc; fails.sink]?)?;
-        let disks = Disks {
-            manager: disk_of(alloc, disk, fails.disk)?,
-            scm: disk_of(alloc, &[], 0)?,
-            nodes: Vec::new(alloc),
-        };
-        let ended = run(rt, alloc, &words, &mut source, &mut out, disks, &OpenGate);
-        Ok(Left {
-            status: ended.status,
-            text: String::from_utf8_lossy(alloc, out.held())?,
-            disk: ended.disks.manager.bytes().to_vec(alloc)?,
-        })
-    }
-
-    /// A run in which no call fails writes this. The answer is what the disk then holds.
-    fn writes<R: Wait + Abort + AllocGlobal>(
-        rt: &R,
-        script: &str,
-        disk: &[u8],
-        wanted: &str,
-    ) -> Result<Vec<u8>, OutOfMemory> {
-        let Left { status, text, disk } = runs(rt, "run,.", script.as_bytes(), disk, NEVER)?;
-        assert_eq!(rt; text.as_str(), wanted, "of {script:?}");
-        assert_eq!(rt; status, 0, "of {script:?}");
-        Ok(disk)
-    }
-
-    /// A run with these words leaves this, where some calls fail: its status, its text and its disk.
-    fn leaves<R: Wait + Abort + AllocGlobal>(
-        rt: &R,
-        words: &str,
-        script: &[u8],
-        disk: &[u8],
-        fails: Fails,
-        wanted: (u8, &str, &[u8]),
-    ) -> Result<(), OutOfMemory> {
-        let alloc = rt.alloc();
-        let (status, text, kept) = wanted;
-        let wanted = Left {
-            status,
-            text: String::from_str(alloc, text)?,
-            disk: kept.to_vec(alloc)?,
-        };
-        let found = runs(rt, words, script, disk, fails)?;
-        assert_eq!(rt; found, wanted);
-        Ok(())
-    }
 
     #[test]
     fn an_empty_script_over_an_empty_disk(rt: HostRuntime) -> Result<(), Fail> {
@@ -279,15 +175,6 @@ mod tests {
         Ok(())
     }
 
-    /// A disk of this body alone.
-    fn holding(alloc: Global, body: &[u8]) -> Result<Vec<u8>, OutOfMemory> {
-        let mut bytes = vec![in alloc; 1, 0, 0, 0]?;
-        bytes.push(body.len().min(255) as u8)?;
-        bytes.extend_from_slice(body)?;
-        bytes.push(0)?;
-        Ok(bytes)
-    }
-
     #[test]
     fn journals_that_are_damaged(rt: HostRuntime) -> Result<(), Fail> {
         for (disk, text) in [
@@ -303,41 +190,6 @@ mod tests {
             let script = b"a volume create /abc\n";
             leaves(&rt, "run,.", script, disk, NEVER, (6, text, disk))?;
         }
-        Ok(())
-    }
-
-    #[test]
-    fn bodies_that_are_damaged(rt: HostRuntime) -> Result<(), Fail> {
-        for body in [
-            [].as_slice(),
-            &[7],
-            &[2, 0, 0, 0, 0, 0, 0, 0, 1, 1, 1, 0, 3, 97, 98, 99],
-            &[1, 0, 0, 0, 0, 0, 0, 0, 0, 1, 1, 0, 3, 97, 98, 99],
-            &[1, 128, 0, 0, 0, 0, 0, 0, 0, 1, 1, 0, 3, 97, 98, 99],
-            &[1, 0, 0, 0, 0, 0, 0, 0, 1, 2, 1, 0, 3, 97, 98, 99],
-            &[1, 0, 0, 0, 0, 0, 0, 0, 1, 1, 2, 0, 3, 97, 98, 99],
-            &[1, 0, 0, 0, 0, 0, 0, 0, 1, 1, 1, 0, 2, 97, 98],
-            &[1, 0, 0, 0, 0, 0, 0, 0, 1, 1, 1, 0, 4, 97, 98, 99],
-            &[1, 0, 0, 0, 0, 0, 0, 0, 1, 1, 1, 0, 3, 97, 98, 99, 0],
-        ] {
-            let alloc = rt.alloc();
-            let alone = holding(alloc, body)?;
-            let text = "damaged manager at 5\n";
-            leaves(&rt, "run,.", b"", &alone, NEVER, (6, text, &alone))?;
-            let mut behind = ONE[..22].to_vec(alloc)?;
-            behind.extend_from_slice(&alone)?;
-            let text = "damaged manager at 27\n";
-            leaves(&rt, "run,.", b"", &behind, NEVER, (6, text, &behind))?;
-        }
-        Ok(())
-    }
-
-    #[test]
-    fn a_record_of_an_earlier_index(rt: HostRuntime) -> Result<(), Fail> {
-        let mut twice = ONE[..22].to_vec(rt.alloc())?;
-        twice.extend_from_slice(&ONE)?;
-        let text = "damaged manager at 27\n";
-        leaves(&rt, "run,.", b"", &twice, NEVER, (6, text, &twice))?;
         Ok(())
     }
 

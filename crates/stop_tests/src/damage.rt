@@ -102,19 +102,57 @@ mod tests {
         number
     }
 
-    /// The index and the name of a body, which may follow one of the last index.
-    fn body_by_hand(last: u64, body: &[u8]) -> Option<(u64, &[u8])> {
-        let (layout, rest) = front(body, 1)?;
-        let (index, rest) = front(rest, 8)?;
-        let (put, rest) = front(rest, 2)?;
-        let (size, name) = front(rest, 2)?;
+    /// The index of a body, which may follow one of the last index, and what stands behind it; or the place of the
+    /// field at fault.
+    fn head_by_hand(last: u64, body: &[u8]) -> Result<(u64, &[u8]), u64> {
+        let [1, rest @ ..] = body else {
+            return Err(0);
+        };
+        let Some((index, rest)) = front(rest, 8) else {
+            return Err(1);
+        };
         let index = number(index);
-        let fits = last < index && index < 1 << 63 && number(size) == name.len() as u64;
-        if layout == [1].as_slice() && put == [1, 1].as_slice() && fits && is_name(name) {
-            Some((index, name))
+        if last < index && index < 1 << 63 {
+            Ok((index, rest))
         } else {
-            None
+            Err(1)
         }
+    }
+
+    /// The name in an operation that puts a volume, and what stands behind it; or the place of the field at fault.
+    fn volume_by_hand(bytes: &[u8]) -> Result<(&[u8], &[u8]), u64> {
+        let rest = match bytes {
+            [1, 1, rest @ ..] => rest,
+            [1, ..] => return Err(1),
+            _ => return Err(0),
+        };
+        let Some((size, rest)) = front(rest, 2) else {
+            return Err(2);
+        };
+        match front(rest, number(size) as usize) {
+            Some((name, rest)) if is_name(name) => Ok((name, rest)),
+            _ => Err(2),
+        }
+    }
+
+    /// Adds the volumes that a body puts, which may follow one of the last index. The answer is its own index, or the
+    /// place of the field at fault.
+    fn body_by_hand(last: u64, body: &[u8], kept: &mut Kept) -> Result<u64, u64> {
+        let (index, mut rest) = head_by_hand(last, body)?;
+        for _ in 0..body.len() {
+            let at = (body.len() as u64).saturating_sub(rest.len() as u64);
+            if rest.is_empty() {
+                break;
+            }
+            match volume_by_hand(rest) {
+                Ok((name, more)) => {
+                    kept.add(name);
+                    rest = more;
+                }
+                Err(field) => return Err(at.saturating_add(field)),
+            }
+        }
+        Ok(index)
     }
 
     /// The body that a journal with an open gate begins with, and what follows it.
@@ -141,12 +179,11 @@ mod tests {
             let Some((body, after)) = record_by_hand(rest) else {
                 return Reading::Damaged(at);
             };
-            match body_by_hand(last, body) {
-                Some((index, name)) => {
-                    kept.add(name);
-                    last = index;
+            match body_by_hand(last, body, &mut kept) {
+                Ok(index) => last = index,
+                Err(field) => {
+                    wrong = wrong.or(Some(at.saturating_add(5).saturating_add(field)));
                 }
-                None => wrong = wrong.or(Some(at.saturating_add(5))),
             }
             rest = after;
         }

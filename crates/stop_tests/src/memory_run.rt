@@ -74,6 +74,22 @@ pub fn runs<R: Wait + AllocGlobal>(
     })
 }
 
+/// How many writes the runs make that are stopped.
+pub const WRITES: u64 = 10;
+
+/// The last call of such a run: three load the disk, and four make a write stable.
+pub const LAST_CALL: u64 = 43;
+
+/// How many writes are told `OK` before this call.
+pub fn told_before(call: u64) -> u64 {
+    call.saturating_sub(4) / 4
+}
+
+/// The same with the write that is decided when this call fails, if there is one.
+pub fn told_or_decided(call: u64) -> u64 {
+    (call / 4).min(WRITES)
+}
+
 pub fn holds(rt: &impl Abort, it: bool, what: &str, call: u64) {
     assert!(rt; it, "{what}, at {call}");
 }

@@ -1,31 +1,19 @@
 #[cfg(test)]
 mod tests {
-    use crate::memory_run::{Fails, NEVER, finds, holds, keeps, lines, runs};
+    use crate::memory_run::{
+        Fails, LAST_CALL, NEVER, WRITES, finds, holds, keeps, lines, runs, told_before,
+        told_or_decided,
+    };
     use oz_world::OutOfMemory;
     use std::alloc::Global;
     use std::process::Abort;
     use std::sync::Wait;
     use std::test::Fail;
 
-    const VOLUMES: u64 = 10;
-
-    /// The last call of a run that makes ten volumes: three load the disk, and four make a volume stable.
-    const LAST_CALL: u64 = 43;
-
-    /// How many lines are told `OK` before this call.
-    fn told_before(call: u64) -> u64 {
-        call.saturating_sub(4) / 4
-    }
-
-    /// The same with the line that is decided when this call fails, if there is one.
-    fn told_or_decided(call: u64) -> u64 {
-        (call / 4).min(VOLUMES)
-    }
-
     /// The numbers of the answers, where the manager halts behind so many lines.
     fn answers(alloc: Global, told: u64) -> Result<Vec<u16>, OutOfMemory> {
         let mut answers = Vec::new(alloc);
-        for line in 0..VOLUMES {
+        for line in 0..WRITES {
             answers.push(if line < told {
                 0
             } else if line == told {
@@ -45,7 +33,7 @@ mod tests {
         disk: &[u64],
     ) -> Result<(), OutOfMemory> {
         let alloc = rt.alloc();
-        let script = lines(alloc, "create", VOLUMES)?;
+        let script = lines(alloc, "create", WRITES)?;
         let left = runs(rt, &script, &[], Fails { disk, ..NEVER })?;
         let told = told_before(call);
         let wanted = if call < 4 {
@@ -56,7 +44,7 @@ mod tests {
         let status = if call <= LAST_CALL { 5 } else { 0 };
         holds(rt, left.status == status, "status", call);
         holds(rt, left.told == wanted, "told", call);
-        keeps(rt, &left.disk, (told, told_or_decided(call)), VOLUMES, call)
+        keeps(rt, &left.disk, (told, told_or_decided(call)), WRITES, call)
     }
 
     #[test]

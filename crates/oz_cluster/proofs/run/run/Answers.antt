@@ -2,10 +2,12 @@ use Rattle.std.proofs.Common.{◌≡◌, inl, inr, ℕ, List, length, map, sym, 
 use Rattle.std.specs.String.{string_bytes}
 use Rattle.oz_world.specs.Disk.{seen}
 use Rattle.oz_world.specs.Faults.{Rose}
+use Rattle.oz_cache.specs.Cache.{newest, last_epoch, changes_of, epoch_after}
+use Rattle.oz_tables.specs.Tables.{row_of, row_after}
 use Rattle.oz_cluster.specs.declared.events.Event.{Event}
 use Rattle.oz_cluster.specs.Headline.{IsPrinted, IsOneRun}
 use Rattle.oz_cluster.specs.Report.{report_of}
-use Rattle.oz_cluster.proofs.Endings.{stopped_late, stopped_early, open_so, causes_of, one_run, all_served}
+use Rattle.oz_cluster.proofs.Endings.{stopped_late, stopped_early, open_so, causes_of, one_run, all_served, loads_as}
 use Rattle.oz_cluster.proofs.run.run.Goals as goal
 
 pub returns-in-Err-clause-one_run : goal.returns-in-Err-clause-one_run
@@ -52,15 +54,17 @@ returns-clause-one_run g c =
     let rose = Rose (g.K.Sink.faults c.args.out.now) (g.K.Sink.faults c.finish-status.new.out) in
     let of_story = subst (λ (story : List Event). IsPrinted c.finish-status.result (report_of (length c.items.result.now) story) (g.K.Sink.held c.args.out.now) (g.K.Sink.held c.finish-status.new.out) rose) c.deref.ensures.value c.finish-status.ensures.printed in
     let printed = subst (λ (n : ℕ). IsPrinted c.finish-status.result (report_of n last.story.items) (g.K.Sink.held c.args.out.now) (g.K.Sink.held c.finish-status.new.out) rose) lines of_story in
+    let rows_are : row_of first.rows.durable.rows ≡ newest first.rows = λ i key. row_after (changes_of ((sym c.in-Ok-open.ensures.fresh) i)) key (row_of first.rows.durable.rows key) in
     let run = one_run (map string_bytes c.args.words.now) (g.S.Source.left c.args.source.now)
     (seen (g.D.Disk.told disk) (g.D.Disk.clock disk) (g.D.Disk.image disk) (g.D.Disk.faults disk))
     (seen (g.D.Disk.told first.journal.disk) (g.D.Disk.clock first.journal.disk) (g.D.Disk.image first.journal.disk) (g.D.Disk.faults first.journal.disk))
     (seen (g.D.Disk.told last.journal.disk) (g.D.Disk.clock last.journal.disk) (g.D.Disk.image last.journal.disk) (g.D.Disk.faults last.journal.disk))
     (g.K.Sink.held c.args.out.now) (g.K.Sink.held c.finish-status.new.out) rose
-    (record { namespace = first.namespace; index = first.index }) script served.0 last.story.items last.namespace last.index last.journal.stopped c.finish-status.result
-    c.in-Ok.ensures.words c.in-Ok.ensures.script c.in-Ok.ensures.numbered c.in-Ok-open.ensures.opens served.1
-    c.in-Ok-open.ensures.stands c.in-Ok-open.ensures.stable c.in-Ok-open.ensures.ended c.in-Ok-open.ensures.moments c.in-Ok-open.ensures.never_falls
-    served.3 c.serve_all-worked.ensures.held c.serve_all-worked.ensures.time
+    first.rows.durable.rows (last_epoch first.rows) (newest first.rows) script served.0 last.story.items (newest last.rows) (last_epoch last.rows) last.journal.stopped c.finish-status.result
+    c.in-Ok.ensures.words c.in-Ok.ensures.script c.in-Ok.ensures.numbered (loads_as (g.D.Disk.told disk) first.rows.durable.rows first.rows.durable.last_index (last_epoch first.rows) (ap (epoch_after first.rows.durable.last_index) (sym c.in-Ok-open.ensures.fresh)) c.in-Ok-open.ensures.loads) served.1
+    rows_are c.in-Ok-open.ensures.fit
+    c.in-Ok-open.ensures.keeps c.in-Ok-open.ensures.stable c.in-Ok-open.ensures.ended c.in-Ok-open.ensures.moments c.in-Ok-open.ensures.never_falls
+    served.3 c.serve_all-worked.ensures.right c.serve_all-worked.ensures.held c.serve_all-worked.ensures.time
     (all_served _ _ _ _ served.2 c.finish-status.ensures.worked)
     (λ is. sym c.stopped.ensures.stopped ∙ c.finish-status.ensures.done is) (λ is. sym c.stopped.ensures.stopped ∙ c.finish-status.ensures.disk is) printed in (
       c.finish-status.result,

@@ -1,3 +1,4 @@
+use Rattle.oz_tables.proofs.Fitting.{bodies_fit}
 use Rattle.oz_tables.proofs.Steps.{body_follows, bodies_based}
 use Rattle.oz_tables.proofs.batches.a_batch_makes_a_body.Goals as goal
 
@@ -6,3 +7,6 @@ returns-clause-follows c = body_follows
 
 pub returns-clause-based : goal.returns-clause-based
 returns-clause-based c = bodies_based
+
+pub returns-clause-fit : goal.returns-clause-fit
+returns-clause-fit c = bodies_fit

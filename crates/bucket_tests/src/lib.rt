@@ -1,0 +1,9 @@
+//! Tests of what is decided of volumes and buckets.
+#![tactic(auto)]
+
+#[cfg(test)]
+mod asked;
+#[cfg(test)]
+mod decided;
+#[cfg(test)]
+mod shelf;

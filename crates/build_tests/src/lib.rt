@@ -1,0 +1,6 @@
+//! Tests of the tables that bodies make.
+#![tactic(auto)]
+
+mod bodies;
+mod hex;
+mod kinds;

@@ -1,0 +1,9 @@
+//! Tests of the cache.
+#![tactic(auto)]
+
+#[cfg(test)]
+mod calls;
+#[cfg(test)]
+mod draws;
+#[cfg(test)]
+mod history;

@@ -1,0 +1,7 @@
+pub mod Rows
+pub mod Searches
+pub mod Batches
+pub mod Newest
+pub mod Next
+pub mod Counts
+pub mod Between

@@ -1,0 +1,33 @@
+use Rattle.std.proofs.Common.{[], ◌∷◌, ◌++◌, None, sym, ◌∙◌, ap}
+use Rattle.oz_tables.specs.Tables.{Contents as Tables, row_of, row_after}
+use Rattle.oz_cache.specs.Cache.{Contents, batch_of, changes_of, epoch_after, newest}
+use Rattle.oz_cache.specs.Places.{found, after_changes, after_batches}
+use Rattle.oz_cache.proofs.Newest.{after_batches-append, newest_entered}
+use Rattle.oz_cache.proofs.Batches.{epoch_after-append}
+use Rattle.oz_cache.proofs.cached.Cached.enter.Goals as goal
+
+pub invariant_of-self : goal.invariant_of-self
+invariant_of-self c = λ key.
+    let batches = c.self.inside.pending.batches in
+    let rows = c.self.inside.newer.rows in
+    c.enter.ensures.rows key
+    ∙ ap (λ changes. after_changes c.args.epoch changes key (found rows key)) c.under-batch.ensures.again
+    ∙ ap (after_changes c.args.epoch c.args.prepared key) (c.self.invariant key)
+    ∙ sym (ap (λ l. after_batches l key None) (c.push.ensures.batches ∙ ap (λ batch. batches ++ batch) c.under-batch.ensures.batch)
+    ∙ after_batches-append batches (batch_of c.args.epoch c.args.prepared ∷ []) key None)
+
+pub returns-clause-newest : goal.returns-clause-newest
+returns-clause-newest c = λ key.
+    let pending = c.self.inside.pending in
+    let one = batch_of c.args.epoch c.args.prepared in
+    ap (λ l. row_after (changes_of l) key (row_of c.push.new.self.durable.rows key)) (c.push.ensures.batches ∙ ap (λ batch. pending.batches ++ batch) c.under-batch.ensures.batch)
+    ∙ ap (λ (t : Tables). row_after (changes_of (pending.batches ++ one ∷ [])) key (row_of t.rows key)) c.push.ensures.durable
+    ∙ newest_entered pending.batches one key (row_of pending.durable.rows key)
+    ∙ ap (λ (w : Contents). row_after c.args.prepared key (newest w key)) c.self.view_is
+
+pub returns-clause-last : goal.returns-clause-last
+returns-clause-last c =
+    let pending = c.self.inside.pending in
+    let new = c.push.new.self in
+    ap (epoch_after new.durable.last_index) (c.push.ensures.batches ∙ ap (λ batch. pending.batches ++ batch) c.under-batch.ensures.batch)
+    ∙ epoch_after-append new.durable.last_index pending.batches (batch_of c.args.epoch c.args.prepared ∷ [])

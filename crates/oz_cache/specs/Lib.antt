@@ -1,0 +1,3 @@
+pub mod Cache
+pub mod Places
+pub mod Waiting

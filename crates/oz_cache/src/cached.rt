@@ -1,0 +1,203 @@
+ghost use Rattle.std.specs.Prelude.{◌≡◌, ◌+◌, ◌^◌, ◌<◌, ◌≤◌, ◌↔◌, [], ◌∷◌, ◌++◌, length, false, option_copied, IsTrue, MatchOption, IfOk, OnOk};
+ghost use Rattle.std.specs.Ordering.{is_gt};
+ghost use Rattle.oz_rows.specs.declared.key.RowKey.{RowKey as AnyKey};
+ghost use Rattle.oz_rows.specs.Rows.{kind_of};
+ghost use Rattle.oz_rows.specs.Order.{key_order};
+ghost use Rattle.oz_tables.specs.Counts.{IsCount};
+ghost use Rattle.oz_tables.specs.Tables.{row_of, row_after, IsNext, HasNoNext};
+ghost use Rattle.oz_cache.specs.Places.{RowsRise, IsWithin, over_rows, counted_anew};
+ghost use Rattle.std.specs.List.{AllByRecursion};
+ghost use Rattle.oz_cache.specs.Cache.{batch_of, changes_of, key_count, newest, epoch_after, last_epoch, up_to, later};
+
+use crate::newer::{CachedRow, Newer};
+use crate::pending::Pending;
+use crate::prepared::Prepared;
+use oz_epochs::Steps;
+use oz_fields::OutOfMemory;
+use oz_rows::{Change, Row, RowKey};
+use oz_tables::Tables;
+use std::alloc::Global;
+use std::marker::Model;
+use std::sync::ledger::Ledger;
+
+/// Tables with newer rows above them, as one map from keys to rows.
+#[derive(Drop)]
+pub struct Cached {
+    pending: Pending,
+    newer: Newer,
+}
+
+impl Model for Cached {
+    ghost use Rattle.std.specs.Prelude.{min};
+    ghost use Rattle.oz_cache.specs.Cache.{Contents};
+    ghost use Rattle.oz_cache.specs.Places.{AreLastOf};
+
+    ghost Value = { Contents };
+
+    ghost view = { λ c. record { durable = c.pending.durable; entered = c.pending.batches; spare = min c.pending.spare c.newer.spare } };
+
+    ghost invariant = { λ c. AreLastOf c.pending.batches c.newer.rows };
+}
+
+impl Cached {
+    /// Tables with nothing above them. It takes no memory.
+    pub fn over(alloc: Global, tables: Tables) -> Cached
+        ensures durable { result.durable ≡ tables }
+        ensures entered { result.entered ≡ [] }
+    {
+        Cached {
+            pending: Pending::over(alloc, tables),
+            newer: Newer::new(alloc),
+        }
+    }
+
+    /// The newest row of a key.
+    pub fn get(&self, key: &RowKey) -> Option<&Row>
+        ensures { option_copied result ≡ newest self.now key.now }
+    {
+        match self.newer.find(key) {
+            Some(cached) => cached.row.as_ref(),
+            None => self.pending.tables().get(key),
+        }
+    }
+
+    /// The least key above this one that is of the same kind and has a row, and its newest row. The
+    /// key itself may have none. It looks at one cached row more than it passes over, and passes
+    /// only over keys that were taken away.
+    pub fn next(&self, key: &RowKey) -> Option<(&RowKey, &Row)>
+        ensures { MatchOption result
+            (HasNoNext (newest self.now) key.now)
+            (λ found. IsNext (newest self.now) key.now found.0.now found.1.now) }
+    {
+        let tables = self.pending.tables();
+        let mut from = key;
+        for cached in self.newer.above(key) {
+            let below = tables.next(from);
+            if !comes_first(cached, from, below) {
+                return below;
+            }
+            match &cached.row {
+                Some(row) => return Some((&cached.key, row)),
+                None => from = &cached.key,
+            }
+        }
+        tables.next(from)
+    }
+
+    /// How many keys from one on and below another have a row. It searches by halving, and looks at
+    /// each cached row between the two.
+    pub fn count(&self, from: &RowKey, to: &RowKey) -> usize
+        ensures { IsCount (newest self.now) from.now to.now result }
+    {
+        count_with(
+            self.pending.tables(),
+            self.newer.between(from, to),
+            from,
+            to,
+        )
+    }
+
+    /// The tables, which stand for what was flushed.
+    pub fn durable(&self) -> &Tables
+        ensures { result.now ≡ self.now.durable }
+    {
+        self.pending.tables()
+    }
+
+    /// The last epoch that was entered, or the tables' last index where everything was flushed.
+    pub fn last_epoch(&self) -> u64
+        ensures { result ≡ last_epoch self.now }
+    {
+        self.pending.last_epoch()
+    }
+
+    /// Takes all memory that these changes need. Where it runs out, the changes are gone.
+    pub fn prepare(&mut self, alloc: Global, changes: Vec<Change>) -> Result<Prepared, OutOfMemory>
+        ensures changes { IfOk result (λ prepared. prepared ≡ changes.items) }
+        ensures room { OnOk result (length changes.items ≤ self.new.spare) }
+
+        ensures rows { self.new.durable.rows ≡ self.old.durable.rows }
+        ensures last_index { self.new.durable.last_index ≡ self.old.durable.last_index }
+        ensures entered { self.new.entered ≡ self.old.entered }
+        ensures kept { self.old.spare ≤ self.new.spare }
+    {
+        self.pending.reserve(alloc, changes.len())?;
+        self.newer.reserve(changes.len())?;
+        Prepared::of(alloc, changes)
+    }
+
+    /// Enters prepared changes under an epoch. It takes no memory. The limit is that of the indices
+    /// in the manager's journal.
+    pub fn enter(&mut self, epoch: u64, prepared: Prepared)
+        requires room { length prepared ≤ self.old.spare }
+        requires above { last_epoch self.old < epoch }
+        requires limit { epoch < 2 ^ 63 }
+        ensures entered { self.new.entered ≡ self.old.entered ++ batch_of epoch prepared ∷ [] }
+        ensures durable { self.new.durable ≡ self.old.durable }
+        ensures newest { (key : AnyKey) → newest self.new key ≡ row_after prepared key (newest self.old key) }
+        ensures last { last_epoch self.new ≡ epoch }
+        ensures spare { self.old.spare ≤ self.new.spare + length prepared }
+    {
+        let (batch, changes) = prepared.under(epoch);
+        self.pending.push(batch, changes.len());
+        self.newer.enter(epoch, changes);
+    }
+
+    /// Moves what was entered up to an epoch down into the tables, where it is durable. It takes no
+    /// memory. There is one cached row for each key that was entered; each of them is looked at,
+    /// which is one step.
+    pub fn flushed<L: Ledger>(&mut self, epoch: u64, steps: &mut Steps<L>)
+        ensures rows { (key : AnyKey) → row_of self.new.durable.rows key ≡ row_after (changes_of (up_to epoch self.old.entered)) key (row_of self.old.durable.rows key) }
+        ensures last_index { self.new.durable.last_index ≡ epoch_after self.old.durable.last_index (up_to epoch self.old.entered) }
+        ensures entered { self.new.entered ≡ later epoch self.old.entered }
+
+        // To readers nothing changes.
+        ensures newest { (key : AnyKey) → newest self.new key ≡ newest self.old key }
+        ensures last { last_epoch self.new ≡ last_epoch self.old }
+
+        ensures spare { self.old.spare ≤ self.new.spare }
+        ensures steps { steps.new ≡ steps.old + key_count (changes_of self.old.entered) }
+    {
+        self.pending.move_down(epoch);
+        self.newer.keep_after(epoch, steps);
+    }
+}
+
+/// Whether the first cached row above a key comes before what the tables have next.
+fn comes_first(cached: &CachedRow, from: &RowKey, below: Option<(&RowKey, &Row)>) -> bool
+    ensures { IsTrue result ↔ MatchOption below.entry
+        (kind_of cached.now.key ≡ kind_of from.now)
+        (λ found. is_gt (key_order cached.now.key found.0.now) ≡ false) }
+{
+    match below {
+        Some((key, _)) => cached.key.cmp(key).is_le(),
+        None => cached.key.kind() == from.kind(),
+    }
+}
+
+/// How many keys have a row in tables with these cached rows above them.
+fn count_with(tables: &Tables, cached: &[CachedRow], from: &RowKey, to: &RowKey) -> usize
+    requires rise { RowsRise cached.now }
+    requires within { AllByRecursion (λ row. IsWithin from.now to.now row.key) cached.now }
+    ensures { IsCount (over_rows cached.now (row_of tables.now.rows)) from.now to.now result }
+{
+    let mut count = tables.count(from, to);
+    for row in cached {
+        count = count_after(count, tables.get(&row.key).is_some(), row.row.is_some());
+    }
+    count
+}
+
+/// A count, where a row was there before or not, and is there now or not.
+fn count_after(count: usize, before: bool, now: bool) -> usize
+    requires { count + 1 < 2 ^ 64 }
+    ensures { result ≡ counted_anew count before now }
+{
+    if before == now {
+        count
+    } else if now {
+        count + 1
+    } else {
+        count.saturating_sub(1)
+    }
+}

@@ -1,0 +1,60 @@
+//! From a line of a script to what it asks, and from a reply to what the line is told.
+
+ghost use Rattle.std.specs.Prelude.{◌≡◌, IfOk};
+ghost use Rattle.oz_cluster.specs.Fits.{request_of as request_said, answer_of as answer_due};
+
+use oz_fields::{Name, OutOfMemory};
+use oz_requests::{Answer, Reply, Request, Values};
+use oz_script::Command;
+use std::alloc::Global;
+
+fn again(alloc: Global, name: &Name) -> Result<Name, OutOfMemory>
+    ensures { IfOk result (λ copy. copy ≡ name.now) }
+{
+    Name::copy(alloc, name.bytes())
+}
+
+/// What a line asks.
+pub fn request_of(alloc: Global, command: &Command) -> Result<Request, OutOfMemory>
+    ensures { IfOk result (λ request. request ≡ request_said command.now) }
+{
+    Ok(match command {
+        Command::VolumeCreate { volume } => Request::CreateVolume {
+            volume: again(alloc, volume)?,
+        },
+        Command::VolumeDelete { volume } => Request::DeleteVolume {
+            volume: again(alloc, volume)?,
+        },
+        Command::VolumeInfo { volume } => Request::InfoVolume {
+            volume: again(alloc, volume)?,
+        },
+        Command::BucketList { volume } => Request::ListBuckets {
+            volume: again(alloc, volume)?,
+        },
+        Command::BucketCreate { volume, bucket } => Request::CreateBucket {
+            volume: again(alloc, volume)?,
+            bucket: again(alloc, bucket)?,
+        },
+        Command::BucketDelete { volume, bucket } => Request::DeleteBucket {
+            volume: again(alloc, volume)?,
+            bucket: again(alloc, bucket)?,
+        },
+        Command::BucketInfo { volume, bucket } => Request::InfoBucket {
+            volume: again(alloc, volume)?,
+            bucket: again(alloc, bucket)?,
+        },
+    })
+}
+
+/// What a line is told whose request had this reply.
+pub fn answer_of(reply: Reply) -> Answer
+    ensures { result ≡ answer_due reply }
+{
+    match reply {
+        Reply::Done => Answer::Ok(Values::Done),
+        Reply::Count(count) => Answer::Ok(Values::Buckets(count)),
+        Reply::Counts(counts) => Answer::Ok(Values::Counts(counts)),
+        Reply::Names(names) => Answer::Ok(Values::Names(names)),
+        Reply::Code(code) => Answer::Code(code),
+    }
+}

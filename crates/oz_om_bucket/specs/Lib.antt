@@ -1,0 +1,4 @@
+pub mod Meets
+pub mod Records
+pub mod Replies
+pub mod Walking

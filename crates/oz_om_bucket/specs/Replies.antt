@@ -1,0 +1,15 @@
+-- What a reply over rows promises.
+use Rattle.oz_model.specs.Answers.{Answers}
+use Rattle.oz_namespace.specs.declared.namespace.Namespace.{Namespace}
+use Rattle.oz_requests.specs.declared.reply.Reply.{Reply}
+use Rattle.oz_requests.specs.declared.request.Request.{Request}
+use Rattle.oz_tables.specs.Tables.{Rows}
+use Rattle.oz_om_bucket.specs.Meets.{Stand}
+
+-- it is that of one thread, whichever namespace the rows stand for
+abbrev pub IsReply : Rows → Request → Reply → Type 0
+IsReply rows request reply = (namespace : Namespace) → Stand rows namespace → Answers namespace request reply
+
+-- this is so of the namespace that the rows stand for
+abbrev pub Seen : Rows → (Namespace → Type 0) → Type 0
+Seen rows Holds = (namespace : Namespace) → Stand rows namespace → Holds namespace

@@ -1,0 +1,12 @@
+pub mod Entries
+pub mod Numbering
+pub mod Pigeons
+pub mod Counting
+pub mod Few
+pub mod BlockLists
+pub mod Pairs
+pub mod Placing
+pub mod Joint
+pub mod NameFacts
+pub mod Joined
+pub mod Ordered

@@ -1,0 +1,12 @@
+use Rattle.std.proofs.Common.{[]}
+use Rattle.oz_tables.proofs.FaultPlaces.{fails_within}
+use Rattle.oz_tables.proofs.OneThing.{builds_one, not_both, fails_one}
+use Rattle.oz_tables.proofs.laws.bodies_make_one_thing.Goals as goal
+
+pub returns : goal.returns
+returns c = record {
+  one_table = λ bodies all other index last a b. builds_one [] 0 bodies all other index last a b;
+  not_both = λ bodies all index count place builds fails. not_both [] 0 bodies all index count place builds fails;
+  one_fault = λ bodies count place other at a b. fails_one [] 0 bodies count place other at a b;
+  within = λ bodies count place fails. fails_within [] 0 bodies count place fails;
+}

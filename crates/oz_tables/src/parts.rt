@@ -1,0 +1,116 @@
+//! The rows of one kind in a bucket, or in a volume, which stand together.
+
+ghost use Rattle.std.specs.Prelude.{◌≡◌, ◌≤◌, [], ◌∷◌};
+ghost use Rattle.oz_tables.specs.Tables.{KeysRise};
+ghost use Rattle.std.specs.Ordering.{nat_cmp};
+ghost use Rattle.std.specs.Cmp.Lexicographic.{slice_cmp};
+ghost use Rattle.oz_tables.specs.Parts.{IsPart, part_order};
+
+use crate::entry::Entry;
+use oz_fields::Name;
+use oz_rows::RowKey;
+use std::cmp::Ordering;
+
+/// The bucket's rows of a kind.
+pub(crate) fn bucket_rows<'a>(
+    rows: &'a [Entry],
+    kind: u8,
+    volume: &Name,
+    bucket: &Name,
+) -> &'a [Entry]
+    requires in_order { KeysRise rows.now }
+    requires low { 2 ≤ kind }
+    requires high { kind ≤ 8 }
+    ensures { IsPart rows.now ((kind ∷ []) ∷ volume.now ∷ bucket.now ∷ []) result.now }
+{
+    let start = rows.partition_point(|entry| bucket_order(
+        kind, volume, bucket, &entry.key,
+    ).is_gt());
+    let rest = &rows[start..];
+    let len = rest.partition_point(|entry| bucket_order(kind, volume, bucket, &entry.key).is_ge());
+    &rest[..len]
+}
+
+/// The buckets of a volume.
+pub(crate) fn buckets_of<'a>(rows: &'a [Entry], volume: &Name) -> &'a [Entry]
+    requires { KeysRise rows.now }
+    ensures { IsPart rows.now ((2 ∷ []) ∷ volume.now ∷ []) result.now }
+{
+    let start = rows.partition_point(|entry| volume_order(volume, &entry.key).is_gt());
+    let rest = &rows[start..];
+    let len = rest.partition_point(|entry| volume_order(volume, &entry.key).is_ge());
+    &rest[..len]
+}
+
+/// How the bucket's rows of a kind stand to a key: `Less` where the key is behind them.
+fn bucket_order(kind: u8, volume: &Name, bucket: &Name, key: &RowKey) -> Ordering
+    requires low { 2 ≤ kind }
+    requires high { kind ≤ 8 }
+    ensures { result ≡ part_order ((kind ∷ []) ∷ volume.now ∷ bucket.now ∷ []) key.now }
+{
+    match key {
+        RowKey::Volume { .. } => Ordering::Greater,
+        RowKey::Stripe { .. } => Ordering::Less,
+        RowKey::Bucket {
+            volume: v,
+            bucket: b,
+        } => names_order(kind, 2, volume, v, bucket, b),
+        RowKey::Key {
+            volume: v,
+            bucket: b,
+            ..
+        } => names_order(kind, 3, volume, v, bucket, b),
+        RowKey::Open {
+            volume: v,
+            bucket: b,
+            ..
+        } => names_order(kind, 4, volume, v, bucket, b),
+        RowKey::Deleted {
+            volume: v,
+            bucket: b,
+            ..
+        } => names_order(kind, 5, volume, v, bucket, b),
+        RowKey::Snapshot {
+            volume: v,
+            bucket: b,
+            ..
+        } => names_order(kind, 6, volume, v, bucket, b),
+        RowKey::SnapshotKey {
+            volume: v,
+            bucket: b,
+            ..
+        } => names_order(kind, 7, volume, v, bucket, b),
+        RowKey::Renamed {
+            volume: v,
+            bucket: b,
+            ..
+        } => names_order(kind, 8, volume, v, bucket, b),
+    }
+}
+
+/// Kinds first, then volumes, then buckets.
+fn names_order(
+    kind: u8,
+    other_kind: u8,
+    volume: &Name,
+    other_volume: &Name,
+    bucket: &Name,
+    other_bucket: &Name,
+) -> Ordering
+    ensures { result ≡ slice_cmp (slice_cmp nat_cmp) ((kind ∷ []) ∷ volume.now ∷ bucket.now ∷ []) ((other_kind ∷ []) ∷ other_volume.now ∷ other_bucket.now ∷ []) }
+{
+    let kinds = kind.cmp(&other_kind);
+    let volumes = volume.cmp(other_volume);
+    kinds.then(volumes).then(bucket.cmp(other_bucket))
+}
+
+/// How the buckets of a volume stand to a key.
+fn volume_order(volume: &Name, key: &RowKey) -> Ordering
+    ensures { result ≡ part_order ((2 ∷ []) ∷ volume.now ∷ []) key.now }
+{
+    match key {
+        RowKey::Volume { .. } => Ordering::Greater,
+        RowKey::Bucket { volume: other, .. } => volume.cmp(other),
+        _ => Ordering::Less,
+    }
+}

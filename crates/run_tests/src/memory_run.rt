@@ -1,0 +1,136 @@
+//! Runs over streams and disks in memory.
+
+use oz_cluster::run::{Disks, run};
+use oz_world::{MemoryDisk, MemorySink, MemorySource, OpenGate, OutOfMemory};
+use std::alloc::Global;
+use std::process::Abort;
+use std::sync::Wait;
+
+const ROOM: u64 = 65_536;
+
+/// A disk with the volume `vol1`, of index 1.
+pub const ONE: [u8; 23] = [
+    1, 0, 0, 0, 17, 1, 0, 0, 0, 0, 0, 0, 0, 1, 1, 1, 0, 4, 118, 111, 108, 49, 0,
+];
+
+/// The numbers, from 1, of the calls that fail, and 0 where none does.
+#[derive(Clone, Copy)]
+pub struct Fails {
+    pub source: u64,
+    pub sink: u64,
+    pub disk: u64,
+}
+
+pub const NEVER: Fails = Fails {
+    source: 0,
+    sink: 0,
+    disk: 0,
+};
+
+/// What a run left: its status, what it wrote, and the bytes of the manager's disk.
+#[derive(Debug, Drop, PartialEq, Eq)]
+pub struct Left {
+    pub status: u8,
+    pub text: String,
+    pub disk: Vec<u8>,
+}
+
+/// The words between the commas; none where the line is empty.
+fn words_of(alloc: Global, line: &str) -> Result<Vec<String>, OutOfMemory> {
+    let mut words = Vec::new(alloc);
+    if !line.is_empty() {
+        for word in line.split(',') {
+            words.push(String::from_str(alloc, word)?)?;
+        }
+    }
+    Ok(words)
+}
+
+fn disk_of(alloc: Global, bytes: &[u8], fails: u64) -> Result<MemoryDisk, OutOfMemory> {
+    MemoryDisk::new(alloc, bytes.to_vec(alloc)?, vec![in alloc; fails]?, ROOM)
+}
+
+/// What a run with these words leaves of a disk, where some calls fail.
+pub fn runs<R: Wait + AllocGlobal>(
+    rt: &R,
+    words: &str,
+    script: &[u8],
+    disk: &[u8],
+    fails: Fails,
+) -> Result<Left, OutOfMemory> {
+    let alloc = rt.alloc();
+    let words = words_of(alloc, words)?;
+    let mut source = MemorySource::new(script.to_vec(alloc)?, vec![in alloc; fails.source]?);
+    let mut out = MemorySink::new(alloc, vec![in alloc; fails.sink]?)?;
+    let disks = Disks {
+        manager: disk_of(alloc, disk, fails.disk)?,
+        scm: disk_of(alloc, &[], 0)?,
+        nodes: Vec::new(alloc),
+    };
+    let ended = run(rt, alloc, &words, &mut source, &mut out, disks, &OpenGate);
+    Ok(Left {
+        status: ended.status,
+        text: String::from_utf8_lossy(alloc, out.held())?,
+        disk: ended.disks.manager.bytes().to_vec(alloc)?,
+    })
+}
+
+/// A run in which no call fails writes this. The answer is what the disk then holds.
+pub fn writes<R: Wait + Abort + AllocGlobal>(
+    rt: &R,
+    script: &str,
+    disk: &[u8],
+    wanted: &str,
+) -> Result<Vec<u8>, OutOfMemory> {
+    let Left { status, text, disk } = runs(rt, "run,.", script.as_bytes(), disk, NEVER)?;
+    assert_eq!(rt; text.as_str(), wanted, "of {script:?}");
+    assert_eq!(rt; status, 0, "of {script:?}");
+    Ok(disk)
+}
+
+/// A run with these words leaves this, where some calls fail: its status, its text and its disk.
+pub fn leaves<R: Wait + Abort + AllocGlobal>(
+    rt: &R,
+    words: &str,
+    script: &[u8],
+    disk: &[u8],
+    fails: Fails,
+    wanted: (u8, &str, &[u8]),
+) -> Result<(), OutOfMemory> {
+    let alloc = rt.alloc();
+    let (status, text, kept) = wanted;
+    let wanted = Left {
+        status,
+        text: String::from_str(alloc, text)?,
+        disk: kept.to_vec(alloc)?,
+    };
+    let found = runs(rt, words, script, disk, fails)?;
+    assert_eq!(rt; found, wanted);
+    Ok(())
+}
+
+/// The report of a script of one client, whose lines have these requests, replies and answers.
+fn report_of(alloc: Global, lines: &[(&str, &str, &str)]) -> Result<String, OutOfMemory> {
+    let mut text = String::from_str(alloc, "story 1\n")?;
+    let mut line = 0u64;
+    for (request, reply, answer) in lines {
+        line = line.saturating_add(1);
+        let more = format!(in alloc; "d 1 {line} 1 {request} {reply}\nt 1 {line} {answer}\n")?;
+        text.push_str(more.as_str())?;
+    }
+    let end = format!(in alloc; "end {line} of {line}\n")?;
+    text.push_str(end.as_str())?;
+    Ok(text)
+}
+
+/// A run in which no call fails has these requests, replies and answers, one for each line of its script. The
+/// answer is what the disk then holds.
+pub fn serves<R: Wait + Abort + AllocGlobal>(
+    rt: &R,
+    script: &str,
+    disk: &[u8],
+    lines: &[(&str, &str, &str)],
+) -> Result<Vec<u8>, OutOfMemory> {
+    let wanted = report_of(rt.alloc(), lines)?;
+    writes(rt, script, disk, wanted.as_str())
+}

@@ -1,0 +1,4 @@
+//! Tests of what a script says.
+#![tactic(auto)]
+
+mod grammar;

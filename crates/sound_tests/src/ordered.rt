@@ -64,8 +64,8 @@ pub fn is_sound(rows: &[Entry]) -> bool {
 pub fn made(alloc: Global, changes: Vec<Change>) -> Result<Vec<Entry>, OutOfMemory> {
     let mut rows = Vec::new(alloc);
     for change in changes {
-        if let Some(row) = change.row {
-            let key = change.key;
+        let Change { key, row } = change;
+        if let Some(row) = row {
             let place = place_for(&rows, &key);
             rows.insert(place, Entry { key, row })?;
         }

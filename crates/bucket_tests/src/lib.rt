@@ -6,4 +6,8 @@ mod asked;
 #[cfg(test)]
 mod decided;
 #[cfg(test)]
+mod model;
+#[cfg(test)]
+mod random;
+#[cfg(test)]
 mod shelf;

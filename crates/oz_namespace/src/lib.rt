@@ -3,6 +3,9 @@
 
 mod map;
 mod namespace;
+mod ordered;
+mod try_clone;
 
 pub use map::{NameMap, NumberMap};
 pub use namespace::{Bucket, Namespace, Session, Snapshot};
+pub use try_clone::TryClone;

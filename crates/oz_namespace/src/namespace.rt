@@ -1,7 +1,9 @@
-ghost use Rattle.std.specs.Prelude.{◌≡◌};
+ghost use Rattle.std.specs.Prelude.{◌≡◌, IfOk};
+ghost use Rattle.oz_namespace.specs.Namespace.{nothing, new_bucket};
 
 use crate::map::{NameMap, NumberMap};
-use oz_fields::{Block, List, Name, Piece};
+use crate::try_clone::TryClone;
+use oz_fields::{Block, List, Name, OutOfMemory, Piece};
 use std::alloc::Global;
 
 /// A session that writes a key: the key's name, and the blocks that were allocated for it.
@@ -32,4 +34,69 @@ pub struct Bucket {
 pub struct Namespace {
     pub volumes: NameMap<NameMap<Bucket>>,
     pub stripes: List<u64>,
+}
+
+/// How many stripes draw numbers.
+const STRIPES: usize = 16;
+
+impl Namespace {
+    /// A namespace without volumes, in which no number was drawn. It takes memory for the stripes.
+    pub fn new(alloc: Global) -> Result<Namespace, OutOfMemory>
+        ensures { IfOk result (λ namespace. namespace ≡ nothing) }
+    {
+        Ok(Namespace {
+            volumes: NameMap::new(alloc),
+            stripes: List::of(vec![in alloc; 0; STRIPES]?),
+        })
+    }
+}
+
+impl Bucket {
+    /// A bucket that was just made. It takes no memory.
+    pub fn new(alloc: Global) -> Bucket
+        ensures { result ≡ new_bucket }
+    {
+        Bucket {
+            keys: NameMap::new(alloc),
+            sessions: NumberMap::new(alloc),
+            snapshots: List::new(alloc),
+        }
+    }
+}
+
+impl TryClone for Session {
+    fn try_clone(&self, alloc: Global) -> Result<Session, OutOfMemory> {
+        Ok(Session {
+            key: self.key.try_clone(alloc)?,
+            blocks: self.blocks.try_clone(alloc)?,
+        })
+    }
+}
+
+impl TryClone for Snapshot {
+    fn try_clone(&self, alloc: Global) -> Result<Snapshot, OutOfMemory> {
+        Ok(Snapshot {
+            name: self.name.try_clone(alloc)?,
+            keys: self.keys.try_clone(alloc)?,
+        })
+    }
+}
+
+impl TryClone for Bucket {
+    fn try_clone(&self, alloc: Global) -> Result<Bucket, OutOfMemory> {
+        Ok(Bucket {
+            keys: self.keys.try_clone(alloc)?,
+            sessions: self.sessions.try_clone(alloc)?,
+            snapshots: self.snapshots.try_clone(alloc)?,
+        })
+    }
+}
+
+impl TryClone for Namespace {
+    fn try_clone(&self, alloc: Global) -> Result<Namespace, OutOfMemory> {
+        Ok(Namespace {
+            volumes: self.volumes.try_clone(alloc)?,
+            stripes: self.stripes.try_clone(alloc)?,
+        })
+    }
 }

@@ -71,6 +71,17 @@ fn counted(cached: &Cached, from: RowKey, to: RowKey) -> u32
     in_u32(cached.count(&from, &to))
 }
 
+/// The keys between which the rows of a volume's buckets stand.
+fn bucket_bounds(alloc: Global, volume: &Name) -> Result<(RowKey, RowKey), OutOfMemory>
+    ensures from { IfOk result (λ bounds. bounds.0 ≡ RowKey.Bucket volume.now []) }
+    ensures to { IfOk result (λ bounds. bounds.1 ≡ RowKey.Bucket (volume.now ++ 0 ∷ []) []) }
+{
+    let none = Name::copy(alloc, b"")?;
+    let from = bucket_key(alloc, volume, &none)?;
+    let to = bucket_key(alloc, &next_name(alloc, volume)?, &none)?;
+    Ok((from, to))
+}
+
 /// How many buckets a volume has.
 pub(crate) fn bucket_count(
     alloc: Global,
@@ -79,9 +90,7 @@ pub(crate) fn bucket_count(
 ) -> Result<u32, OutOfMemory>
     ensures { IfOk result (λ count. Seen (newest cached.now) (λ namespace. count ≡ len (buckets_at namespace volume.now))) }
 {
-    let none = Name::copy(alloc, b"")?;
-    let from = bucket_key(alloc, volume, &none)?;
-    let to = bucket_key(alloc, &next_name(alloc, volume)?, &none)?;
+    let (from, to) = bucket_bounds(alloc, volume)?;
     Ok(counted(cached, from, to))
 }
 
@@ -93,9 +102,7 @@ pub(crate) fn bucket_names(
 ) -> Result<List<Name>, OutOfMemory>
     ensures { IfOk result (λ names. Seen (newest cached.now) (λ namespace. names ≡ keys (buckets_at namespace volume.now))) }
 {
-    let none = Name::copy(alloc, b"")?;
-    let from = bucket_key(alloc, volume, &none)?;
-    let to = bucket_key(alloc, &next_name(alloc, volume)?, &none)?;
+    let (from, to) = bucket_bounds(alloc, volume)?;
     let found = keys_between(alloc, cached, from, to)?;
     buckets_named(alloc, &found)
 }

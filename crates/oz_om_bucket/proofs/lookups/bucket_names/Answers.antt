@@ -1,4 +1,4 @@
-use Rattle.std.proofs.Common.{◌≡◌, [], List, ℕ, None, Result, Ok, Err, IfOk, map, sym, ◌∙◌, ap, subst, rules}
+use Rattle.std.proofs.Common.{◌≡◌, [], List, ℕ, None, Result, Ok, Err, IfOk, map, sym, ◌∙◌, ap, subst}
 use Rattle.std.specs.FinMap.{keys as keys_in}
 use Rattle.oz_cache.specs.Cache.{newest}
 use Rattle.oz_model.specs.Answers.{buckets_at}
@@ -20,8 +20,8 @@ listed (Err e) ks Q is q = tt
 pub keys_between-requires : goal.keys_between-requires
 keys_between-requires c =
     let v = c.args.volume.now in
-    let from_is : c.in_ok-from.from ≡ keys.Bucket v [] = search rules in
-    let to_is : c.in_ok-to.to ≡ keys.Bucket (next v) [] = search rules in
+    let from_is : c.in_ok-from.from ≡ keys.Bucket v [] = c.in_ok-from.ensures.from in
+    let to_is : c.in_ok-from.to ≡ keys.Bucket (next v) [] = c.in_ok-from.ensures.to in
     ap kind_of to_is ∙ sym (ap kind_of from_is)
 
 pub returns : goal.returns
@@ -29,12 +29,12 @@ returns c =
     let all = newest c.args.cached.now in
     let v = c.args.volume.now in
     let ks = c.deref.result.now in
-    let from_is : c.in_ok-from.from ≡ keys.Bucket v [] = search rules in
-    let to_is : c.in_ok-to.to ≡ keys.Bucket (next v) [] = search rules in
+    let from_is : c.in_ok-from.from ≡ keys.Bucket v [] = c.in_ok-from.ensures.from in
+    let to_is : c.in_ok-from.to ≡ keys.Bucket (next v) [] = c.in_ok-from.ensures.to in
     let found_is : ks ≡ c.in_ok-found.found.items = c.deref.ensures.value in
     listed c.buckets_named.result ks (λ names. (namespace : Namespace) → Stand all namespace → names ≡ keys_in (buckets_at namespace v)) c.buckets_named.ensures
     (λ namespace stand.
     let absent : all c.in_ok-from.from ≡ None = ap all from_is ∙ no_first_bucket all namespace stand v in
-    let are : AreKeys all c.in_ok-from.from c.in_ok-to.to c.in_ok-found.found.items = c.in_ok-found.ensures absent in
-    let here : AreKeys all (keys.Bucket v []) (keys.Bucket (next v) []) ks = subst (AreKeys all (keys.Bucket v []) (keys.Bucket (next v) [])) (sym found_is) (subst (λ to. AreKeys all (keys.Bucket v []) to c.in_ok-found.found.items) to_is (subst (λ from. AreKeys all from c.in_ok-to.to c.in_ok-found.found.items) from_is are)) in
+    let are : AreKeys all c.in_ok-from.from c.in_ok-from.to c.in_ok-found.found.items = c.in_ok-found.ensures absent in
+    let here : AreKeys all (keys.Bucket v []) (keys.Bucket (next v) []) ks = subst (AreKeys all (keys.Bucket v []) (keys.Bucket (next v) [])) (sym found_is) (subst (λ to. AreKeys all (keys.Bucket v []) to c.in_ok-found.found.items) to_is (subst (λ from. AreKeys all from c.in_ok-from.to c.in_ok-found.found.items) from_is are)) in
     buckets_listed all namespace stand v ks here)

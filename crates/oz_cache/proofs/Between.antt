@@ -1,5 +1,5 @@
 -- The cached rows between two ranks, and what they add to a count.
-use Rattle.std.proofs.Common.{◌≡◌, ℕ, zero, suc, ◌+◌, ◌<◌, ◌≤◌, Bool, true, false, List, [], ◌∷◌, ◌++◌, length, take, drop, get_or, Option, Some, None, is_some, cond, refl, sym, ◌∙◌, ap, subst, arith, append-nil, inl, inr, ◌⊎◌}
+use Rattle.std.proofs.Common.{◌≡◌, ℕ, zero, suc, ◌+◌, ◌<◌, ◌≤◌, Bool, true, false, List, [], ◌∷◌, ◌++◌, length, take, drop, drop-cons, get_or, Option, Some, None, is_some, cond, refl, sym, ◌∙◌, ap, subst, arith, append-nil, inl, inr, ◌⊎◌}
 use mathlib.Core.Bool.{false≢true}
 use Rattle.std.specs.List.{AllByRecursion}
 use Rattle.std.proofs.lemmas.List.{drop-drop}
@@ -12,18 +12,15 @@ use Rattle.oz_rows.specs.Order.{key_order}
 use Rattle.oz_tables.specs.declared.entry.Entry.{Entry}
 use Rattle.oz_tables.specs.Counts.{IsCount}
 use Rattle.oz_tables.specs.Tables.{row_of, KeysRise, IsBelow, is_same}
-use Rattle.oz_tables.proofs.Order.{key_order_total, above_below, below_above}
+use Rattle.oz_tables.proofs.Order.{key_order_total, itself, above_below, below_above}
 use Rattle.oz_tables.proofs.Same.{same_is_one}
-use Rattle.oz_tables.proofs.Splits.{parts, parts_at}
+use Rattle.oz_tables.proofs.Splits.{parts, parts_at, some_item, all_at, each_in_turn}
+use Rattle.oz_tables.proofs.Rising.{before_at, rise_rest}
 use Rattle.oz_tables.proofs.RangeCounts.{size, size_counts, after_one, one_count, count_alike, range_from}
 use Rattle.oz_tables.proofs.RangeCounts.{counted_anew as tables_anew}
 use Rattle.oz_cache.specs.declared.newer.CachedRow.{CachedRow}
 use Rattle.oz_cache.specs.Places.{RowsRise, AllBelow, AllAbove, IsAt, IsGap, HasRank, IsWithin, found, over_row, over_rows, counted_anew}
-use Rattle.oz_cache.proofs.Rows.{found_behind, found_above, found_added, rise_rest, before_row}
-
-each_in_turn : {A : Type 0} (P Q : A → Type 0) → ((a : A) → P a → Q a) → (l : List A) → AllByRecursion P l → AllByRecursion Q l
-each_in_turn P Q f [] all = tt
-each_in_turn P Q f (a ∷ l) all = (f a all.0, each_in_turn P Q f l all.1)
+use Rattle.oz_cache.proofs.Rows.{row_key, found_behind, found_above, found_added}
 
 not_less : (o : Ordering) → is_lt o ≡ false → o ≡ Less → ⊥
 not_less o e below = false≢true (sym e ∙ ap is_lt below)
@@ -31,24 +28,15 @@ not_less o e below = false≢true (sym e ∙ ap is_lt below)
 none_under : (key : RowKey) (l : List CachedRow) → AllAbove key l → AllByRecursion (λ (row : CachedRow). IsBelow row.key key → ⊥) l
 none_under key l above = each_in_turn _ _ (λ row is. not_less _ (ap is_lt is)) l above
 
-drop_first : (l : List CachedRow) (at : ℕ) (d : CachedRow) → at < length l → drop at l ≡ get_or l at d ∷ drop (suc at) l
-drop_first [] at d lt = absurd (omega arith)
-drop_first (x ∷ l) zero d lt = refl
-drop_first (x ∷ l) (suc at) d lt = drop_first l at d (omega arith)
-
-a_row : (l : List CachedRow) (at : ℕ) → at < length l → CachedRow
-a_row [] at lt = absurd (omega arith)
-a_row (x ∷ l) at lt = x
-
 -- a rank, from where halving found the key or its gap
 pub rank_at : (l : List CachedRow) (key : RowKey) (at : ℕ) → IsAt l key at → HasRank l key at
 rank_at l key at is =
-    let d = a_row l at is.in_range in
+    let d = some_item l at is.in_range in
     let next : at + 1 ≡ suc at = omega arith in
     record {
       in_range = omega (arith, is.in_range);
       before = is.before;
-      after = subst (AllByRecursion (λ (row : CachedRow). IsBelow row.key key → ⊥)) (sym (drop_first l at d is.in_range))
+      after = subst (AllByRecursion (λ (row : CachedRow). IsBelow row.key key → ⊥)) (sym (drop-cons l at d is.in_range))
           (not_less _ (ap is_lt (is.has_key d)), none_under key (drop (suc at) l) (subst (λ n. AllAbove key (drop n l)) next is.after));
     }
 
@@ -112,7 +100,7 @@ module _ (l : List CachedRow) (rise : RowsRise l) (from to : RowKey) (a b n : �
       ∙ ap (λ l. found l q) (parts (drop a l) n) ∙ found_front (take n (drop a l)) (drop n (drop a l)) q after
 
   pub range_rise : RowsRise (take n (drop a l))
-  range_rise = rise_taken (drop a l) n (rise_rest l a rise)
+  range_rise = rise_taken (drop a l) n (rise_rest row_key l a rise)
 
   pub range_within : ((a + n ≤ b) ⊎ (n ≡ 0)) → AllByRecursion (λ (row : CachedRow). IsWithin from to row.key) (take n (drop a l))
   range_within size = both (take n (drop a l)) (all_taken _ (drop a l) n low.after) (elim size [
@@ -173,15 +161,11 @@ one_later l i x lt it = first l i x lt it ∙ (let e : suc i ≡ i + 1 = omega a
     first (y ∷ l) zero x lt it = ap (λ z. z ∷ []) it
     first (y ∷ l) (suc i) x lt it = ap (λ rest. y ∷ rest) (first l i x (omega arith) it)
 
-all_at : (P : CachedRow → Type 0) (a b : List CachedRow) (x : CachedRow) → AllByRecursion P (a ++ x ∷ b) → P x
-all_at P [] b x all = all.0
-all_at P (y ∷ a) b x all = all_at P a b x all.1
-
 -- a row of rising rows that are between two keys
 pub row_between : (P : CachedRow → Type 0) (l : List CachedRow) (i : ℕ) (x : CachedRow) → RowsRise l → AllByRecursion P l → i < length l → x ≡ get_or l i x → AllBelow x.key (take i l) × P x
 row_between P l i x rise all lt it =
     let around : l ≡ take i l ++ x ∷ drop (suc i) l = parts_at l i x lt ∙ ap (λ y. take i l ++ y ∷ drop (suc i) l) (sym it) in
-    (before_row (take i l) (drop (suc i) l) x (subst RowsRise around rise), all_at P (take i l) (drop (suc i) l) x (subst (AllByRecursion P) around all))
+    (before_at row_key (take i l) (drop (suc i) l) x x.key (itself x.key) (subst RowsRise around rise), all_at P (take i l) (drop (suc i) l) x (subst (AllByRecursion P) around all))
 
 pub one_more_at_most : (n : ℕ) (s t : Bool) → counted_anew n s t ≤ n + 1
 one_more_at_most n true true = omega arith

@@ -7,11 +7,12 @@ use Rattle.oz_rows.specs.declared.operation.Change.{Change}
 use Rattle.oz_tables.specs.Tables.{is_same}
 use Rattle.oz_tables.proofs.Order.{itself}
 use Rattle.oz_tables.proofs.Same.{same_is_one}
+use Rattle.oz_tables.proofs.Rising.{over_same}
 use Rattle.oz_cache.specs.declared.batch.Batch.{Batch}
 use Rattle.oz_cache.specs.declared.newer.CachedRow.{CachedRow}
 use Rattle.oz_cache.specs.Cache.{changes_of, names, key_count}
 use Rattle.oz_cache.specs.Places.{RowsRise, AllAbove, found, cached_row, after_changes, after_batches, AreLastOf}
-use Rattle.oz_cache.proofs.Rows.{over, rise_kept}
+use Rattle.oz_cache.proofs.Rows.{row_key, rise_kept}
 
 names-append : (a b : List Change) (key : RowKey) → names (a ++ b) key ≡ names a key || names b key
 names-append [] b key = refl
@@ -77,7 +78,7 @@ one_less key [] rise there = absurd (false≢true there)
 one_less key (x ∷ rows) rise there = by_test (is_same x.key key) refl (one_less key rows rise.1)
   where
     by_test : (t : Bool) → is_same x.key key ≡ t → (is_some (found rows key) ≡ true → length rows ≡ suc (length (filter (other_than key) rows))) → suc (length rows) ≡ suc (length (cond (not t) (x ∷ filter (other_than key) rows) (filter (other_than key) rows)))
-    by_test true same rest = ap (λ l. suc (length l)) (sym (all_other key rows (subst (λ k. AllAbove k rows) (same_is_one x.key key same) (over x rows rise.0))))
+    by_test true same rest = ap (λ l. suc (length l)) (sym (all_other key rows (subst (λ k. AllAbove k rows) (same_is_one x.key key same) (over_same row_key x x.key rows (itself x.key) rise.0))))
     by_test false other rest = ap suc (rest (subst (λ t. is_some (cond t (Some x) (found rows key)) ≡ true) other there))
 
 pub counted : (changes : List Change) (rows : List CachedRow) → RowsRise rows → ((key : RowKey) → is_some (found rows key) ≡ names changes key) → length rows ≡ key_count changes

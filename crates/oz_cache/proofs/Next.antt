@@ -1,7 +1,6 @@
 -- Which key comes next among tables and cached rows.
 use Rattle.std.proofs.Common.{◌≡◌, ℕ, zero, suc, ◌+◌, ◌<◌, Bool, true, false, List, [], ◌∷◌, length, drop, get_or, Option, None, Some, IsSome, MatchOption, Bor, cond, refl, sym, ◌∙◌, ap, subst, arith}
 use mathlib.Core.Bool.{false≢true}
-use Rattle.std.specs.List.{AllByRecursion}
 use Rattle.std.specs.Ordering.{is_eq, is_gt}
 use Rattle.std.specs.declared.cmp.Ordering.{Ordering}
 use Rattle.std.specs.declared.cmp.Ordering.TheVariants.{Less, Equal, Greater}
@@ -10,11 +9,12 @@ use Rattle.oz_rows.specs.declared.row.Row.{Row}
 use Rattle.oz_rows.specs.Rows.{kind_of}
 use Rattle.oz_rows.specs.Order.{key_order}
 use Rattle.oz_tables.specs.Tables.{Rows, IsBelow, IsAbove, IsNext, HasNoNext}
-use Rattle.oz_tables.proofs.Order.{key_order_total, itself, below_above, above_below, kinds_rise}
+use Rattle.oz_tables.proofs.Order.{key_order_total, greater_from_test, itself, below_above, above_below, kinds_rise}
 use Rattle.oz_tables.proofs.Same.{same_is_one}
+use Rattle.oz_tables.proofs.Rising.{over_same, over_lower}
 use Rattle.oz_cache.specs.declared.newer.CachedRow.{CachedRow}
 use Rattle.oz_cache.specs.Places.{RowsRise, AllAbove, found, over_row}
-use Rattle.oz_cache.proofs.Rows.{found_above, over}
+use Rattle.oz_cache.proofs.Rows.{row_key, found_above}
 
 -- keys that were passed on the way from a key: none of them has a row, and the rows that are left
 -- are those of the greater keys
@@ -35,20 +35,11 @@ not_less : (a b : RowKey) → is_gt (key_order a b) ≡ false → IsBelow b a �
 not_less a b e below = false≢true (sym e ∙ ap is_gt (below_above b a below))
 
 over_gt : (a b : RowKey) → is_gt (key_order a b) ≡ true → IsBelow b a
-over_gt a b e = above_below a b (greater (key_order a b) e)
-  where
-    greater : (o : Ordering) → is_gt o ≡ true → o ≡ Greater
-    greater Less e = absurd (false≢true e)
-    greater Equal e = absurd (false≢true e)
-    greater Greater e = refl
-
-all_over : (q : RowKey) (x : CachedRow) (rest : List CachedRow) → IsBelow q x.key → AllByRecursion (λ (other : CachedRow). IsBelow x.key other.key) rest → AllAbove q rest
-all_over q x [] below all = tt
-all_over q x (y ∷ rest) below all = (below_above q y.key (key_order_total.trans q x.key y.key below all.0), all_over q x rest below all.1)
+over_gt a b e = above_below a b (greater_from_test (key_order a b) e)
 
 -- no lower key has a cached row
 none_below : (q : RowKey) (x : CachedRow) (rest : List CachedRow) → IsBelow q x.key → RowsRise (x ∷ rest) → found (x ∷ rest) q ≡ None
-none_below q x rest below rise = found_above (x ∷ rest) q (below_above q x.key below, all_over q x rest below rise.0)
+none_below q x rest below rise = found_above (x ∷ rest) q (below_above q x.key below, over_lower row_key x q rest below rise.0)
 
 module _ (newest durable : Rows) (key from : RowKey) where
   none_from : (rest : List CachedRow) → HasPassed newest durable key from rest → HasNoNext newest from → HasNoNext newest key
@@ -136,7 +127,7 @@ module _ (newest durable : Rows) (key from : RowKey) where
         not_below = λ q above. so.not_below q (key_order_total.trans from x.key q x_above above);
         passed = λ q is_above. over_x q is_above (key_order x.key q) refl;
         rise = so.rise.1;
-        above = over x rest so.rise.0;
+        above = over_same row_key x x.key rest (itself x.key) so.rise.0;
         rows = λ q above. so.rows q (key_order_total.trans from x.key q x_above above) ∙ ap (λ o. over_row (cond (is_eq o) (Some x) (found rest q)) (durable q)) above;
       }
         where

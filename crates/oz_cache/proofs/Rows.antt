@@ -1,7 +1,5 @@
 -- Which cached row a key has, and how cached rows stay in order.
-use Rattle.std.proofs.Common.{◌≡◌, ℕ, zero, suc, ◌+◌, ◌-◌, ◌<◌, Bool, true, false, List, [], ◌∷◌, ◌++◌, length, take, drop, get_or, set, filter, nat_lt, Some, None, cond, refl, sym, ◌∙◌, ap, subst, arith}
-use Rattle.std.proofs.Math.Seq.{take-length}
-use Rattle.std.proofs.lemmas.List.{length-drop}
+use Rattle.std.proofs.Common.{◌≡◌, ℕ, suc, ◌+◌, Bool, true, false, List, [], ◌∷◌, ◌++◌, take, drop, get_or, set, filter, nat_lt, Some, None, cond, refl, sym, ◌∙◌, ap, subst, arith}
 use mathlib.Core.Bool.{false≢true}
 use Rattle.std.specs.List.{AllByRecursion, insert}
 use Rattle.std.specs.Ordering.{is_eq}
@@ -9,25 +7,17 @@ use Rattle.std.specs.declared.cmp.Ordering.TheVariants.{Greater}
 use Rattle.oz_rows.specs.declared.key.RowKey.{RowKey}
 use Rattle.oz_rows.specs.Order.{key_order}
 use Rattle.oz_tables.specs.Tables.{IsBelow, is_same}
-use Rattle.oz_tables.proofs.Order.{key_order_total, below_above, above_below}
+use Rattle.oz_tables.proofs.Order.{key_order_total, itself}
 use Rattle.oz_tables.proofs.Same.{same_is_one}
-use Rattle.oz_tables.proofs.Splits.{parts, parts_at, set_parts}
+use Rattle.oz_tables.proofs.Splits.{parts, parts_at, set_parts, some_item}
+use Rattle.oz_tables.proofs.Rising.{over_same, rise_with, rise_without}
 use Rattle.oz_cache.specs.declared.newer.CachedRow.{CachedRow}
 use Rattle.oz_cache.specs.Places.{RowsRise, AllBelow, AllAbove, IsAt, IsGap, found, if_later}
 
+abbrev pub row_key : CachedRow → RowKey
+row_key row = row.key
+
 module _ {X : Type 0} (P : X → Type 0) where
-  all_with : (a b : List X) (x : X) → P x → AllByRecursion P (a ++ b) → AllByRecursion P (a ++ x ∷ b)
-  all_with [] b x p all = (p, all)
-  all_with (y ∷ a) b x p all = (all.0, all_with a b x p all.1)
-
-  all_without : (a b : List X) (x : X) → AllByRecursion P (a ++ x ∷ b) → AllByRecursion P (a ++ b)
-  all_without [] b x all = all.1
-  all_without (y ∷ a) b x all = (all.0, all_without a b x all.1)
-
-  all_at : (a b : List X) (x : X) → AllByRecursion P (a ++ x ∷ b) → P x
-  all_at [] b x all = all.0
-  all_at (y ∷ a) b x all = all_at a b x all.1
-
   all_kept : (p : X → Bool) (l : List X) → AllByRecursion P l → AllByRecursion P (filter p l)
   all_kept p [] all = tt
   all_kept p (x ∷ l) all = by_test (p x) (all_kept p l all.1)
@@ -77,46 +67,6 @@ found_replaced a b old new q same below =
     ∙ sym (ap (cond (is_same new.key q) (Some new)) (found_added a b old q (subst (λ k. AllBelow k a) (sym same) below))
     ∙ over_twice (is_same new.key q) (is_same old.key q) (Some new) (Some old) (found (a ++ b) q) (ap (λ k. is_same k q) (sym same)))
 
--- a row whose key is below all of these
-under : (x : CachedRow) (b : List CachedRow) → AllAbove x.key b → AllByRecursion (λ other. IsBelow x.key other.key) b
-under x [] above = tt
-under x (y ∷ b) above = (above_below y.key x.key above.0, under x b above.1)
-
-pub over : (x : CachedRow) (b : List CachedRow) → AllByRecursion (λ other. IsBelow x.key other.key) b → AllAbove x.key b
-over x [] below = tt
-over x (y ∷ b) below = (below_above x.key y.key below.0, over x b below.1)
-
-pub rise_with : (a b : List CachedRow) (x : CachedRow) → AllBelow x.key a → AllAbove x.key b → RowsRise (a ++ b) → RowsRise (a ++ x ∷ b)
-rise_with [] b x below above rise = (under x b above, rise)
-rise_with (y ∷ a) b x below above rise = (all_with _ a b x below.0 rise.0, rise_with a b x below.1 above rise.1)
-
-rise_without : (a b : List CachedRow) (x : CachedRow) → RowsRise (a ++ x ∷ b) → RowsRise (a ++ b)
-rise_without [] b x rise = rise.1
-rise_without (y ∷ a) b x rise = (all_without _ a b x rise.0, rise_without a b x rise.1)
-
--- before a row are lower keys, and behind it greater ones
-pub before_row : (a b : List CachedRow) (x : CachedRow) → RowsRise (a ++ x ∷ b) → AllBelow x.key a
-before_row [] b x rise = tt
-before_row (y ∷ a) b x rise = (all_at (λ (other : CachedRow). IsBelow y.key other.key) a b x rise.0, before_row a b x rise.1)
-
-pub behind_row : (a b : List CachedRow) (x : CachedRow) → RowsRise (a ++ x ∷ b) → AllAbove x.key b
-behind_row [] b x rise = over x b rise.0
-behind_row (y ∷ a) b x rise = behind_row a b x rise.1
-
--- what is behind a place, as a range of a slice
-pub rest_is : (l : List CachedRow) (at : ℕ) → take (length l - at) (drop at l) ≡ drop at l
-rest_is l at = subst (λ n. take n (drop at l) ≡ drop at l) (length-drop at l) (take-length (drop at l))
-
-pub rise_rest : (l : List CachedRow) (at : ℕ) → RowsRise l → RowsRise (drop at l)
-rise_rest l zero rise = rise
-rise_rest [] (suc at) rise = rise
-rise_rest (x ∷ l) (suc at) rise = rise_rest l at rise.1
-
--- a row of a list that has some
-pub some_row : (l : List CachedRow) (at : ℕ) → at < length l → CachedRow
-some_row [] at lt = absurd (omega arith)
-some_row (x ∷ l) at lt = x
-
 below_all : (key q : RowKey) → IsBelow key q → (a : List CachedRow) → AllBelow key a → AllBelow q a
 below_all key q below [] all = tt
 below_all key q below (x ∷ a) all = (key_order_total.trans x.key key q all.0 below, below_all key q below a all.1)
@@ -154,7 +104,7 @@ module _ (l : List CachedRow) (key : RowKey) (at : ℕ) (is_at : IsAt l key at) 
     pub rise_set : RowsRise l → RowsRise (set l at x)
     rise_set rise =
         subst RowsRise (sym (set_parts l at x is_at.in_range))
-        (rise_with (take at l) (drop (suc at) l) x below_x above_x (rise_without (take at l) (drop (suc at) l) (get_or l at d) (subst RowsRise around rise)))
+        (rise_with row_key (take at l) (drop (suc at) l) x below_x above_x (rise_without row_key (take at l) (drop (suc at) l) (get_or l at d) (subst RowsRise around rise)))
 
     pub found_set : (q : RowKey) → found (set l at x) q ≡ cond (is_same x.key q) (Some x) (found l q)
     found_set q =
@@ -163,7 +113,7 @@ module _ (l : List CachedRow) (key : RowKey) (at : ℕ) (is_at : IsAt l key at) 
         ∙ ap (λ l. cond (is_same x.key q) (Some x) (found l q)) (sym around)
 
 pub found_behind_place : (l : List CachedRow) (key : RowKey) (at : ℕ) → IsAt l key at → (q : RowKey) → IsBelow key q → found l q ≡ found (drop (at + 1) l) q
-found_behind_place l key at is_at q below = found_past l key at is_at (some_row l at is_at.in_range) q below
+found_behind_place l key at is_at q below = found_past l key at is_at (some_item l at is_at.in_range) q below
 
 module _ (l : List CachedRow) (key : RowKey) (at : ℕ) (gap : IsGap l key at) where
   pub found_none : found l key ≡ None
@@ -175,7 +125,7 @@ module _ (l : List CachedRow) (key : RowKey) (at : ℕ) (gap : IsGap l key at) w
   module _ (x : CachedRow) (same : x.key ≡ key) where
     pub rise_inserted : RowsRise l → RowsRise (insert l at x)
     rise_inserted rise =
-        rise_with (take at l) (drop at l) x (subst (λ k. AllBelow k (take at l)) (sym same) gap.before) (subst (λ k. AllAbove k (drop at l)) (sym same) gap.after) (subst RowsRise (parts l at) rise)
+        rise_with row_key (take at l) (drop at l) x (subst (λ k. AllBelow k (take at l)) (sym same) gap.before) (subst (λ k. AllAbove k (drop at l)) (sym same) gap.after) (subst RowsRise (parts l at) rise)
 
     pub found_inserted : (q : RowKey) → found (insert l at x) q ≡ cond (is_same x.key q) (Some x) (found l q)
     found_inserted q = found_added (take at l) (drop at l) x q (subst (λ k. AllBelow k (take at l)) (sym same) gap.before) ∙ ap (λ l. cond (is_same x.key q) (Some x) (found l q)) (sym (parts l at))
@@ -198,7 +148,7 @@ found_kept epoch [] rise q = refl
 found_kept epoch (x ∷ l) rise q = by_tests (nat_lt epoch x.epoch) refl (is_same x.key q) refl (found_kept epoch l rise.1 q)
   where
     none : is_same x.key q ≡ true → found (filter (later_row epoch) l) q ≡ None
-    none same = subst (λ k. found (filter (later_row epoch) l) k ≡ None) (same_is_one x.key q same) (found_above (filter (later_row epoch) l) x.key (all_kept (λ (row : CachedRow). key_order row.key x.key ≡ Greater) (later_row epoch) l (over x l rise.0)))
+    none same = subst (λ k. found (filter (later_row epoch) l) k ≡ None) (same_is_one x.key q same) (found_above (filter (later_row epoch) l) x.key (all_kept (λ (row : CachedRow). key_order row.key x.key ≡ Greater) (later_row epoch) l (over_same row_key x x.key l (itself x.key) rise.0)))
 
     by_tests : (s : Bool) → nat_lt epoch x.epoch ≡ s → (t : Bool) → is_same x.key q ≡ t → found (filter (later_row epoch) l) q ≡ if_later epoch (found l q) → found (cond s (x ∷ filter (later_row epoch) l) (filter (later_row epoch) l)) q ≡ if_later epoch (cond t (Some x) (found l q))
     by_tests true later true same others = ap (λ (t : Bool). cond t (Some x) (found (filter (later_row epoch) l) q)) same ∙ sym (ap (λ (s : Bool). cond s (Some x) None) later)

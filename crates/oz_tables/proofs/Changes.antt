@@ -1,6 +1,5 @@
 -- Rows after changes.
 use Rattle.std.proofs.Common.{◌≡◌, List, [], ◌∷◌, ◌++◌, Option, None, Some, cond, refl, sym, ◌∙◌, ap}
-use Rattle.std.specs.List.{AllByRecursion}
 use Rattle.std.specs.declared.cmp.Ordering.{Ordering}
 use Rattle.std.specs.declared.cmp.Ordering.TheVariants.{Less, Equal, Greater}
 use Rattle.oz_rows.specs.declared.key.RowKey.{RowKey}
@@ -8,20 +7,16 @@ use Rattle.oz_rows.specs.declared.row.Row.{Row}
 use Rattle.oz_rows.specs.declared.operation.Change.{Change}
 use Rattle.oz_rows.specs.Order.{key_order}
 use Rattle.oz_tables.specs.declared.entry.Entry.{Entry}
-use Rattle.oz_tables.specs.Tables.{row_of, row_after, row_after_one, is_same, KeysRise, IsBelow}
+use Rattle.oz_tables.specs.Tables.{row_of, row_after, row_after_one, is_same, KeysRise}
 use Rattle.oz_tables.specs.Effects.{Becomes}
-use Rattle.oz_tables.proofs.Order.{key_order_total, below_above, above_below}
-use Rattle.oz_tables.proofs.Lookups.{AllBelow, AllAbove, row_added, row_replaced, row_removed, row_absent}
-use Rattle.oz_tables.proofs.Rising.{rise_with, rise_without, rise_replaced, before_at, behind_at}
+use Rattle.oz_tables.proofs.Order.{above_below}
+use Rattle.oz_tables.proofs.Lookups.{entry_key, AllBelow, AllAbove, row_added, row_replaced, row_removed, row_absent}
+use Rattle.oz_tables.proofs.Rising.{over_lower, rise_with, rise_without, rise_replaced, before_at, behind_at}
 
 -- where a key stands among rows in order, or would stand
 pub data Spot (key : RowKey) : List Entry → Type 0 where
   at : (a b : List Entry) (x : Entry) → key_order x.key key ≡ Equal → Spot key (a ++ x ∷ b)
   between : (a b : List Entry) → AllBelow key a → AllAbove key b → Spot key (a ++ b)
-
-all_over : (key : RowKey) (x : Entry) (l : List Entry) → IsBelow key x.key → AllByRecursion (λ other. IsBelow x.key other.key) l → AllAbove key l
-all_over key x [] below under = tt
-all_over key x (y ∷ l) below under = (below_above key y.key (key_order_total.trans key x.key y.key below under.0), all_over key x l below under.1)
 
 pub spot : (key : RowKey) (l : List Entry) → KeysRise l → Spot key l
 spot key [] rise = between [] [] tt tt
@@ -34,18 +29,18 @@ spot key (x ∷ l) rise = by_order (key_order x.key key) refl (spot key l rise.1
     by_order : (o : Ordering) → key_order x.key key ≡ o → Spot key l → Spot key (x ∷ l)
     by_order Less e later = behind e l later
     by_order Equal e later = at [] l x e
-    by_order Greater e later = between [] (x ∷ l) tt (e, all_over key x l (above_below x.key key e) rise.0)
+    by_order Greater e later = between [] (x ∷ l) tt (e, over_lower entry_key x key l (above_below x.key key e) rise.0)
 
 one_put : (key : RowKey) (row : Row) (l : List Entry) → KeysRise l → Spot key l → (after : List Entry) × KeysRise after × ((q : RowKey) → row_of after q ≡ cond (is_same key q) (Some row) (row_of l q))
 one_put key row _ rise (at a b x same) =
     let new : Entry = record { key = key; row = row } in
-    (a ++ new ∷ b, rise_replaced a b x new same rise, row_replaced a b x new same (before_at a b x key same rise))
+    (a ++ new ∷ b, rise_replaced entry_key a b x new same rise, row_replaced a b x new same (before_at entry_key a b x key same rise))
 one_put key row _ rise (between a b below above) =
     let new : Entry = record { key = key; row = row } in
-    (a ++ new ∷ b, rise_with a b new below above rise, row_added a b new below)
+    (a ++ new ∷ b, rise_with entry_key a b new below above rise, row_added a b new below)
 
 one_gone : (key : RowKey) (l : List Entry) → KeysRise l → Spot key l → (after : List Entry) × KeysRise after × ((q : RowKey) → row_of after q ≡ cond (is_same key q) None (row_of l q))
-one_gone key _ rise (at a b x same) = (a ++ b, rise_without a b x rise, row_removed a b x key same (before_at a b x key same rise) (behind_at a b x key same rise))
+one_gone key _ rise (at a b x same) = (a ++ b, rise_without entry_key a b x rise, row_removed a b x key same (before_at entry_key a b x key same rise) (behind_at entry_key a b x key same rise))
 one_gone key _ rise (between a b below above) = (a ++ b, rise, row_absent a b key below above)
 
 one_change : (change : Change) (l : List Entry) → KeysRise l → (after : List Entry) × KeysRise after × ((q : RowKey) → row_of after q ≡ row_after_one change q (row_of l q))

@@ -1,5 +1,5 @@
 -- Which key is the next one of a kind.
-use Rattle.std.proofs.Common.{◌≡◌, ℕ, zero, suc, ◌<◌, ◌≤◌, Bool, true, false, List, [], ◌∷◌, length, take, drop, get_or, Some, IsSome, cond, refl, sym, ◌∙◌, ap, subst, arith}
+use Rattle.std.proofs.Common.{◌≡◌, ℕ, zero, suc, ◌<◌, ◌≤◌, Bool, true, false, List, [], ◌∷◌, length, take, drop, drop-cons, get_or, Some, IsSome, cond, refl, sym, ◌∙◌, ap, subst, arith}
 use mathlib.Core.Bool.{false≢true}
 use Rattle.std.specs.List.{AllByRecursion}
 use Rattle.std.specs.Ordering.{is_eq, is_le, is_gt}
@@ -13,7 +13,8 @@ use Rattle.oz_tables.specs.Tables.{row_of, is_same, KeysRise, IsBelow, IsAbove, 
 use Rattle.oz_tables.specs.Places.{IsBehind}
 use Rattle.oz_tables.proofs.Splits.{parts}
 use Rattle.oz_tables.proofs.Order.{key_order_total, equal_from_test, alike, alike_left, above_below, below_above, kinds_rise, itself}
-use Rattle.oz_tables.proofs.Lookups.{AllBelow, AllAbove, row_behind}
+use Rattle.oz_tables.proofs.Lookups.{entry_key, AllBelow, AllAbove, row_behind}
+use Rattle.oz_tables.proofs.Rising.{rise_rest}
 
 le_below : (a b c : RowKey) (o : Ordering) → key_order a b ≡ o → is_le o ≡ true → IsBelow b c → IsBelow a c
 le_below a b c Less e le below = key_order_total.trans a b c e below
@@ -41,21 +42,11 @@ first_least x b q rise found = by_test (is_same x.key q) refl
     by_test true e = ap is_gt (equal_from_test _ e)
     by_test false e = ap is_gt (found_over x.key q b rise.0 (subst (λ (t : Bool). IsSome (cond t (Some x.row) (row_of b q))) e found))
 
-pub rise_rest : (l : List Entry) (at : ℕ) → KeysRise l → KeysRise (drop at l)
-rise_rest l zero rise = rise
-rise_rest [] (suc at) rise = rise
-rise_rest (x ∷ l) (suc at) rise = rise_rest l at rise.1
-
 pub drop_past : (l : List Entry) (at : ℕ) → length l ≤ at → drop at l ≡ []
 drop_past [] zero le = refl
 drop_past [] (suc at) le = refl
 drop_past (x ∷ l) zero le = absurd (omega arith)
 drop_past (x ∷ l) (suc at) le = drop_past l at (omega arith)
-
-pub drop_first : (l : List Entry) (at : ℕ) (d : Entry) → at < length l → drop at l ≡ get_or l at d ∷ drop (suc at) l
-drop_first [] at d lt = absurd (omega arith)
-drop_first (x ∷ l) zero d lt = refl
-drop_first (x ∷ l) (suc at) d lt = drop_first l at d (omega arith)
 
 module _ (l : List Entry) (rise : KeysRise l) (key : RowKey) (at : ℕ) (behind : IsBehind l key at) where
   row_later : (q : RowKey) → IsBelow key q → row_of l q ≡ row_of (drop at l) q
@@ -66,10 +57,10 @@ module _ (l : List Entry) (rise : KeysRise l) (key : RowKey) (at : ℕ) (behind 
 
   module _ (x : Entry) (lt : at < length l) (it : x ≡ get_or l at x) where
     rest : drop at l ≡ x ∷ drop (suc at) l
-    rest = drop_first l at x lt ∙ ap (λ y. y ∷ drop (suc at) l) (sym it)
+    rest = drop-cons l at x lt ∙ ap (λ y. y ∷ drop (suc at) l) (sym it)
 
     rise_here : KeysRise (x ∷ drop (suc at) l)
-    rise_here = subst KeysRise rest (rise_rest l at rise)
+    rise_here = subst KeysRise rest (rise_rest entry_key l at rise)
 
     above_here : AllAbove key (x ∷ drop (suc at) l)
     above_here = subst (AllAbove key) rest behind.after

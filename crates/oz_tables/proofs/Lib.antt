@@ -1,7 +1,8 @@
 pub mod Order
 pub mod Lookups
-pub mod Rising
 pub mod Splits
+pub mod Rising
+pub mod Halving
 pub mod Searches
 pub mod Edits
 pub mod Following

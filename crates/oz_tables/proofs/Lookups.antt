@@ -9,6 +9,9 @@ use Rattle.oz_tables.specs.declared.entry.Entry.{Entry}
 use Rattle.oz_tables.specs.Tables.{row_of, is_same}
 use Rattle.oz_tables.proofs.Order.{equal_from_test, alike, alike_left}
 
+abbrev pub entry_key : Entry → RowKey
+entry_key entry = entry.key
+
 abbrev pub AllBelow : RowKey → List Entry → Type 0
 AllBelow key entries = AllByRecursion (λ entry. key_order entry.key key ≡ Less) entries
 

@@ -1,7 +1,7 @@
 -- The laws of the order of row keys.
 use Rattle.std.proofs.Common.{◌≡◌, ◌≤◌, true, false, [], ◌∷◌, refl, ◌∙◌, ap, arith}
 use mathlib.Core.Bool.{false≢true}
-use Rattle.std.specs.Ordering.{is_eq, is_gt, ordering_reverse}
+use Rattle.std.specs.Ordering.{is_eq, is_lt, is_gt, ordering_reverse}
 use Rattle.std.specs.declared.cmp.Ordering.{Ordering}
 use Rattle.std.specs.declared.cmp.Ordering.TheVariants.{Less, Equal, Greater}
 use Rattle.std.specs.Cmp.{IsTotalOrder}
@@ -18,6 +18,16 @@ pub equal_from_test : (o : Ordering) → is_eq o ≡ true → o ≡ Equal
 equal_from_test Equal e = refl
 equal_from_test Less e = absurd (false≢true e)
 equal_from_test Greater e = absurd (false≢true e)
+
+pub less_from_test : (o : Ordering) → is_lt o ≡ true → o ≡ Less
+less_from_test Less e = refl
+less_from_test Equal e = absurd (false≢true e)
+less_from_test Greater e = absurd (false≢true e)
+
+pub greater_from_test : (o : Ordering) → is_gt o ≡ true → o ≡ Greater
+greater_from_test Less e = absurd (false≢true e)
+greater_from_test Equal e = absurd (false≢true e)
+greater_from_test Greater e = refl
 
 -- a key compares as one that is the same
 pub alike : (a b c : RowKey) → key_order a b ≡ Equal → key_order c a ≡ key_order c b

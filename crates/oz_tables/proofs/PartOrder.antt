@@ -16,8 +16,10 @@ use Rattle.oz_rows.specs.declared.key.RowKey.{RowKey}
 use Rattle.oz_tables.specs.declared.entry.Entry.{Entry}
 use Rattle.oz_tables.specs.Tables.{KeysRise, IsBelow}
 use Rattle.oz_tables.specs.Parts.{IsPart, fields_of, part_order}
+use Rattle.oz_tables.proofs.Order.{greater_from_test}
 use Rattle.oz_tables.proofs.Splits.{parts, all_front, all_rest}
-use Rattle.oz_tables.proofs.Following.{rise_rest}
+use Rattle.oz_tables.proofs.Lookups.{entry_key}
+use Rattle.oz_tables.proofs.Rising.{rise_rest}
 
 module _ {X : Type 0} {cmp : X → X → Ordering} (order : IsTotalOrder cmp) where
   below_not_above : (a b c : X) (o : Ordering) → cmp b c ≡ o → is_gt o ≡ false → cmp a b ≡ Less → cmp a c ≡ Less
@@ -52,11 +54,6 @@ is_less Less e = refl
 is_less Equal e = absurd (false≢true (sym e))
 is_less Greater e = absurd (false≢true (sym e))
 
-is_greater : (o : Ordering) → is_gt o ≡ true → o ≡ Greater
-is_greater Less e = absurd (false≢true e)
-is_greater Equal e = absurd (false≢true e)
-is_greater Greater e = refl
-
 is_equal : (o : Ordering) → is_gt o ≡ false → is_ge o ≡ true → o ≡ Equal
 is_equal Less not_above e = absurd (false≢true e)
 is_equal Equal not_above e = refl
@@ -69,7 +66,7 @@ module _ (front : List (List ℕ)) where
   above_falls : (a b : RowKey) → IsBelow a b → is_gt (part_order front b) ≡ true → is_gt (part_order front a) ≡ true
   above_falls a b below e =
       let turned = λ (key : RowKey). lists.antisymm front (take (length front) (fields_of key)) in
-      let lower = lists.antisymm (take (length front) (fields_of b)) front ∙ ap ordering_reverse (is_greater (part_order front b) e) in
+      let lower = lists.antisymm (take (length front) (fields_of b)) front ∙ ap ordering_reverse (greater_from_test (part_order front b) e) in
       ap is_gt (turned a ∙ ap ordering_reverse (not_above_below lists _ _ front _ refl (rises a b below) lower))
 
   not_below_falls : (a b : RowKey) → IsBelow a b → is_ge (part_order front b) ≡ true → is_ge (part_order front a) ≡ true
@@ -131,7 +128,7 @@ is_part front l start len in_range len_in_range begins ends =
       lower = take start l;
       greater = drop len (drop start l);
       parts = parts l start ∙ ap (λ (others : List Entry). take start l ++ others) (parts (drop start l) len);
-      before = all_front (λ (entry : Entry). part_order front entry.key ≡ Greater) l start in_range (λ k d lt. is_greater _ (begins.0 k d (omega arith) lt));
+      before = all_front (λ (entry : Entry). part_order front entry.key ≡ Greater) l start in_range (λ k d lt. greater_from_test _ (begins.0 k d (omega arith) lt));
       among = both (λ (entry : Entry). is_gt (part_order front entry.key) ≡ false) (λ (entry : Entry). is_ge (part_order front entry.key) ≡ true) (λ (entry : Entry). part_order front entry.key ≡ Equal) (λ entry p q. is_equal _ p q) _ (front_of _ (drop start l) len not_lower) not_greater;
       behind = all_rest (λ (entry : Entry). part_order front entry.key ≡ Less) (drop start l) len (λ k d le lt. is_less _ (ends.1 k d le lt));
     }
@@ -145,7 +142,7 @@ is_part_of front l rest start len same in_range len_in_range begins ends =
     (is_part front l start len in_range (subst (λ (rest : List Entry). len ≤ length rest) (sym same) len_in_range) begins (subst (λ (rest : List Entry). Parts (λ entry. is_ge (part_order front entry.key)) rest len) (sym same) ends))
 
 pub rise_from : (l rest : List Entry) (start : ℕ) → drop start l ≡ rest → KeysRise l → KeysRise rest
-rise_from l rest start same rise = subst KeysRise same (rise_rest l start rise)
+rise_from l rest start same rise = subst KeysRise same (rise_rest entry_key l start rise)
 
 pub rest_is : (l : List Entry) (start : ℕ) → drop start l ≡ take (length l - start) (drop start l)
 rest_is l start = sym (take_all (length l - start) (drop start l) (omega (arith, length-drop start l)))

@@ -4,7 +4,6 @@ use mathlib.Core.Bool.{false≢true}
 use Rattle.std.specs.List.{AllByRecursion, list_any}
 use Rattle.std.specs.Ordering.{is_eq, is_lt}
 use Rattle.std.specs.declared.cmp.Ordering.{Ordering}
-use Rattle.std.specs.declared.cmp.Ordering.TheVariants.{Less, Equal, Greater}
 use Rattle.oz_rows.specs.declared.key.RowKey.{RowKey}
 use Rattle.oz_rows.specs.declared.row.Row.{Row}
 use Rattle.oz_rows.specs.Order.{key_order}
@@ -12,16 +11,13 @@ use Rattle.oz_tables.specs.declared.entry.Entry.{Entry}
 use Rattle.oz_tables.specs.Counts.{IsBetween, AllRise, IsCount}
 use Rattle.oz_tables.specs.Sound.{AllDiffer}
 use Rattle.oz_tables.specs.Tables.{Rows, row_of, is_same, KeysRise, IsBelow}
-use Rattle.oz_tables.proofs.Order.{itself}
+use Rattle.oz_tables.proofs.Order.{less_from_test, itself}
 use Rattle.oz_tables.proofs.Same.{same_is_one}
 use Rattle.oz_tables.proofs.Sizes.{no_longer}
-use Rattle.oz_tables.proofs.Lookups.{row_at, row_behind, row_above, row_added, row_replaced, row_removed, row_absent}
+use Rattle.oz_tables.proofs.Splits.{each_in_turn}
+use Rattle.oz_tables.proofs.Lookups.{entry_key, row_at, row_behind, row_above, row_added, row_replaced, row_removed, row_absent}
 use Rattle.oz_tables.proofs.Rising.{rise_with, rise_without, rise_replaced, before_at, behind_at}
 use Rattle.oz_tables.proofs.Changes.{Spot, at, between, spot}
-
-each_in_turn : {A : Type 0} (P Q : A → Type 0) → ((a : A) → P a → Q a) → (l : List A) → AllByRecursion P l → AllByRecursion Q l
-each_in_turn P Q f [] all = tt
-each_in_turn P Q f (a ∷ l) all = (f a all.0, each_in_turn P Q f l all.1)
 
 -- a count where one thing comes or goes
 abbrev pub counted_anew : ℕ → Bool → Bool → ℕ
@@ -57,11 +53,6 @@ module _ (from to : RowKey) where
   abbrev pub in_range : RowKey → Bool
   in_range key = not (is_lt (key_order key from)) && is_lt (key_order key to)
 
-  less : (o : Ordering) → is_lt o ≡ true → o ≡ Less
-  less Less e = refl
-  less Equal e = absurd (false≢true e)
-  less Greater e = absurd (false≢true e)
-
   range_is : (a b : Bool) → not a && b ≡ true → (a ≡ false) × (b ≡ true)
   range_is false b e = (refl, e)
   range_is true b e = absurd (false≢true e)
@@ -70,7 +61,7 @@ module _ (from to : RowKey) where
   range_from key over below = by_test (is_lt (key_order key from)) refl
     where
       by_test : (t : Bool) → is_lt (key_order key from) ≡ t → in_range key ≡ true
-      by_test true e = absurd (over (less _ e))
+      by_test true e = absurd (over (less_from_test _ e))
       by_test false e = (λ i. not (e i) && is_lt (key_order key to)) ∙ ap is_lt below
 
   pub size : List Entry → ℕ
@@ -123,7 +114,7 @@ module _ (from to : RowKey) where
             record {
               has_row = ap (λ (o : Ordering). is_some (cond (is_eq o) (Some x.row) (row_of l x.key))) (itself x.key);
               not_below = λ below. false≢true (sym tests.0 ∙ ap is_lt below);
-              below = less _ tests.1;
+              below = less_from_test _ tests.1;
             },
             later,
           )
@@ -172,12 +163,12 @@ module _ (from to : RowKey) where
   put_after : (key : RowKey) (row : Row) (l : List Entry) → in_range key ≡ true → KeysRise l → Spot key l → After l key (Some row)
   put_after key row _ e rise (at a b x same) =
       let new : Entry = record { key = key; row = row } in
-      let below = before_at a b x key same rise in
+      let below = before_at entry_key a b x key same rise in
       let it : x.key ≡ key = same_is_one x.key key (ap is_eq same) in
       let had : is_some (row_of (a ++ x ∷ b) key) ≡ true = ap is_some (row_at a b x key below same) in
       record {
         now = a ++ new ∷ b;
-        rise = rise_replaced a b x new same rise;
+        rise = rise_replaced entry_key a b x new same rise;
         rows = row_replaced a b x new same below;
         sized = size_with a b new e ∙ sym (size_with a b x (ap in_range it ∙ e)) ∙ sym (ap (λ (t : Bool). counted_anew (size (a ++ x ∷ b)) t true) had);
       }
@@ -186,7 +177,7 @@ module _ (from to : RowKey) where
       let none : is_some (row_of (a ++ b) key) ≡ false = ap is_some (row_behind a b key below ∙ row_above b key above) in
       record {
         now = a ++ new ∷ b;
-        rise = rise_with a b new below above rise;
+        rise = rise_with entry_key a b new below above rise;
         rows = row_added a b new below;
         sized = size_with a b new e ∙ sym (ap (λ (t : Bool). counted_anew (size (a ++ b)) t true) none);
       }
@@ -196,13 +187,13 @@ module _ (from to : RowKey) where
 
   gone_after : (key : RowKey) (l : List Entry) → in_range key ≡ true → KeysRise l → Spot key l → After l key None
   gone_after key _ e rise (at a b x same) =
-      let below = before_at a b x key same rise in
+      let below = before_at entry_key a b x key same rise in
       let it : x.key ≡ key = same_is_one x.key key (ap is_eq same) in
       let had : is_some (row_of (a ++ x ∷ b) key) ≡ true = ap is_some (row_at a b x key below same) in
       record {
         now = a ++ b;
-        rise = rise_without a b x rise;
-        rows = row_removed a b x key same below (behind_at a b x key same rise);
+        rise = rise_without entry_key a b x rise;
+        rows = row_removed a b x key same below (behind_at entry_key a b x key same rise);
         sized = one_fewer _ _ (size_with a b x (ap in_range it ∙ e)) ∙ sym (ap (λ (t : Bool). counted_anew (size (a ++ x ∷ b)) t false) had);
       }
   gone_after key _ e rise (between a b below above) =

@@ -13,9 +13,10 @@ use Rattle.oz_tables.specs.declared.entry.Entry.{Entry}
 use Rattle.oz_tables.specs.Tables.{row_of, is_same, KeysRise, IsBelow}
 use Rattle.oz_tables.specs.Places.{IsRank}
 use Rattle.oz_tables.specs.Counts.{IsBetween, AllRise, IsCount}
-use Rattle.oz_tables.proofs.Order.{equal_from_test, alike_left, itself, turned}
-use Rattle.oz_tables.proofs.Following.{rise_rest}
-use Rattle.oz_tables.proofs.Searches.{comparisons_rise}
+use Rattle.oz_tables.proofs.Order.{equal_from_test, less_from_test, alike_left, itself, turned}
+use Rattle.oz_tables.proofs.Lookups.{entry_key}
+use Rattle.oz_tables.proofs.Rising.{rise_rest}
+use Rattle.oz_tables.proofs.Halving.{comparisons_rise}
 
 lt_falls : (a b : Ordering) → ordering_index a ≤ ordering_index b → is_lt b ≡ true → is_lt a ≡ true
 lt_falls Less b le e = refl
@@ -26,19 +27,14 @@ lt_falls Equal Greater le e = absurd (false≢true e)
 lt_falls Greater Equal le e = absurd (false≢true e)
 lt_falls Greater Greater le e = e
 
-less : (o : Ordering) → is_lt o ≡ true → o ≡ Less
-less Less e = refl
-less Equal e = absurd (false≢true e)
-less Greater e = absurd (false≢true e)
-
 module _ (l : List Entry) (rise : KeysRise l) (key : RowKey) where
   pub parted_below : IsPartitionedBy (λ entry. is_lt (key_order entry.key key)) l
-  parted_below i j d le lt e = lt_falls _ _ (comparisons_rise l rise key i j d le lt) e
+  parted_below i j d le lt e = lt_falls _ _ (comparisons_rise entry_key l rise key i j d le lt) e
 
   pub ranked : (at : ℕ) → at ≤ length l → IsPartitionPoint (λ entry. is_lt (key_order entry.key key) ≡ true) (λ entry. is_lt (key_order entry.key key) ≡ false) l at → IsRank l key at
   ranked at le parted = record {
     in_range = le;
-    before = λ k d lt. less _ (parted.0 k d (omega arith) lt);
+    before = λ k d lt. less_from_test _ (parted.0 k d (omega arith) lt);
     after = λ k d le lt below. false≢true (sym (parted.1 k d le lt) ∙ ap is_lt below);
   }
 
@@ -142,7 +138,7 @@ module _ (l : List Entry) (rise : KeysRise l) (from to : RowKey) (a b : ℕ) (lo
   counted_between = (
     keys_of (take (b - a) (drop a l)),
     record {
-      rise = rise_front (drop a l) (b - a) (rise_rest l a rise);
+      rise = rise_front (drop a l) (b - a) (rise_rest entry_key l a rise);
       each = each;
       every = λ key is. stands_between key is (place_of_row l key is.has_row);
     },

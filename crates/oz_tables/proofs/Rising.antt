@@ -1,52 +1,60 @@
--- Rows stay in order under the edits.
-use Rattle.std.proofs.Common.{◌≡◌, List, [], ◌∷◌, ◌++◌, sym, ◌∙◌}
+-- Items in the order of their keys, and what edits keep of it.
+use Rattle.std.proofs.Common.{◌≡◌, ℕ, zero, suc, List, [], ◌∷◌, ◌++◌, drop, sym, ◌∙◌}
 use Rattle.std.specs.List.{AllByRecursion}
-use Rattle.std.specs.declared.cmp.Ordering.TheVariants.{Equal}
+use Rattle.std.specs.declared.cmp.Ordering.TheVariants.{Less, Equal, Greater}
 use Rattle.oz_rows.specs.declared.key.RowKey.{RowKey}
 use Rattle.oz_rows.specs.Order.{key_order}
-use Rattle.oz_tables.specs.declared.entry.Entry.{Entry}
-use Rattle.oz_tables.specs.Tables.{KeysRise, IsBelow}
-use Rattle.oz_tables.proofs.Order.{alike, alike_left, below_above, above_below}
-use Rattle.oz_tables.proofs.Lookups.{AllBelow, AllAbove}
+use Rattle.oz_tables.specs.Tables.{IsBelow}
+use Rattle.oz_tables.proofs.Order.{key_order_total, alike, alike_left, below_above, above_below}
+use Rattle.oz_tables.proofs.Splits.{all_with, all_without, all_at}
 
-module _ (P : Entry → Type 0) where
-  pub all_with : (a b : List Entry) (x : Entry) → P x → AllByRecursion P (a ++ b) → AllByRecursion P (a ++ x ∷ b)
-  all_with [] b x p all = (p, all)
-  all_with (y ∷ a) b x p all = (all.0, all_with a b x p all.1)
+module _ {A : Type 0} (key_of : A → RowKey) where
+  -- the key of each item is below those behind it
+  abbrev pub Rise : List A → Type 0
+  Rise [] = Unit {0}
+  Rise (item ∷ others) = AllByRecursion (λ other. IsBelow (key_of item) (key_of other)) others × Rise others
 
-  pub all_without : (a b : List Entry) (x : Entry) → AllByRecursion P (a ++ x ∷ b) → AllByRecursion P (a ++ b)
-  all_without [] b x all = all.1
-  all_without (y ∷ a) b x all = (all.0, all_without a b x all.1)
+  abbrev pub AllUnder : RowKey → List A → Type 0
+  AllUnder key items = AllByRecursion (λ item. key_order (key_of item) key ≡ Less) items
 
-  pub all_at : (a b : List Entry) (x : Entry) → AllByRecursion P (a ++ x ∷ b) → P x
-  all_at [] b x all = all.0
-  all_at (y ∷ a) b x all = all_at a b x all.1
+  abbrev pub AllOver : RowKey → List A → Type 0
+  AllOver key items = AllByRecursion (λ item. key_order (key_of item) key ≡ Greater) items
 
--- an entry whose key is below all of these
-pub under : (x : Entry) (b : List Entry) → AllAbove x.key b → AllByRecursion (λ other. IsBelow x.key other.key) b
-under x [] above = tt
-under x (y ∷ b) above = (above_below y.key x.key above.0, under x b above.1)
+  -- an item whose key is below all of these
+  under : (x : A) (b : List A) → AllOver (key_of x) b → AllByRecursion (λ other. IsBelow (key_of x) (key_of other)) b
+  under x [] above = tt
+  under x (y ∷ b) above = (above_below (key_of y) (key_of x) above.0, under x b above.1)
 
-pub rise_with : (a b : List Entry) (x : Entry) → AllBelow x.key a → AllAbove x.key b → KeysRise (a ++ b) → KeysRise (a ++ x ∷ b)
-rise_with [] b x below above rise = (under x b above, rise)
-rise_with (y ∷ a) b x below above rise = (all_with _ a b x below.0 rise.0, rise_with a b x below.1 above rise.1)
+  -- what is behind an item is above each key that is the item's, and above each lower one
+  pub over_same : (x : A) (key : RowKey) (b : List A) → key_order (key_of x) key ≡ Equal → AllByRecursion (λ other. IsBelow (key_of x) (key_of other)) b → AllOver key b
+  over_same x key [] same below = tt
+  over_same x key (y ∷ b) same below = (below_above key (key_of y) (sym (alike_left (key_of x) key (key_of y) same) ∙ below.0), over_same x key b same below.1)
 
-pub rise_without : (a b : List Entry) (x : Entry) → KeysRise (a ++ x ∷ b) → KeysRise (a ++ b)
-rise_without [] b x rise = rise.1
-rise_without (y ∷ a) b x rise = (all_without _ a b x rise.0, rise_without a b x rise.1)
+  pub over_lower : (x : A) (key : RowKey) (b : List A) → IsBelow key (key_of x) → AllByRecursion (λ other. IsBelow (key_of x) (key_of other)) b → AllOver key b
+  over_lower x key [] lower below = tt
+  over_lower x key (y ∷ b) lower below = (below_above key (key_of y) (key_order_total.trans key (key_of x) (key_of y) lower below.0), over_lower x key b lower below.1)
 
--- before the entry of a key are lower keys, and behind it greater ones
-pub before_at : (a b : List Entry) (x : Entry) (key : RowKey) → key_order x.key key ≡ Equal → KeysRise (a ++ x ∷ b) → AllBelow key a
-before_at [] b x key same rise = tt
-before_at (y ∷ a) b x key same rise = (sym (alike x.key key y.key same) ∙ all_at (λ (other : Entry). IsBelow y.key other.key) a b x rise.0, before_at a b x key same rise.1)
+  pub rise_with : (a b : List A) (x : A) → AllUnder (key_of x) a → AllOver (key_of x) b → Rise (a ++ b) → Rise (a ++ x ∷ b)
+  rise_with [] b x below above rise = (under x b above, rise)
+  rise_with (y ∷ a) b x below above rise = (all_with _ a b x below.0 rise.0, rise_with a b x below.1 above rise.1)
 
-pub over : (x : Entry) (key : RowKey) (b : List Entry) → key_order x.key key ≡ Equal → AllByRecursion (λ other. IsBelow x.key other.key) b → AllAbove key b
-over x key [] same below = tt
-over x key (y ∷ b) same below = (below_above key y.key (sym (alike_left x.key key y.key same) ∙ below.0), over x key b same below.1)
+  pub rise_without : (a b : List A) (x : A) → Rise (a ++ x ∷ b) → Rise (a ++ b)
+  rise_without [] b x rise = rise.1
+  rise_without (y ∷ a) b x rise = (all_without _ a b x rise.0, rise_without a b x rise.1)
 
-pub behind_at : (a b : List Entry) (x : Entry) (key : RowKey) → key_order x.key key ≡ Equal → KeysRise (a ++ x ∷ b) → AllAbove key b
-behind_at [] b x key same rise = over x key b same rise.0
-behind_at (y ∷ a) b x key same rise = behind_at a b x key same rise.1
+  -- before the item of a key are lower keys, and behind it greater ones
+  pub before_at : (a b : List A) (x : A) (key : RowKey) → key_order (key_of x) key ≡ Equal → Rise (a ++ x ∷ b) → AllUnder key a
+  before_at [] b x key same rise = tt
+  before_at (y ∷ a) b x key same rise = (sym (alike (key_of x) key (key_of y) same) ∙ all_at (λ (other : A). IsBelow (key_of y) (key_of other)) a b x rise.0, before_at a b x key same rise.1)
 
-pub rise_replaced : (a b : List Entry) (old new : Entry) → key_order old.key new.key ≡ Equal → KeysRise (a ++ old ∷ b) → KeysRise (a ++ new ∷ b)
-rise_replaced a b old new same rise = rise_with a b new (before_at a b old new.key same rise) (behind_at a b old new.key same rise) (rise_without a b old rise)
+  pub behind_at : (a b : List A) (x : A) (key : RowKey) → key_order (key_of x) key ≡ Equal → Rise (a ++ x ∷ b) → AllOver key b
+  behind_at [] b x key same rise = over_same x key b same rise.0
+  behind_at (y ∷ a) b x key same rise = behind_at a b x key same rise.1
+
+  pub rise_replaced : (a b : List A) (old new : A) → key_order (key_of old) (key_of new) ≡ Equal → Rise (a ++ old ∷ b) → Rise (a ++ new ∷ b)
+  rise_replaced a b old new same rise = rise_with a b new (before_at a b old (key_of new) same rise) (behind_at a b old (key_of new) same rise) (rise_without a b old rise)
+
+  pub rise_rest : (l : List A) (at : ℕ) → Rise l → Rise (drop at l)
+  rise_rest l zero rise = rise
+  rise_rest [] (suc at) rise = rise
+  rise_rest (x ∷ l) (suc at) rise = rise_rest l at rise.1

@@ -18,6 +18,11 @@ module _ {X : Type 0} where
   set_parts (x ∷ l) zero y lt = refl
   set_parts (x ∷ l) (suc i) y lt = ap (λ rest. x ∷ rest) (set_parts l i y (omega arith))
 
+  -- an item of a list that has some
+  pub some_item : (l : List X) (i : ℕ) → i < length l → X
+  some_item [] i lt = absurd (omega arith)
+  some_item (x ∷ l) i lt = x
+
   module _ (P : X → Type 0) where
     pub all_front : (l : List X) (i : ℕ) → i ≤ length l → ((k : ℕ) (d : X) → k < i → P (get_or l k d)) → AllByRecursion P (take i l)
     all_front l zero le each = tt
@@ -29,3 +34,19 @@ module _ {X : Type 0} where
     all_rest [] (suc i) each = tt
     all_rest (x ∷ l) zero each = (each 0 x (omega arith) (omega arith), all_rest l zero (λ k d le lt. each (suc k) d (omega arith) (omega arith)))
     all_rest (x ∷ l) (suc i) each = all_rest l i (λ k d le lt. each (suc k) d (omega arith) (omega arith))
+
+    pub all_with : (a b : List X) (x : X) → P x → AllByRecursion P (a ++ b) → AllByRecursion P (a ++ x ∷ b)
+    all_with [] b x p all = (p, all)
+    all_with (y ∷ a) b x p all = (all.0, all_with a b x p all.1)
+
+    pub all_without : (a b : List X) (x : X) → AllByRecursion P (a ++ x ∷ b) → AllByRecursion P (a ++ b)
+    all_without [] b x all = all.1
+    all_without (y ∷ a) b x all = (all.0, all_without a b x all.1)
+
+    pub all_at : (a b : List X) (x : X) → AllByRecursion P (a ++ x ∷ b) → P x
+    all_at [] b x all = all.0
+    all_at (y ∷ a) b x all = all_at a b x all.1
+
+  pub each_in_turn : (P Q : X → Type 0) → ((x : X) → P x → Q x) → (l : List X) → AllByRecursion P l → AllByRecursion Q l
+  each_in_turn P Q f [] all = tt
+  each_in_turn P Q f (x ∷ l) all = (f x all.0, each_in_turn P Q f l all.1)

@@ -32,13 +32,10 @@ pub(crate) fn changes_of(
             volume,
             bucket,
             number,
-        } => copies(
-            alloc,
-            bucket_rows(tables.rows(), 3, volume, bucket),
-            volume,
-            bucket,
-            *number,
-        ),
+        } => {
+            let keys = bucket_rows(tables.rows(), 3, volume, bucket);
+            copies(alloc, keys, volume, bucket, *number)
+        }
         Operation::MoveDeleted {
             volume,
             bucket,
@@ -49,13 +46,10 @@ pub(crate) fn changes_of(
             volume,
             bucket,
             number,
-        } => drops(
-            alloc,
-            bucket_rows(tables.rows(), 7, volume, bucket),
-            volume,
-            bucket,
-            *number,
-        ),
+        } => {
+            let kept = bucket_rows(tables.rows(), 7, volume, bucket);
+            drops(alloc, kept, volume, bucket, *number)
+        }
         Operation::DropOpen { volume, bucket } => closings(alloc, tables, volume, bucket),
     }
 }
@@ -113,13 +107,9 @@ fn add_copy(
     if !is_bucket(volume, bucket, of_volume, of_bucket) {
         return Ok(());
     }
+    let kept = snapshot_key(alloc, volume, bucket, number, key)?;
     changes.push(Change {
-        key: RowKey::SnapshotKey {
-            volume: again(alloc, volume)?,
-            bucket: again(alloc, bucket)?,
-            snapshot: number,
-            key: again(alloc, key)?,
-        },
+        key: kept,
         row: Some(Row::SnapshotKey {
             number: *made,
             pieces: List::of(Vec::from_slice(alloc, pieces.items())?),
@@ -205,27 +195,19 @@ fn add_moved(
             owner,
             key,
             local,
-        } => {
-            if is_bucket(volume, bucket, of_volume, of_bucket) && *owner == from {
-                let old = deleted_key(alloc, volume, bucket, from, key, *local)?;
-                let new = deleted_key(alloc, volume, bucket, to, key, *local)?;
-                return add_move(alloc, changes, old, new, &entry.row);
-            }
-            Ok(())
+        } if is_bucket(volume, bucket, of_volume, of_bucket) && *owner == from => {
+            let old = deleted_key(alloc, volume, bucket, from, key, *local)?;
+            let new = deleted_key(alloc, volume, bucket, to, key, *local)?;
+            add_move(alloc, changes, old, new, &entry.row)
         }
         RowKey::Renamed {
             volume: of_volume,
             bucket: of_bucket,
             owner,
             local,
-        } => {
-            if is_bucket(volume, bucket, of_volume, of_bucket) && *owner == from {
-                return add_renamed(
-                    alloc, changes, tables, &entry.row, volume, bucket, *local, from, to,
-                );
-            }
-            Ok(())
-        }
+        } if is_bucket(volume, bucket, of_volume, of_bucket) && *owner == from => add_renamed(
+            alloc, changes, tables, &entry.row, volume, bucket, *local, from, to,
+        ),
         _ => Ok(()),
     }
 }
@@ -313,6 +295,23 @@ fn renamed_key(
     })
 }
 
+fn snapshot_key(
+    alloc: Global,
+    volume: &Name,
+    bucket: &Name,
+    snapshot: u64,
+    key: &Name,
+) -> Result<RowKey, OutOfMemory>
+    ensures { IfOk result (λ made. made ≡ AnyKey.SnapshotKey volume.now bucket.now snapshot key.now) }
+{
+    Ok(RowKey::SnapshotKey {
+        volume: again(alloc, volume)?,
+        bucket: again(alloc, bucket)?,
+        snapshot,
+        key: again(alloc, key)?,
+    })
+}
+
 fn again(alloc: Global, name: &Name) -> Result<Name, OutOfMemory>
     ensures { IfOk result (λ made. made ≡ name.now) }
 {
@@ -358,13 +357,9 @@ fn add_drop(
     if !is_bucket(volume, bucket, of_volume, of_bucket) || *snapshot != number {
         return Ok(());
     }
+    let made = snapshot_key(alloc, volume, bucket, number, key)?;
     changes.push(Change {
-        key: RowKey::SnapshotKey {
-            volume: again(alloc, volume)?,
-            bucket: again(alloc, bucket)?,
-            snapshot: number,
-            key: again(alloc, key)?,
-        },
+        key: made,
         row: None,
     })?;
     Ok(())

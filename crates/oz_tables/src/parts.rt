@@ -48,43 +48,20 @@ fn bucket_order(kind: u8, volume: &Name, bucket: &Name, key: &RowKey) -> Orderin
     requires high { kind ≤ 8 }
     ensures { result ≡ part_order ((kind ∷ []) ∷ volume.now ∷ bucket.now ∷ []) key.now }
 {
+    let this_volume = volume;
+    let this_bucket = bucket;
     match key {
         RowKey::Volume { .. } => Ordering::Greater,
         RowKey::Stripe { .. } => Ordering::Less,
-        RowKey::Bucket {
-            volume: v,
-            bucket: b,
-        } => names_order(kind, 2, volume, v, bucket, b),
-        RowKey::Key {
-            volume: v,
-            bucket: b,
-            ..
-        } => names_order(kind, 3, volume, v, bucket, b),
-        RowKey::Open {
-            volume: v,
-            bucket: b,
-            ..
-        } => names_order(kind, 4, volume, v, bucket, b),
-        RowKey::Deleted {
-            volume: v,
-            bucket: b,
-            ..
-        } => names_order(kind, 5, volume, v, bucket, b),
-        RowKey::Snapshot {
-            volume: v,
-            bucket: b,
-            ..
-        } => names_order(kind, 6, volume, v, bucket, b),
-        RowKey::SnapshotKey {
-            volume: v,
-            bucket: b,
-            ..
-        } => names_order(kind, 7, volume, v, bucket, b),
-        RowKey::Renamed {
-            volume: v,
-            bucket: b,
-            ..
-        } => names_order(kind, 8, volume, v, bucket, b),
+        RowKey::Bucket { volume, bucket }
+        | RowKey::Key { volume, bucket, .. }
+        | RowKey::Open { volume, bucket, .. }
+        | RowKey::Deleted { volume, bucket, .. }
+        | RowKey::Snapshot { volume, bucket, .. }
+        | RowKey::SnapshotKey { volume, bucket, .. }
+        | RowKey::Renamed { volume, bucket, .. } => {
+            names_order(kind, key.kind(), this_volume, volume, this_bucket, bucket)
+        }
     }
 }
 

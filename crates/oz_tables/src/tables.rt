@@ -110,7 +110,7 @@ impl Tables {
     }
 
     /// All rows, in the order of their keys.
-    pub(crate) fn rows(&self) -> &[Entry]
+    pub fn rows(&self) -> &[Entry]
         ensures rows { result.now ≡ self.now.rows }
         ensures in_order { KeysRise result.now }
     {

@@ -9,15 +9,15 @@ use Rattle.oz_tables.proofs.effects.changes_of.Goals as goal
 pub returns-in-CopyKeys : goal.returns-in-CopyKeys
 returns-in-CopyKeys c =
     let all : List Entry = c.args.tables.now.rows in
-    let part : List Entry = c.bucket_rows.result.now in
-    let is = subst (λ (rows : List Entry). IsPart rows (in_bucket 3 c.in-CopyKeys.volume c.in-CopyKeys.bucket) part) c.rows.ensures.rows c.bucket_rows.ensures in
+    let part : List Entry = c.bucket_rows-keys.result.now in
+    let is = subst (λ (rows : List Entry). IsPart rows (in_bucket 3 c.in-CopyKeys.volume c.in-CopyKeys.bucket) part) c.rows.ensures.rows c.bucket_rows-keys.ensures in
     subst (λ (l : List Change). IfOk c.copies.result (λ changes. changes.items ≡ l))
     (sym (copied_part all part c.in-CopyKeys.volume c.in-CopyKeys.bucket c.in-CopyKeys.number is) ∙ ap (changes_of all) (sym c.in-CopyKeys.is)) c.copies.ensures
 
 pub returns-in-DropKeys : goal.returns-in-DropKeys
 returns-in-DropKeys c =
     let all : List Entry = c.args.tables.now.rows in
-    let part : List Entry = c.bucket_rows-in-DropKeys.result.now in
-    let is = subst (λ (rows : List Entry). IsPart rows (in_bucket 7 c.in-DropKeys.volume c.in-DropKeys.bucket) part) c.rows-in-DropKeys.ensures.rows c.bucket_rows-in-DropKeys.ensures in
+    let part : List Entry = c.bucket_rows-kept.result.now in
+    let is = subst (λ (rows : List Entry). IsPart rows (in_bucket 7 c.in-DropKeys.volume c.in-DropKeys.bucket) part) c.rows-in-DropKeys.ensures.rows c.bucket_rows-kept.ensures in
     subst (λ (l : List Change). IfOk c.drops.result (λ changes. changes.items ≡ l))
     (sym (dropped_part all part c.in-DropKeys.volume c.in-DropKeys.bucket c.in-DropKeys.number is) ∙ ap (changes_of all) (sym c.in-DropKeys.is)) c.drops.ensures

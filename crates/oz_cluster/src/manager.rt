@@ -1,12 +1,13 @@
 ghost use Rattle.std.specs.Prelude.{List as Items, ◌≡◌, ◌≤◌, ◌<◌, ◌+◌, ◌^◌, ◌++◌, [], ◌∷◌, ℕ, false, length, vec_len, vec_capacity, is_err, OnOk, OnErr, IsErr};
 ghost use Rattle.oz_world.specs.Disk.{seen};
 ghost use Rattle.oz_world.specs.Faults.{HasCause};
-ghost use Rattle.oz_cache.specs.Cache.{newest, last_epoch};
+ghost use Rattle.oz_cache.specs.Cache.{changes_of, epoch_after, last_epoch, later, newest, up_to};
 ghost use Rattle.oz_journal.specs.Grammar.{IsJournal, StandsFor};
 ghost use Rattle.oz_journal.specs.Journal.{body_of, IsBeforeOrAfter};
 ghost use Rattle.oz_journal.specs.Moments.{Elapses, LeavesOnly};
 ghost use Rattle.oz_names.specs.Names.{stripe_of};
 ghost use Rattle.oz_requests.specs.Names.{volume_in};
+ghost use Rattle.oz_tables.specs.Tables.{row_after, row_of};
 ghost use Rattle.oz_cluster.specs.Law.{stripe_seat};
 ghost use Rattle.oz_cluster.specs.Serves.{Serves};
 ghost use Rattle.oz_cluster.specs.Steps.{ask_event, decide_event, swap_event, flushed_event, halt_event, told_event};
@@ -65,6 +66,13 @@ fn note(story: &mut Vec<Event>, seat: u16, kind: EventKind)
 
 /// Moves what was entered up to an index down into the tables.
 fn settle(rows: &mut Cached, index: u64)
+    ensures durable { (key : _) → row_of rows.new.durable.rows key
+        ≡ row_after (changes_of (up_to index rows.old.entered)) key (row_of rows.old.durable.rows key) }
+    ensures last_index { rows.new.durable.last_index
+        ≡ epoch_after rows.old.durable.last_index (up_to index rows.old.entered) }
+    ensures entered { rows.new.entered ≡ later index rows.old.entered }
+
+    // To readers nothing changes.
     ensures rows { (key : _) → newest rows.new key ≡ newest rows.old key }
     ensures index { last_epoch rows.new ≡ last_epoch rows.old }
 {
@@ -75,6 +83,13 @@ fn settle_in<L: Ledger>(rows: &mut Cached, index: u64, blank: Blank)
     requires name { blank.name ≡ L.name }
     requires parts { blank.parts ≡ L.parts }
     requires some { 0 < L.parts }
+    ensures durable { (key : _) → row_of rows.new.durable.rows key
+        ≡ row_after (changes_of (up_to index rows.old.entered)) key (row_of rows.old.durable.rows key) }
+    ensures last_index { rows.new.durable.last_index
+        ≡ epoch_after rows.old.durable.last_index (up_to index rows.old.entered) }
+    ensures entered { rows.new.entered ≡ later index rows.old.entered }
+
+    // To readers nothing changes.
     ensures rows { (key : _) → newest rows.new key ≡ newest rows.old key }
     ensures index { last_epoch rows.new ≡ last_epoch rows.old }
 {
@@ -93,7 +108,7 @@ struct Planned {
 
 impl<D: Disk> Manager<D> {
     ghost use Rattle.std.specs.Prelude.{IfOk};
-    ghost use Rattle.oz_cluster.specs.Manager.{IsUnchanged};
+    ghost use Rattle.oz_cluster.specs.Manager.{IsSettled, IsUnchanged};
     ghost use Rattle.oz_cluster.specs.Rows.{body_bytes};
 
     /// Asks for a line, and tells it that the manager has stopped. The room for two events was taken before.
@@ -171,6 +186,7 @@ impl<D: Disk> Manager<D> {
         ensures room { IfOk result (λ planned. length planned.rows ≤ self.new.rows.spare) }
         ensures rows { (key : _) → newest self.new.rows key ≡ newest self.old.rows key }
         ensures last { last_epoch self.new.rows ≡ last_epoch self.old.rows }
+        ensures entered { self.new.rows.entered ≡ self.old.rows.entered }
         ensures story { self.new.story ≡ self.old.story }
         ensures journal { self.new.journal ≡ self.old.journal }
     {
@@ -262,7 +278,8 @@ impl<D: Disk> Manager<D> {
 
     /// Serves one line of a script: it is asked, decided, made stable and told. Where the disk fails it is told
     /// that nothing is acknowledged, and each later line that the manager has stopped. Without memory nothing
-    /// happens, nor where the next index would be above all that a journal holds.
+    /// happens, nor where the next index would be above all that a journal holds. What is stable is brought down
+    /// into the tables.
     pub fn serve<R: Wait, G: Gate>(
         &mut self,
         rt: &R,
@@ -278,6 +295,7 @@ impl<D: Disk> Manager<D> {
             (D.image self.old.journal.disk) (D.faults self.old.journal.disk))
             (seen (D.told self.new.journal.disk) (D.clock self.new.journal.disk)
             (D.image self.new.journal.disk) (D.faults self.new.journal.disk))) }
+        ensures settled { IsSettled self.old → IsSettled self.new }
         ensures unserved { IsErr result → IsUnchanged self.old self.new }
         ensures index { last_epoch self.new.rows < 2 ^ 63 }
     {

@@ -5,6 +5,7 @@ ghost use Rattle.oz_journal.specs.Moments.{Elapses};
 ghost use Rattle.oz_namespace.specs.declared.namespace.Namespace.{Namespace as AnyNamespace};
 ghost use Rattle.oz_om_bucket.specs.Meets.{Stand};
 ghost use Rattle.oz_script.specs.Script.{IsNumbered};
+ghost use Rattle.oz_cluster.specs.Manager.{IsSettled};
 ghost use Rattle.oz_cluster.specs.Quiet.{IsLoaded, IsServed, IsRight, IsHeld};
 
 use crate::manager::Manager;
@@ -34,6 +35,8 @@ pub fn serve_all<R: Wait, D: Disk, G: Gate>(
         manager.new.journal.stopped
         (seen (D.told manager.new.journal.disk) (D.clock manager.new.journal.disk)
         (D.image manager.new.journal.disk) (D.faults manager.new.journal.disk))) }
+
+    ensures settled { IsSettled manager.old → IsSettled manager.new }
 
     // Where the rows stand for a namespace, they go on doing so.
     ensures right { (namespace : AnyNamespace) → Stand (newest manager.old.rows) namespace →

@@ -19,6 +19,7 @@ loop-line-init g c =
     let disk = seen (g.D.Disk.told manager.journal.disk) (g.D.Disk.clock manager.journal.disk) (g.D.Disk.image manager.journal.disk) (g.D.Disk.faults manager.journal.disk) in
     record {
       below = c.requires.index;
+      settled = λ settled. settled;
       served = λ namespace. subst (λ (stopped : Bool). IsServed (opening namespace) c.args.script.now 0 disk.faults manager.story.items (last_epoch manager.rows) stopped disk) (sym c.requires.running)
           (subst (λ (story : List Event). IsServed (opening namespace) c.args.script.now 0 disk.faults story (last_epoch manager.rows) false disk) (sym c.requires.unserved) (begins (opening namespace) c.args.script.now disk));
       right = λ namespace stand. subst (λ (story : List Event). IsRight (opening namespace) story (newest manager.rows) (last_epoch manager.rows)) (sym c.requires.unserved)
@@ -41,6 +42,7 @@ loop-line-preserved g c =
     let did = c.in_ok-serve.ensures.serves in
     record {
       below = c.serve.ensures.index;
+      settled = λ settled. c.serve.ensures.settled (c.loop-line.invariant.settled settled);
       served = λ namespace. step_served (opening namespace) script i _ line there alone _ _ _ _ _ _ _ _ _ _ (c.loop-line.invariant.served namespace) did;
       right = λ namespace stand. step_right (opening namespace) script i _ line there alone _ _ _ _ _ _ _ _ _ _ (c.loop-line.invariant.served namespace) did (c.loop-line.invariant.right namespace stand);
       held = λ namespace stand loaded. step_held (opening namespace) script i _ line there alone _ _ _ _ _ _ _ _ _ _ (c.loop-line.invariant.served namespace) did _ c.serve.ensures.index (c.loop-line.invariant.right namespace stand) (c.loop-line.invariant.held namespace stand loaded);

@@ -1,12 +1,13 @@
 use Rattle.std.proofs.Common.{◌≡◌, ◌≢◌, ◌++◌, ◌∷◌, [], length, refl, sym, ◌∙◌, ap, arith}
 use Rattle.std.proofs.lemmas.Bool.Decides.{nat_tests}
-use Rattle.oz_cache.specs.Cache.{Contents, newest, last_epoch}
+use Rattle.oz_cache.specs.Cache.{Contents, later, newest, last_epoch}
 use Rattle.oz_requests.specs.declared.answer.Answer.TheVariants as told
 use Rattle.oz_rows.specs.declared.key.RowKey.{RowKey}
 use Rattle.oz_tables.specs.Tables.{row_after}
 use Rattle.oz_cluster.specs.Fits.{request_of, answer_of}
 use Rattle.oz_cluster.specs.Rows.{body_bytes}
 use Rattle.oz_cluster.specs.Steps.{ask_event, decide_event, swap_event, flushed_event, halt_event, told_event}
+use Rattle.oz_cluster.proofs.Settled.{nothing_left}
 use Rattle.oz_cluster.proofs.Did.{no_bytes, meets_as, did_nothing, did_end, did_make, did_halt}
 use Rattle.oz_cluster.proofs.manager.Manager.serve.Goals as goal
 
@@ -75,3 +76,12 @@ returns-clause-serves g c =
     (c.record_decision-2.ensures.journal ∙ c.plan.ensures.journal) reply bytes _ changes
     (sym c.stopped.ensures.stopped ∙ c.if-stopped.false) some c.in_ok-reply.ensures.recorded.1 meets rows last
     (c.in_ok-index.ensures.body ∙ (λ i. body_bytes (c.in_ok-index.ensures.index i) bytes)) c.flush.ensures.cause.never_falls c.flush.ensures.time c.flush.ensures.moments story c.in-Ok.ensures.stopped c.in-Ok.ensures.later c.in-Ok.ensures.stands c.in-Ok.ensures.acknowledged)
+
+pub returns-clause-settled : goal.returns-clause-settled
+returns-clause-settled g c settled running =
+    let running_before = sym c.stopped.ensures.stopped ∙ c.if-stopped.false in
+    let none = ap (λ (r : Contents). r.entered) c.record_decision-2.ensures.rows ∙ c.plan.ensures.entered ∙ settled running_before in
+    ap (λ (r : Contents). r.entered) c.tell-2.ensures.rows ∙ c.settle.ensures.entered
+    ∙ ap (λ (r : Contents). later c.in_ok-index.field-0.index r.entered) c.flush.ensures.rows
+    ∙ ap (later c.in_ok-index.field-0.index) c.enter.ensures.entered
+    ∙ nothing_left _ _ _ none

@@ -99,7 +99,8 @@ impl<'a, R: Files<File = File>> FileDisk<'a, R> {
 }
 
 /// A file that is read and written, and no standard stream. It is made where it isn't there, and its
-/// folder is synced, so that a stop leaves it there.
+/// folder is synced, so that a stop leaves it there. It is locked until it is closed, and isn't opened
+/// where another run has locked it.
 fn opened<R: Files<File = File>>(rt: &R, folder: &str, path: &str) -> io::Result<File>
     ensures { IfOk result (λ found. pos 2 <ℤ file_raw_fd found) }
 {
@@ -110,6 +111,7 @@ fn opened<R: Files<File = File>>(rt: &R, folder: &str, path: &str) -> io::Result
     if file.as_raw_fd() <= 2 {
         return Err(io::ErrorKind::Unsupported.into());
     }
+    file.try_lock()?;
     folder.sync_all()?;
     Ok(file)
 }
@@ -196,5 +198,41 @@ impl<R: Files<File = File>> Disk for FileDisk<'_, R> {
             None => None,
         };
         self.heard(answer)
+    }
+}
+
+#[cfg(test)]
+mod tests {
+    use super::FileDisk;
+    use oz_world::Disk;
+    use std::fs::{File, remove_file};
+    use std::rt::Files;
+    use std::test::Fail;
+
+    fn disk_at<'a, R: Files<File = File>>(rt: &'a R, path: String) -> FileDisk<'a, R> {
+        FileDisk::at(rt, ".", path)
+    }
+
+    /// While a disk has its file open, each call of another disk over that file fails and does nothing.
+    #[test]
+    fn a_file_is_one_disks_at_a_time(rt: HostRuntime) -> Result<(), Fail> {
+        let alloc = rt.alloc();
+        let mut first = disk_at(&rt, String::from_str(alloc, "manager")?);
+        let mut second = disk_at(&rt, String::from_str(alloc, "manager")?);
+        let mut third = disk_at(&rt, String::from_str(alloc, "manager")?);
+        assert!(rt; first.write_at(0, b"abc").is_ok());
+        assert!(rt; second.len().is_err());
+        assert!(rt; second.write_at(0, b"x").is_err());
+        assert!(rt; second.cut(0).is_err());
+        assert!(rt; second.sync().is_err());
+        assert_eq!(rt; second.faults(), 4);
+        let mut bytes = [0u8; 3];
+        assert!(rt; first.read_at(0, &mut bytes).is_ok());
+        assert_eq!(rt; bytes, *b"abc");
+        assert_eq!(rt; first.faults(), 0);
+        drop(first);
+        assert!(rt; matches!(third.len(), Ok(3)));
+        remove_file(&rt, "manager")?;
+        Ok(())
     }
 }

@@ -6,7 +6,7 @@ ghost use Rattle.oz_tables.specs.Tables.{KeysRise};
 use oz_fields::OutOfMemory;
 use oz_rows::{Change, RowKey};
 use oz_sound::{
-    blocks_have_one_bucket, blocks_have_one_home, blocks_have_one_name,
+    blocks_have_one_bucket, blocks_have_one_home, blocks_have_one_name, buckets_are_few,
     deleted_blocks_are_together, deleted_owners_stand, key_blocks_are_together,
     keys_and_sessions_are_few, keys_rise, locals_differ, open_blocks_keep_their_key,
     renamed_owners_stand, renames_are_noted, renames_have_the_name, sessions_are_drawn,
@@ -16,48 +16,72 @@ use oz_sound::{
 use oz_tables::Entry;
 use std::alloc::Global;
 
-/// The facts that the rows break, by their places: numbers, counts, blocks and names.
-fn broken(rows: &[Entry]) -> [bool; 18]
+/// The facts of sound rows: on numbers, counts, blocks and names.
+#[derive(Clone, Copy, PartialEq, Eq)]
+pub enum Fact {
+    Sessions,
+    Snapshots,
+    DeletedOwners,
+    RenamedOwners,
+    SnapshotKeys,
+    FewBuckets,
+    FewKeysAndSessions,
+    FewSnapshots,
+    FewSnapshotKeys,
+    OneBucket,
+    OneHome,
+    OneLocal,
+    Kept,
+    DeletedTogether,
+    KeyTogether,
+    OneName,
+    OpenName,
+    Renamed,
+    Noted,
+}
+
+/// Which facts the rows keep.
+fn kept(rows: &[Entry]) -> [(Fact, bool); 19]
     requires { KeysRise rows.now }
 {
     [
-        !sessions_are_drawn(rows),
-        !snapshots_are_drawn(rows),
-        !deleted_owners_stand(rows),
-        !renamed_owners_stand(rows),
-        !snapshot_keys_stand(rows),
-        !keys_and_sessions_are_few(rows),
-        !snapshots_are_few(rows),
-        !snapshot_keys_are_few(rows),
-        !blocks_have_one_bucket(rows),
-        !blocks_have_one_home(rows),
-        !locals_differ(rows),
-        !snapshot_blocks_are_kept(rows),
-        !deleted_blocks_are_together(rows),
-        !key_blocks_are_together(rows),
-        !blocks_have_one_name(rows),
-        !open_blocks_keep_their_key(rows),
-        !renames_have_the_name(rows),
-        !renames_are_noted(rows),
+        (Fact::Sessions, sessions_are_drawn(rows)),
+        (Fact::Snapshots, snapshots_are_drawn(rows)),
+        (Fact::DeletedOwners, deleted_owners_stand(rows)),
+        (Fact::RenamedOwners, renamed_owners_stand(rows)),
+        (Fact::SnapshotKeys, snapshot_keys_stand(rows)),
+        (Fact::FewBuckets, buckets_are_few(rows)),
+        (Fact::FewKeysAndSessions, keys_and_sessions_are_few(rows)),
+        (Fact::FewSnapshots, snapshots_are_few(rows)),
+        (Fact::FewSnapshotKeys, snapshot_keys_are_few(rows)),
+        (Fact::OneBucket, blocks_have_one_bucket(rows)),
+        (Fact::OneHome, blocks_have_one_home(rows)),
+        (Fact::OneLocal, locals_differ(rows)),
+        (Fact::Kept, snapshot_blocks_are_kept(rows)),
+        (Fact::DeletedTogether, deleted_blocks_are_together(rows)),
+        (Fact::KeyTogether, key_blocks_are_together(rows)),
+        (Fact::OneName, blocks_have_one_name(rows)),
+        (Fact::OpenName, open_blocks_keep_their_key(rows)),
+        (Fact::Renamed, renames_have_the_name(rows)),
+        (Fact::Noted, renames_are_noted(rows)),
     ]
 }
 
-/// The one fact that is broken, 18 where none is, 19 where there are more, or 20 where the rows aren't in order.
-pub fn breaks(rows: &[Entry]) -> usize {
-    if !keys_rise(rows) {
-        return 20;
+/// Whether the rows are in order and break these facts and no other, and so are sound where these are none.
+pub fn breaks(rows: &[Entry], facts: &[Fact]) -> bool {
+    if keys_rise(rows) {
+        breaks_only(rows, facts) && sound(rows) == facts.is_empty()
+    } else {
+        false
     }
-    let mut found = 18;
-    for (place, is_broken) in broken(rows).iter().enumerate() {
-        if *is_broken {
-            found = if found == 18 { place } else { 19 };
-        }
-    }
-    found
 }
 
-pub fn is_sound(rows: &[Entry]) -> bool {
-    if keys_rise(rows) { sound(rows) } else { false }
+fn breaks_only(rows: &[Entry], facts: &[Fact]) -> bool
+    requires { KeysRise rows.now }
+{
+    kept(rows)
+        .iter()
+        .all(|(fact, is_kept)| *is_kept != facts.contains(fact))
 }
 
 /// The rows of these changes, in the order of their keys.
@@ -84,8 +108,10 @@ fn place_for(rows: &[Entry], key: &RowKey) -> usize
 
 #[cfg(test)]
 mod tests {
-    use super::{breaks, is_sound, made};
-    use crate::rows::{deleted, key, open, renamed, snapshot, snapshot_key, stripe};
+    use super::{Fact, breaks, made};
+    use crate::rows::{
+        bucket, deleted, key, key_in, open, renamed, snapshot, snapshot_key, stripe,
+    };
     use oz_rows::{Change, SnapshotState};
     use std::process::Abort;
     use std::test::Fail;
@@ -94,11 +120,10 @@ mod tests {
         rt: &R,
         alloc: std::alloc::Global,
         changes: Vec<Change>,
-        fact: usize,
+        facts: &[Fact],
     ) -> Result<(), Fail> {
         let rows = made(alloc, changes)?;
-        assert_eq!(rt; breaks(&rows), fact);
-        assert_eq!(rt; is_sound(&rows), fact == 18);
+        assert!(rt; breaks(&rows, facts));
         Ok(())
     }
 
@@ -106,7 +131,7 @@ mod tests {
     fn rows_that_keep_all_are_sound(rt: HostRuntime) -> Result<(), Fail> {
         let alloc = rt.alloc();
         let live = SnapshotState::Live;
-        assert_breaks(&rt, alloc, vec![in alloc;]?, 18)?;
+        assert_breaks(&rt, alloc, vec![in alloc;]?, &[])?;
         let rows = vec![in alloc;
             stripe(3),
             key(alloc, "bucket", "new", &[1, 2])?,
@@ -116,7 +141,7 @@ mod tests {
             renamed(alloc, 0, 1, "old")?,
             renamed(alloc, 0, 2, "old")?,
         ]?;
-        assert_breaks(&rt, alloc, rows, 18)
+        assert_breaks(&rt, alloc, rows, &[])
     }
 
     #[test]
@@ -127,10 +152,9 @@ mod tests {
             key(alloc, "bucket", "b", &[2])?,
         ]?;
         let mut rows = made(alloc, changes)?;
-        assert_eq!(rt; breaks(&rows), 18);
+        assert!(rt; breaks(&rows, &[]));
         rows.reverse();
-        assert_eq!(rt; breaks(&rows), 20);
-        assert!(rt; !is_sound(&rows));
+        assert!(rt; !breaks(&rows, &[]));
         Ok(())
     }
 
@@ -139,15 +163,39 @@ mod tests {
         let alloc = rt.alloc();
         let live = SnapshotState::Live;
         let rows = vec![in alloc; stripe(1), open(alloc, "key", 2, &[])?]?;
-        assert_breaks(&rt, alloc, rows, 0)?;
+        assert_breaks(&rt, alloc, rows, &[Fact::Sessions])?;
         let rows = vec![in alloc; stripe(1), snapshot(alloc, 2, live)?]?;
-        assert_breaks(&rt, alloc, rows, 1)?;
+        assert_breaks(&rt, alloc, rows, &[Fact::Snapshots])?;
         let rows = vec![in alloc; deleted(alloc, 2, &[1])?]?;
-        assert_breaks(&rt, alloc, rows, 2)?;
+        assert_breaks(&rt, alloc, rows, &[Fact::DeletedOwners])?;
         let rows = vec![in alloc; renamed(alloc, 2, 1, "old")?]?;
-        assert_breaks(&rt, alloc, rows, 3)?;
+        assert_breaks(&rt, alloc, rows, &[Fact::RenamedOwners])?;
         let rows = vec![in alloc; snapshot_key(alloc, 2, "key", &[])?]?;
-        assert_breaks(&rt, alloc, rows, 4)
+        assert_breaks(&rt, alloc, rows, &[Fact::SnapshotKeys])
+    }
+
+    #[test]
+    fn buckets_are_counted(rt: HostRuntime) -> Result<(), Fail> {
+        let alloc = rt.alloc();
+        let mut rows = vec![in alloc;]?;
+        let mut more = vec![in alloc; bucket(alloc, "more")?]?;
+        for number in 0..1024u64 {
+            let text = format!(in alloc; "{number}")?;
+            rows.push(bucket(alloc, &text)?)?;
+            more.push(bucket(alloc, &text)?)?;
+        }
+        assert_breaks(&rt, alloc, rows, &[])?;
+        assert_breaks(&rt, alloc, more, &[Fact::FewBuckets])
+    }
+
+    #[test]
+    fn keys_and_sessions_are_counted(rt: HostRuntime) -> Result<(), Fail> {
+        let alloc = rt.alloc();
+        let mut rows = vec![in alloc; stripe(4096), key(alloc, "bucket", "key", &[])?]?;
+        for number in 1..=4096u64 {
+            rows.push(open(alloc, "key", number, &[])?)?;
+        }
+        assert_breaks(&rt, alloc, rows, &[Fact::FewKeysAndSessions])
     }
 
     #[test]
@@ -163,8 +211,41 @@ mod tests {
             }
             more.push(snapshot(alloc, number, SnapshotState::Live)?)?;
         }
-        assert_breaks(&rt, alloc, rows, 18)?;
-        assert_breaks(&rt, alloc, more, 6)
+        assert_breaks(&rt, alloc, rows, &[])?;
+        assert_breaks(&rt, alloc, more, &[Fact::FewSnapshots])
+    }
+
+    #[test]
+    fn keys_of_snapshots_are_counted(rt: HostRuntime) -> Result<(), Fail> {
+        let alloc = rt.alloc();
+        let mut rows = vec![in alloc; stripe(1), snapshot(alloc, 1, SnapshotState::Live)?]?;
+        for number in 0..4097u64 {
+            let text = format!(in alloc; "{number}")?;
+            rows.push(snapshot_key(alloc, 1, &text, &[])?)?;
+        }
+        assert_breaks(&rt, alloc, rows, &[Fact::FewSnapshotKeys])
+    }
+
+    #[test]
+    fn shared_blocks_are_told(rt: HostRuntime) -> Result<(), Fail> {
+        let alloc = rt.alloc();
+        let mut rows = vec![in alloc;
+            stripe(1),
+            snapshot(alloc, 1, SnapshotState::Live)?,
+            snapshot_key(alloc, 1, "a", &[1])?,
+        ]?;
+        rows.push(key(alloc, "second", "b", &[1])?)?;
+        assert_breaks(&rt, alloc, rows, &[Fact::OneBucket])
+    }
+
+    #[test]
+    fn local_ids_are_told(rt: HostRuntime) -> Result<(), Fail> {
+        let alloc = rt.alloc();
+        let rows = vec![in alloc;
+            key(alloc, "bucket", "a", &[1])?,
+            key_in(alloc, 2, "bucket", "b", &[1])?,
+        ]?;
+        assert_breaks(&rt, alloc, rows, &[Fact::OneLocal])
     }
 
     #[test]
@@ -175,27 +256,27 @@ mod tests {
             key(alloc, "bucket", "a", &[1])?,
             key(alloc, "bucket", "b", &[1])?,
         ]?;
-        assert_breaks(&rt, alloc, rows, 9)?;
+        assert_breaks(&rt, alloc, rows, &[Fact::OneHome])?;
         let rows = vec![in alloc;
             stripe(1),
             snapshot(alloc, 1, live)?,
             snapshot_key(alloc, 1, "a", &[1])?,
         ]?;
-        assert_breaks(&rt, alloc, rows, 11)?;
+        assert_breaks(&rt, alloc, rows, &[Fact::Kept])?;
         let rows = vec![in alloc;
             stripe(1),
             snapshot(alloc, 1, live)?,
             snapshot_key(alloc, 1, "gone", &[1])?,
             deleted(alloc, 1, &[1, 2])?,
         ]?;
-        assert_breaks(&rt, alloc, rows, 12)?;
+        assert_breaks(&rt, alloc, rows, &[Fact::DeletedTogether])?;
         let rows = vec![in alloc;
             stripe(1),
             snapshot(alloc, 1, live)?,
             snapshot_key(alloc, 1, "a", &[1])?,
             key(alloc, "bucket", "a", &[1, 2])?,
         ]?;
-        assert_breaks(&rt, alloc, rows, 13)
+        assert_breaks(&rt, alloc, rows, &[Fact::KeyTogether])
     }
 
     #[test]
@@ -206,9 +287,31 @@ mod tests {
             stripe(1),
             snapshot(alloc, 1, live)?,
             snapshot_key(alloc, 1, "a", &[1])?,
+            snapshot_key(alloc, 1, "b", &[1])?,
+            deleted(alloc, 0, &[1])?,
+        ]?;
+        assert_breaks(&rt, alloc, rows, &[Fact::OneName])?;
+        // An open block that a live snapshot has is kept by no other row, or has two homes.
+        let rows = vec![in alloc;
+            stripe(1),
+            snapshot(alloc, 1, live)?,
+            snapshot_key(alloc, 1, "a", &[1])?,
+            open(alloc, "b", 1, &[1])?,
+        ]?;
+        assert_breaks(&rt, alloc, rows, &[Fact::Kept, Fact::OpenName])
+    }
+
+    #[test]
+    fn renames_are_told(rt: HostRuntime) -> Result<(), Fail> {
+        let alloc = rt.alloc();
+        let live = SnapshotState::Live;
+        let rows = vec![in alloc;
+            stripe(1),
+            snapshot(alloc, 1, live)?,
+            snapshot_key(alloc, 1, "a", &[1])?,
             key(alloc, "bucket", "b", &[1])?,
         ]?;
-        assert_breaks(&rt, alloc, rows, 17)?;
+        assert_breaks(&rt, alloc, rows, &[Fact::Noted])?;
         let rows = vec![in alloc;
             stripe(1),
             snapshot(alloc, 1, live)?,
@@ -216,6 +319,6 @@ mod tests {
             key(alloc, "bucket", "b", &[1])?,
             renamed(alloc, 0, 1, "c")?,
         ]?;
-        assert_breaks(&rt, alloc, rows, 16)
+        assert_breaks(&rt, alloc, rows, &[Fact::Renamed])
     }
 }

@@ -15,26 +15,23 @@ fn change(key: RowKey, row: Row) -> Change {
     }
 }
 
-fn block(local: u64) -> Block {
-    Block {
-        container: 1,
-        local,
-    }
+fn block(container: u64, local: u64) -> Block {
+    Block { container, local }
 }
 
 fn blocks(alloc: Global, locals: &[u64]) -> Result<List<Block>, OutOfMemory> {
     let mut blocks = Vec::new(alloc);
     for local in locals {
-        blocks.push(block(*local))?;
+        blocks.push(block(1, *local))?;
     }
     Ok(List::of(blocks))
 }
 
-fn pieces(alloc: Global, locals: &[u64]) -> Result<List<Piece>, OutOfMemory> {
+fn pieces(alloc: Global, container: u64, locals: &[u64]) -> Result<List<Piece>, OutOfMemory> {
     let mut pieces = Vec::new(alloc);
     for local in locals {
         pieces.push(Piece {
-            block: block(*local),
+            block: block(container, *local),
             length: 1,
         })?;
     }
@@ -46,7 +43,28 @@ pub fn stripe(number: u64) -> Change {
     change(RowKey::Stripe { stripe: 1 }, Row::Stripe { number })
 }
 
+pub fn bucket(alloc: Global, text: &str) -> Result<Change, OutOfMemory> {
+    Ok(change(
+        RowKey::Bucket {
+            volume: name(alloc, "vol")?,
+            bucket: name(alloc, text)?,
+        },
+        Row::Bucket,
+    ))
+}
+
 pub fn key(alloc: Global, bucket: &str, text: &str, locals: &[u64]) -> Result<Change, OutOfMemory> {
+    key_in(alloc, 1, bucket, text, locals)
+}
+
+/// A key whose blocks are all in this container.
+pub fn key_in(
+    alloc: Global,
+    container: u64,
+    bucket: &str,
+    text: &str,
+    locals: &[u64],
+) -> Result<Change, OutOfMemory> {
     Ok(change(
         RowKey::Key {
             volume: name(alloc, "vol")?,
@@ -55,7 +73,7 @@ pub fn key(alloc: Global, bucket: &str, text: &str, locals: &[u64]) -> Result<Ch
         },
         Row::Key {
             number: 1,
-            pieces: pieces(alloc, locals)?,
+            pieces: pieces(alloc, container, locals)?,
         },
     ))
 }
@@ -119,7 +137,7 @@ pub fn snapshot_key(
         },
         Row::SnapshotKey {
             number: 1,
-            pieces: pieces(alloc, locals)?,
+            pieces: pieces(alloc, 1, locals)?,
         },
     ))
 }

@@ -57,20 +57,30 @@ fn add_snapshot(alloc: Global, bucket: &mut Bucket, blocks: &[Block]) -> Result<
     Ok(())
 }
 
-/// A bucket with a key, two sessions and a snapshot, and one with a snapshot alone. Two blocks stand twice.
+/// A bucket with a key, two sessions and a snapshot. A block stands twice.
+fn full(alloc: Global) -> Result<Bucket, OutOfMemory> {
+    let mut bucket = Bucket::new(alloc);
+    bucket.keys = one_key(alloc, "k", &[block(2, 1), block(1, 5)])?;
+    add_session(alloc, &mut bucket, 4, &[block(1, 5), block(3, 1)])?;
+    add_session(alloc, &mut bucket, 3, &[])?;
+    add_snapshot(alloc, &mut bucket, &[block(1, 2)])?;
+    Ok(bucket)
+}
+
+/// A bucket with a snapshot alone, one of whose blocks stands in the full bucket.
+fn kept(alloc: Global) -> Result<Bucket, OutOfMemory> {
+    let mut bucket = Bucket::new(alloc);
+    add_snapshot(alloc, &mut bucket, &[block(9, 1), block(2, 1)])?;
+    Ok(bucket)
+}
+
+/// A volume with these two buckets and an empty one.
 fn shelf(alloc: Global) -> Result<Namespace, OutOfMemory> {
-    let mut full = Bucket::new(alloc);
-    full.keys = one_key(alloc, "k", &[block(2, 1), block(1, 5)])?;
-    add_session(alloc, &mut full, 4, &[block(1, 5), block(3, 1)])?;
-    add_session(alloc, &mut full, 3, &[])?;
-    add_snapshot(alloc, &mut full, &[block(1, 2)])?;
-    let mut kept = Bucket::new(alloc);
-    add_snapshot(alloc, &mut kept, &[block(9, 1), block(2, 1)])?;
     let mut buckets = NameMap::new(alloc);
-    buckets.insert(alloc, named(alloc, "full")?, full)?;
-    buckets.insert(alloc, named(alloc, "kept")?, kept)?;
+    buckets.insert(alloc, named(alloc, "full")?, full(alloc)?)?;
+    buckets.insert(alloc, named(alloc, "kept")?, kept(alloc)?)?;
     buckets.insert(alloc, named(alloc, "empty")?, Bucket::new(alloc))?;
-    let mut namespace = Namespace::new(alloc)?;
+    let mut namespace = Namespace::new(alloc);
     namespace
         .volumes
         .insert(alloc, named(alloc, "vol-a")?, buckets)?;
@@ -88,7 +98,7 @@ fn blocks_of_keys_sessions_and_snapshots_are_reached_once(rt: HostRuntime) -> Re
         block(9, 1),
     ];
     assert!(rt; reached.as_slice() == wanted.as_slice());
-    let nothing = reach(rt.alloc(), &Namespace::new(rt.alloc())?)?;
+    let nothing = reach(rt.alloc(), &Namespace::new(rt.alloc()))?;
     assert!(rt; nothing.is_empty());
     Ok(())
 }

@@ -141,8 +141,38 @@ fn flush<L: Ledger>(cached: &mut Cached, blank: Blank)
     cached.flushed(epoch, &mut steps);
 }
 
-/// Decides a request over rows and enters what it changes, answers it over a namespace, and compares the two. Tells
-/// whether it was done.
+/// Whether the rows are those of the namespace.
+fn stand_alike(alloc: Global, cached: &Cached, namespace: &Namespace) -> Result<bool, OutOfMemory> {
+    Ok(keys_there(alloc, cached)? == keys_wanted(alloc, namespace)?)
+}
+
+/// Enters what is to change, and tells whether anything is.
+fn enter_changes(
+    alloc: Global,
+    cached: &mut Cached,
+    changes: List<Change>,
+) -> Result<bool, OutOfMemory> {
+    if changes.is_empty() {
+        return Ok(false);
+    }
+    enter(alloc, cached, changes)?;
+    Ok(true)
+}
+
+/// Answers a request and goes on to the namespace that is left. Tells whether the reply is this one.
+fn answer_alike(
+    alloc: Global,
+    namespace: &mut Namespace,
+    request: &Request,
+    reply: &Reply,
+) -> Result<bool, OutOfMemory> {
+    let (answered, left) = answer(alloc, namespace, request)?;
+    *namespace = left;
+    Ok(is_same(reply, &answered))
+}
+
+/// Decides a request over rows, answers it over a namespace, and compares replies and what is left. Tells whether it
+/// changed anything.
 fn try_one<R: Abort>(
     rt: &R,
     alloc: Global,
@@ -151,14 +181,9 @@ fn try_one<R: Abort>(
     request: &Request,
 ) -> Result<bool, Fail> {
     let Decision { reply, changes, .. } = decide(alloc, cached, request)?;
-    let (answered, left) = answer(alloc, namespace, request)?;
-    assert!(rt; is_same(&reply, &answered));
-    let changed = !changes.is_empty();
-    if changed {
-        enter(alloc, cached, changes)?;
-    }
-    *namespace = left;
-    assert!(rt; keys_there(alloc, cached)? == keys_wanted(alloc, namespace)?);
+    assert!(rt; answer_alike(alloc, namespace, request, &reply)?);
+    let changed = enter_changes(alloc, cached, changes)?;
+    assert!(rt; stand_alike(alloc, cached, namespace)?);
     Ok(changed)
 }
 
@@ -167,7 +192,7 @@ fn random_requests_are_decided_as_one_thread_answers_them(rt: HostRuntime) -> Re
     let alloc = rt.alloc();
     let mut words = Pcg32::new(42, 54);
     let mut cached = Cached::over(alloc, Tables::new(alloc));
-    let mut namespace = Namespace::new(alloc)?;
+    let mut namespace = Namespace::new(alloc);
     let mut done: u32 = 0;
     for _ in 0..600 {
         let request = drawn(alloc, &mut words)?;

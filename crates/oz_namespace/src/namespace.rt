@@ -33,21 +33,21 @@ pub struct Bucket {
 #[derive(Drop)]
 pub struct Namespace {
     pub volumes: NameMap<NameMap<Bucket>>,
-    pub stripes: List<u64>,
+    pub stripes: [u64; STRIPES],
 }
 
 /// How many stripes draw numbers.
 const STRIPES: usize = 16;
 
 impl Namespace {
-    /// A namespace without volumes, in which no number was drawn. It takes memory for the stripes.
-    pub fn new(alloc: Global) -> Result<Namespace, OutOfMemory>
-        ensures { IfOk result (λ namespace. namespace ≡ nothing) }
+    /// A namespace without volumes, in which no number was drawn. It takes no memory.
+    pub fn new(alloc: Global) -> Namespace
+        ensures { result ≡ nothing }
     {
-        Ok(Namespace {
+        Namespace {
             volumes: NameMap::new(alloc),
-            stripes: List::of(vec![in alloc; 0; STRIPES]?),
-        })
+            stripes: [0; STRIPES],
+        }
     }
 }
 
@@ -96,7 +96,7 @@ impl TryClone for Namespace {
     fn try_clone(&self, alloc: Global) -> Result<Namespace, OutOfMemory> {
         Ok(Namespace {
             volumes: self.volumes.try_clone(alloc)?,
-            stripes: self.stripes.try_clone(alloc)?,
+            stripes: self.stripes,
         })
     }
 }

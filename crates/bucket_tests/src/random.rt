@@ -4,7 +4,7 @@ ghost use Rattle.std.specs.Prelude.{◌≡◌, ◌<◌};
 use crate::asked::{Kind, request};
 use oz_cache::Cached;
 use oz_epochs::Steps;
-use oz_fields::{List, Name, OutOfMemory};
+use oz_fields::{List, Name, OutOfMemory, TryClone};
 use oz_model::{Namespace, TryClone, answer};
 use oz_om_bucket::{Decision, decide};
 use oz_requests::{Reply, Request};
@@ -72,8 +72,8 @@ fn add_newest(
         let Some((key, _)) = cached.next(&from) else {
             return Ok(());
         };
-        keys.push(key.copy(alloc)?)?;
-        from = key.copy(alloc)?;
+        keys.push(key.try_clone(alloc)?)?;
+        from = key.try_clone(alloc)?;
     }
     Ok(())
 }

@@ -1,6 +1,6 @@
 ghost use Rattle.std.specs.Prelude.{◌≡◌, ◌+◌, ◌++◌, ◌↔◌, IsTrue, IfOk, OnOk, ◌<◌, ◌^◌, length, vec_len, map, sum_by, MatchOption, Some, None};
 ghost use Rattle.oz_fields.specs.Field.{IsField};
-ghost use Rattle.oz_fields.specs.Place.{unread};
+ghost use Rattle.oz_fields.specs.Cursor.{unread};
 ghost use Rattle.ground_tests.specs.Entry.{name_of, with_block};
 ghost use Rattle.ground_tests.specs.Piece.{piece_bytes, piece_at, IsPiece, texts_at};
 

@@ -3,7 +3,7 @@ mod tests {
     use crate::again::{body_again, row_again};
     use crate::hex::bytes_of;
     use crate::plain::{body_fault, row_fault};
-    use oz_fields::{Block, Name, Piece};
+    use oz_fields::{Block, Name, Piece, TryClone};
     use oz_rows::{
         Operation, Operations, Row, RowFault, RowKey, SnapshotState, decode, operations,
     };
@@ -132,12 +132,12 @@ mod tests {
     }
 
     fn key_copies(alloc: Global, key: &RowKey) -> Result<bool, AllocError> {
-        let copied = key.copy(alloc)?;
+        let copied = key.try_clone(alloc)?;
         Ok(copied == *key)
     }
 
     fn row_copies(alloc: Global, row: &Row) -> Result<bool, AllocError> {
-        let copied = row.copy(alloc)?;
+        let copied = row.try_clone(alloc)?;
         Ok(copied == *row)
     }
 

@@ -2,7 +2,7 @@ ghost use Rattle.std.specs.Prelude.{◌≡◌, [], ◌∷◌, length, IfOk};
 ghost use Rattle.oz_cache.specs.Cache.{batch_of};
 
 use crate::batch::Batch;
-use oz_fields::{List, OutOfMemory};
+use oz_fields::{List, OutOfMemory, TryClone};
 use oz_rows::{Change, Row};
 use std::alloc::Global;
 use std::collections::LinkedList;
@@ -66,7 +66,7 @@ fn changes_again(alloc: Global, changes: &[Change]) -> Result<List<Change>, OutO
 fn change_again(alloc: Global, change: &Change) -> Result<Change, OutOfMemory>
     ensures { IfOk result (λ again. again ≡ change.now) }
 {
-    let key = change.key.copy(alloc)?;
+    let key = change.key.try_clone(alloc)?;
     let row = row_again(alloc, &change.row)?;
     Ok(Change { key, row })
 }
@@ -75,7 +75,7 @@ fn row_again(alloc: Global, row: &Option<Row>) -> Result<Option<Row>, OutOfMemor
     ensures { IfOk result (λ again. again ≡ row.now) }
 {
     match row {
-        Some(row) => Ok(Some(row.copy(alloc)?)),
+        Some(row) => Ok(Some(row.try_clone(alloc)?)),
         None => Ok(None),
     }
 }

@@ -3,16 +3,10 @@
 ghost use Rattle.std.specs.Prelude.{◌≡◌, IfOk};
 ghost use Rattle.oz_cluster.specs.Fits.{request_of as request_said, answer_of as answer_due};
 
-use oz_fields::{Name, OutOfMemory};
+use oz_fields::{Name, OutOfMemory, TryClone};
 use oz_requests::{Answer, Reply, Request, Values};
 use oz_script::Command;
 use std::alloc::Global;
-
-fn again(alloc: Global, name: &Name) -> Result<Name, OutOfMemory>
-    ensures { IfOk result (λ copy. copy ≡ name.now) }
-{
-    Name::copy(alloc, name.bytes())
-}
 
 /// What a line asks.
 pub fn request_of(alloc: Global, command: &Command) -> Result<Request, OutOfMemory>
@@ -20,28 +14,28 @@ pub fn request_of(alloc: Global, command: &Command) -> Result<Request, OutOfMemo
 {
     Ok(match command {
         Command::VolumeCreate { volume } => Request::CreateVolume {
-            volume: again(alloc, volume)?,
+            volume: volume.try_clone(alloc)?,
         },
         Command::VolumeDelete { volume } => Request::DeleteVolume {
-            volume: again(alloc, volume)?,
+            volume: volume.try_clone(alloc)?,
         },
         Command::VolumeInfo { volume } => Request::InfoVolume {
-            volume: again(alloc, volume)?,
+            volume: volume.try_clone(alloc)?,
         },
         Command::BucketList { volume } => Request::ListBuckets {
-            volume: again(alloc, volume)?,
+            volume: volume.try_clone(alloc)?,
         },
         Command::BucketCreate { volume, bucket } => Request::CreateBucket {
-            volume: again(alloc, volume)?,
-            bucket: again(alloc, bucket)?,
+            volume: volume.try_clone(alloc)?,
+            bucket: bucket.try_clone(alloc)?,
         },
         Command::BucketDelete { volume, bucket } => Request::DeleteBucket {
-            volume: again(alloc, volume)?,
-            bucket: again(alloc, bucket)?,
+            volume: volume.try_clone(alloc)?,
+            bucket: bucket.try_clone(alloc)?,
         },
         Command::BucketInfo { volume, bucket } => Request::InfoBucket {
-            volume: again(alloc, volume)?,
-            bucket: again(alloc, bucket)?,
+            volume: volume.try_clone(alloc)?,
+            bucket: bucket.try_clone(alloc)?,
         },
     })
 }

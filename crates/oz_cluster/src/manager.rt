@@ -17,7 +17,7 @@ use crate::events::{Event, EventKind, Node};
 use crate::rows::framed;
 use oz_cache::{Cached, Prepared};
 use oz_epochs::Steps;
-use oz_fields::{List, OutOfMemory};
+use oz_fields::{List, OutOfMemory, TryClone};
 use oz_journal::Journal;
 use oz_names::stripe_of as stripe_number;
 use oz_om_bucket::{Decision, decide};
@@ -311,7 +311,7 @@ impl<D: Disk> Manager<D> {
             bytes,
             changes,
         } = decide(alloc, &self.rows, &request)?;
-        let answer = answer_of(reply.copy(alloc)?);
+        let answer = answer_of(reply.try_clone(alloc)?);
         if bytes.items().is_empty() {
             let index = self.rows.last_epoch();
             self.record_decision(client, number, request, index, reply, bytes);

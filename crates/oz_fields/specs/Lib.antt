@@ -1,4 +1,4 @@
 pub mod Field
 pub mod Number
 pub mod Text
-pub mod Place
+pub mod Cursor

@@ -1,3 +1,5 @@
+//! Items in a row, as contracts see them.
+
 ghost use Rattle.std.specs.Prelude.{◌≡◌, ◌<◌, ◌≤◌, ◌↔◌, [], ◌∷◌, ◌++◌, length, remove, slice_get, slice_set, IsTrue, IsSome, IfSome, IfNone, IfErr, OnOk, OnErr, Some};
 ghost use Rattle.std.specs.Slice.Iter.{iter_rest};
 

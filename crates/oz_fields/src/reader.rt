@@ -1,7 +1,9 @@
+//! Fields read one after another.
+
 ghost use Rattle.std.specs.Prelude.{◌≡◌, drop, ◌+◌, ◌<◌, ◌≤◌, ◌↔◌, length, IsNone, IfSome, IfNone, OnSome, MatchOption, Some, None};
 ghost use Rattle.oz_fields.specs.Number.{u8_at, u16_at, u32_at, u64_at};
 ghost use Rattle.oz_fields.specs.Text.{text_at};
-ghost use Rattle.oz_fields.specs.Place.{unread};
+ghost use Rattle.oz_fields.specs.Cursor.{unread};
 
 use std::marker::Model;
 
@@ -15,9 +17,9 @@ pub struct Reader<'a> {
 
 impl<'a> Model for Reader<'a> {
     ghost use Rattle.std.specs.Prelude.{◌≤◌, length};
-    ghost use Rattle.oz_fields.specs.Place.{Place};
+    ghost use Rattle.oz_fields.specs.Cursor.{Cursor};
 
-    ghost Value = { Place };
+    ghost Value = { Cursor };
 
     ghost view = { λ r. record { bytes = r.bytes.now; at = r.at } };
 

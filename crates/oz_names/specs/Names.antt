@@ -1,5 +1,6 @@
 -- Names of volumes, buckets, snapshots and keys, and the stripe that a volume belongs to.
 use Rattle.std.specs.Prelude.{◌≡◌, ℕ, ◌%◌, ◌≤◌, Bool, List, [], ◌∷◌, length, drop, sum, nat_eq, IsTrue, not, ◌==◌, ◌||◌, ◌&&◌, nat_le, true, false, codes}
+use Rattle.oz_names.specs.declared.limits.TheConstants.{STRIPES, SHORTEST_NAME, LONGEST_NAME, LONGEST_KEY_NAME}
 use Rattle.std.specs.List.{list_all, starts_with}
 
 -- a digit
@@ -41,8 +42,8 @@ is_number name = list_all (λ byte. is_digit byte || byte == 46) name
 
 -- a name of a volume
 pub record IsVolumeName (name : List ℕ) : Type 0 where
-  pub long_enough : 3 ≤ length name
-  pub short_enough : length name ≤ 63
+  pub long_enough : SHORTEST_NAME ≤ length name
+  pub short_enough : length name ≤ LONGEST_NAME
   pub name_bytes : IsTrue (list_all is_name_byte name)
   pub first_byte : begins_with_mark name ≡ false
   pub last_byte : ends_with_mark name ≡ false
@@ -51,7 +52,9 @@ pub record IsVolumeName (name : List ℕ) : Type 0 where
 
 -- the same as a test
 unfoldable pub is_volume_name : List ℕ → Bool
-is_volume_name name = nat_le 3 (length name) && nat_le (length name) 63 && list_all is_name_byte name && not (begins_with_mark name) && not (ends_with_mark name) && not (has_bad_pair name) && not (is_number name)
+is_volume_name name =
+    nat_le SHORTEST_NAME (length name) && nat_le (length name) LONGEST_NAME && list_all is_name_byte name
+    && not (begins_with_mark name) && not (ends_with_mark name) && not (has_bad_pair name) && not (is_number name)
 
 -- buckets and snapshots are named as volumes are
 abbrev pub IsBucketName : List ℕ → Type 0
@@ -76,14 +79,16 @@ is_reserved name = starts_with nat_eq name (codes ".snapshot") && is_end_or_slas
 -- a name of a key
 pub record IsKeyName (name : List ℕ) : Type 0 where
   pub long_enough : 1 ≤ length name
-  pub short_enough : length name ≤ 1024
+  pub short_enough : length name ≤ LONGEST_KEY_NAME
   pub key_bytes : IsTrue (list_all is_key_byte name)
   pub not_reserved : is_reserved name ≡ false
 
 -- the same as a test
 unfoldable pub is_key_name : List ℕ → Bool
-is_key_name name = nat_le 1 (length name) && nat_le (length name) 1024 && list_all is_key_byte name && not (is_reserved name)
+is_key_name name =
+    nat_le 1 (length name) && nat_le (length name) LONGEST_KEY_NAME && list_all is_key_byte name
+    && not (is_reserved name)
 
 -- one of sixteen
 abbrev pub stripe_of : List ℕ → ℕ
-stripe_of volume = sum volume % 16
+stripe_of volume = sum volume % STRIPES

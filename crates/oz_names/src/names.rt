@@ -1,8 +1,11 @@
+//! The rules of names, and the stripe of a volume.
+
 ghost use Rattle.std.specs.Prelude.{◌≡◌, ◌↔◌, ℕ, List, IsTrue, IsOk, IfErr};
 ghost use Rattle.std.specs.List.{list_all};
 ghost use Rattle.oz_names.specs.Names.{IsVolumeName, IsBucketName, IsSnapshotName, IsKeyName, is_digit, is_letter, is_mark, is_name_byte, is_key_byte, is_number, is_reserved, is_volume_name, is_key_name, has_bad_pair, begins_with_mark, ends_with_mark, stripe_of as stripe_number};
 
 use crate::code::Code;
+use crate::limits::{LONGEST_KEY_NAME, LONGEST_NAME, SHORTEST_NAME, STRIPES};
 
 /// The folder in which the snapshots of a bucket seem to stand.
 const SNAPSHOTS: &[u8; 9] = b".snapshot";
@@ -48,7 +51,11 @@ pub fn key_name(name: &[u8]) -> Result<(), Code>
     ensures valid { IsOk result ↔ IsKeyName name.now }
     ensures code { IfErr result (λ code. code ≡ Code.InvalidKeyName) }
 {
-    if name.is_empty() || name.len() > 1024 || !has_key_bytes(name) || is_reserved(name) {
+    if name.is_empty()
+        || name.len() > LONGEST_KEY_NAME
+        || !has_key_bytes(name)
+        || is_reserved(name)
+    {
         return Err(Code::InvalidKeyName);
     }
     Ok(())
@@ -60,7 +67,7 @@ pub fn stripe_of(volume: &[u8]) -> u8
 {
     let mut stripe = 0;
     for byte in volume {
-        stripe = (stripe + *byte % 16) % 16;
+        stripe = (stripe + *byte % STRIPES) % STRIPES;
     }
     stripe
 }
@@ -74,8 +81,8 @@ pub fn tests_are_rules()
 fn is_plain_name(name: &[u8]) -> bool
     ensures { IsTrue result ↔ IsVolumeName name.now }
 {
-    name.len() >= 3
-        && name.len() <= 63
+    name.len() >= SHORTEST_NAME
+        && name.len() <= LONGEST_NAME
         && has_name_bytes(name)
         && !begins_with_mark(name)
         && !ends_with_mark(name)

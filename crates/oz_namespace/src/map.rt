@@ -1,10 +1,11 @@
+//! Maps by names and by numbers.
+
 ghost use Rattle.std.specs.Prelude.{◌≡◌, ◌<◌, ◌^◌, option_copied, OnOk, OnErr, IfOk, nat_eq};
 ghost use Rattle.std.specs.FinMap.{empty, get, insert, remove, len, keys, values};
 ghost use Rattle.std.specs.Map.Iter.{ShowsInOrder, deref};
 
 use crate::ordered::{copied, copied_keys, count, put, take_away, value_of, values_of};
-use crate::try_clone::TryClone;
-use oz_fields::{List, Name, OutOfMemory};
+use oz_fields::{List, Name, OutOfMemory, TryClone};
 use std::alloc::Global;
 use std::collections::BTreeMap;
 use std::collections::btree_map::Values;

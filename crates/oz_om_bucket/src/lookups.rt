@@ -9,7 +9,7 @@ ghost use Rattle.oz_om_bucket.specs.Replies.{Seen};
 
 use crate::walking::{buckets_named, keys_between, live_count};
 use oz_cache::Cached;
-use oz_fields::{List, Name, OutOfMemory};
+use oz_fields::{List, Name, OutOfMemory, TryClone};
 use oz_rows::RowKey;
 use std::alloc::Global;
 
@@ -17,7 +17,7 @@ pub(crate) fn volume_key(alloc: Global, volume: &Name) -> Result<RowKey, OutOfMe
     ensures { IfOk result (λ key. key ≡ RowKey.Volume volume.now) }
 {
     Ok(RowKey::Volume {
-        volume: Name::copy(alloc, volume.bytes())?,
+        volume: volume.try_clone(alloc)?,
     })
 }
 
@@ -25,8 +25,8 @@ pub(crate) fn bucket_key(alloc: Global, volume: &Name, bucket: &Name) -> Result<
     ensures { IfOk result (λ key. key ≡ RowKey.Bucket volume.now bucket.now) }
 {
     Ok(RowKey::Bucket {
-        volume: Name::copy(alloc, volume.bytes())?,
-        bucket: Name::copy(alloc, bucket.bytes())?,
+        volume: volume.try_clone(alloc)?,
+        bucket: bucket.try_clone(alloc)?,
     })
 }
 
@@ -126,8 +126,8 @@ fn first_key(alloc: Global, volume: &Name, bucket: &Name) -> Result<RowKey, OutO
     ensures { IfOk result (λ key. key ≡ RowKey.Key volume.now bucket.now []) }
 {
     Ok(RowKey::Key {
-        volume: Name::copy(alloc, volume.bytes())?,
-        bucket: Name::copy(alloc, bucket.bytes())?,
+        volume: volume.try_clone(alloc)?,
+        bucket: bucket.try_clone(alloc)?,
         key: Name::copy(alloc, b"")?,
     })
 }
@@ -151,8 +151,8 @@ fn first_open(alloc: Global, volume: &Name, bucket: &Name) -> Result<RowKey, Out
     ensures { IfOk result (λ key. key ≡ RowKey.Open volume.now bucket.now [] 0) }
 {
     Ok(RowKey::Open {
-        volume: Name::copy(alloc, volume.bytes())?,
-        bucket: Name::copy(alloc, bucket.bytes())?,
+        volume: volume.try_clone(alloc)?,
+        bucket: bucket.try_clone(alloc)?,
         key: Name::copy(alloc, b"")?,
         number: 0,
     })
@@ -178,8 +178,8 @@ fn first_snapshot(alloc: Global, volume: &Name, bucket: &Name) -> Result<RowKey,
     ensures { IfOk result (λ key. key ≡ RowKey.Snapshot volume.now bucket.now 0) }
 {
     Ok(RowKey::Snapshot {
-        volume: Name::copy(alloc, volume.bytes())?,
-        bucket: Name::copy(alloc, bucket.bytes())?,
+        volume: volume.try_clone(alloc)?,
+        bucket: bucket.try_clone(alloc)?,
         number: 0,
     })
 }

@@ -7,7 +7,7 @@ ghost use Rattle.oz_tables.specs.Counts.{AreKeys};
 ghost use Rattle.oz_om_bucket.specs.Walking.{last_or as last_key, IsStep, bucket_named, is_live};
 
 use oz_cache::Cached;
-use oz_fields::{List, Name, OutOfMemory};
+use oz_fields::{List, Name, OutOfMemory, TryClone};
 use oz_rows::{Row, RowKey, SnapshotState};
 use std::alloc::Global;
 
@@ -50,7 +50,7 @@ fn step(
     ensures { OnOk result (IsStep (newest cached.now) from.now found.old.items found.new.items) }
 {
     if let Some((key, _row)) = cached.next(last_or(found, from)) {
-        found.push(key.copy(alloc)?)?;
+        found.push(key.try_clone(alloc)?)?;
     }
     Ok(())
 }
@@ -79,7 +79,7 @@ fn name_in(alloc: Global, key: &RowKey) -> Result<Name, OutOfMemory>
     ensures { IfOk result (λ name. name ≡ bucket_named key.now) }
 {
     match key {
-        RowKey::Bucket { bucket, .. } => Name::copy(alloc, bucket.bytes()),
+        RowKey::Bucket { bucket, .. } => bucket.try_clone(alloc),
         _ => Name::copy(alloc, b""),
     }
 }

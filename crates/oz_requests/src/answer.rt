@@ -1,3 +1,5 @@
+//! What the lines of a script are told.
+
 ghost use Rattle.std.specs.Prelude.{◌≡◌};
 ghost use Rattle.oz_requests.specs.Numbers.{answer_number};
 

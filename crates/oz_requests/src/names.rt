@@ -1,3 +1,5 @@
+//! The test of a request's names.
+
 ghost use Rattle.std.specs.Prelude.{◌≡◌, None, Some, IfOk, IfErr};
 ghost use Rattle.oz_names.specs.Names.{is_volume_name};
 ghost use Rattle.oz_requests.specs.Names.{name_fault, first_fault};

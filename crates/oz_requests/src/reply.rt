@@ -1,3 +1,5 @@
+//! What the manager replies.
+
 use oz_fields::{List, Name};
 use oz_names::Code;
 

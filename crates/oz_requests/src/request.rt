@@ -1,3 +1,5 @@
+//! What the manager is asked.
+
 use oz_fields::{List, Name};
 
 /// What names an ask: the line of a client's script that asks, and which of the line's asks it is, from 1.

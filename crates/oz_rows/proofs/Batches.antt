@@ -7,7 +7,7 @@ use Rattle.oz_rows.specs.declared.fault.ReadFault.{ReadFault}
 use Rattle.oz_rows.specs.declared.fault.ReadFault.TheVariants as reads
 use Rattle.oz_rows.specs.declared.operation.Operation.{Operation}
 use Rattle.oz_rows.specs.Operations.{OperationFits, operation_bytes, AreOperations, batch_bytes}
-use Rattle.oz_rows.specs.Reading.{Fails, operation_at}
+use Rattle.oz_rows.specs.Reading.{ReadFails, operation_at}
 use Rattle.oz_rows.specs.Faults.{BatchEnds, BatchFails}
 use Rattle.oz_rows.proofs.OperationReads.{operation_reads, some_bytes}
 
@@ -38,7 +38,7 @@ fewer_left operation rest after fit here =
     let spelled = operation_reads.one_spelling rest operation after fit here in
     omega (arith, ap length spelled.1, length-append (operation_bytes operation) after, some_bytes operation)
 
-pub batch_stops : (fault : ReadFault) (before : List Operation) (bytes rest : List ℕ) → Fails fault (operation_at rest) → 1 ≤ length rest → AreOperations before × (bytes ≡ batch_bytes before ++ rest) → BatchFails bytes fault
+pub batch_stops : (fault : ReadFault) (before : List Operation) (bytes rest : List ℕ) → ReadFails fault (operation_at rest) → 1 ≤ length rest → AreOperations before × (bytes ≡ batch_bytes before ++ rest) → BatchFails bytes fault
 batch_stops reads.OutOfMemory before bytes rest fails more so_far = tt
 batch_stops (reads.Left left) before bytes rest fails more so_far = record { before = before; rest = rest; before_fits = so_far.0; parts = so_far.1; not_over = more; fault = fails }
 

@@ -7,7 +7,7 @@ use Rattle.oz_rows.specs.declared.fault.RowFault.TheVariants as faults
 use Rattle.oz_rows.specs.declared.operation.Operation.{Operation}
 use Rattle.oz_rows.specs.declared.operation.Operations.{Operations}
 use Rattle.oz_rows.specs.Operations.{AreOperations, batch_bytes, head_bytes, IsBody}
-use Rattle.oz_rows.specs.Reading.{Fails, head_at}
+use Rattle.oz_rows.specs.Reading.{ReadFails, head_at}
 use Rattle.oz_rows.specs.Faults.{place_in, IsBodyFault, BatchFails}
 use Rattle.oz_rows.proofs.OperationReads.{head_reads}
 use Rattle.oz_rows.proofs.Batches.{no_batch_fails, same_batch}
@@ -34,11 +34,11 @@ same_read index other rest left e =
 head_again : (bytes : List ℕ) (body : Operations) → IsBody bytes body → head_at bytes ≡ read_as body.index (batch_bytes body.items)
 head_again bytes body is = ap head_at is.3 ∙ head_reads.reads_back body.index (batch_bytes body.items) is.1
 
-pub head_fault : (bytes : List ℕ) (fault : ReadFault) → Fails fault (head_at bytes) → IsBodyFault bytes (place_in bytes fault)
+pub head_fault : (bytes : List ℕ) (fault : ReadFault) → ReadFails fault (head_at bytes) → IsBodyFault bytes (place_in bytes fault)
 head_fault bytes reads.OutOfMemory fails = tt
 head_fault bytes (reads.Left left) fails = inl (left, fails, refl)
 
-pub no_head_fails : (bytes : List ℕ) (fault : ReadFault) → Fails fault (head_at bytes) → (body : Operations) → IsBody bytes body → place_in bytes fault ≡ faults.OutOfMemory
+pub no_head_fails : (bytes : List ℕ) (fault : ReadFault) → ReadFails fault (head_at bytes) → (body : Operations) → IsBody bytes body → place_in bytes fault ≡ faults.OutOfMemory
 no_head_fails bytes reads.OutOfMemory fails body is = refl
 no_head_fails bytes (reads.Left left) fails body is = let again = head_again bytes body is in absurd cc
 

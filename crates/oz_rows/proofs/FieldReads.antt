@@ -49,7 +49,7 @@ block_number-passes : (n : ℕ) → is_block_number n ≡ true → IsBlockNumber
 block_number-passes n e = let parts = and_parts _ _ e in (leb-true _ _ parts.0, leb-true _ _ parts.1)
 
 block_number-from : (n : ℕ) → IsBlockNumber n → is_block_number n ≡ true
-block_number-from n is = and_from _ _ (le-leb 1 n is.0) (le-leb n (2 ^ 62) is.1)
+block_number-from n is = and_from _ _ (le-leb 1 n is.0) (le-leb n _ is.1)
 
 pub block_number_reads : IsRead IsBlockNumber u64_bytes block_number_at
 unfolding block_number_at

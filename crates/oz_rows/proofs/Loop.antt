@@ -3,7 +3,7 @@ use Rattle.std.proofs.Common.{◌≡◌, ℕ, suc, ◌-◌, ◌+◌, ◌≤◌, 
 use Rattle.std.proofs.lemmas.List.{append-nil}
 use Rattle.oz_rows.specs.declared.fault.ReadFault.{ReadFault}
 use Rattle.oz_rows.specs.declared.fault.ReadFault.TheVariants as faults
-use Rattle.oz_rows.specs.Reading.{goes_on, done, with_front, items_at, Fails}
+use Rattle.oz_rows.specs.Reading.{goes_on, done, with_front, items_at, ReadFails}
 
 -- the items that are read behind one more
 abbrev behind : {A : Type 0} → List A → A → Result (List A × List ℕ) ℕ → Result (List A × List ℕ) ℕ
@@ -21,8 +21,8 @@ one_more item front count i bytes x after total below here so_far =
     let one : with_front front (items_at item (count - i)) bytes ≡ with_front (front ++ x ∷ []) (items_at item (count - (i + 1))) after = rw (left, here) (regroup front x (items_at item (count - (i + 1)) after)) in
     sym one ∙ so_far
 
-pub stops : {A : Type 0} (item : List ℕ → Result (A × List ℕ) ℕ) (fault : ReadFault) (front : List A) (count i : ℕ) (bytes : List ℕ) (total : Result (List A × List ℕ) ℕ) → i < count → Fails fault (item bytes)
-    → with_front front (items_at item (count - i)) bytes ≡ total → Fails fault total
+pub stops : {A : Type 0} (item : List ℕ → Result (A × List ℕ) ℕ) (fault : ReadFault) (front : List A) (count i : ℕ) (bytes : List ℕ) (total : Result (List A × List ℕ) ℕ) → i < count → ReadFails fault (item bytes)
+    → with_front front (items_at item (count - i)) bytes ≡ total → ReadFails fault total
 unfolding items_at
 stops item faults.OutOfMemory front count i bytes total below here so_far = tt
 stops item (faults.Left far) front count i bytes total below here so_far =

@@ -8,7 +8,7 @@ use Rattle.oz_rows.specs.declared.fault.RowFault.TheVariants as faults
 use Rattle.oz_rows.specs.declared.key.RowKey.{RowKey}
 use Rattle.oz_rows.specs.declared.row.Row.{Row}
 use Rattle.oz_rows.specs.Rows.{row_bytes, IsRow}
-use Rattle.oz_rows.specs.Reading.{Fails, row_at}
+use Rattle.oz_rows.specs.Reading.{ReadFails, row_at}
 use Rattle.oz_rows.specs.Faults.{place_in, RowEnds, IsRowFault}
 use Rattle.oz_rows.proofs.RowReads.{row_reads}
 
@@ -21,11 +21,11 @@ read_as row rest = Ok (row, rest)
 pub row_again : (bytes : List ℕ) (key : RowKey) (row : Row) → IsRow bytes key row → row_at bytes ≡ read_as (key, row) []
 row_again bytes key row is = ap row_at (is.1 ∙ sym (append-nil (row_bytes key row))) ∙ row_reads.reads_back (key, row) [] is.0
 
-pub row_fault : (bytes : List ℕ) (fault : ReadFault) → Fails fault (row_at bytes) → IsRowFault bytes (place_in bytes fault)
+pub row_fault : (bytes : List ℕ) (fault : ReadFault) → ReadFails fault (row_at bytes) → IsRowFault bytes (place_in bytes fault)
 row_fault bytes reads.OutOfMemory fails = tt
 row_fault bytes (reads.Left left) fails = subst (λ (read : Found). RowEnds bytes (length bytes - left) read) (sym fails) refl
 
-pub no_row_fails : (bytes : List ℕ) (fault : ReadFault) → Fails fault (row_at bytes) → (key : RowKey) (row : Row) → IsRow bytes key row → place_in bytes fault ≡ faults.OutOfMemory
+pub no_row_fails : (bytes : List ℕ) (fault : ReadFault) → ReadFails fault (row_at bytes) → (key : RowKey) (row : Row) → IsRow bytes key row → place_in bytes fault ≡ faults.OutOfMemory
 no_row_fails bytes reads.OutOfMemory fails key row is = refl
 no_row_fails bytes (reads.Left left) fails key row is = let again = row_again bytes key row is in absurd cc
 

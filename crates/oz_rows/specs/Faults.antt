@@ -17,13 +17,13 @@ place_in bytes (reads.Left left) = faults.At (length bytes - left)
 place_in bytes reads.OutOfMemory = faults.OutOfMemory
 
 -- the fault, where so many bytes are left from it on
-abbrev pub IsLeft : List ℕ → ℕ → ℕ → Type 0
-IsLeft bytes left place = place ≡ length bytes - left
+abbrev pub IsFromEnd : List ℕ → ℕ → ℕ → Type 0
+IsFromEnd bytes left place = place ≡ length bytes - left
 
 -- a field of the row is at fault, or bytes follow the row
 abbrev pub RowEnds : List ℕ → ℕ → Result ((RowKey × Row) × List ℕ) ℕ → Type 0
-RowEnds bytes place (Err left) = IsLeft bytes left place
-RowEnds bytes place (Ok found) = (1 ≤ length found.1) × IsLeft bytes (length found.1) place
+RowEnds bytes place (Err left) = IsFromEnd bytes left place
+RowEnds bytes place (Ok found) = (1 ≤ length found.1) × IsFromEnd bytes (length found.1) place
 
 abbrev pub IsRowFault : List ℕ → RowFault → Type 0
 IsRowFault bytes (faults.At place) = RowEnds bytes place (row_at bytes)
@@ -31,7 +31,7 @@ IsRowFault bytes faults.OutOfMemory = Unit {0}
 
 -- a field of the head is at fault
 abbrev pub HeadEnds : List ℕ → ℕ → Type 0
-HeadEnds bytes place = (left : ℕ) × (head_at bytes ≡ Err left) × IsLeft bytes left place
+HeadEnds bytes place = (left : ℕ) × (head_at bytes ≡ Err left) × IsFromEnd bytes left place
 
 -- behind whole operations stands a field of another one that is at fault
 pub record BatchEnds (bytes : List ℕ) (left : ℕ) : Type 0 where
@@ -50,7 +50,7 @@ pub record OperationEnds (bytes : List ℕ) (place : ℕ) : Type 0 where
   pub index_fits : IsIndex index
   pub parts : bytes ≡ head_bytes index ++ batch
   pub batch_ends : BatchEnds batch left
-  pub is_left : IsLeft bytes left place
+  pub is_left : IsFromEnd bytes left place
 
 abbrev pub IsBodyFault : List ℕ → RowFault → Type 0
 IsBodyFault bytes (faults.At place) = HeadEnds bytes place ⊎ OperationEnds bytes place

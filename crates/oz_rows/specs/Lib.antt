@@ -3,3 +3,4 @@ pub mod Operations
 pub mod Reading
 pub mod Faults
 pub mod Order
+pub mod KeyParts

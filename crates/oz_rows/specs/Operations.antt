@@ -1,6 +1,7 @@
 -- The operations of a body: their rules, and the one spelling of each.
 use Rattle.std.specs.Prelude.{◌≡◌, ℕ, ◌<◌, ◌≤◌, ◌^◌, List, ◌++◌}
 use Rattle.std.specs.List.{flat_map, AllByRecursion}
+use Rattle.oz_rows.specs.declared.operation.TheConstants.{LAYOUT, END_OF_INDEXES}
 use Rattle.oz_fields.specs.Number.{u8_bytes, u64_bytes}
 use Rattle.oz_fields.specs.Text.{text_bytes}
 use Rattle.oz_names.specs.Names.{IsVolumeName, IsBucketName}
@@ -34,12 +35,12 @@ batch_bytes operations = flat_map operation_bytes operations
 
 -- the last transaction index of a body
 abbrev pub IsIndex : ℕ → Type 0
-IsIndex index = (1 ≤ index) × (index < 2 ^ 63)
+IsIndex index = (1 ≤ index) × (index < END_OF_INDEXES)
 
 -- the layout, and that index
 abbrev pub head_bytes : ℕ → List ℕ
-head_bytes index = u8_bytes 1 ++ u64_bytes index
+head_bytes index = u8_bytes LAYOUT ++ u64_bytes index
 
 -- the bytes are this body
 abbrev pub IsBody : List ℕ → Operations → Type 0
-IsBody bytes body = (body.layout ≡ 1) × IsIndex body.index × AreOperations body.items × (bytes ≡ head_bytes body.index ++ batch_bytes body.items)
+IsBody bytes body = (body.layout ≡ LAYOUT) × IsIndex body.index × AreOperations body.items × (bytes ≡ head_bytes body.index ++ batch_bytes body.items)

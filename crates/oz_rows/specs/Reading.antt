@@ -1,6 +1,9 @@
 -- Reading from left to right. What is read has a value and the bytes behind it. What isn't says how many bytes are left
 -- from the first field on that passes their end or breaks a rule.
 use Rattle.std.specs.Prelude.{◌≡◌, ℕ, zero, suc, ◌-◌, ◌^◌, Bool, true, ◌&&◌, ◌||◌, ◌==◌, nat_lt, nat_le, List, [], ◌∷◌, ◌++◌, length, Option, None, Some, Result, Ok, Err, if◌then◌else◌}
+use Rattle.oz_fields.specs.declared.block.TheConstants.{GREATEST_BLOCK_NUMBER, LONGEST_PIECE}
+use Rattle.oz_names.specs.declared.limits.TheConstants.{STRIPES, MOST_BLOCKS, MOST_NUMBERS}
+use Rattle.oz_rows.specs.declared.operation.TheConstants.{LAYOUT, END_OF_INDEXES}
 use Rattle.oz_fields.specs.declared.block.Block.{Block}
 use Rattle.oz_fields.specs.declared.block.Piece.{Piece}
 use Rattle.oz_fields.specs.Number.{u8_at, u16_at, u32_at, u64_at}
@@ -51,7 +54,7 @@ unfoldable pub number_at : List ℕ → Result (ℕ × List ℕ) ℕ
 number_at bytes = field u64_at (λ n. nat_le 1 n) bytes
 
 abbrev pub is_block_number : ℕ → Bool
-is_block_number n = nat_le 1 n && nat_le n (2 ^ 62)
+is_block_number n = nat_le 1 n && nat_le n GREATEST_BLOCK_NUMBER
 
 unfoldable pub block_number_at : List ℕ → Result (ℕ × List ℕ) ℕ
 block_number_at bytes = field u64_at is_block_number bytes
@@ -61,13 +64,13 @@ unfoldable pub same_local_at : ℕ → List ℕ → Result (ℕ × List ℕ) ℕ
 same_local_at local bytes = field u64_at (λ n. is_block_number n && n == local) bytes
 
 unfoldable pub drawn_at : List ℕ → Result (ℕ × List ℕ) ℕ
-drawn_at bytes = field u64_at (λ n. nat_le n (2 ^ 48)) bytes
+drawn_at bytes = field u64_at (λ n. nat_le n MOST_NUMBERS) bytes
 
 unfoldable pub length_at : List ℕ → Result (ℕ × List ℕ) ℕ
-length_at bytes = field u32_at (λ n. nat_le 1 n && nat_le n 65536) bytes
+length_at bytes = field u32_at (λ n. nat_le 1 n && nat_le n LONGEST_PIECE) bytes
 
 unfoldable pub stripe_at : List ℕ → Result (ℕ × List ℕ) ℕ
-stripe_at bytes = field u8_at (λ n. nat_lt n 16) bytes
+stripe_at bytes = field u8_at (λ n. nat_lt n STRIPES) bytes
 
 unfoldable pub state_at : List ℕ → Result (SnapshotState × List ℕ) ℕ
 state_at = do
@@ -76,7 +79,7 @@ state_at = do
 
 -- at least so many items
 unfoldable pub count_at : ℕ → List ℕ → Result (ℕ × List ℕ) ℕ
-count_at least bytes = field u16_at (λ n. nat_le least n && nat_le n 256) bytes
+count_at least bytes = field u16_at (λ n. nat_le least n && nat_le n MOST_BLOCKS) bytes
 
 unfoldable pub block_at : List ℕ → Result (Block × List ℕ) ℕ
 block_at = do
@@ -295,19 +298,19 @@ operation_at [] = Err 0
 operation_at (tag ∷ bytes) = operation_of_tag_at (suc (length bytes)) tag bytes
 
 unfoldable pub index_at : List ℕ → Result (ℕ × List ℕ) ℕ
-index_at bytes = field u64_at (λ n. nat_le 1 n && nat_lt n (2 ^ 63)) bytes
+index_at bytes = field u64_at (λ n. nat_le 1 n && nat_lt n END_OF_INDEXES) bytes
 
--- the head of a body: the layout 1, and the last transaction index
+-- the head of a body: the layout, and the last transaction index
 unfoldable pub head_at : List ℕ → Result (ℕ × List ℕ) ℕ
 head_at = do
-  layout ← field u8_at (λ n. n == 1)
+  layout ← field u8_at (λ n. n == LAYOUT)
   index_at
 
 -- What a call gave, seen by view, is what reading gives, unless memory ran out.
-abbrev pub Fails : {Y : Type 0} → ReadFault → Result Y ℕ → Type 0
-Fails faults.OutOfMemory read = Unit {0}
-Fails (faults.Left left) read = read ≡ Err left
+abbrev pub ReadFails : {Y : Type 0} → ReadFault → Result Y ℕ → Type 0
+ReadFails faults.OutOfMemory read = Unit {0}
+ReadFails (faults.Left left) read = read ≡ Err left
 
-abbrev pub Gives : {X Y : Type 0} → (X → Y) → Result X ReadFault → Result Y ℕ → Type 0
-Gives view (Ok x) read = read ≡ Ok (view x)
-Gives view (Err fault) read = Fails fault read
+abbrev pub ReadGives : {X Y : Type 0} → (X → Y) → Result X ReadFault → Result Y ℕ → Type 0
+ReadGives view (Ok x) read = read ≡ Ok (view x)
+ReadGives view (Err fault) read = ReadFails fault read

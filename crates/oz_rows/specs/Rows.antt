@@ -1,6 +1,8 @@
 -- The rows: the rules of their fields, and the one spelling of each.
 use Rattle.std.specs.Prelude.{◌≡◌, ℕ, ◌<◌, ◌≤◌, ◌^◌, List, [], ◌∷◌, ◌++◌, length}
 use Rattle.std.specs.List.{flat_map, AllByRecursion}
+use Rattle.oz_fields.specs.declared.block.TheConstants.{GREATEST_BLOCK_NUMBER, LONGEST_PIECE}
+use Rattle.oz_names.specs.declared.limits.TheConstants.{STRIPES, MOST_BLOCKS, MOST_NUMBERS}
 use Rattle.oz_fields.specs.declared.block.Block.{Block}
 use Rattle.oz_fields.specs.declared.block.Piece.{Piece}
 use Rattle.oz_fields.specs.Number.{u8_bytes, u16_bytes, u32_bytes, u64_bytes}
@@ -23,17 +25,17 @@ IsOwner n = n < 2 ^ 64
 
 -- the number of a container, or a local id
 abbrev pub IsBlockNumber : ℕ → Type 0
-IsBlockNumber n = (1 ≤ n) × (n ≤ 2 ^ 62)
+IsBlockNumber n = (1 ≤ n) × (n ≤ GREATEST_BLOCK_NUMBER)
 
 abbrev pub IsBlock : Block → Type 0
 IsBlock block = IsBlockNumber block.container × IsBlockNumber block.local
 
 abbrev pub IsPiece : Piece → Type 0
-IsPiece piece = IsBlock piece.block × (1 ≤ piece.length) × (piece.length ≤ 65536)
+IsPiece piece = IsBlock piece.block × (1 ≤ piece.length) × (piece.length ≤ LONGEST_PIECE)
 
--- at most 256 items
+-- no more items than a list may have
 abbrev pub AreItems : {A : Type 0} → (A → Type 0) → List A → Type 0
-AreItems IsItem items = (length items ≤ 256) × AllByRecursion IsItem items
+AreItems IsItem items = (length items ≤ MOST_BLOCKS) × AllByRecursion IsItem items
 
 -- the first block has this local id
 abbrev pub BeginsWith : ℕ → List Block → Type 0
@@ -50,7 +52,7 @@ KeyFits (keys.Deleted volume bucket owner key local) = IsVolumeName volume × Is
 KeyFits (keys.Snapshot volume bucket number) = IsVolumeName volume × IsBucketName bucket × IsNumber number
 KeyFits (keys.SnapshotKey volume bucket snapshot key) = IsVolumeName volume × IsBucketName bucket × IsNumber snapshot × IsKeyName key
 KeyFits (keys.Renamed volume bucket owner local) = IsVolumeName volume × IsBucketName bucket × IsOwner owner × IsBlockNumber local
-KeyFits (keys.Stripe stripe) = stripe < 16
+KeyFits (keys.Stripe stripe) = stripe < STRIPES
 
 -- the kind of the value is that of the key, and the value fields keep their rules
 abbrev pub ValueFits : RowKey → Row → Type 0
@@ -62,7 +64,7 @@ ValueFits (keys.Deleted volume bucket owner key local) (rows.Deleted blocks) = A
 ValueFits (keys.Snapshot volume bucket number) (rows.Snapshot name previous state) = IsSnapshotName name × IsOwner previous
 ValueFits (keys.SnapshotKey volume bucket snapshot key) (rows.SnapshotKey number pieces) = IsNumber number × AreItems IsPiece pieces
 ValueFits (keys.Renamed volume bucket owner local) (rows.Renamed key) = IsKeyName key
-ValueFits (keys.Stripe stripe) (rows.Stripe number) = number ≤ 2 ^ 48
+ValueFits (keys.Stripe stripe) (rows.Stripe number) = number ≤ MOST_NUMBERS
 ValueFits key row = ⊥
 
 abbrev pub RowFits : RowKey → Row → Type 0

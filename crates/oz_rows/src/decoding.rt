@@ -1,7 +1,7 @@
 //! Rows, read field after field.
 
 ghost use Rattle.std.specs.Prelude.{◌≡◌, ◌++◌, IfOk, Ok};
-ghost use Rattle.oz_rows.specs.Reading.{Gives, with_front, items_at, list_at, block_at, piece_at, deleted_blocks_at, volume_key_at, bucket_key_at, key_key_at, open_key_at, deleted_key_at, snapshot_at, snapshot_key_at, renamed_key_at, stripe_key_at, key_at, key_value_at, open_value_at, deleted_value_at, snapshot_value_at, snapshot_key_value_at, renamed_value_at, stripe_value_at, value_at, row_at};
+ghost use Rattle.oz_rows.specs.Reading.{ReadGives, with_front, items_at, list_at, block_at, piece_at, deleted_blocks_at, volume_key_at, bucket_key_at, key_key_at, open_key_at, deleted_key_at, snapshot_at, snapshot_key_at, renamed_key_at, stripe_key_at, key_at, key_value_at, open_value_at, deleted_value_at, snapshot_value_at, snapshot_key_value_at, renamed_value_at, stripe_value_at, value_at, row_at};
 
 use crate::fault::ReadFault;
 use crate::key::RowKey;
@@ -16,7 +16,7 @@ use std::alloc::Global;
 /// The row that the front of the bytes spells, and the bytes behind it.
 #[tactic(auto, unfolding(crate::specs::Reading::row_at))]
 pub(crate) fn row_of(alloc: Global, bytes: &[u8]) -> Result<((RowKey, Row), &[u8]), ReadFault>
-    ensures { Gives (λ x. ((x.0.0, x.0.1), x.1.now)) result (row_at bytes.now) }
+    ensures { ReadGives (λ x. ((x.0.0, x.0.1), x.1.now)) result (row_at bytes.now) }
 {
     let (key, rest) = key_of(alloc, bytes)?;
     let (row, rest) = value_of(alloc, &key, rest)?;
@@ -26,7 +26,7 @@ pub(crate) fn row_of(alloc: Global, bytes: &[u8]) -> Result<((RowKey, Row), &[u8
 /// A kind and its key fields.
 #[tactic(auto, unfolding(crate::specs::Reading::key_at))]
 pub(crate) fn key_of(alloc: Global, bytes: &[u8]) -> Result<(RowKey, &[u8]), ReadFault>
-    ensures { Gives (λ x. (x.0, x.1.now)) result (key_at bytes.now) }
+    ensures { ReadGives (λ x. (x.0, x.1.now)) result (key_at bytes.now) }
 {
     let [kind, rest @ ..] = bytes else {
         return Err(ReadFault::Left(0));
@@ -47,7 +47,7 @@ pub(crate) fn key_of(alloc: Global, bytes: &[u8]) -> Result<(RowKey, &[u8]), Rea
 
 #[tactic(auto, unfolding(crate::specs::Reading::volume_key_at))]
 fn volume_key_of(alloc: Global, bytes: &[u8]) -> Result<(RowKey, &[u8]), ReadFault>
-    ensures { Gives (λ x. (x.0, x.1.now)) result (volume_key_at bytes.now) }
+    ensures { ReadGives (λ x. (x.0, x.1.now)) result (volume_key_at bytes.now) }
 {
     let (volume, rest) = volume_name_of(alloc, bytes)?;
     Ok((RowKey::Volume { volume }, rest))
@@ -55,7 +55,7 @@ fn volume_key_of(alloc: Global, bytes: &[u8]) -> Result<(RowKey, &[u8]), ReadFau
 
 #[tactic(auto, unfolding(crate::specs::Reading::bucket_key_at))]
 fn bucket_key_of(alloc: Global, bytes: &[u8]) -> Result<(RowKey, &[u8]), ReadFault>
-    ensures { Gives (λ x. (x.0, x.1.now)) result (bucket_key_at bytes.now) }
+    ensures { ReadGives (λ x. (x.0, x.1.now)) result (bucket_key_at bytes.now) }
 {
     let (volume, rest) = volume_name_of(alloc, bytes)?;
     let (bucket, rest) = volume_name_of(alloc, rest)?;
@@ -64,7 +64,7 @@ fn bucket_key_of(alloc: Global, bytes: &[u8]) -> Result<(RowKey, &[u8]), ReadFau
 
 #[tactic(auto, unfolding(crate::specs::Reading::key_key_at))]
 fn key_key_of(alloc: Global, bytes: &[u8]) -> Result<(RowKey, &[u8]), ReadFault>
-    ensures { Gives (λ x. (x.0, x.1.now)) result (key_key_at bytes.now) }
+    ensures { ReadGives (λ x. (x.0, x.1.now)) result (key_key_at bytes.now) }
 {
     let (volume, rest) = volume_name_of(alloc, bytes)?;
     let (bucket, rest) = volume_name_of(alloc, rest)?;
@@ -81,7 +81,7 @@ fn key_key_of(alloc: Global, bytes: &[u8]) -> Result<(RowKey, &[u8]), ReadFault>
 
 #[tactic(auto, unfolding(crate::specs::Reading::open_key_at))]
 fn open_key_of(alloc: Global, bytes: &[u8]) -> Result<(RowKey, &[u8]), ReadFault>
-    ensures { Gives (λ x. (x.0, x.1.now)) result (open_key_at bytes.now) }
+    ensures { ReadGives (λ x. (x.0, x.1.now)) result (open_key_at bytes.now) }
 {
     let (volume, rest) = volume_name_of(alloc, bytes)?;
     let (bucket, rest) = volume_name_of(alloc, rest)?;
@@ -100,7 +100,7 @@ fn open_key_of(alloc: Global, bytes: &[u8]) -> Result<(RowKey, &[u8]), ReadFault
 
 #[tactic(auto, unfolding(crate::specs::Reading::deleted_key_at))]
 fn deleted_key_of(alloc: Global, bytes: &[u8]) -> Result<(RowKey, &[u8]), ReadFault>
-    ensures { Gives (λ x. (x.0, x.1.now)) result (deleted_key_at bytes.now) }
+    ensures { ReadGives (λ x. (x.0, x.1.now)) result (deleted_key_at bytes.now) }
 {
     let (volume, rest) = volume_name_of(alloc, bytes)?;
     let (bucket, rest) = volume_name_of(alloc, rest)?;
@@ -121,7 +121,7 @@ fn deleted_key_of(alloc: Global, bytes: &[u8]) -> Result<(RowKey, &[u8]), ReadFa
 
 #[tactic(auto, unfolding(crate::specs::Reading::snapshot_at))]
 fn snapshot_of(alloc: Global, bytes: &[u8]) -> Result<(RowKey, &[u8]), ReadFault>
-    ensures { Gives (λ x. (x.0, x.1.now)) result (snapshot_at bytes.now) }
+    ensures { ReadGives (λ x. (x.0, x.1.now)) result (snapshot_at bytes.now) }
 {
     let (volume, rest) = volume_name_of(alloc, bytes)?;
     let (bucket, rest) = volume_name_of(alloc, rest)?;
@@ -138,7 +138,7 @@ fn snapshot_of(alloc: Global, bytes: &[u8]) -> Result<(RowKey, &[u8]), ReadFault
 
 #[tactic(auto, unfolding(crate::specs::Reading::snapshot_key_at))]
 fn snapshot_key_of(alloc: Global, bytes: &[u8]) -> Result<(RowKey, &[u8]), ReadFault>
-    ensures { Gives (λ x. (x.0, x.1.now)) result (snapshot_key_at bytes.now) }
+    ensures { ReadGives (λ x. (x.0, x.1.now)) result (snapshot_key_at bytes.now) }
 {
     let (volume, rest) = volume_name_of(alloc, bytes)?;
     let (bucket, rest) = volume_name_of(alloc, rest)?;
@@ -157,7 +157,7 @@ fn snapshot_key_of(alloc: Global, bytes: &[u8]) -> Result<(RowKey, &[u8]), ReadF
 
 #[tactic(auto, unfolding(crate::specs::Reading::renamed_key_at))]
 fn renamed_key_of(alloc: Global, bytes: &[u8]) -> Result<(RowKey, &[u8]), ReadFault>
-    ensures { Gives (λ x. (x.0, x.1.now)) result (renamed_key_at bytes.now) }
+    ensures { ReadGives (λ x. (x.0, x.1.now)) result (renamed_key_at bytes.now) }
 {
     let (volume, rest) = volume_name_of(alloc, bytes)?;
     let (bucket, rest) = volume_name_of(alloc, rest)?;
@@ -176,7 +176,7 @@ fn renamed_key_of(alloc: Global, bytes: &[u8]) -> Result<(RowKey, &[u8]), ReadFa
 
 #[tactic(auto, unfolding(crate::specs::Reading::stripe_key_at))]
 fn stripe_key_of(bytes: &[u8]) -> Result<(RowKey, &[u8]), ReadFault>
-    ensures { Gives (λ x. (x.0, x.1.now)) result (stripe_key_at bytes.now) }
+    ensures { ReadGives (λ x. (x.0, x.1.now)) result (stripe_key_at bytes.now) }
 {
     let (stripe, rest) = stripe_number_of(bytes)?;
     Ok((RowKey::Stripe { stripe }, rest))
@@ -185,7 +185,7 @@ fn stripe_key_of(bytes: &[u8]) -> Result<(RowKey, &[u8]), ReadFault>
 /// The value fields of the kind that the key has.
 #[tactic(auto, unfolding(crate::specs::Reading::value_at))]
 fn value_of<'a>(alloc: Global, key: &RowKey, bytes: &'a [u8]) -> Result<(Row, &'a [u8]), ReadFault>
-    ensures { Gives (λ x. (x.0, x.1.now)) result (value_at key.now bytes.now) }
+    ensures { ReadGives (λ x. (x.0, x.1.now)) result (value_at key.now bytes.now) }
 {
     match key {
         RowKey::Volume { .. } => Ok((Row::Volume, bytes)),
@@ -202,7 +202,7 @@ fn value_of<'a>(alloc: Global, key: &RowKey, bytes: &'a [u8]) -> Result<(Row, &'
 
 #[tactic(auto, unfolding(crate::specs::Reading::key_value_at))]
 fn key_value_of(alloc: Global, bytes: &[u8]) -> Result<(Row, &[u8]), ReadFault>
-    ensures { Gives (λ x. (x.0, x.1.now)) result (key_value_at bytes.now) }
+    ensures { ReadGives (λ x. (x.0, x.1.now)) result (key_value_at bytes.now) }
 {
     let (number, rest) = number_of(bytes)?;
     let (pieces, rest) = pieces_of(alloc, rest)?;
@@ -211,7 +211,7 @@ fn key_value_of(alloc: Global, bytes: &[u8]) -> Result<(Row, &[u8]), ReadFault>
 
 #[tactic(auto, unfolding(crate::specs::Reading::open_value_at))]
 fn open_value_of(alloc: Global, bytes: &[u8]) -> Result<(Row, &[u8]), ReadFault>
-    ensures { Gives (λ x. (x.0, x.1.now)) result (open_value_at bytes.now) }
+    ensures { ReadGives (λ x. (x.0, x.1.now)) result (open_value_at bytes.now) }
 {
     let (blocks, rest) = blocks_of(alloc, bytes)?;
     Ok((Row::Open { blocks }, rest))
@@ -219,7 +219,7 @@ fn open_value_of(alloc: Global, bytes: &[u8]) -> Result<(Row, &[u8]), ReadFault>
 
 #[tactic(auto, unfolding(crate::specs::Reading::snapshot_value_at))]
 fn snapshot_value_of(alloc: Global, bytes: &[u8]) -> Result<(Row, &[u8]), ReadFault>
-    ensures { Gives (λ x. (x.0, x.1.now)) result (snapshot_value_at bytes.now) }
+    ensures { ReadGives (λ x. (x.0, x.1.now)) result (snapshot_value_at bytes.now) }
 {
     let (name, rest) = volume_name_of(alloc, bytes)?;
     let (previous, rest) = owner_of(rest)?;
@@ -236,7 +236,7 @@ fn snapshot_value_of(alloc: Global, bytes: &[u8]) -> Result<(Row, &[u8]), ReadFa
 
 #[tactic(auto, unfolding(crate::specs::Reading::snapshot_key_value_at))]
 fn snapshot_key_value_of(alloc: Global, bytes: &[u8]) -> Result<(Row, &[u8]), ReadFault>
-    ensures { Gives (λ x. (x.0, x.1.now)) result (snapshot_key_value_at bytes.now) }
+    ensures { ReadGives (λ x. (x.0, x.1.now)) result (snapshot_key_value_at bytes.now) }
 {
     let (number, rest) = number_of(bytes)?;
     let (pieces, rest) = pieces_of(alloc, rest)?;
@@ -245,7 +245,7 @@ fn snapshot_key_value_of(alloc: Global, bytes: &[u8]) -> Result<(Row, &[u8]), Re
 
 #[tactic(auto, unfolding(crate::specs::Reading::renamed_value_at))]
 fn renamed_value_of(alloc: Global, bytes: &[u8]) -> Result<(Row, &[u8]), ReadFault>
-    ensures { Gives (λ x. (x.0, x.1.now)) result (renamed_value_at bytes.now) }
+    ensures { ReadGives (λ x. (x.0, x.1.now)) result (renamed_value_at bytes.now) }
 {
     let (key, rest) = key_name_of(alloc, bytes)?;
     Ok((Row::Renamed { key }, rest))
@@ -253,7 +253,7 @@ fn renamed_value_of(alloc: Global, bytes: &[u8]) -> Result<(Row, &[u8]), ReadFau
 
 #[tactic(auto, unfolding(crate::specs::Reading::stripe_value_at))]
 fn stripe_value_of(bytes: &[u8]) -> Result<(Row, &[u8]), ReadFault>
-    ensures { Gives (λ x. (x.0, x.1.now)) result (stripe_value_at bytes.now) }
+    ensures { ReadGives (λ x. (x.0, x.1.now)) result (stripe_value_at bytes.now) }
 {
     let (number, rest) = drawn_of(bytes)?;
     Ok((Row::Stripe { number }, rest))
@@ -261,7 +261,7 @@ fn stripe_value_of(bytes: &[u8]) -> Result<(Row, &[u8]), ReadFault>
 
 #[tactic(auto, unfolding(crate::specs::Reading::deleted_value_at))]
 fn deleted_value_of(alloc: Global, local: u64, bytes: &[u8]) -> Result<(Row, &[u8]), ReadFault>
-    ensures { Gives (λ x. (x.0, x.1.now)) result (deleted_value_at local bytes.now) }
+    ensures { ReadGives (λ x. (x.0, x.1.now)) result (deleted_value_at local bytes.now) }
 {
     let (blocks, rest) = deleted_blocks_of(alloc, local, bytes)?;
     Ok((Row::Deleted { blocks }, rest))
@@ -269,7 +269,7 @@ fn deleted_value_of(alloc: Global, local: u64, bytes: &[u8]) -> Result<(Row, &[u
 
 #[tactic(auto, unfolding(crate::specs::Reading::list_at))]
 fn pieces_of(alloc: Global, bytes: &[u8]) -> Result<(List<Piece>, &[u8]), ReadFault>
-    ensures { Gives (λ x. (x.0, x.1.now)) result (list_at piece_at bytes.now) }
+    ensures { ReadGives (λ x. (x.0, x.1.now)) result (list_at piece_at bytes.now) }
 {
     let (count, rest) = count_of(0, bytes)?;
     let (pieces, rest) = more_pieces(alloc, count, rest)?;
@@ -277,7 +277,7 @@ fn pieces_of(alloc: Global, bytes: &[u8]) -> Result<(List<Piece>, &[u8]), ReadFa
 }
 
 fn more_pieces(alloc: Global, count: u16, bytes: &[u8]) -> Result<(Vec<Piece>, &[u8]), ReadFault>
-    ensures { Gives (λ x. (x.0.items, x.1.now)) result (items_at piece_at count bytes.now) }
+    ensures { ReadGives (λ x. (x.0.items, x.1.now)) result (items_at piece_at count bytes.now) }
 {
     let mut pieces = Vec::new(alloc);
     let mut rest = bytes;
@@ -291,7 +291,7 @@ fn more_pieces(alloc: Global, count: u16, bytes: &[u8]) -> Result<(Vec<Piece>, &
 
 #[tactic(auto, unfolding(crate::specs::Reading::list_at))]
 fn blocks_of(alloc: Global, bytes: &[u8]) -> Result<(List<Block>, &[u8]), ReadFault>
-    ensures { Gives (λ x. (x.0, x.1.now)) result (list_at block_at bytes.now) }
+    ensures { ReadGives (λ x. (x.0, x.1.now)) result (list_at block_at bytes.now) }
 {
     let (count, rest) = count_of(0, bytes)?;
     let (blocks, rest) = more_blocks(Vec::new(alloc), count, rest)?;
@@ -305,7 +305,7 @@ fn deleted_blocks_of(
     local: u64,
     bytes: &[u8],
 ) -> Result<(List<Block>, &[u8]), ReadFault>
-    ensures { Gives (λ x. (x.0, x.1.now)) result (deleted_blocks_at local bytes.now) }
+    ensures { ReadGives (λ x. (x.0, x.1.now)) result (deleted_blocks_at local bytes.now) }
 {
     let (count, rest) = count_of(1, bytes)?;
     let (container, rest) = block_number_of(rest)?;
@@ -322,7 +322,7 @@ fn more_blocks(
     count: u16,
     bytes: &[u8],
 ) -> Result<(Vec<Block>, &[u8]), ReadFault>
-    ensures { Gives (λ x. (x.0.items, x.1.now)) result (with_front before.items (items_at block_at count) bytes.now) }
+    ensures { ReadGives (λ x. (x.0.items, x.1.now)) result (with_front before.items (items_at block_at count) bytes.now) }
 {
     let mut gathered = before;
     let mut rest = bytes;

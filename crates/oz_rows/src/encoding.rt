@@ -1,10 +1,11 @@
+//! Rows, operations and bodies written.
+
 ghost use Rattle.std.specs.Prelude.{◌≡◌, ◌∷◌, ◌++◌, IfOk, OnOk, OnErr};
 ghost use Rattle.oz_rows.specs.Rows.{KeyFits, RowFits, key_bytes, row_bytes};
 ghost use Rattle.oz_rows.specs.Operations.{OperationFits, operation_bytes, IsIndex, head_bytes};
 
 use crate::key::RowKey;
-use crate::operation::Operation;
-use crate::operation_reading::LAYOUT;
+use crate::operation::{LAYOUT, Operation};
 use crate::row::Row;
 use crate::writing::{put_key, put_path, put_value};
 use oz_fields::{OutOfMemory, put_u8, put_u64};

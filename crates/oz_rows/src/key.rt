@@ -1,7 +1,8 @@
-ghost use Rattle.std.specs.Prelude.{◌≡◌, IfOk};
+//! What names rows.
 
-use oz_fields::{Name, OutOfMemory};
-use std::alloc::Global;
+ghost use Rattle.std.specs.Prelude.{◌≡◌};
+
+use oz_fields::Name;
 
 /// What names a row: its kind, and the key fields of that kind. The number of a kind stands first in
 /// its bytes; the kinds are in the order of their numbers, from 1 on.
@@ -77,85 +78,5 @@ impl RowKey {
             RowKey::Renamed { .. } => 8,
             RowKey::Stripe { .. } => 9,
         }
-    }
-
-    /// The same key again.
-    pub fn copy(&self, alloc: Global) -> Result<RowKey, OutOfMemory>
-        ensures { IfOk result (λ key. key ≡ self.now) }
-    {
-        Ok(match self {
-            RowKey::Volume { volume } => RowKey::Volume {
-                volume: Name::copy(alloc, volume.bytes())?,
-            },
-            RowKey::Bucket { volume, bucket } => RowKey::Bucket {
-                volume: Name::copy(alloc, volume.bytes())?,
-                bucket: Name::copy(alloc, bucket.bytes())?,
-            },
-            RowKey::Key {
-                volume,
-                bucket,
-                key,
-            } => RowKey::Key {
-                volume: Name::copy(alloc, volume.bytes())?,
-                bucket: Name::copy(alloc, bucket.bytes())?,
-                key: Name::copy(alloc, key.bytes())?,
-            },
-            RowKey::Open {
-                volume,
-                bucket,
-                key,
-                number,
-            } => RowKey::Open {
-                volume: Name::copy(alloc, volume.bytes())?,
-                bucket: Name::copy(alloc, bucket.bytes())?,
-                key: Name::copy(alloc, key.bytes())?,
-                number: *number,
-            },
-            RowKey::Deleted {
-                volume,
-                bucket,
-                owner,
-                key,
-                local,
-            } => RowKey::Deleted {
-                volume: Name::copy(alloc, volume.bytes())?,
-                bucket: Name::copy(alloc, bucket.bytes())?,
-                owner: *owner,
-                key: Name::copy(alloc, key.bytes())?,
-                local: *local,
-            },
-            RowKey::Snapshot {
-                volume,
-                bucket,
-                number,
-            } => RowKey::Snapshot {
-                volume: Name::copy(alloc, volume.bytes())?,
-                bucket: Name::copy(alloc, bucket.bytes())?,
-                number: *number,
-            },
-            RowKey::SnapshotKey {
-                volume,
-                bucket,
-                snapshot,
-                key,
-            } => RowKey::SnapshotKey {
-                volume: Name::copy(alloc, volume.bytes())?,
-                bucket: Name::copy(alloc, bucket.bytes())?,
-                snapshot: *snapshot,
-                key: Name::copy(alloc, key.bytes())?,
-            },
-            RowKey::Renamed {
-                volume,
-                bucket,
-                owner,
-                local,
-            } => RowKey::Renamed {
-                volume: Name::copy(alloc, volume.bytes())?,
-                bucket: Name::copy(alloc, bucket.bytes())?,
-                owner: *owner,
-                local: *local,
-            },
-            RowKey::Stripe { stripe } => RowKey::Stripe { stripe: *stripe },
-        })
     }
 }

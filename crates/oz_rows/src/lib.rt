@@ -5,6 +5,7 @@ mod decoding;
 mod encoding;
 mod fault;
 mod key;
+mod key_making;
 mod laws;
 mod operation;
 mod operation_reading;
@@ -19,7 +20,7 @@ pub use key::RowKey;
 pub use laws::{
     keys_are_in_order, longest_batch, one_operation_for_a_spelling, one_row_for_a_spelling,
 };
-pub use operation::{Change, Operation, Operations};
+pub use operation::{Change, END_OF_INDEXES, LAYOUT, Operation, Operations};
 pub use operation_reading::{head_of, operation_of};
 pub use row::{Row, SnapshotState};
 pub use whole::{decode, operations};

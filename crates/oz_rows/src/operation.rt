@@ -1,6 +1,14 @@
+//! The operations of a body.
+
 use crate::key::RowKey;
 use crate::row::Row;
 use oz_fields::{List, Name};
+
+/// The layout of all bodies so far.
+pub const LAYOUT: u8 = 1;
+
+/// The indexes end here: each is below it.
+pub const END_OF_INDEXES: u64 = 1 << 63;
 
 /// A change of the manager's rows, as its journal keeps it.
 #[derive(Debug, Drop, PartialEq, Eq)]

@@ -1,24 +1,19 @@
 //! Bodies, read operation after operation.
 
 ghost use Rattle.std.specs.Prelude.{◌≡◌, IfOk, IfErr, MatchResult};
-ghost use Rattle.oz_rows.specs.Reading.{Gives, put_at, remove_at, copy_keys_at, move_deleted_at, drop_keys_at, drop_open_at, operation_at, index_at, head_at};
+ghost use Rattle.oz_rows.specs.Reading.{ReadGives, put_at, remove_at, copy_keys_at, move_deleted_at, drop_keys_at, drop_open_at, operation_at, index_at, head_at};
 
 use crate::decoding::{key_of, row_of};
 use crate::fault::ReadFault;
-use crate::operation::Operation;
+use crate::operation::{END_OF_INDEXES, LAYOUT, Operation};
 use crate::reading::{number_of, owner_of, volume_name_of};
 use oz_fields::Reader;
 use std::alloc::Global;
 
-/// The layout of all bodies so far.
-pub(crate) const LAYOUT: u8 = 1;
-
-const END_OF_INDEXES: u64 = 1 << 63;
-
 /// The operation that the front of the bytes spells, and the bytes behind it.
 #[tactic(auto, unfolding(crate::specs::Reading::operation_at))]
 pub fn operation_of(alloc: Global, bytes: &[u8]) -> Result<(Operation, &[u8]), ReadFault>
-    ensures { Gives (λ x. (x.0, x.1.now)) result (operation_at bytes.now) }
+    ensures { ReadGives (λ x. (x.0, x.1.now)) result (operation_at bytes.now) }
 {
     let [tag, rest @ ..] = bytes else {
         return Err(ReadFault::Left(0));
@@ -36,7 +31,7 @@ pub fn operation_of(alloc: Global, bytes: &[u8]) -> Result<(Operation, &[u8]), R
 
 #[tactic(auto, unfolding(crate::specs::Reading::put_at))]
 fn put_of(alloc: Global, bytes: &[u8]) -> Result<(Operation, &[u8]), ReadFault>
-    ensures { Gives (λ x. (x.0, x.1.now)) result (put_at bytes.now) }
+    ensures { ReadGives (λ x. (x.0, x.1.now)) result (put_at bytes.now) }
 {
     let ((key, row), rest) = row_of(alloc, bytes)?;
     Ok((Operation::Put { key, row }, rest))
@@ -44,7 +39,7 @@ fn put_of(alloc: Global, bytes: &[u8]) -> Result<(Operation, &[u8]), ReadFault>
 
 #[tactic(auto, unfolding(crate::specs::Reading::remove_at))]
 fn remove_of(alloc: Global, bytes: &[u8]) -> Result<(Operation, &[u8]), ReadFault>
-    ensures { Gives (λ x. (x.0, x.1.now)) result (remove_at bytes.now) }
+    ensures { ReadGives (λ x. (x.0, x.1.now)) result (remove_at bytes.now) }
 {
     let (key, rest) = key_of(alloc, bytes)?;
     Ok((Operation::Remove { key }, rest))
@@ -52,7 +47,7 @@ fn remove_of(alloc: Global, bytes: &[u8]) -> Result<(Operation, &[u8]), ReadFaul
 
 #[tactic(auto, unfolding(crate::specs::Reading::copy_keys_at))]
 fn copy_keys_of(alloc: Global, bytes: &[u8]) -> Result<(Operation, &[u8]), ReadFault>
-    ensures { Gives (λ x. (x.0, x.1.now)) result (copy_keys_at bytes.now) }
+    ensures { ReadGives (λ x. (x.0, x.1.now)) result (copy_keys_at bytes.now) }
 {
     let (volume, rest) = volume_name_of(alloc, bytes)?;
     let (bucket, rest) = volume_name_of(alloc, rest)?;
@@ -69,7 +64,7 @@ fn copy_keys_of(alloc: Global, bytes: &[u8]) -> Result<(Operation, &[u8]), ReadF
 
 #[tactic(auto, unfolding(crate::specs::Reading::move_deleted_at))]
 fn move_deleted_of(alloc: Global, bytes: &[u8]) -> Result<(Operation, &[u8]), ReadFault>
-    ensures { Gives (λ x. (x.0, x.1.now)) result (move_deleted_at bytes.now) }
+    ensures { ReadGives (λ x. (x.0, x.1.now)) result (move_deleted_at bytes.now) }
 {
     let (volume, rest) = volume_name_of(alloc, bytes)?;
     let (bucket, rest) = volume_name_of(alloc, rest)?;
@@ -88,7 +83,7 @@ fn move_deleted_of(alloc: Global, bytes: &[u8]) -> Result<(Operation, &[u8]), Re
 
 #[tactic(auto, unfolding(crate::specs::Reading::drop_keys_at))]
 fn drop_keys_of(alloc: Global, bytes: &[u8]) -> Result<(Operation, &[u8]), ReadFault>
-    ensures { Gives (λ x. (x.0, x.1.now)) result (drop_keys_at bytes.now) }
+    ensures { ReadGives (λ x. (x.0, x.1.now)) result (drop_keys_at bytes.now) }
 {
     let (volume, rest) = volume_name_of(alloc, bytes)?;
     let (bucket, rest) = volume_name_of(alloc, rest)?;
@@ -105,7 +100,7 @@ fn drop_keys_of(alloc: Global, bytes: &[u8]) -> Result<(Operation, &[u8]), ReadF
 
 #[tactic(auto, unfolding(crate::specs::Reading::drop_open_at))]
 fn drop_open_of(alloc: Global, bytes: &[u8]) -> Result<(Operation, &[u8]), ReadFault>
-    ensures { Gives (λ x. (x.0, x.1.now)) result (drop_open_at bytes.now) }
+    ensures { ReadGives (λ x. (x.0, x.1.now)) result (drop_open_at bytes.now) }
 {
     let (volume, rest) = volume_name_of(alloc, bytes)?;
     let (bucket, rest) = volume_name_of(alloc, rest)?;
@@ -115,7 +110,7 @@ fn drop_open_of(alloc: Global, bytes: &[u8]) -> Result<(Operation, &[u8]), ReadF
 /// The last transaction index in the head of a body.
 #[tactic(auto, unfolding(crate::specs::Reading::head_at))]
 pub fn head_of(bytes: &[u8]) -> Result<(u64, &[u8]), ReadFault>
-    ensures { Gives (λ x. (x.0, x.1.now)) result (head_at bytes.now) }
+    ensures { ReadGives (λ x. (x.0, x.1.now)) result (head_at bytes.now) }
 {
     match bytes {
         [LAYOUT, rest @ ..] => index_of(rest),
@@ -125,7 +120,7 @@ pub fn head_of(bytes: &[u8]) -> Result<(u64, &[u8]), ReadFault>
 
 #[tactic(auto, unfolding(crate::specs::Reading::index_at))]
 fn index_of(bytes: &[u8]) -> Result<(u64, &[u8]), ReadFault>
-    ensures { Gives (λ x. (x.0, x.1.now)) result (index_at bytes.now) }
+    ensures { ReadGives (λ x. (x.0, x.1.now)) result (index_at bytes.now) }
 {
     let mut reader = Reader::new(bytes);
     match reader.u64() {

@@ -2,25 +2,17 @@
 
 ghost use Rattle.std.specs.Prelude.{◌≡◌, ◌≤◌, IfOk};
 ghost use Rattle.oz_names.specs.Names.{is_volume_name as passes_as_volume, is_key_name as passes_as_key};
-ghost use Rattle.oz_rows.specs.Reading.{Gives, volume_name_at, key_name_at, owner_at, number_at, block_number_at, same_local_at, drawn_at, length_at, stripe_at, state_at, count_at, block_at, piece_at};
+ghost use Rattle.oz_rows.specs.Reading.{ReadGives, volume_name_at, key_name_at, owner_at, number_at, block_number_at, same_local_at, drawn_at, length_at, stripe_at, state_at, count_at, block_at, piece_at};
 
 use crate::fault::ReadFault;
 use crate::row::SnapshotState;
-use oz_fields::{Block, Name, Piece, Reader};
-use oz_names::{key_name, volume_name};
+use oz_fields::{Block, GREATEST_BLOCK_NUMBER, LONGEST_PIECE, Name, Piece, Reader};
+use oz_names::{MOST_BLOCKS, MOST_NUMBERS, STRIPES, key_name, volume_name};
 use std::alloc::Global;
-
-const GREATEST_BLOCK_NUMBER: u64 = 1 << 62;
-
-const MOST_DRAWN: u64 = 1 << 48;
-
-const LONGEST_PIECE: u32 = 65_536;
-
-const MOST_ITEMS: u16 = 256;
 
 /// The name of a volume. Buckets and snapshots are named by the same rules.
 pub(crate) fn volume_name_of(alloc: Global, bytes: &[u8]) -> Result<(Name, &[u8]), ReadFault>
-    ensures { Gives (λ x. (x.0, x.1.now)) result (volume_name_at bytes.now) }
+    ensures { ReadGives (λ x. (x.0, x.1.now)) result (volume_name_at bytes.now) }
 {
     let (name, rest) = volume_text_of(bytes)?;
     Ok((Name::copy(alloc, name)?, rest))
@@ -28,7 +20,7 @@ pub(crate) fn volume_name_of(alloc: Global, bytes: &[u8]) -> Result<(Name, &[u8]
 
 /// The name of a key.
 pub(crate) fn key_name_of(alloc: Global, bytes: &[u8]) -> Result<(Name, &[u8]), ReadFault>
-    ensures { Gives (λ x. (x.0, x.1.now)) result (key_name_at bytes.now) }
+    ensures { ReadGives (λ x. (x.0, x.1.now)) result (key_name_at bytes.now) }
 {
     let (name, rest) = key_text_of(bytes)?;
     Ok((Name::copy(alloc, name)?, rest))
@@ -36,7 +28,7 @@ pub(crate) fn key_name_of(alloc: Global, bytes: &[u8]) -> Result<(Name, &[u8]), 
 
 #[tactic(auto, unfolding(crate::specs::Reading::volume_name_at))]
 fn volume_text_of(bytes: &[u8]) -> Result<(&[u8], &[u8]), ReadFault>
-    ensures { Gives (λ x. (x.0.now, x.1.now)) result (volume_name_at bytes.now) }
+    ensures { ReadGives (λ x. (x.0.now, x.1.now)) result (volume_name_at bytes.now) }
 {
     let mut reader = Reader::new(bytes);
     match reader.text() {
@@ -47,7 +39,7 @@ fn volume_text_of(bytes: &[u8]) -> Result<(&[u8], &[u8]), ReadFault>
 
 #[tactic(auto, unfolding(crate::specs::Reading::key_name_at))]
 fn key_text_of(bytes: &[u8]) -> Result<(&[u8], &[u8]), ReadFault>
-    ensures { Gives (λ x. (x.0.now, x.1.now)) result (key_name_at bytes.now) }
+    ensures { ReadGives (λ x. (x.0.now, x.1.now)) result (key_name_at bytes.now) }
 {
     let mut reader = Reader::new(bytes);
     match reader.text() {
@@ -70,7 +62,7 @@ fn is_key_name(name: &[u8]) -> bool
 
 #[tactic(auto, unfolding(crate::specs::Reading::owner_at))]
 pub(crate) fn owner_of(bytes: &[u8]) -> Result<(u64, &[u8]), ReadFault>
-    ensures { Gives (λ x. (x.0, x.1.now)) result (owner_at bytes.now) }
+    ensures { ReadGives (λ x. (x.0, x.1.now)) result (owner_at bytes.now) }
 {
     let mut reader = Reader::new(bytes);
     match reader.u64() {
@@ -81,7 +73,7 @@ pub(crate) fn owner_of(bytes: &[u8]) -> Result<(u64, &[u8]), ReadFault>
 
 #[tactic(auto, unfolding(crate::specs::Reading::number_at))]
 pub(crate) fn number_of(bytes: &[u8]) -> Result<(u64, &[u8]), ReadFault>
-    ensures { Gives (λ x. (x.0, x.1.now)) result (number_at bytes.now) }
+    ensures { ReadGives (λ x. (x.0, x.1.now)) result (number_at bytes.now) }
 {
     let mut reader = Reader::new(bytes);
     match reader.u64() {
@@ -92,7 +84,7 @@ pub(crate) fn number_of(bytes: &[u8]) -> Result<(u64, &[u8]), ReadFault>
 
 #[tactic(auto, unfolding(crate::specs::Reading::block_number_at))]
 pub(crate) fn block_number_of(bytes: &[u8]) -> Result<(u64, &[u8]), ReadFault>
-    ensures { Gives (λ x. (x.0, x.1.now)) result (block_number_at bytes.now) }
+    ensures { ReadGives (λ x. (x.0, x.1.now)) result (block_number_at bytes.now) }
 {
     let mut reader = Reader::new(bytes);
     match reader.u64() {
@@ -106,7 +98,7 @@ pub(crate) fn block_number_of(bytes: &[u8]) -> Result<(u64, &[u8]), ReadFault>
 /// A local id that has to be the one that was read before.
 #[tactic(auto, unfolding(crate::specs::Reading::same_local_at))]
 pub(crate) fn same_local_of(local: u64, bytes: &[u8]) -> Result<(u64, &[u8]), ReadFault>
-    ensures { Gives (λ x. (x.0, x.1.now)) result (same_local_at local bytes.now) }
+    ensures { ReadGives (λ x. (x.0, x.1.now)) result (same_local_at local bytes.now) }
 {
     let mut reader = Reader::new(bytes);
     match reader.u64() {
@@ -119,18 +111,18 @@ pub(crate) fn same_local_of(local: u64, bytes: &[u8]) -> Result<(u64, &[u8]), Re
 
 #[tactic(auto, unfolding(crate::specs::Reading::drawn_at))]
 pub(crate) fn drawn_of(bytes: &[u8]) -> Result<(u64, &[u8]), ReadFault>
-    ensures { Gives (λ x. (x.0, x.1.now)) result (drawn_at bytes.now) }
+    ensures { ReadGives (λ x. (x.0, x.1.now)) result (drawn_at bytes.now) }
 {
     let mut reader = Reader::new(bytes);
     match reader.u64() {
-        Some(number) if number <= MOST_DRAWN => Ok((number, &bytes[reader.at()..])),
+        Some(number) if number <= MOST_NUMBERS => Ok((number, &bytes[reader.at()..])),
         _ => Err(ReadFault::Left(bytes.len())),
     }
 }
 
 #[tactic(auto, unfolding(crate::specs::Reading::length_at))]
 pub(crate) fn length_of(bytes: &[u8]) -> Result<(u32, &[u8]), ReadFault>
-    ensures { Gives (λ x. (x.0, x.1.now)) result (length_at bytes.now) }
+    ensures { ReadGives (λ x. (x.0, x.1.now)) result (length_at bytes.now) }
 {
     let mut reader = Reader::new(bytes);
     match reader.u32() {
@@ -143,18 +135,18 @@ pub(crate) fn length_of(bytes: &[u8]) -> Result<(u32, &[u8]), ReadFault>
 
 #[tactic(auto, unfolding(crate::specs::Reading::stripe_at))]
 pub(crate) fn stripe_number_of(bytes: &[u8]) -> Result<(u8, &[u8]), ReadFault>
-    ensures { Gives (λ x. (x.0, x.1.now)) result (stripe_at bytes.now) }
+    ensures { ReadGives (λ x. (x.0, x.1.now)) result (stripe_at bytes.now) }
 {
     let mut reader = Reader::new(bytes);
     match reader.u8() {
-        Some(stripe) if stripe < 16 => Ok((stripe, &bytes[reader.at()..])),
+        Some(stripe) if stripe < STRIPES => Ok((stripe, &bytes[reader.at()..])),
         _ => Err(ReadFault::Left(bytes.len())),
     }
 }
 
 #[tactic(auto, unfolding(crate::specs::Reading::state_at))]
 pub(crate) fn state_of(bytes: &[u8]) -> Result<(SnapshotState, &[u8]), ReadFault>
-    ensures { Gives (λ x. (x.0, x.1.now)) result (state_at bytes.now) }
+    ensures { ReadGives (λ x. (x.0, x.1.now)) result (state_at bytes.now) }
 {
     match bytes {
         [1, rest @ ..] => Ok((SnapshotState::Live, rest)),
@@ -163,15 +155,15 @@ pub(crate) fn state_of(bytes: &[u8]) -> Result<(SnapshotState, &[u8]), ReadFault
     }
 }
 
-/// How many items a list has: at least so many, and at most 256.
+/// How many items a list has: at least so many, and at most `MOST_BLOCKS`.
 #[tactic(auto, unfolding(crate::specs::Reading::count_at))]
 pub(crate) fn count_of(least: u16, bytes: &[u8]) -> Result<(u16, &[u8]), ReadFault>
-    ensures read { Gives (λ x. (x.0, x.1.now)) result (count_at least bytes.now) }
+    ensures read { ReadGives (λ x. (x.0, x.1.now)) result (count_at least bytes.now) }
     ensures enough { IfOk result (λ x. least ≤ x.0) }
 {
     let mut reader = Reader::new(bytes);
     match reader.u16() {
-        Some(count) if count >= least && count <= MOST_ITEMS => {
+        Some(count) if count >= least && count <= MOST_BLOCKS => {
             Ok((count, &bytes[reader.at()..]))
         }
         _ => Err(ReadFault::Left(bytes.len())),
@@ -180,7 +172,7 @@ pub(crate) fn count_of(least: u16, bytes: &[u8]) -> Result<(u16, &[u8]), ReadFau
 
 #[tactic(auto, unfolding(crate::specs::Reading::block_at))]
 pub(crate) fn block_of(bytes: &[u8]) -> Result<(Block, &[u8]), ReadFault>
-    ensures { Gives (λ x. (x.0, x.1.now)) result (block_at bytes.now) }
+    ensures { ReadGives (λ x. (x.0, x.1.now)) result (block_at bytes.now) }
 {
     let (container, rest) = block_number_of(bytes)?;
     let (local, rest) = block_number_of(rest)?;
@@ -189,7 +181,7 @@ pub(crate) fn block_of(bytes: &[u8]) -> Result<(Block, &[u8]), ReadFault>
 
 #[tactic(auto, unfolding(crate::specs::Reading::piece_at))]
 pub(crate) fn piece_of(bytes: &[u8]) -> Result<(Piece, &[u8]), ReadFault>
-    ensures { Gives (λ x. (x.0, x.1.now)) result (piece_at bytes.now) }
+    ensures { ReadGives (λ x. (x.0, x.1.now)) result (piece_at bytes.now) }
 {
     let (block, rest) = block_of(bytes)?;
     let (length, rest) = length_of(rest)?;

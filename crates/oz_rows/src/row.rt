@@ -1,6 +1,6 @@
-ghost use Rattle.std.specs.Prelude.{◌≡◌, IfOk};
+//! What rows hold.
 
-use oz_fields::{Block, List, Name, OutOfMemory, Piece};
+use oz_fields::{Block, List, Name, OutOfMemory, Piece, TryClone};
 use std::alloc::Global;
 
 /// What a row of each kind holds.
@@ -40,55 +40,40 @@ pub enum Row {
     },
 }
 
-impl Row {
-    /// The same row again.
-    pub fn copy(&self, alloc: Global) -> Result<Row, OutOfMemory>
-        ensures { IfOk result (λ row. row ≡ self.now) }
-    {
+impl TryClone for Row {
+    fn try_clone(&self, alloc: Global) -> Result<Row, OutOfMemory> {
         Ok(match self {
             Row::Volume => Row::Volume,
             Row::Bucket => Row::Bucket,
             Row::Key { number, pieces } => Row::Key {
                 number: *number,
-                pieces: pieces_again(alloc, pieces)?,
+                pieces: pieces.try_clone(alloc)?,
             },
             Row::Open { blocks } => Row::Open {
-                blocks: blocks_again(alloc, blocks)?,
+                blocks: blocks.try_clone(alloc)?,
             },
             Row::Deleted { blocks } => Row::Deleted {
-                blocks: blocks_again(alloc, blocks)?,
+                blocks: blocks.try_clone(alloc)?,
             },
             Row::Snapshot {
                 name,
                 previous,
                 state,
             } => Row::Snapshot {
-                name: Name::copy(alloc, name.bytes())?,
+                name: name.try_clone(alloc)?,
                 previous: *previous,
                 state: *state,
             },
             Row::SnapshotKey { number, pieces } => Row::SnapshotKey {
                 number: *number,
-                pieces: pieces_again(alloc, pieces)?,
+                pieces: pieces.try_clone(alloc)?,
             },
             Row::Renamed { key } => Row::Renamed {
-                key: Name::copy(alloc, key.bytes())?,
+                key: key.try_clone(alloc)?,
             },
             Row::Stripe { number } => Row::Stripe { number: *number },
         })
     }
-}
-
-fn pieces_again(alloc: Global, pieces: &List<Piece>) -> Result<List<Piece>, OutOfMemory>
-    ensures { IfOk result (λ again. again ≡ pieces.now) }
-{
-    Ok(List::of(Vec::from_slice(alloc, pieces.items())?))
-}
-
-fn blocks_again(alloc: Global, blocks: &List<Block>) -> Result<List<Block>, OutOfMemory>
-    ensures { IfOk result (λ again. again ≡ blocks.now) }
-{
-    Ok(List::of(Vec::from_slice(alloc, blocks.items())?))
 }
 
 /// Whether a snapshot is there, or was deleted and waits to be worked off.

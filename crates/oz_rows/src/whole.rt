@@ -1,3 +1,5 @@
+//! Rows, operations and bodies written.
+
 ghost use Rattle.std.specs.Prelude.{◌≡◌, IfOk, IfErr, MatchResult};
 ghost use Rattle.oz_rows.specs.declared.key.RowKey.{RowKey as AnyKey};
 ghost use Rattle.oz_rows.specs.declared.row.Row.{Row as AnyRow};
@@ -9,8 +11,8 @@ ghost use Rattle.oz_rows.specs.Faults.{IsRowFault, IsBodyFault, BatchFails, plac
 use crate::decoding::row_of;
 use crate::fault::{ReadFault, RowFault};
 use crate::key::RowKey;
-use crate::operation::{Operation, Operations};
-use crate::operation_reading::{LAYOUT, head_of, operation_of};
+use crate::operation::{LAYOUT, Operation, Operations};
+use crate::operation_reading::{head_of, operation_of};
 use crate::row::Row;
 use oz_fields::List;
 use std::alloc::Global;
@@ -24,7 +26,7 @@ pub fn decode(alloc: Global, bytes: &[u8]) -> Result<(RowKey, Row), RowFault>
 {
     let (row, rest) = match row_of(alloc, bytes) {
         Ok(found) => found,
-        Err(fault) => return Err(place_of(fault, bytes)),
+        Err(fault) => return Err(offset_of(fault, bytes)),
     };
     if !rest.is_empty() {
         return Err(RowFault::At(bytes.len().saturating_sub(rest.len())));
@@ -32,7 +34,7 @@ pub fn decode(alloc: Global, bytes: &[u8]) -> Result<(RowKey, Row), RowFault>
     Ok(row)
 }
 
-fn place_of(fault: ReadFault, bytes: &[u8]) -> RowFault
+fn offset_of(fault: ReadFault, bytes: &[u8]) -> RowFault
     ensures { result ≡ place_in bytes.now fault }
 {
     match fault {
@@ -50,7 +52,7 @@ pub fn operations(alloc: Global, body: &[u8]) -> Result<Operations, RowFault>
 {
     let (index, rest) = match head_of(body) {
         Ok(head) => head,
-        Err(fault) => return Err(place_of(fault, body)),
+        Err(fault) => return Err(offset_of(fault, body)),
     };
     match batch_of(alloc, rest) {
         Ok(items) => Ok(Operations {
@@ -58,7 +60,7 @@ pub fn operations(alloc: Global, body: &[u8]) -> Result<Operations, RowFault>
             index,
             items: List::of(items),
         }),
-        Err(fault) => Err(place_of(fault, body)),
+        Err(fault) => Err(offset_of(fault, body)),
     }
 }
 

@@ -3,6 +3,7 @@
 ghost use Rattle.std.specs.Prelude.{◌≡◌, ◌++◌, ◌<◌, ◌^◌, length, OnOk};
 ghost use Rattle.oz_fields.specs.Text.{text_bytes};
 ghost use Rattle.oz_names.specs.Names.{IsVolumeName, IsBucketName};
+ghost use Rattle.oz_rows.specs.KeyParts.{place_bytes, rest_bytes};
 ghost use Rattle.oz_rows.specs.Rows.{KeyFits, ValueFits, key_bytes, value_bytes, list_bytes, block_bytes, piece_bytes};
 
 use crate::key::RowKey;
@@ -17,68 +18,59 @@ pub(crate) fn put_key(alloc: Global, out: &mut Vec<u8>, key: &RowKey) -> Result<
     ensures { OnOk result (out.new.items ≡ out.old.items ++ key_bytes key.now) }
 {
     put_u8(alloc, out, key.kind())?;
+    put_place(alloc, out, key)?;
+    put_rest(alloc, out, key)
+}
+
+/// What the key stands in: a volume, one of its buckets, or a stripe.
+fn put_place(alloc: Global, out: &mut Vec<u8>, key: &RowKey) -> Result<(), OutOfMemory>
+    requires { KeyFits key.now }
+    ensures { OnOk result (out.new.items ≡ out.old.items ++ place_bytes key.now) }
+{
     match key {
         RowKey::Volume { volume } => put_text(alloc, out, volume.bytes()),
-        RowKey::Bucket { volume, bucket } => put_path(alloc, out, volume, bucket),
-        RowKey::Key {
-            volume,
-            bucket,
-            key,
-        } => {
-            put_path(alloc, out, volume, bucket)?;
-            put_text(alloc, out, key.bytes())
-        }
-        RowKey::Open {
-            volume,
-            bucket,
-            key,
-            number,
-        } => {
-            put_path(alloc, out, volume, bucket)?;
+        RowKey::Bucket { volume, bucket }
+        | RowKey::Key { volume, bucket, .. }
+        | RowKey::Open { volume, bucket, .. }
+        | RowKey::Deleted { volume, bucket, .. }
+        | RowKey::Snapshot { volume, bucket, .. }
+        | RowKey::SnapshotKey { volume, bucket, .. }
+        | RowKey::Renamed { volume, bucket, .. } => put_path(alloc, out, volume, bucket),
+        RowKey::Stripe { stripe } => put_u8(alloc, out, *stripe),
+    }
+}
+
+/// The key fields after these.
+fn put_rest(alloc: Global, out: &mut Vec<u8>, key: &RowKey) -> Result<(), OutOfMemory>
+    requires { KeyFits key.now }
+    ensures { OnOk result (out.new.items ≡ out.old.items ++ rest_bytes key.now) }
+{
+    match key {
+        RowKey::Volume { .. } | RowKey::Bucket { .. } | RowKey::Stripe { .. } => Ok(()),
+        RowKey::Key { key, .. } => put_text(alloc, out, key.bytes()),
+        RowKey::Open { key, number, .. } => {
             put_text(alloc, out, key.bytes())?;
             put_u64(alloc, out, *number)
         }
         RowKey::Deleted {
-            volume,
-            bucket,
             owner,
             key,
             local,
+            ..
         } => {
-            put_path(alloc, out, volume, bucket)?;
             put_u64(alloc, out, *owner)?;
             put_text(alloc, out, key.bytes())?;
             put_u64(alloc, out, *local)
         }
-        RowKey::Snapshot {
-            volume,
-            bucket,
-            number,
-        } => {
-            put_path(alloc, out, volume, bucket)?;
-            put_u64(alloc, out, *number)
-        }
-        RowKey::SnapshotKey {
-            volume,
-            bucket,
-            snapshot,
-            key,
-        } => {
-            put_path(alloc, out, volume, bucket)?;
+        RowKey::Snapshot { number, .. } => put_u64(alloc, out, *number),
+        RowKey::SnapshotKey { snapshot, key, .. } => {
             put_u64(alloc, out, *snapshot)?;
             put_text(alloc, out, key.bytes())
         }
-        RowKey::Renamed {
-            volume,
-            bucket,
-            owner,
-            local,
-        } => {
-            put_path(alloc, out, volume, bucket)?;
+        RowKey::Renamed { owner, local, .. } => {
             put_u64(alloc, out, *owner)?;
             put_u64(alloc, out, *local)
         }
-        RowKey::Stripe { stripe } => put_u8(alloc, out, *stripe),
     }
 }
 

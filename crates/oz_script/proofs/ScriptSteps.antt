@@ -14,7 +14,7 @@ use Rattle.oz_script.specs.declared.grammar.Line.{Line}
 use Rattle.oz_script.specs.declared.grammar.Script.{Script}
 use Rattle.oz_script.specs.declared.grammar.ScriptFault.{ScriptFault}
 use Rattle.oz_script.specs.declared.grammar.ScriptFault.TheVariants.{At, OutOfMemory}
-use Rattle.oz_script.specs.Script.{◌>>=◌, is_blank, is_visible, is_remark, is_client_name, words, with_client, next_line, with_words, with_line, with_lines, script_of, command_behind, command_on, commands_on, Gives, AreNumberedFrom, IsNumbered}
+use Rattle.oz_script.specs.Script.{◌>>=◌, is_blank, is_visible, is_remark, is_client_name, words, with_client, next_line, with_words, with_line, with_lines, script_of, command_behind, command_on, commands_on, GivesSame, AreNumberedFrom, IsNumbered}
 
 -- the lines before the rest gave the script, and the rest begins at this place
 pub record IsReadTo (bytes : List ℕ) (script : Script) (place : ℕ) (rest : List ℕ) : Type 0 where
@@ -118,7 +118,7 @@ unfolding with_lines
 ends bytes script place rest r none = sym r.goes_on ∙ ap (λ (left : List ℕ). with_lines script place (lines left)) none
 
 pub fails : (fault : ScriptFault) (bytes : List ℕ) (script : Script) (place : ℕ) (rest line behind : List ℕ) → IsReadTo bytes script place rest → lines rest ≡ line ∷ lines behind
-    → Gives (Err fault) (with_line script place line) → Gives {A = Script} (Err fault) (script_of bytes)
+    → GivesSame (Err fault) (with_line script place line) → GivesSame {A = Script} (Err fault) (script_of bytes)
 unfolding with_lines
 fails (At n cause) bytes script place rest line behind r parts e =
     sym r.goes_on ∙ ap (with_lines script place) parts ∙ ap (λ (given : Result Script ScriptFault). given >>= λ more. with_lines more (place + 1) (lines behind)) e

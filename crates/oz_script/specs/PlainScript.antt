@@ -1,6 +1,7 @@
 -- The plainest text of a script of one client.
 use Rattle.std.specs.Prelude.{ℕ, ◌+◌, ◌<◌, ◌≤◌, ◌&&◌, not, Bool, true, IsTrue, List, [], ◌∷◌, ◌++◌, length, codes, None}
 use Rattle.std.specs.List.{list_all, flat_map, join_with_byte}
+use Rattle.oz_script.specs.declared.grammar.TheConstants.{MOST_BYTES, MOST_LINES}
 use Rattle.oz_names.specs.Paths.{is_slash}
 use Rattle.oz_script.specs.declared.grammar.Command.{Command}
 use Rattle.oz_script.specs.declared.grammar.Command.TheVariants.{VolumeCreate, VolumeDelete, VolumeInfo, BucketList, BucketCreate, BucketDelete, BucketInfo}
@@ -59,6 +60,6 @@ plain_script client commands = record { clients = client ∷ []; lines = plain_l
 pub record IsPlain (client : List ℕ) (commands : List Command) : Type 0 where
   pub client_name : IsTrue (is_client_name client)
   pub some : 0 < length commands
-  pub few : length commands ≤ 4096
+  pub few : length commands ≤ MOST_LINES
   pub plain : IsTrue (list_all is_plain commands)
-  pub short : length (plain_text client commands) ≤ 1048576
+  pub short : length (plain_text client commands) ≤ MOST_BYTES

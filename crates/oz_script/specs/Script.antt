@@ -4,6 +4,7 @@ use Rattle.std.specs.List.{list_all, slice_split, filter_map}
 use Rattle.std.specs.Option.{ok_or}
 use Rattle.std.specs.Str.{bytes_eq}
 use Rattle.std.specs.Str.Lines.{lines}
+use Rattle.oz_script.specs.declared.grammar.TheConstants.{MOST_BYTES, MOST_LINES, LONGEST_CLIENT}
 use Rattle.oz_script.specs.Commands.{command_of}
 use Rattle.oz_script.specs.declared.grammar.Cause.TheVariants.{Long, Form, Many}
 use Rattle.oz_script.specs.declared.grammar.Command.{Command}
@@ -38,7 +39,7 @@ is_remark (first ∷ rest) = first == 35
 
 -- a client's name
 abbrev pub is_client_name : List ℕ → Bool
-is_client_name name = nat_le 1 (length name) && nat_le (length name) 16 && list_all (λ byte. is_letter byte || is_digit byte) name
+is_client_name name = nat_le 1 (length name) && nat_le (length name) LONGEST_CLIENT && list_all (λ byte. is_letter byte || is_digit byte) name
 
 -- The clients, where the one of this name speaks. Only one is served yet.
 abbrev pub with_client : List (List ℕ) → List ℕ → Option (List (List ℕ))
@@ -55,7 +56,7 @@ with_words script place [] = Ok script
 with_words script place (name ∷ words) = do
   clients ← ok_or (with_client script.clients name) (At place Form)
   command ← ok_or (command_of words) (At place Form)
-  if nat_lt (length script.lines) 4096 then Ok (record { clients = clients; lines = script.lines ++ next_line script.lines command ∷ [] }) else Err (At place Many)
+  if nat_lt (length script.lines) MOST_LINES then Ok (record { clients = clients; lines = script.lines ++ next_line script.lines command ∷ [] }) else Err (At place Many)
 
 -- a script, and then this line at this place
 unfoldable pub with_line : Script → ℕ → List ℕ → Result Script ScriptFault
@@ -75,7 +76,7 @@ with_lines script place (line ∷ rest) = do
 -- return right before a line feed is dropped.
 unfoldable pub script_of : List ℕ → Result Script ScriptFault
 script_of bytes =
-    if nat_lt 1048576 (length bytes) then Err (At 0 Long)
+    if nat_lt MOST_BYTES (length bytes) then Err (At 0 Long)
     else with_lines (record { clients = []; lines = [] }) 1 (lines bytes)
 
 -- the command that a line says, if it says one
@@ -91,10 +92,10 @@ abbrev pub commands_on : List (List ℕ) → List Command
 commands_on lines = filter_map command_on lines
 
 -- what was returned is the answer, unless memory ran out
-abbrev pub Gives : {A : Type 0} → Result A ScriptFault → Result A ScriptFault → Type 0
-Gives (Ok value) answer = answer ≡ Ok value
-Gives (Err (At line cause)) answer = answer ≡ Err (At line cause)
-Gives (Err OutOfMemory) answer = Unit {0}
+abbrev pub GivesSame : {A : Type 0} → Result A ScriptFault → Result A ScriptFault → Type 0
+GivesSame (Ok value) answer = answer ≡ Ok value
+GivesSame (Err (At line cause)) answer = answer ≡ Err (At line cause)
+GivesSame (Err OutOfMemory) answer = Unit {0}
 
 -- the lines are those of the first client, numbered from here on, and wait for no other
 abbrev pub AreNumberedFrom : ℕ → List Line → Type 0
@@ -105,5 +106,5 @@ AreNumberedFrom number (line ∷ rest) =
 -- at most one client, and its lines in order
 pub record IsNumbered (script : Script) : Type 0 where
   pub one_client : length script.clients ≤ 1
-  pub few : length script.lines ≤ 4096
+  pub few : length script.lines ≤ MOST_LINES
   pub in_order : AreNumberedFrom 1 script.lines

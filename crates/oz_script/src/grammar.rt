@@ -1,3 +1,5 @@
+//! A script as its bytes say it.
+
 ghost use Rattle.std.specs.Prelude.{◌≡◌, ℕ, List as Items, ◌+◌, ◌<◌, ◌==◌, ◌||◌, not, [], ◌∷◌, ◌++◌, length, map, IfOk, IfSome, MatchOption, codes};
 ghost use Rattle.std.specs.List.{list_all, position};
 ghost use Rattle.std.specs.Option.{option_map};
@@ -8,7 +10,7 @@ ghost use Rattle.oz_script.specs.Commands.{behind_slash, command_of as command_s
 ghost use Rattle.oz_names.specs.Names.{is_digit, is_letter};
 ghost use Rattle.oz_script.specs.PlainScript.{IsPlain, plain_text, plain_script};
 ghost use Rattle.oz_script.specs.declared.grammar.Command.{Command as Said};
-ghost use Rattle.oz_script.specs.Script.{Gives, IsNumbered, is_blank, is_visible, is_client_name, words, commands_on, with_client as clients_with, next_line, with_line as script_with, script_of};
+ghost use Rattle.oz_script.specs.Script.{GivesSame, IsNumbered, is_blank, is_visible, is_client_name, words, commands_on, with_client as clients_with, next_line, with_line as script_with, script_of};
 
 use oz_fields::{List, Name, OutOfMemory};
 use oz_names::split_path;
@@ -19,6 +21,9 @@ pub const MOST_BYTES: usize = 1_048_576;
 
 /// A script has at most so many lines with a command.
 pub const MOST_LINES: usize = 4_096;
+
+/// The longest name of a client, in bytes.
+pub const LONGEST_CLIENT: usize = 16;
 
 /// The lines of all clients, in the order in which they stand.
 #[derive(Debug, Drop)]
@@ -105,7 +110,7 @@ impl From<OutOfMemory> for ScriptFault {
 
 /// Reads a script.
 pub fn parse(alloc: Global, bytes: &[u8]) -> Result<Script, ScriptFault>
-    ensures exact { Gives result (script_of bytes.now) }
+    ensures exact { GivesSame result (script_of bytes.now) }
     ensures numbered { IfOk result IsNumbered }
     ensures commands { IfOk result (λ script.
         map (λ line. line.command) script.lines ≡ commands_on (lines bytes.now)) }
@@ -204,7 +209,7 @@ fn is_of_words(line: &[u8]) -> bool
 fn is_client_name(name: &[u8]) -> bool
     ensures { result ≡ is_client_name name.now }
 {
-    !name.is_empty() && name.len() <= 16 && has_client_bytes(name)
+    !name.is_empty() && name.len() <= LONGEST_CLIENT && has_client_bytes(name)
 }
 
 fn has_client_bytes(name: &[u8]) -> bool
@@ -215,7 +220,7 @@ fn has_client_bytes(name: &[u8]) -> bool
 
 #[tactic(auto, unfolding(crate::specs::Script::with_line))]
 fn with_line(alloc: Global, script: Script, place: u64, line: &[u8]) -> Result<Script, ScriptFault>
-    ensures { Gives result (script_with script place line.now) }
+    ensures { GivesSame result (script_with script place line.now) }
 {
     let form = ScriptFault::At {
         line: place,
@@ -272,7 +277,7 @@ fn with_command(
     mut lines: List<Line>,
     command: Command,
 ) -> Result<List<Line>, OutOfMemory>
-    requires { length lines < 4096 }
+    requires { length lines < MOST_LINES }
     ensures { IfOk result (λ longer. longer ≡ lines ++ next_line lines command ∷ []) }
 {
     let line = Line {

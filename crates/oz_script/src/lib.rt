@@ -4,5 +4,6 @@
 mod grammar;
 
 pub use grammar::{
-    Cause, Command, Line, MOST_BYTES, MOST_LINES, Script, ScriptFault, parse, plain_text_is_read,
+    Cause, Command, LONGEST_CLIENT, Line, MOST_BYTES, MOST_LINES, Script, ScriptFault, parse,
+    plain_text_is_read,
 };

@@ -12,7 +12,7 @@ ghost use Rattle.oz_rows.specs.declared.operation.Operation.{Operation as AnyOpe
 use crate::entry::Entry;
 use crate::parts::bucket_rows;
 use crate::tables::Tables;
-use oz_fields::{Block, List, Name, OutOfMemory, Piece};
+use oz_fields::{Block, List, Name, OutOfMemory, Piece, TryClone};
 use oz_rows::{Change, Operation, Row, RowKey};
 use std::alloc::Global;
 use std::collections::BTreeSet;
@@ -26,8 +26,12 @@ pub(crate) fn changes_of(
     ensures { IfOk result (λ changes. changes.items ≡ changed_by tables.now.rows operation.now) }
 {
     match operation {
-        Operation::Put { key, row } => only(alloc, key.copy(alloc)?, Some(row.copy(alloc)?)),
-        Operation::Remove { key } => only(alloc, key.copy(alloc)?, None),
+        Operation::Put { key, row } => only(
+            alloc,
+            key.try_clone(alloc)?,
+            Some(row.try_clone(alloc)?),
+        ),
+        Operation::Remove { key } => only(alloc, key.try_clone(alloc)?, None),
         Operation::CopyKeys {
             volume,
             bucket,
@@ -247,7 +251,7 @@ fn add_move(
 ) -> Result<(), OutOfMemory>
     ensures { OnOk result (changes.new.items ≡ changes.old.items ++ gone old ∷ put new row.now ∷ []) }
 {
-    let row = row.copy(alloc)?;
+    let row = row.try_clone(alloc)?;
     changes.push(Change {
         key: old,
         row: None,
@@ -270,10 +274,10 @@ fn deleted_key(
     ensures { IfOk result (λ made. made ≡ AnyKey.Deleted volume.now bucket.now owner key.now local) }
 {
     Ok(RowKey::Deleted {
-        volume: again(alloc, volume)?,
-        bucket: again(alloc, bucket)?,
+        volume: volume.try_clone(alloc)?,
+        bucket: bucket.try_clone(alloc)?,
         owner,
-        key: again(alloc, key)?,
+        key: key.try_clone(alloc)?,
         local,
     })
 }
@@ -288,8 +292,8 @@ fn renamed_key(
     ensures { IfOk result (λ made. made ≡ AnyKey.Renamed volume.now bucket.now owner local) }
 {
     Ok(RowKey::Renamed {
-        volume: again(alloc, volume)?,
-        bucket: again(alloc, bucket)?,
+        volume: volume.try_clone(alloc)?,
+        bucket: bucket.try_clone(alloc)?,
         owner,
         local,
     })
@@ -305,17 +309,11 @@ fn snapshot_key(
     ensures { IfOk result (λ made. made ≡ AnyKey.SnapshotKey volume.now bucket.now snapshot key.now) }
 {
     Ok(RowKey::SnapshotKey {
-        volume: again(alloc, volume)?,
-        bucket: again(alloc, bucket)?,
+        volume: volume.try_clone(alloc)?,
+        bucket: bucket.try_clone(alloc)?,
         snapshot,
-        key: again(alloc, key)?,
+        key: key.try_clone(alloc)?,
     })
-}
-
-fn again(alloc: Global, name: &Name) -> Result<Name, OutOfMemory>
-    ensures { IfOk result (λ made. made ≡ name.now) }
-{
-    Name::copy(alloc, name.bytes())
 }
 
 /// The snapshot's key rows, gone.
@@ -407,9 +405,9 @@ fn add_closed(
     }
     changes.push(Change {
         key: RowKey::Open {
-            volume: again(alloc, volume)?,
-            bucket: again(alloc, bucket)?,
-            key: again(alloc, key)?,
+            volume: volume.try_clone(alloc)?,
+            bucket: bucket.try_clone(alloc)?,
+            key: key.try_clone(alloc)?,
             number: *number,
         },
         row: None,

@@ -11,7 +11,7 @@ use crate::body::Step;
 use crate::entry::Entry;
 use crate::parts::{bucket_rows, buckets_of};
 use crate::tables::Tables;
-use oz_fields::{Name, OutOfMemory};
+use oz_fields::{Name, OutOfMemory, TryClone};
 use oz_rows::{Operation, Row, RowKey, SnapshotState};
 use std::alloc::Global;
 
@@ -69,7 +69,7 @@ fn base_of(alloc: Global, key: &RowKey, row: &Row) -> Result<Option<RowKey>, Out
 {
     Ok(match (key, row) {
         (RowKey::Bucket { volume, .. }, _) => Some(RowKey::Volume {
-            volume: Name::copy(alloc, volume.bytes())?,
+            volume: volume.try_clone(alloc)?,
         }),
         (RowKey::Key { volume, bucket, .. }, _) => Some(bucket_key(alloc, volume, bucket)?),
         (RowKey::Open { volume, bucket, .. }, _) => Some(bucket_key(alloc, volume, bucket)?),
@@ -88,8 +88,8 @@ fn bucket_key(alloc: Global, volume: &Name, bucket: &Name) -> Result<RowKey, Out
     ensures { IfOk result (λ key. key ≡ AnyKey.Bucket volume.now bucket.now) }
 {
     Ok(RowKey::Bucket {
-        volume: Name::copy(alloc, volume.bytes())?,
-        bucket: Name::copy(alloc, bucket.bytes())?,
+        volume: volume.try_clone(alloc)?,
+        bucket: bucket.try_clone(alloc)?,
     })
 }
 

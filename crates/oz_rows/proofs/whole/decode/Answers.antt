@@ -4,10 +4,10 @@ use Rattle.oz_rows.proofs.WholeRows.{row_fault, no_row_fails, row_found, row_is}
 use Rattle.oz_rows.proofs.whole.decode.Goals as goal
 
 pub returns-in-Err-clause-only : goal.returns-in-Err-clause-only
-returns-in-Err-clause-only c = λ key row is. c.place_of.ensures ∙ no_row_fails c.args.bytes.now c.in-Err.fault c.in-Err.ensures key row is
+returns-in-Err-clause-only c = λ key row is. c.offset_of.ensures ∙ no_row_fails c.args.bytes.now c.in-Err.fault c.in-Err.ensures key row is
 
 pub returns-in-Err-clause-fault : goal.returns-in-Err-clause-fault
-returns-in-Err-clause-fault c = rw c.place_of.ensures (row_fault c.args.bytes.now c.in-Err.fault c.in-Err.ensures)
+returns-in-Err-clause-fault c = rw c.offset_of.ensures (row_fault c.args.bytes.now c.in-Err.fault c.in-Err.ensures)
 
 pub returns-then-not-is_empty-clause-only : goal.returns-then-not-is_empty-clause-only
 returns-then-not-is_empty-clause-only c = λ key row is.

@@ -3,10 +3,10 @@ use Rattle.oz_rows.proofs.Bodies.{head_fault, no_head_fails, batch_fault, no_ope
 use Rattle.oz_rows.proofs.whole.operations.Goals as goal
 
 pub returns-in-Err-clause-only : goal.returns-in-Err-clause-only
-returns-in-Err-clause-only c = λ other is. c.place_of.ensures ∙ no_head_fails c.args.body.now c.in-Err.fault c.in-Err.ensures other is
+returns-in-Err-clause-only c = λ other is. c.offset_of.ensures ∙ no_head_fails c.args.body.now c.in-Err.fault c.in-Err.ensures other is
 
 pub returns-in-Err-clause-fault : goal.returns-in-Err-clause-fault
-returns-in-Err-clause-fault c = rw c.place_of.ensures (head_fault c.args.body.now c.in-Err.fault c.in-Err.ensures)
+returns-in-Err-clause-fault c = rw c.offset_of.ensures (head_fault c.args.body.now c.in-Err.fault c.in-Err.ensures)
 
 pub returns-in-Ok-batch_of-clause-found : goal.returns-in-Ok-batch_of-clause-found
 returns-in-Ok-batch_of-clause-found c =
@@ -18,8 +18,8 @@ returns-in-Ok-batch_of-clause-only c = λ other is.
 
 pub returns-in-Err-batch_of-clause-only : goal.returns-in-Err-batch_of-clause-only
 returns-in-Err-batch_of-clause-only c = λ other is.
-    c.place_of-in-Err-batch_of.ensures ∙ no_operation_fails c.args.body.now c.in-Ok.head.0 c.in-Ok.head.1.now c.in-Err-batch_of.fault c.in-Ok.ensures c.in-Err-batch_of.ensures other is
+    c.offset_of-in-Err-batch_of.ensures ∙ no_operation_fails c.args.body.now c.in-Ok.head.0 c.in-Ok.head.1.now c.in-Err-batch_of.fault c.in-Ok.ensures c.in-Err-batch_of.ensures other is
 
 pub returns-in-Err-batch_of-clause-fault : goal.returns-in-Err-batch_of-clause-fault
 returns-in-Err-batch_of-clause-fault c =
-    rw c.place_of-in-Err-batch_of.ensures (batch_fault c.args.body.now c.in-Ok.head.0 c.in-Ok.head.1.now c.in-Err-batch_of.fault (λ k. omega (arith, c.type_inv.body k)) c.in-Ok.ensures c.in-Err-batch_of.ensures)
+    rw c.offset_of-in-Err-batch_of.ensures (batch_fault c.args.body.now c.in-Ok.head.0 c.in-Ok.head.1.now c.in-Err-batch_of.fault (λ k. omega (arith, c.type_inv.body k)) c.in-Ok.ensures c.in-Err-batch_of.ensures)

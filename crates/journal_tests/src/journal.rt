@@ -1,7 +1,7 @@
 ghost use Rattle.std.specs.Prelude.{◌≡◌, ◌≤◌, ◌++◌, [], ◌∷◌, List, ℕ, length, false, IfOk, OnOk};
-ghost use Rattle.oz_journal.specs.Grammar.{IsJournal, StandsFor};
+ghost use Rattle.oz_journal.specs.Grammar.{IsJournal, TellsBodies};
 ghost use Rattle.oz_journal.specs.Journal.{body_of};
-ghost use Rattle.oz_journal.specs.Moments.{LeavesOnly};
+ghost use Rattle.oz_world.specs.Moments.{LeavesOnly};
 ghost use Rattle.journal_tests.specs.Both.{IsNoneOneOrBoth};
 
 use oz_journal::Journal;
@@ -18,13 +18,13 @@ pub fn append_both<D: Disk>(
     requires most { length first.old ≤ 4_294_967_300 }
     requires second_least { 5 ≤ length second.old }
     requires second_most { length second.old ≤ 4_294_967_300 }
-    ensures bodies { (bodies : List (List ℕ)) → StandsFor (D.told journal.old.disk) bodies →
-        OnOk result (StandsFor (D.told journal.new.disk)
+    ensures bodies { (bodies : List (List ℕ)) → TellsBodies (D.told journal.old.disk) bodies →
+        OnOk result (TellsBodies (D.told journal.new.disk)
         (bodies ++ body_of first.old ∷ [] ++ body_of second.old ∷ [])) }
-    ensures moments { (bodies : List (List ℕ)) → StandsFor (D.told journal.old.disk) bodies →
+    ensures moments { (bodies : List (List ℕ)) → TellsBodies (D.told journal.old.disk) bodies →
         LeavesOnly (IsNoneOneOrBoth bodies (body_of first.old) (body_of second.old))
         (D.clock journal.old.disk) (D.clock journal.new.disk) (D.image journal.new.disk) }
-    ensures kept { (bodies : List (List ℕ)) → StandsFor (D.told journal.old.disk) bodies →
+    ensures kept { (bodies : List (List ℕ)) → TellsBodies (D.told journal.old.disk) bodies →
         IfOk result (λ moment. (left : List ℕ) → D.image journal.new.disk moment left →
         IsJournal left (bodies ++ body_of first.old ∷ [] ++ body_of second.old ∷ [])) }
 {
@@ -61,7 +61,7 @@ mod tests {
     }
 
     /// The first of these bytes, so many, and the rest.
-    fn front(bytes: &[u8], count: usize) -> Option<(&[u8], &[u8])> {
+    fn prefix(bytes: &[u8], count: usize) -> Option<(&[u8], &[u8])> {
         if count <= bytes.len() {
             Some(bytes.split_at(count))
         } else {
@@ -80,9 +80,9 @@ mod tests {
 
     /// The body that a journal with an open gate begins with, and what follows it.
     fn record_by_hand(journal: &[u8]) -> Option<(&[u8], &[u8])> {
-        let (_, rest) = front(journal, 1)?;
-        let (size, rest) = front(rest, 4)?;
-        front(rest, number(size) as usize)
+        let (_, rest) = prefix(journal, 1)?;
+        let (size, rest) = prefix(rest, 4)?;
+        prefix(rest, number(size) as usize)
     }
 
     fn read_by_hand(alloc: Global, bytes: &[u8]) -> Result<Reading, AllocError> {

@@ -3,9 +3,9 @@ use Rattle.std.proofs.Common.{◌≡◌, ◌≢◌, inl, inr, ℕ, ◌+◌, ◌<
 use Rattle.oz_world.specs.Disk.{Images, Seen, seen}
 use Rattle.oz_world.specs.Faults.{Rose}
 use Rattle.oz_cache.specs.Cache.{Contents, newest, last_epoch}
-use Rattle.oz_journal.specs.Grammar.{IsJournal, StandsFor as TellsBodies}
+use Rattle.oz_journal.specs.Grammar.{IsJournal, TellsBodies}
 use Rattle.oz_journal.specs.Journal.{State, IsBeforeOrAfter}
-use Rattle.oz_journal.specs.Moments.{Elapses, LeavesOnly}
+use Rattle.oz_world.specs.Moments.{Elapses, LeavesOnly}
 use Rattle.oz_om_bucket.specs.Meets.{Meets}
 use Rattle.oz_requests.specs.declared.answer.Answer.TheVariants as told
 use Rattle.oz_requests.specs.declared.reply.Reply.{Reply}

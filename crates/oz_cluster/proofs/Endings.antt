@@ -4,7 +4,7 @@ use Rattle.std.proofs.lemmas.Bool.{cases_lt, false≢true}
 use Rattle.oz_world.specs.Disk.{Images, Seen, IsStable}
 use Rattle.oz_world.specs.Faults.{Rose}
 use Rattle.oz_journal.specs.Load.{IsLoadable, IsLeftAlone, loaded_at}
-use Rattle.oz_journal.specs.Moments.{Elapses, Spans}
+use Rattle.oz_world.specs.Moments.{Elapses, Spans}
 use Rattle.oz_cluster.specs.declared.events.Event.{Event}
 use Rattle.oz_cluster.specs.declared.opening.OpenFault.{OpenFault}
 use Rattle.oz_cluster.specs.declared.opening.OpenFault.TheVariants as fault

@@ -2,9 +2,9 @@
 use Rattle.std.proofs.Common.{◌≡◌, ◌≢◌, ⊎_elim, ℕ, ◌+◌, ◌<◌, ◌≤◌, ◌^◌, nat_le, List, [], ◌∷◌, ◌++◌, Option, None, Some, refl, sym, ◌∙◌, ap, subst, arith}
 use Rattle.std.proofs.lemmas.Bool.{cases_Bool, cases_lt, cond-true, cond-false, leb-true}
 use Rattle.oz_world.specs.Disk.{Seen}
-use Rattle.oz_journal.specs.Grammar.{IsJournal, StandsFor as TellsBodies}
+use Rattle.oz_journal.specs.Grammar.{IsJournal, TellsBodies}
 use Rattle.oz_journal.specs.Journal.{IsBeforeOrAfter}
-use Rattle.oz_journal.specs.Moments.{Elapses, LeavesOnly}
+use Rattle.oz_world.specs.Moments.{Elapses, LeavesOnly}
 use Rattle.oz_model.specs.Answers.{after}
 use Rattle.oz_namespace.specs.declared.namespace.Namespace.{Namespace}
 use Rattle.oz_om_bucket.specs.Meets.{Stand, Meets}

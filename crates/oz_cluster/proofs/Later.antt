@@ -1,7 +1,7 @@
 -- Time that goes on.
 use Rattle.std.proofs.Common.{ℕ, arith}
 use Rattle.oz_world.specs.Disk.{Images}
-use Rattle.oz_journal.specs.Moments.{Elapses}
+use Rattle.oz_world.specs.Moments.{Elapses}
 
 pub still : (now : ℕ) (image : Images) → Elapses now now image image
 still now image = record { later = omega arith; kept = λ t left le. (λ h. h, λ h. h) }

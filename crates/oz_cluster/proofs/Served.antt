@@ -3,7 +3,7 @@ use Rattle.std.proofs.Common.{◌≡◌, ⊎_elim, ℕ, ◌+◌, ◌<◌, ◌≤
 use Rattle.oz_world.specs.Disk.{Images, Seen, seen}
 use Rattle.oz_world.specs.Faults.{Rose}
 use Rattle.oz_journal.specs.Journal.{State}
-use Rattle.oz_journal.specs.Moments.{Elapses}
+use Rattle.oz_world.specs.Moments.{Elapses}
 use Rattle.oz_model.specs.Answers.{after}
 use Rattle.oz_namespace.specs.declared.namespace.Namespace.{Namespace}
 use Rattle.oz_om_bucket.specs.Meets.{Stand}

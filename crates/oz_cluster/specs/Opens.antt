@@ -1,6 +1,6 @@
 -- What a manager's disk stands for as a run begins.
 use Rattle.std.specs.Prelude.{◌≡◌, ◌⊎◌, ℕ, ◌+◌, List, Option, Some, slice_get}
-use Rattle.oz_journal.specs.Grammar.{IsJournal, StandsFor as TellsBodies, IsDamagedAt, places}
+use Rattle.oz_journal.specs.Grammar.{IsJournal, TellsBodies, IsDamagedAt, places}
 use Rattle.oz_namespace.specs.declared.namespace.Namespace.{Namespace}
 use Rattle.oz_tables.specs.declared.entry.Entry.{Entry}
 use Rattle.oz_tables.specs.Batches.{AreRows}

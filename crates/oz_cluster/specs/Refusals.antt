@@ -6,7 +6,7 @@ use Rattle.oz_cluster.specs.declared.refusal.Refusal.TheVariants.{Words, Read, S
 use Rattle.oz_world.specs.Disk.{Seen, Stands}
 use Rattle.oz_world.specs.Faults.{Rose}
 use Rattle.oz_journal.specs.Load.{IsLoadable, IsLeftAlone}
-use Rattle.oz_journal.specs.Moments.{Spans}
+use Rattle.oz_world.specs.Moments.{Spans}
 use Rattle.oz_cluster.specs.declared.events.Event.{Event}
 use Rattle.oz_script.specs.declared.grammar.Script.{Script as Lines}
 use Rattle.oz_script.specs.declared.grammar.ScriptFault.TheVariants.{At}

@@ -2,9 +2,9 @@
 use Rattle.std.specs.Prelude.{◌≡◌, ◌≢◌, ◌⊎◌, ℕ, ◌+◌, ◌<◌, ◌≤◌, Bool, true, false, List, [], ◌∷◌, ◌++◌}
 use Rattle.oz_world.specs.Disk.{Seen}
 use Rattle.oz_world.specs.Faults.{Rose}
-use Rattle.oz_journal.specs.Grammar.{IsJournal, StandsFor as TellsBodies}
+use Rattle.oz_journal.specs.Grammar.{IsJournal, TellsBodies}
 use Rattle.oz_journal.specs.Journal.{IsBeforeOrAfter}
-use Rattle.oz_journal.specs.Moments.{Elapses, LeavesOnly}
+use Rattle.oz_world.specs.Moments.{Elapses, LeavesOnly}
 use Rattle.oz_namespace.specs.declared.namespace.Namespace.{Namespace}
 use Rattle.oz_om_bucket.specs.Meets.{Stand, Meets}
 use Rattle.oz_requests.specs.declared.answer.Answer.TheVariants as told

@@ -2,9 +2,9 @@ ghost use Rattle.std.specs.Prelude.{List as Items, ◌≡◌, ◌≤◌, ◌<◌
 ghost use Rattle.oz_world.specs.Disk.{seen};
 ghost use Rattle.oz_world.specs.Faults.{HasCause};
 ghost use Rattle.oz_cache.specs.Cache.{changes_of, epoch_after, last_epoch, later, newest, up_to};
-ghost use Rattle.oz_journal.specs.Grammar.{IsJournal, StandsFor};
+ghost use Rattle.oz_journal.specs.Grammar.{IsJournal, TellsBodies};
 ghost use Rattle.oz_journal.specs.Journal.{body_of, IsBeforeOrAfter};
-ghost use Rattle.oz_journal.specs.Moments.{Elapses, LeavesOnly};
+ghost use Rattle.oz_world.specs.Moments.{Elapses, LeavesOnly};
 ghost use Rattle.oz_names.specs.Names.{stripe_of};
 ghost use Rattle.oz_requests.specs.Names.{volume_in};
 ghost use Rattle.oz_tables.specs.Tables.{row_after, row_of};
@@ -225,12 +225,12 @@ impl<D: Disk> Manager<D> {
         ensures capacity { vec_capacity self.old.story ≤ vec_capacity self.new.story }
         ensures stopped { self.new.journal.stopped ≡ is_err result }
         ensures rows { self.new.rows ≡ self.old.rows }
-        ensures stands { (bodies : Items (Items ℕ)) → StandsFor (D.told self.old.journal.disk) bodies →
-            OnOk result (StandsFor (D.told self.new.journal.disk) (bodies ++ body_of frame.items ∷ [])) }
-        ensures moments { (bodies : Items (Items ℕ)) → StandsFor (D.told self.old.journal.disk) bodies →
+        ensures stands { (bodies : Items (Items ℕ)) → TellsBodies (D.told self.old.journal.disk) bodies →
+            OnOk result (TellsBodies (D.told self.new.journal.disk) (bodies ++ body_of frame.items ∷ [])) }
+        ensures moments { (bodies : Items (Items ℕ)) → TellsBodies (D.told self.old.journal.disk) bodies →
             LeavesOnly (IsBeforeOrAfter bodies (body_of frame.items))
             (D.clock self.old.journal.disk) (D.clock self.new.journal.disk) (D.image self.new.journal.disk) }
-        ensures acknowledged { (bodies : Items (Items ℕ)) → StandsFor (D.told self.old.journal.disk) bodies →
+        ensures acknowledged { (bodies : Items (Items ℕ)) → TellsBodies (D.told self.old.journal.disk) bodies →
             OnOk result ((left : Items ℕ) → D.image self.new.journal.disk (D.clock self.new.journal.disk) left →
             IsJournal left (bodies ++ body_of frame.items ∷ [])) }
         ensures later { OnOk result (D.clock self.old.journal.disk < D.clock self.new.journal.disk) }

@@ -5,7 +5,7 @@ ghost use Rattle.oz_cache.specs.Cache.{newest, last_epoch};
 ghost use Rattle.oz_journal.specs.Body.{bodies_in, places_in};
 ghost use Rattle.oz_journal.specs.Grammar.{places, records};
 ghost use Rattle.oz_journal.specs.Load.{IsLoadable, IsLeftAlone, loaded_at};
-ghost use Rattle.oz_journal.specs.Moments.{Elapses, Spans};
+ghost use Rattle.oz_world.specs.Moments.{Elapses, Spans};
 ghost use Rattle.oz_rows.specs.declared.key.RowKey.{RowKey as AnyKey};
 ghost use Rattle.oz_rows.specs.declared.row.Row.{Row as AnyRow};
 ghost use Rattle.oz_rows.specs.Rows.{RowFits};

@@ -1,7 +1,7 @@
 ghost use Rattle.std.specs.Prelude.{◌≡◌, ◌≤◌, ◌<◌, ◌^◌, [], ℕ, false, length, OnOk};
 ghost use Rattle.oz_world.specs.Disk.{seen};
 ghost use Rattle.oz_cache.specs.Cache.{newest, last_epoch};
-ghost use Rattle.oz_journal.specs.Moments.{Elapses};
+ghost use Rattle.oz_world.specs.Moments.{Elapses};
 ghost use Rattle.oz_namespace.specs.declared.namespace.Namespace.{Namespace as AnyNamespace};
 ghost use Rattle.oz_om_bucket.specs.Meets.{Stand};
 ghost use Rattle.oz_script.specs.Script.{IsNumbered};

@@ -2,9 +2,11 @@
 use Rattle.std.proofs.Common.{◌≡◌, ℕ, ◌+◌, ◌-◌, ◌^◌, ◌<◌, ◌≤◌, List, [], ◌∷◌, ◌++◌, length, drop, length-take, length-drop, Option, None, Some, refl, sym, ◌∙◌, ap, subst, arith}
 use Rattle.std.specs.Option.{option_map, IfSome}
 use Rattle.oz_world.specs.Disk.{Images, IsStable, overwritten}
-use Rattle.oz_journal.specs.Grammar.{sized, records, AreRecords, IsJournal, StandsFor, with_body}
-use Rattle.oz_journal.specs.Journal.{body_of, IsAtRest, IsBeforeOrAfter, IsPartOf}
-use Rattle.oz_journal.specs.Moments.{LeavesOnly}
+use Rattle.oz_journal.specs.Grammar.{sized, records, AreRecords, IsJournal, TellsBodies, with_body}
+use Rattle.oz_journal.specs.Journal.{body_of, IsBeforeOrAfter}
+use Rattle.oz_journal.specs.inner.Rest.{IsAtRest}
+use Rattle.oz_journal.specs.inner.Parts.{IsPartOf}
+use Rattle.oz_world.specs.Moments.{LeavesOnly}
 use Rattle.oz_journal.proofs.Opens.{stable_at}
 use Rattle.oz_journal.proofs.Adds.{journal_of_records, records_of_journal, told_of, stands_by, gate_within, both_done, after_row, next_place, part_leaves}
 
@@ -41,7 +43,7 @@ module _ (told after : Option (List ℕ)) (gate : ℕ) (image : Images) (now : �
       ∙ (ap (λ (o : Option (List ℕ)). option_map (overwritten gate (1 ∷ [])) (option_map (overwritten (gate + 1) framed) o)) tells
       ∙ ap (λ (l : List ℕ). Some l) (done ∙ ap (λ (l : List (List ℕ)). with_body l body bytes) (sym same)))
 
-  pub bodies_after : Written → (bodies : List (List ℕ)) → StandsFor told bodies → StandsFor after (bodies ++ body ∷ [])
+  pub bodies_after : Written → (bodies : List (List ℕ)) → TellsBodies told bodies → TellsBodies after (bodies ++ body ∷ [])
   bodies_after written bodies stands =
       let tells = told_of told bodies stands in
       let rest = rests tells.0 tells.1 in
@@ -65,7 +67,7 @@ module _ (told after : Option (List ℕ)) (gate : ℕ) (image : Images) (now : �
         stable = stable_at after left later to is_after stable;
       }
 
-  pub moments_after : (later : Images) (from to : ℕ) → ((bytes : List ℕ) → told ≡ Some bytes → IsStable image now bytes → LeavesOnly (IsPartOf gate framed bytes) from to later) → (bodies : List (List ℕ)) → StandsFor told bodies → LeavesOnly (IsBeforeOrAfter bodies body) from to later
+  pub moments_after : (later : Images) (from to : ℕ) → ((bytes : List ℕ) → told ≡ Some bytes → IsStable image now bytes → LeavesOnly (IsPartOf gate framed bytes) from to later) → (bodies : List (List ℕ)) → TellsBodies told bodies → LeavesOnly (IsBeforeOrAfter bodies body) from to later
   moments_after later from to moments bodies stands t left begins ends h =
       let tells = told_of told bodies stands in
       let rest = rests tells.0 tells.1 in
@@ -76,8 +78,8 @@ module _ (told after : Option (List ℕ)) (gate : ℕ) (image : Images) (now : �
       subst (λ (l : List (List ℕ)). IsBeforeOrAfter l body left) (sym same) (part_leaves tells.0 rest.bodies rest.grammar body small left placed)
 
   -- once both writes are stable, what a stop leaves has the body
-  pub acknowledged_after : Written → (later : Images) (to moment : ℕ) → moment ≡ to → IfSome after (IsStable later to) → (bodies : List (List ℕ)) → StandsFor told bodies → (left : List ℕ) → later moment left → IsJournal left (bodies ++ body ∷ [])
-  acknowledged_after written later to moment now stable bodies stands left h =
+  pub acknowledged_after : Written → (later : Images) (to : ℕ) → IfSome after (IsStable later to) → (bodies : List (List ℕ)) → TellsBodies told bodies → (left : List ℕ) → later to left → IsJournal left (bodies ++ body ∷ [])
+  acknowledged_after written later to stable bodies stands left h =
       let tells = told_of after (bodies ++ body ∷ []) (bodies_after written bodies stands) in
-      let same : left ≡ tells.0 = stable_at after tells.0 later to tells.1 stable left (subst (λ (n : ℕ). later n left) now h) in
+      let same : left ≡ tells.0 = stable_at after tells.0 later to tells.1 stable left h in
       subst (λ (l : List ℕ). IsJournal l (bodies ++ body ∷ [])) (sym same) tells.2

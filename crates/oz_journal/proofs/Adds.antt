@@ -3,8 +3,9 @@ use Rattle.std.proofs.Common.{◌≡◌, inl, inr, ℕ, ◌+◌, ◌^◌, ◌<�
 use Rattle.std.proofs.lemmas.Bool.{cases_eq, cases_lt}
 use Rattle.std.proofs.lemmas.List.{take_at, drop_at, drop_more, drop-drop}
 use Rattle.oz_world.specs.Disk.{Torn, overwritten}
-use Rattle.oz_journal.specs.Grammar.{sized, records, AreRecords, IsJournal, StandsFor, with_body}
-use Rattle.oz_journal.specs.Journal.{IsBeforeOrAfter, IsPartOf}
+use Rattle.oz_journal.specs.Grammar.{sized, records, AreRecords, IsJournal, TellsBodies, with_body}
+use Rattle.oz_journal.specs.Journal.{IsBeforeOrAfter}
+use Rattle.oz_journal.specs.inner.Parts.{IsPartOf}
 use Rattle.oz_journal.proofs.Records.{length-sized, records-push, sizes-push}
 use Rattle.oz_journal.proofs.Readings.{one_row, few_records}
 
@@ -18,12 +19,12 @@ pub records_of_journal : (bytes : List ℕ) (bodies others : List (List ℕ)) �
 records_of_journal bytes bodies others row (inl none) = none.1 ∙ sym (few_records bytes bodies row none.0)
 records_of_journal bytes bodies others row (inr all) = one_row bytes others bodies all.1 row
 
-pub told_of : (told : Option (List ℕ)) (bodies : List (List ℕ)) → StandsFor told bodies → (bytes : List ℕ) × (told ≡ Some bytes) × IsJournal bytes bodies
+pub told_of : (told : Option (List ℕ)) (bodies : List (List ℕ)) → TellsBodies told bodies → (bytes : List ℕ) × (told ≡ Some bytes) × IsJournal bytes bodies
 told_of None bodies stands = absurd stands
 told_of (Some bytes) bodies stands = (bytes, refl, stands)
 
-pub stands_by : (told : Option (List ℕ)) (bytes : List ℕ) (bodies : List (List ℕ)) → told ≡ Some bytes → IsJournal bytes bodies → StandsFor told bodies
-stands_by told bytes bodies is journal = subst (λ (o : Option (List ℕ)). StandsFor o bodies) (sym is) journal
+pub stands_by : (told : Option (List ℕ)) (bytes : List ℕ) (bodies : List (List ℕ)) → told ≡ Some bytes → IsJournal bytes bodies → TellsBodies told bodies
+stands_by told bytes bodies is journal = subst (λ (o : Option (List ℕ)). TellsBodies o bodies) (sym is) journal
 
 module _ (bytes : List ℕ) (bodies : List (List ℕ)) (row : AreRecords bytes bodies) (body : List ℕ) (small : length body < 2 ^ 32) where
   abbrev place : ℕ

@@ -4,7 +4,7 @@ use Rattle.std.proofs.lemmas.List.{drop_all}
 use Rattle.std.specs.Option.{option_map, IfSome, IsSomeAnd}
 use Rattle.oz_world.specs.Disk.{Images, Stands, IsStable, overwritten}
 use Rattle.oz_journal.specs.Grammar.{records}
-use Rattle.oz_journal.specs.Journal.{IsAtRest}
+use Rattle.oz_journal.specs.inner.Rest.{IsAtRest}
 use Rattle.oz_journal.specs.Load.{IsLoadable}
 
 -- a call that changes nothing

@@ -34,7 +34,7 @@ sizes-push (b ∷ bodies) body sizes small = (sizes.0, sizes-push bodies body si
 pub read_sized : (body rest : List ℕ) → length body < 2 ^ 32 → u32_at (sized body ++ rest) ≡ Some (length body, body ++ rest)
 read_sized body rest small = ap u32_at (append_assoc (u32_bytes (length body)) body rest) ∙ u32_field.reads_back (length body) (body ++ rest) small
 
--- no record stands at the front
+-- no record stands first
 abbrev pub IsEnd : List ℕ → Type 0
 IsEnd tail = (body rest : List ℕ) → length body < 2 ^ 32 → tail ≡ 1 ∷ sized body ++ rest → ⊥
 
@@ -89,7 +89,7 @@ pub record Parts (bytes : List ℕ) : Type 0 where
   pub kind : Tail tail
   pub parts : bytes ≡ records bodies ++ tail
 
--- one more record in front
+-- one more record before them
 in_front : (bytes behind body rest : List ℕ) → bytes ≡ 1 ∷ behind → behind ≡ sized body ++ rest → length body < 2 ^ 32 → Parts rest → Parts bytes
 unfolding records
 in_front bytes behind body rest first is small others = record {

@@ -29,9 +29,9 @@ abbrev pub IsJournal : List ℕ → List (List ℕ) → Type 0
 IsJournal bytes bodies = ((length bytes ≤ 1) × (bodies ≡ [])) ⊎ ((2 ≤ length bytes) × AreRecords bytes bodies)
 
 -- a disk that tells bytes which stand for these bodies
-abbrev pub StandsFor : Option (List ℕ) → List (List ℕ) → Type 0
-StandsFor None bodies = ⊥
-StandsFor (Some bytes) bodies = IsJournal bytes bodies
+abbrev pub TellsBodies : Option (List ℕ) → List (List ℕ) → Type 0
+TellsBodies None bodies = ⊥
+TellsBodies (Some bytes) bodies = IsJournal bytes bodies
 
 -- what follows an open gate, where its length passes the end or the body behind that does
 abbrev pub IsCutOff : List ℕ → Type 0

@@ -1,5 +1,6 @@
+pub mod Appends
 pub mod Body
 pub mod Grammar
 pub mod Journal
 pub mod Load
-pub mod Moments
+pub mod inner

@@ -1,3 +1,5 @@
+//! A body, as loading gives it.
+
 use oz_fields::List;
 
 /// A body of a journal.

@@ -1,3 +1,5 @@
+//! The bytes of one record, and how it is read back.
+
 ghost use Rattle.std.specs.Prelude.{◌≡◌, ◌<◌, ◌≤◌, ◌^◌, [], ◌∷◌, ◌++◌, length, MatchOption};
 ghost use Rattle.oz_journal.specs.Grammar.{sized, IsCutOff};
 ghost use Rattle.oz_journal.specs.Journal.{body_of};

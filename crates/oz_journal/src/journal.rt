@@ -1,10 +1,13 @@
+//! A journal: bodies one after another on a disk, each of them whole or not there.
+
 ghost use Rattle.std.specs.Prelude.{◌≡◌, ◌^◌, ◌≤◌, ◌<◌, ◌+◌, ◌++◌, ◌∷◌, [], ℕ, List, length, false, Some, IfSome, IsSomeAnd, is_err, OnOk, IfOk, IfErr};
-ghost use Rattle.oz_world.specs.Disk.{IsStable};
-ghost use Rattle.oz_world.specs.Faults.{Rose, HasCause};
+ghost use Rattle.oz_world.specs.Disk.{seen, TellsAsBefore, IsStable};
+ghost use Rattle.oz_world.specs.Faults.{Rose};
+ghost use Rattle.oz_journal.specs.Appends.{Appends, Clears};
 ghost use Rattle.oz_journal.specs.Body.{bodies_in, places_in};
-ghost use Rattle.oz_journal.specs.Grammar.{sized, IsJournal, IsDamagedAt, StandsFor, records, places, with_body};
-ghost use Rattle.oz_journal.specs.Journal.{body_of, IsBeforeOrAfter};
-ghost use Rattle.oz_journal.specs.Moments.{Elapses, Spans, LeavesOnly};
+ghost use Rattle.oz_journal.specs.Grammar.{sized, IsJournal, IsDamagedAt, TellsBodies, records, places, with_body};
+ghost use Rattle.oz_journal.specs.Journal.{body_of};
+ghost use Rattle.oz_world.specs.Moments.{Elapses, Spans};
 
 use crate::frame::frame;
 use crate::open::open;
@@ -24,7 +27,8 @@ pub struct Journal<D: Disk> {
 
 impl<D: Disk> Model for Journal<D> {
     ghost use Rattle.std.specs.Prelude.{◌≡◌, ◌<◌, ◌^◌, ◌+◌, List, ℕ, Some, false};
-    ghost use Rattle.oz_journal.specs.Journal.{State, IsAtRest};
+    ghost use Rattle.oz_journal.specs.Journal.{State};
+    ghost use Rattle.oz_journal.specs.inner.Rest.{IsAtRest};
 
     ghost Value = { State D };
 
@@ -48,7 +52,7 @@ impl<D: Disk> Journal<D> {
         ensures ends { IfOk result (λ loaded.
             length (records (bodies_in loaded.1.items)) < 2 ^ 64) }
         ensures stands { IfOk result (λ loaded. IfSome (D.told disk) (λ _.
-            StandsFor (D.told loaded.0.disk) (bodies_in loaded.1.items))) }
+            TellsBodies (D.told loaded.0.disk) (bodies_in loaded.1.items))) }
         ensures running { IfOk result (λ loaded. loaded.0.stopped ≡ false) }
 
         // When each fault comes.
@@ -60,6 +64,7 @@ impl<D: Disk> Journal<D> {
         ensures never_falls { D.faults disk ≤ D.faults (disk_after result) }
 
         // What the disk tells afterwards.
+        ensures telling { TellsAsBefore (D.told disk) (D.told (disk_after result)) }
         ensures contents { IfSome (D.told disk) (λ bytes.
             2 ≤ length bytes → D.told (disk_after result) ≡ Some bytes) }
         ensures closed { IfSome (D.told disk) (λ bytes.
@@ -104,30 +109,18 @@ impl<D: Disk> Journal<D> {
         requires least { 5 ≤ length framed.old }
         requires most { length framed.old ≤ 4_294_967_300 }
 
-        ensures bodies { (bodies : List (List ℕ)) → StandsFor (D.told self.old.disk) bodies →
-            OnOk result (StandsFor (D.told self.new.disk) (bodies ++ body_of framed.old ∷ [])) }
+        ensures appended { Appends (body_of framed.old)
+            (seen (D.told self.old.disk) (D.clock self.old.disk) (D.image self.old.disk)
+            (D.faults self.old.disk))
+            (seen (D.told self.new.disk) (D.clock self.new.disk) (D.image self.new.disk)
+            (D.faults self.new.disk))
+            result }
         ensures contents { (bytes : List ℕ) (bodies : List (List ℕ)) →
             D.told self.old.disk ≡ Some bytes → IsJournal bytes bodies →
             OnOk result (D.told self.new.disk ≡ Some (with_body bodies (body_of framed.old) bytes)) }
         ensures framed { framed.new ≡ sized (body_of framed.old) ++ 0 ∷ [] }
-
-        // What a stop may leave.
-        ensures moments { (bodies : List (List ℕ)) → StandsFor (D.told self.old.disk) bodies →
-            LeavesOnly (IsBeforeOrAfter bodies (body_of framed.old))
-            (D.clock self.old.disk) (D.clock self.new.disk) (D.image self.new.disk) }
-        ensures acknowledged { (bodies : List (List ℕ)) →
-            StandsFor (D.told self.old.disk) bodies →
-            IfOk result (λ moment. (left : List ℕ) → D.image self.new.disk moment left →
-            IsJournal left (bodies ++ body_of framed.old ∷ [])) }
-        ensures stable { OnOk result ((bytes : List ℕ) → D.told self.new.disk ≡ Some bytes →
-            IsStable (D.image self.new.disk) (D.clock self.new.disk) bytes) }
-        ensures time { Elapses (D.clock self.old.disk) (D.clock self.new.disk)
-            (D.image self.old.disk) (D.image self.new.disk) }
         ensures moment { IfOk result (λ moment. moment ≡ D.clock self.new.disk) }
-        ensures later { OnOk result (D.clock self.old.disk < D.clock self.new.disk) }
-
         ensures stopped { self.new.stopped ≡ is_err result }
-        ensures cause { HasCause (D.faults self.old.disk) (D.faults self.new.disk) result }
     {
         frame(framed);
         let Ok(()) = put(&mut self.disk, self.gate, framed) else {
@@ -160,16 +153,15 @@ impl<D: Disk> Journal<D> {
     /// `Failed` the journal is stopped.
     pub fn clear(&mut self) -> Result<(), Failed>
         requires { self.old.stopped ≡ false }
-        ensures bodies { (bodies : List (List ℕ)) → StandsFor (D.told self.old.disk) bodies →
-            OnOk result (StandsFor (D.told self.new.disk) []) }
+        ensures cleared { Clears
+            (seen (D.told self.old.disk) (D.clock self.old.disk) (D.image self.old.disk)
+            (D.faults self.old.disk))
+            (seen (D.told self.new.disk) (D.clock self.new.disk) (D.image self.new.disk)
+            (D.faults self.new.disk))
+            result }
         ensures contents { (bytes : List ℕ) → D.told self.old.disk ≡ Some bytes →
             OnOk result (D.told self.new.disk ≡ Some (0 ∷ [])) }
-        ensures stable { OnOk result ((bytes : List ℕ) → D.told self.new.disk ≡ Some bytes →
-            IsStable (D.image self.new.disk) (D.clock self.new.disk) bytes) }
-        ensures time { Elapses (D.clock self.old.disk) (D.clock self.new.disk)
-            (D.image self.old.disk) (D.image self.new.disk) }
         ensures stopped { self.new.stopped ≡ is_err result }
-        ensures cause { HasCause (D.faults self.old.disk) (D.faults self.new.disk) result }
     {
         let Ok(()) = empty(&mut self.disk) else {
             self.stopped = true;

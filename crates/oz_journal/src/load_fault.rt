@@ -1,3 +1,5 @@
+//! Why a journal is refused.
+
 ghost use Rattle.std.specs.Prelude.{◌≡◌};
 ghost use Rattle.oz_journal.specs.declared.load_fault.LoadFault.TheVariants.{OutOfMemory};
 

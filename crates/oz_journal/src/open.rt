@@ -1,11 +1,13 @@
+//! How a journal is opened.
+
 ghost use Rattle.std.specs.Prelude.{◌≡◌, ◌+◌, ◌≤◌, ◌<◌, ◌^◌, ℕ, List, [], ◌∷◌, length, Some, IfSome, IsSomeAnd, IfOk, OnOk, OnErr, IsErrOf};
-ghost use Rattle.oz_world.specs.Disk.{Same, IsStable};
+ghost use Rattle.oz_world.specs.Disk.{Same, TellsAsBefore, IsStable};
 ghost use Rattle.oz_world.specs.Faults.{Rose};
 ghost use Rattle.oz_journal.specs.Body.{bodies_in, places_in};
 ghost use Rattle.oz_journal.specs.Grammar.{IsJournal, IsDamagedAt, records, places};
-ghost use Rattle.oz_journal.specs.Journal.{IsAtRest};
+ghost use Rattle.oz_journal.specs.inner.Rest.{IsAtRest};
 ghost use Rattle.oz_journal.specs.Load.{IsLoadable, IsLeftAlone, loaded_at};
-ghost use Rattle.oz_journal.specs.Moments.{Elapses, Spans};
+ghost use Rattle.oz_world.specs.Moments.{Elapses, Spans};
 
 use crate::frame::CLOSED;
 use crate::scan::scan;
@@ -54,6 +56,7 @@ pub fn open<D: Disk>(alloc: Global, disk: &mut D) -> Result<(Vec<Body>, u64), Lo
         IfSome (D.told disk.old) (λ bytes. IsDamagedAt bytes offset) }
     ensures disk { IsErrOf result LoadFault.Disk → Rose (D.faults disk.old) (D.faults disk.new) }
     ensures never_falls { D.faults disk.old ≤ D.faults disk.new }
+    ensures telling { TellsAsBefore (D.told disk.old) (D.told disk.new) }
     ensures contents { IfSome (D.told disk.old) (λ bytes.
         2 ≤ length bytes → D.told disk.new ≡ Some bytes) }
     ensures closed { IfSome (D.told disk.old) (λ bytes.

@@ -1,3 +1,5 @@
+//! The records of a disk's bytes.
+
 ghost use Rattle.std.specs.Prelude.{◌≡◌, ◌≤◌, ◌<◌, ℕ, length, IfOk, IsErrOf};
 ghost use Rattle.oz_journal.specs.Body.{bodies_in, places_in};
 ghost use Rattle.oz_journal.specs.Grammar.{AreRecords, IsDamagedAt, records, places};

@@ -1,9 +1,11 @@
+//! Writes that are stable once they have answered.
+
 ghost use Rattle.std.specs.Prelude.{◌≡◌, ◌+◌, ◌<◌, ◌≤◌, ◌^◌, List, ℕ, [], ◌∷◌, length, Some, IfSome, OnOk};
 ghost use Rattle.std.specs.Option.{option_map};
-ghost use Rattle.oz_world.specs.Disk.{overwritten, Torn, Moves, IsStable};
+ghost use Rattle.oz_world.specs.Disk.{overwritten, Torn, Moves, TellsAsBefore, IsStable};
 ghost use Rattle.oz_world.specs.Faults.{HasCause};
-ghost use Rattle.oz_journal.specs.Moments.{Elapses, Spans, LeavesOnly};
-ghost use Rattle.oz_journal.specs.Journal.{IsPartOf};
+ghost use Rattle.oz_world.specs.Moments.{Elapses, Spans, LeavesOnly};
+ghost use Rattle.oz_journal.specs.inner.Parts.{IsPartOf};
 
 use crate::frame::{CLOSED, OPEN};
 use oz_world::{Disk, Failed};
@@ -37,10 +39,11 @@ pub fn put<D: Disk>(disk: &mut D, gate: u64, framed: &[u8]) -> Result<(), Failed
     ensures within { OnOk result (gate + 1 + length framed.now < 2 ^ 64) }
     ensures stable { OnOk result
         (IfSome (D.told disk.new) (IsStable (D.image disk.new) (D.clock disk.new))) }
-    ensures later { OnOk result (D.clock disk.old < D.clock disk.new) }
+    ensures telling { TellsAsBefore (D.told disk.old) (D.told disk.new) }
+    ensures moments { OnOk result (D.clock disk.new ≡ D.clock disk.old + 4) }
     ensures time { Elapses (D.clock disk.old) (D.clock disk.new) (D.image disk.old)
         (D.image disk.new) }
-    ensures moments { (bytes : List ℕ) → D.told disk.old ≡ Some bytes →
+    ensures leaves { (bytes : List ℕ) → D.told disk.old ≡ Some bytes →
         IsStable (D.image disk.old) (D.clock disk.old) bytes →
         LeavesOnly (IsPartOf gate framed.now bytes) (D.clock disk.old) (D.clock disk.new)
         (D.image disk.new) }
@@ -54,6 +57,8 @@ pub fn put<D: Disk>(disk: &mut D, gate: u64, framed: &[u8]) -> Result<(), Failed
 /// Leaves a closed gate and nothing else.
 pub fn empty<D: Disk>(disk: &mut D) -> Result<(), Failed>
     ensures written { OnOk result (D.told disk.new ≡ option_map (λ _. 0 ∷ []) (D.told disk.old)) }
+    ensures telling { TellsAsBefore (D.told disk.old) (D.told disk.new) }
+    ensures moments { OnOk result (D.clock disk.new ≡ D.clock disk.old + 4) }
     ensures stable { OnOk result
         (IfSome (D.told disk.new) (IsStable (D.image disk.new) (D.clock disk.new))) }
     ensures time { Elapses (D.clock disk.old) (D.clock disk.new) (D.image disk.old)

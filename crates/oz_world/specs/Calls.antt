@@ -1,4 +1,4 @@
--- How the likenesses in memory count their calls and their faults.
+-- How the in-memory implementations count their calls and their faults.
 use Rattle.std.specs.Prelude.{◌≡◌, ℕ, ◌+◌, ◌-◌, ◌^◌, min, Bool, Contains, if◌then◌else◌}
 use Rattle.oz_world.specs.declared.calls.Calls.{Calls}
 

@@ -33,6 +33,10 @@ abbrev pub Moves : (List ℕ → List ℕ → Type 0) → Option (List ℕ) → 
 Moves step None after = after ≡ None
 Moves step (Some before) after = IsSomeAnd after (step before)
 
+-- a disk tells its contents where it told them before, and nowhere else
+abbrev pub TellsAsBefore : Option (List ℕ) → Option (List ℕ) → Type 0
+TellsAsBefore before after = (before ≡ None) ↔ (after ≡ None)
+
 -- the images of a disk: at each moment, what a stop may leave
 abbrev pub Images : Type 1
 Images = ℕ → List ℕ → Type 0
@@ -48,6 +52,10 @@ pub record Ticks (step : List ℕ → List ℕ → Type 0) (before now : ℕ) (o
   pub later : now ≡ before + 1
   pub kept : (t : ℕ) (bytes : List ℕ) → t ≤ before → new t bytes ↔ old t bytes
   pub made : (after : List ℕ) → new now after → (bytes : List ℕ) × old before bytes × step bytes after
+
+-- Whatever comes by this step from an image of the moment before is an image of the new moment.
+abbrev pub LeavesEach : (List ℕ → List ℕ → Type 0) → ℕ → ℕ → Images → Images → Type 0
+LeavesEach step before now old new = (bytes after : List ℕ) → old before bytes → step bytes after → new now after
 
 -- a stop at this moment leaves these bytes and no others
 abbrev pub IsStable : Images → ℕ → List ℕ → Type 0

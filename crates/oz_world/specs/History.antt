@@ -3,11 +3,7 @@ use Rattle.std.specs.Prelude.{ℕ, List}
 use Rattle.oz_world.specs.declared.history.Change.{Change}
 use Rattle.oz_world.specs.declared.history.History.{History}
 use Rattle.oz_world.specs.Disk.{Images}
-use Rattle.oz_world.specs.Record.{contents, images_since, left_by}
-
--- what a read gives now
-abbrev pub contents_of : History → List ℕ
-contents_of history = contents history.first.items history.entries.items
+use Rattle.oz_world.specs.Record.{images_since, left_by}
 
 -- what a stop may leave at each moment
 abbrev pub images_of : History → Images

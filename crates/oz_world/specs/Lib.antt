@@ -5,6 +5,7 @@ pub mod History
 pub mod MemoryDisk
 pub mod MemorySink
 pub mod MemorySource
-pub mod Partial
-pub mod Present
+pub mod Moments
 pub mod Record
+pub mod inner
+pub mod laws

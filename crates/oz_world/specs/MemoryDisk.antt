@@ -1,7 +1,5 @@
 -- What a memory disk stands for.
-use Rattle.std.specs.Prelude.{◌≡◌, ℕ, List, Some}
-use Rattle.std.proofs.Common.{◌∙◌}
-use Rattle.oz_world.specs.Present.{present}
+use Rattle.std.specs.Prelude.{ℕ, List}
 use Rattle.oz_world.specs.declared.calls.Calls.{Calls}
 use Rattle.oz_world.specs.declared.history.Change.{Change}
 use Rattle.oz_world.specs.declared.memory_disk.MemoryDisk.{MemoryDisk}
@@ -31,9 +29,3 @@ disk_room disk = disk.room
 -- its calls
 abbrev pub disk_calls : MemoryDisk → Calls
 disk_calls disk = disk.calls
-
--- what a read gives is among what a stop at this moment may leave
-pub disk_present : (disk : MemoryDisk) (bytes : List ℕ) → Some (disk_bytes disk) ≡ Some bytes → disk_images disk (disk_clock disk) bytes
-disk_present disk bytes is =
-    let same : bytes ≡ disk_bytes disk = cc is in
-    present disk.history.first.items disk.history.entries.items disk.history.clock bytes disk.history.past (same ∙ disk.recorded)

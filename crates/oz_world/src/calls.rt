@@ -1,8 +1,10 @@
+//! The calls of an in-memory implementation, counted, and which of them fail.
+
 ghost use Rattle.std.specs.Prelude.{◌≡◌, ◌≤◌, ◌↔◌, IsTrue};
 
 use crate::Failed;
 
-/// The calls of a likeness in memory: how many there were, which of them fail, and how many failed.
+/// The calls of an in-memory implementation: how many there were, which of them fail, and how many failed.
 #[derive(Drop)]
 pub struct Calls {
     /// The numbers, from 1, of the calls that fail.

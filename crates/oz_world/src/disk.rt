@@ -1,3 +1,5 @@
+//! What a disk is: its calls, what a read gives, and what a stop may leave at each moment.
+
 ghost use Rattle.std.specs.Prelude.{◌≡◌, ◌≤◌, ◌<◌, ◌+◌, ◌^◌, ℕ, List, length, take, drop, slice_range, Option, Some, IfOk, IfSome, OnOk, OnErr, IsErr};
 ghost use Rattle.std.specs.Option.{option_map};
 ghost use Rattle.oz_world.specs.Faults.{HasCause};

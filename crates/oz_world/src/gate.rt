@@ -1,3 +1,5 @@
+//! Where a test can hold a thread before it writes.
+
 use std::sync::Wait;
 
 /// Where a thread is about to write to a disk.

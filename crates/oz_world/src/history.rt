@@ -1,7 +1,10 @@
+//! What a memory disk did, and what a stop may leave by it.
+
 ghost use Rattle.std.specs.Prelude.{◌≡◌, ◌+◌, ◌<◌, ◌≤◌, ℕ, List, IsTrue, nat_le, false, vec_len, vec_capacity, length, take, OnOk, OnErr, IfOk, if◌then◌else◌};
 ghost use Rattle.std.specs.List.{list_all};
-ghost use Rattle.oz_world.specs.Disk.{last_moment, overwritten, Torn, CutShort, Same, Ticks, IsStable};
-ghost use Rattle.oz_world.specs.Record.{contents, images, synced_count, done, step_of, is_sync, half_of, none_of, padded};
+ghost use Rattle.oz_world.specs.Disk.{last_moment, overwritten, Torn, CutShort, Same, Ticks, LeavesEach, IsStable};
+ghost use Rattle.oz_world.specs.Record.{images, synced_count, done, is_sync, half_of, none_of, padded};
+ghost use Rattle.oz_world.specs.inner.Contents.{contents, step_of};
 
 use crate::put::{pad, put_over};
 use std::alloc::{AllocError, Global};
@@ -49,7 +52,7 @@ impl Change {
 
 /// A change, and the moment that it led to.
 #[derive(Drop)]
-pub struct Entry {
+pub struct TimedChange {
     pub moment: u64,
     pub change: Change,
 }
@@ -58,7 +61,7 @@ pub struct Entry {
 #[derive(Drop)]
 pub struct History {
     pub first: Vec<u8>,
-    pub entries: Vec<Entry>,
+    pub entries: Vec<TimedChange>,
     pub clock: u64,
     /// How many entries there are up to the last sync.
     pub synced: usize,
@@ -73,9 +76,10 @@ pub struct History {
 }
 
 impl History {
-    ghost use Rattle.oz_world.specs.History.{contents_of, images_of, left_of};
+    ghost use Rattle.oz_world.specs.History.{images_of, left_of};
+    ghost use Rattle.oz_world.specs.inner.Now.{contents_of};
 
-    #[tactic(auto, unfolding(crate::specs::Record::contents, crate::specs::Record::images, crate::specs::Record::synced_count))]
+    #[tactic(auto, unfolding(crate::specs::inner::Contents::contents, crate::specs::Record::images, crate::specs::Record::synced_count))]
     /// The history of a disk that begins with these bytes, all of them stable.
     pub fn new(alloc: Global, first: Vec<u8>) -> History
         ensures contents { contents_of result ≡ first.items }
@@ -95,6 +99,8 @@ impl History {
         requires { self.old.clock < last_moment }
         ensures contents { contents_of self.new ≡ contents_of self.old }
         ensures time { Ticks Same self.old.clock self.new.clock (images_of self.old) (images_of self.new) }
+        ensures still_left { LeavesEach Same self.old.clock self.new.clock (images_of self.old)
+            (images_of self.new) }
     {
         self.clock += 1;
     }
@@ -109,13 +115,18 @@ impl History {
             (Ticks (step_of change) self.old.clock self.new.clock (images_of self.old) (images_of self.new)) }
         ensures no_change { OnErr result
             (Ticks Same self.old.clock self.new.clock (images_of self.old) (images_of self.new)) }
+        ensures left { OnOk result
+            (LeavesEach (step_of change) self.old.clock self.new.clock (images_of self.old)
+            (images_of self.new)) }
+        ensures still_left { OnErr result
+            (LeavesEach Same self.old.clock self.new.clock (images_of self.old) (images_of self.new)) }
     {
         self.clock += 1;
         // Room for the sync that follows, too, which then needs no memory.
         let Ok(()) = self.entries.reserve(2) else {
             return Err(AllocError);
         };
-        let entry = Entry {
+        let entry = TimedChange {
             moment: self.clock,
             change,
         };
@@ -130,6 +141,11 @@ impl History {
         ensures err { OnErr result (contents_of self.new ≡ contents_of self.old) }
         ensures time { Ticks (Torn pos (length others.now)) self.old.clock self.new.clock (images_of self.old)
             (images_of self.new) }
+        ensures left { OnOk result
+            (LeavesEach (Torn pos (length others.now)) self.old.clock self.new.clock (images_of self.old)
+            (images_of self.new)) }
+        ensures still_left { OnErr result
+            (LeavesEach Same self.old.clock self.new.clock (images_of self.old) (images_of self.new)) }
     {
         match others.to_vec(alloc) {
             Ok(others) => self.record(Change::Write { pos, others }),
@@ -147,6 +163,11 @@ impl History {
         ensures err { OnErr result (contents_of self.new ≡ contents_of self.old) }
         ensures time { Ticks (CutShort size) self.old.clock self.new.clock (images_of self.old)
             (images_of self.new) }
+        ensures left { OnOk result
+            (LeavesEach (CutShort size) self.old.clock self.new.clock (images_of self.old)
+            (images_of self.new)) }
+        ensures still_left { OnErr result
+            (LeavesEach Same self.old.clock self.new.clock (images_of self.old) (images_of self.new)) }
     {
         self.record(Change::Cut { size })
     }
@@ -178,7 +199,7 @@ impl History {
     {
         self.clock += 1;
         if self.synced < self.entries.len() {
-            let entry = Entry {
+            let entry = TimedChange {
                 moment: self.clock,
                 change: Change::Sync,
             };

@@ -1,8 +1,10 @@
+//! A disk in memory that loses, where it stops, whatever a disk may lose.
+
 ghost use Rattle.std.specs.Prelude.{◌≡◌, ◌≤◌, ◌<◌, ◌+◌, ◌^◌, ◌==◌, ℕ, Some, [], vec_capacity, length, take, slice_range, IfOk, OnOk, OnErr, IsErr, is_err, ◌↔◌, if◌then◌else◌};
 ghost use Rattle.oz_world.specs.Calls.{raised, Counts, IsToFail};
 ghost use Rattle.oz_world.specs.Faults.{HasCause};
-ghost use Rattle.oz_world.specs.Disk.{last_moment, overwritten, Torn, CutShort, Same, Stands, Ticks, IsStable};
-ghost use Rattle.oz_world.specs.History.{contents_of};
+ghost use Rattle.oz_world.specs.Disk.{last_moment, overwritten, Torn, CutShort, Same, Stands, Ticks, LeavesEach, IsStable};
+ghost use Rattle.oz_world.specs.inner.Now.{contents_of};
 ghost use Rattle.oz_world.specs.Record.{none_of, half_of};
 
 use crate::calls::Calls;
@@ -84,6 +86,9 @@ impl MemoryDisk {
         ensures time { disk_clock self.old < last_moment →
             Ticks Same (disk_clock self.old) (disk_clock self.new) (disk_images self.old)
             (disk_images self.new) }
+        ensures still_left { disk_clock self.old < last_moment →
+            LeavesEach Same (disk_clock self.old) (disk_clock self.new) (disk_images self.old)
+            (disk_images self.new) }
         ensures no_time { last_moment ≤ disk_clock self.old →
             Stands (disk_clock self.old) (disk_clock self.new) (disk_images self.old)
             (disk_images self.new) }
@@ -100,7 +105,8 @@ impl MemoryDisk {
 }
 
 impl Disk for MemoryDisk {
-    ghost use Rattle.oz_world.specs.MemoryDisk.{disk_bytes, disk_clock, disk_images, disk_left, disk_room, disk_calls, disk_present};
+    ghost use Rattle.oz_world.specs.MemoryDisk.{disk_bytes, disk_clock, disk_images, disk_left, disk_room, disk_calls};
+    ghost use Rattle.oz_world.specs.laws.Present.{disk_present};
 
     ghost told = { λ disk. Some (disk_bytes disk) };
 
@@ -165,6 +171,12 @@ impl Disk for MemoryDisk {
         ensures time { disk_clock self.old < last_moment →
             Ticks (Torn pos (length bytes.now)) (disk_clock self.old) (disk_clock self.new)
             (disk_images self.old) (disk_images self.new) }
+        ensures left { disk_clock self.old < last_moment → OnOk result
+            (LeavesEach (Torn pos (length bytes.now)) (disk_clock self.old) (disk_clock self.new)
+            (disk_images self.old) (disk_images self.new)) }
+        ensures still_left { disk_clock self.old < last_moment → OnErr result
+            (LeavesEach Same (disk_clock self.old) (disk_clock self.new) (disk_images self.old)
+            (disk_images self.new)) }
         ensures no_time { last_moment ≤ disk_clock self.old →
             IsErr result
             × Stands (disk_clock self.old) (disk_clock self.new) (disk_images self.old)
@@ -193,6 +205,12 @@ impl Disk for MemoryDisk {
         ensures time { disk_clock self.old < last_moment →
             Ticks (CutShort size) (disk_clock self.old) (disk_clock self.new)
             (disk_images self.old) (disk_images self.new) }
+        ensures left { disk_clock self.old < last_moment → OnOk result
+            (LeavesEach (CutShort size) (disk_clock self.old) (disk_clock self.new)
+            (disk_images self.old) (disk_images self.new)) }
+        ensures still_left { disk_clock self.old < last_moment → OnErr result
+            (LeavesEach Same (disk_clock self.old) (disk_clock self.new) (disk_images self.old)
+            (disk_images self.new)) }
         ensures no_time { last_moment ≤ disk_clock self.old →
             IsErr result
             × Stands (disk_clock self.old) (disk_clock self.new) (disk_images self.old)
@@ -221,6 +239,9 @@ impl Disk for MemoryDisk {
         ensures time { disk_clock self.old < last_moment →
             Ticks Same (disk_clock self.old) (disk_clock self.new) (disk_images self.old)
             (disk_images self.new) }
+        ensures still_left { disk_clock self.old < last_moment → OnErr result
+            (LeavesEach Same (disk_clock self.old) (disk_clock self.new) (disk_images self.old)
+            (disk_images self.new)) }
         ensures no_time { last_moment ≤ disk_clock self.old →
             IsErr result
             × Stands (disk_clock self.old) (disk_clock self.new) (disk_images self.old)

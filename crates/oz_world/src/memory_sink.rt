@@ -1,3 +1,5 @@
+//! A sink in memory.
+
 ghost use Rattle.std.specs.Prelude.{◌≡◌, ◌≤◌, ◌<◌, ◌++◌, Some, [], length, IfOk, OnOk, OnErr, IsErr, is_err};
 ghost use Rattle.oz_world.specs.Faults.{HasCause};
 ghost use Rattle.oz_world.specs.Calls.{Counts, IsToFail};

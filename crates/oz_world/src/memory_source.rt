@@ -1,3 +1,5 @@
+//! A source in memory.
+
 ghost use Rattle.std.specs.Prelude.{◌≡◌, ◌≤◌, ◌<◌, ◌↔◌, Some, [], length, take, drop, min, vec_len, IfOk, IfSome, OnErr, IsErr, is_err};
 ghost use Rattle.oz_world.specs.Faults.{HasCause};
 ghost use Rattle.oz_world.specs.Calls.{Counts, IsToFail};

@@ -1,3 +1,5 @@
+//! Bytes put over others in a `Vec`.
+
 ghost use Rattle.std.specs.Prelude.{◌≡◌, ◌≤◌, ◌+◌, length, take, OnOk, OnErr, IsOk, IfOk, vec_capacity};
 ghost use Rattle.oz_world.specs.Disk.{overwritten};
 ghost use Rattle.oz_world.specs.Record.{padded, half_of, done};

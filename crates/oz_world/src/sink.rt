@@ -1,3 +1,5 @@
+//! What a sink is: where the report goes.
+
 ghost use Rattle.std.specs.Prelude.{◌≡◌, ◌≤◌, ◌<◌, ◌++◌, ℕ, List, length, take, Option, IfOk, OnErr};
 ghost use Rattle.std.specs.Option.{option_map};
 ghost use Rattle.oz_world.specs.Faults.{HasCause};

@@ -1,3 +1,5 @@
+//! What a source is: where a script comes from.
+
 ghost use Rattle.std.specs.Prelude.{◌≡◌, ◌≤◌, ◌<◌, ◌↔◌, ℕ, List, [], length, take, drop, Option, IfOk, IfSome, OnErr};
 ghost use Rattle.std.specs.Option.{option_map};
 ghost use Rattle.oz_world.specs.Faults.{HasCause};
@@ -16,7 +18,7 @@ pub trait Source {
     fn faults(&self) -> u64
         ensures { result ≡ faults self.now };
 
-    /// Reads some bytes to the front of `into`, and answers how many: 0 only at the end.
+    /// Reads some bytes into the first places of `into`, and answers how many: 0 only at the end.
     fn read(&mut self, into: &mut [u8]) -> Result<usize, Failed>
         requires { 0 < length into.old }
         ensures fits { IfOk result (λ n. n ≤ length into.old) }

@@ -1,7 +1,7 @@
 use Rattle.std.proofs.Common.{◌<◌, ◌^◌}
 use Rattle.oz_world.specs.Disk.{seen}
 use Rattle.oz_cache.specs.Cache.{newest, last_epoch}
-use Rattle.oz_journal.specs.Moments.{Elapses}
+use Rattle.oz_world.specs.Moments.{Elapses}
 use Rattle.oz_namespace.specs.declared.namespace.Namespace.{Namespace}
 use Rattle.oz_om_bucket.specs.Meets.{Stand}
 use Rattle.oz_cluster.specs.Manager.{IsSettled}

@@ -1,8 +1,7 @@
 use Rattle.std.proofs.Common.{length, arith}
 use Rattle.oz_world.specs.Disk.{Torn, Same}
-use Rattle.oz_world.specs.Partial.{torn_none}
-use Rattle.oz_journal.proofs.Later.{took_a_moment}
-use Rattle.oz_journal.proofs.Moments.{call_spans, spans_still}
+use Rattle.oz_world.specs.laws.Partial.{torn_none}
+use Rattle.oz_world.specs.laws.Moments.{call_spans, spans_still, took_a_moment}
 use Rattle.oz_journal.proofs.store.store.Goals as goal
 
 pub returns-in_err-sync-clause-time : goal.returns-in_err-sync-clause-time

@@ -15,32 +15,40 @@ invariant_of-self-2 g c =
       λ still. rests_after _ _ _ _ _ (c.self.invariant.1 running) (body_of c.args.framed.now) _ (body_small c.args.framed.now c.requires.most) c.frame.ensures _ _ c.in-Ok.ensures.written c.in-Ok.ensures.stable,
     )
 
-pub returns-in_default-clause-moments : goal.returns-in_default-clause-moments
-returns-in_default-clause-moments g c =
+pub returns-in_default-clause-appended : goal.returns-in_default-clause-appended
+returns-in_default-clause-appended g c =
     let running = ap (λ s. s.stopped) c.self.view_is ∙ c.requires.running in
-    rw (← c.self.view_is)
-    (moments_after _ (g.D.Disk.told c.put.new.disk) _ _ _ (c.self.invariant.1 running) (body_of c.args.framed.now) _ (body_small c.args.framed.now c.requires.most) c.frame.ensures _ _ _ c.put.ensures.moments)
+    rw (← c.self.view_is) (record {
+      settled = record {
+        telling = c.put.ensures.telling;
+        stable = tt;
+        time = c.put.ensures.time;
+        moments = tt;
+        cause = record { never_falls = c.put.ensures.cause.never_falls; failed = c.in_default.ensures.cause.failed };
+      };
+      tells = λ bodies stands. tt;
+      leaves = moments_after _ (g.D.Disk.told c.put.new.disk) _ _ _ (c.self.invariant.1 running) (body_of c.args.framed.now) _ (body_small c.args.framed.now c.requires.most) c.frame.ensures _ _ _ c.put.ensures.leaves;
+      acknowledged = λ bodies stands. tt;
+    })
 
-pub returns-clause-moments : goal.returns-clause-moments
-returns-clause-moments g c =
+pub returns-clause-appended : goal.returns-clause-appended
+returns-clause-appended g c =
     let running = ap (λ s. s.stopped) c.self.view_is ∙ c.requires.running in
-    rw (← c.self.view_is)
-    (moments_after _ (g.D.Disk.told c.put.new.disk) _ _ _ (c.self.invariant.1 running) (body_of c.args.framed.now) _ (body_small c.args.framed.now c.requires.most) c.frame.ensures _ _ _ c.put.ensures.moments)
-
-pub returns-clause-bodies : goal.returns-clause-bodies
-returns-clause-bodies g c =
-    let running = ap (λ s. s.stopped) c.self.view_is ∙ c.requires.running in
-    rw (← c.self.view_is)
-    (bodies_after _ _ _ _ _ (c.self.invariant.1 running) (body_of c.args.framed.now) _ (body_small c.args.framed.now c.requires.most) c.frame.ensures c.in-Ok.ensures.written)
+    rw (← c.self.view_is) (record {
+      settled = record {
+        telling = c.put.ensures.telling;
+        stable = c.in-Ok.ensures.stable;
+        time = c.put.ensures.time;
+        moments = c.in-Ok.ensures.moments;
+        cause = record { never_falls = c.put.ensures.cause.never_falls; failed = tt };
+      };
+      tells = bodies_after _ _ _ _ _ (c.self.invariant.1 running) (body_of c.args.framed.now) _ (body_small c.args.framed.now c.requires.most) c.frame.ensures c.in-Ok.ensures.written;
+      leaves = moments_after _ (g.D.Disk.told c.put.new.disk) _ _ _ (c.self.invariant.1 running) (body_of c.args.framed.now) _ (body_small c.args.framed.now c.requires.most) c.frame.ensures _ _ _ c.put.ensures.leaves;
+      acknowledged = acknowledged_after _ _ _ _ _ (c.self.invariant.1 running) (body_of c.args.framed.now) _ (body_small c.args.framed.now c.requires.most) c.frame.ensures c.in-Ok.ensures.written (g.D.Disk.image c.put.new.disk) (g.D.Disk.clock c.put.new.disk) c.in-Ok.ensures.stable;
+    })
 
 pub returns-clause-contents : goal.returns-clause-contents
 returns-clause-contents g c =
     let running = ap (λ s. s.stopped) c.self.view_is ∙ c.requires.running in
     rw (← c.self.view_is)
     (contents_after _ _ _ _ _ (c.self.invariant.1 running) (body_of c.args.framed.now) _ (body_small c.args.framed.now c.requires.most) c.frame.ensures c.in-Ok.ensures.written)
-
-pub returns-clause-acknowledged : goal.returns-clause-acknowledged
-returns-clause-acknowledged g c =
-    let running = ap (λ s. s.stopped) c.self.view_is ∙ c.requires.running in
-    rw (← c.self.view_is)
-    (acknowledged_after _ _ _ _ _ (c.self.invariant.1 running) (body_of c.args.framed.now) _ (body_small c.args.framed.now c.requires.most) c.frame.ensures c.in-Ok.ensures.written (g.D.Disk.image c.put.new.disk) (g.D.Disk.clock c.put.new.disk) c.clock.result c.clock.ensures c.in-Ok.ensures.stable)

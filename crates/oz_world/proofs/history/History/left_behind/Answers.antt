@@ -1,5 +1,5 @@
 use Rattle.std.proofs.Common.{◌≡◌, ◌<◌, ◌≤◌, ℕ, List, sym, ◌∙◌, ap, subst, arith, if◌then◌else◌, get_or, length, Vec, Global}
-use Rattle.oz_world.specs.declared.history.Entry.{Entry}
+use Rattle.oz_world.specs.declared.history.TimedChange.{TimedChange}
 use Rattle.oz_world.specs.Record.{images_since, half_of, none_of}
 use Rattle.oz_world.proofs.Records.{replay_synced, replay_left, left_by_end, left_by_now}
 use Rattle.oz_world.proofs.history.History.left_behind.Goals as goal
@@ -10,7 +10,7 @@ loop-entry-preserved c =
     let entries = c.args.self.now.entries.items in
     let items = c.deref-entry-items.ensures.value in
     let lt : c.loop-entry.entry-index < length entries = omega (arith, ap length items, c.loop-entry-test.true) in
-    let is : c.entry-item.result ≡ get_or entries c.loop-entry.entry-index c.entry-item.result = c.entry-item.is ∙ ap (λ (l : List Entry). get_or l c.loop-entry.entry-index c.entry-item.result) items in
+    let is : c.entry-item.result ≡ get_or entries c.loop-entry.entry-index c.entry-item.result = c.entry-item.is ∙ ap (λ (l : List TimedChange). get_or l c.loop-entry.entry-index c.entry-item.result) items in
     record {
       rest =
           replay_left (if c.args.half then half_of else none_of) entries c.loop-entry.entry-index c.loop-entry.synced c.entry-item.result c.loop-entry.left.items c.if-synced-gt1.left.items _ lt is c.loop-entry.invariant.synced c.loop-entry.invariant.rest

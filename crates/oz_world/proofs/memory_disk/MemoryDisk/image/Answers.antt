@@ -1,5 +1,5 @@
 use Rattle.std.proofs.Common.{◌≡◌, ◌∙◌, rules}
-use Rattle.oz_world.specs.Present.{present}
+use Rattle.oz_world.specs.laws.Present.{present}
 use Rattle.oz_world.proofs.memory_disk.MemoryDisk.image.Goals as goal
 
 pub returns-in_ok-to_vec-in-1-clause-image : goal.returns-in_ok-to_vec-in-1-clause-image

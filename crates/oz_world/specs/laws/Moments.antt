@@ -1,8 +1,8 @@
 -- How stretches of time join.
-use Rattle.std.proofs.Common.{◌≡◌, ◌⊎◌, inl, inr, ℕ, ◌<◌, ◌≤◌, List, sym, subst, arith}
-use Rattle.std.proofs.lemmas.Bool.{cases_lt}
+use Rattle.std.proofs.Common.{◌≡◌, ◌⊎◌, inl, inr, ℕ, ◌+◌, ◌<◌, ◌≤◌, List, Result, Ok, IsErr, is_err, sym, ◌∙◌, ap, subst, arith}
+use Rattle.std.proofs.lemmas.Bool.{cases_lt, false≢true}
 use Rattle.oz_world.specs.Disk.{Images, Same, Stands, Ticks, IsStable, last_moment}
-use Rattle.oz_journal.specs.Moments.{Elapses, Spans, LeavesOnly}
+use Rattle.oz_world.specs.Moments.{Elapses, Spans, LeavesOnly}
 
 abbrev Step : Type 1
 Step = List ℕ → List ℕ → Type 0
@@ -68,7 +68,7 @@ spans_then one two both a b c i j k from_one from_two from_both first second = r
           | inr before ↦ (before.0, before.1, from_both before.0 found.0 after before.2 found.2)
         ]
 
--- a stretch in which nothing changes, behind one whose step may be none
+-- a stretch in which nothing changes, after one whose step may be none
 pub spans_still : (step : Step) (a b c : ℕ) (i j k : Images) → ((x : List ℕ) → step x x) → Spans step a b i j → Spans Same b c j k → Spans step a c i k
 spans_still step a b c i j k none first second =
     spans_then step Same step a b c i j k (λ x y h. h) (λ x y same. subst (λ (l : List ℕ). step x l) (sym same) (none x)) (λ x y z h same. subst (λ (l : List ℕ). step x l) (sym same) h) first second
@@ -85,9 +85,16 @@ spans_leave step a b i j bytes stable none spans t left from by h = elim (cases_
       subst (λ (l : List ℕ). step bytes l) (sym is) none
 ]
 
--- the images of two stretches, one behind the other
+-- the images of two stretches, one after the other
 pub leave_then : (P Q R : List ℕ → Type 0) (a b c : ℕ) (j k : Images) → ((left : List ℕ) → P left → R left) → ((left : List ℕ) → Q left → R left) → Elapses b c j k → LeavesOnly P a b j → LeavesOnly Q b c k → LeavesOnly R a c k
 leave_then P Q R a b c j k from_first from_second elapses first second t left from by h = elim (cases_lt b t) [
   | inl later ↦ from_second left (second t left (omega (arith, later)) by h)
   | inr sooner ↦ from_first left (first t left from sooner ((elapses.kept t left sooner).0 h))
+]
+
+-- a call that succeeded took a moment
+pub took_a_moment : {T E : Type 0} (result : Result T E) (value : T) (step : List ℕ → List ℕ → Type 0) (before now : ℕ) (old new : Images) → result ≡ Ok value → (before < last_moment → Ticks step before now old new) → (last_moment ≤ before → IsErr result) → now ≡ before + 1
+took_a_moment result value step before now old new is ticks ended = elim (cases_lt before last_moment) [
+  | inl lt ↦ (ticks lt).later
+  | inr ge ↦ absurd (false≢true (sym (ap is_err is) ∙ ended ge))
 ]

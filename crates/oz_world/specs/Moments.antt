@@ -10,7 +10,8 @@ pub record Elapses (before now : ℕ) (old new : Images) : Type 0 where
 -- Each image of each later moment came by this step from an image of the first.
 pub record Spans (step : List ℕ → List ℕ → Type 0) (before now : ℕ) (old new : Images) : Type 0 where
   pub elapses : Elapses before now old new
-  pub made : (t : ℕ) (after : List ℕ) → before < t → t ≤ now → new t after → (bytes : List ℕ) × old before bytes × step bytes after
+  pub made : (t : ℕ) (after : List ℕ) → before < t → t ≤ now → new t after
+      → (bytes : List ℕ) × old before bytes × step bytes after
 
 -- a stop at any moment from the first to the last leaves what has P
 abbrev pub LeavesOnly : (List ℕ → Type 0) → ℕ → ℕ → Images → Type 0

@@ -1,7 +1,7 @@
 -- Writes and cuts that were done in part.
-use Rattle.std.proofs.Common.{replicate, ◌-◌, subst, ◌≡◌, inl, inr, ℕ, ◌+◌, ◌≤◌, min, List, [], ◌++◌, length, take, drop, refl, sym, ◌∙◌, ap, arith, length-append, length-take, length-drop, append_assoc}
+use Rattle.std.proofs.Common.{replicate, ◌-◌, subst, ◌≡◌, inl, inr, ℕ, ◌+◌, ◌≤◌, min, List, [], ◌++◌, length, take, drop, slice_range, refl, sym, ◌∙◌, ap, arith, length-append, length-take, length-drop, append_assoc}
 use Rattle.std.proofs.lemmas.Bool.{cases_lt}
-use Rattle.std.proofs.lemmas.List.{take_all, drop_all, take_at, drop_at, append-nil, length-replicate, drop-drop}
+use Rattle.std.proofs.lemmas.List.{take_all, drop_all, take_at, drop_at, append-nil, length-replicate, drop-drop, drop-take, take-take}
 use Rattle.oz_world.specs.Record.{padded}
 use Rattle.oz_world.specs.Disk.{Torn, CutShort, overwritten}
 
@@ -92,3 +92,38 @@ cut_whole size bytes =
       no_shorter = omega arith;
       no_longer = omega arith;
     }
+
+-- the same prefix, and a stretch within it
+range_within : (from to least : ℕ) (before after : List ℕ) → to ≤ least → take least after ≡ take least before → slice_range after from to ≡ slice_range before from to
+range_within from to least before after le same = elim (cases_lt to from) [
+  | inl none ↦
+      let count : to - from ≡ 0 = omega arith in
+      ap (λ (n : ℕ). take n (drop from after)) count ∙ sym (ap (λ (n : ℕ). take n (drop from before)) count)
+  | inr some ↦
+      let prefix : take (from + (to - from)) after ≡ take (from + (to - from)) before =
+      sym (take-take (from + (to - from)) least after (omega arith)) ∙ (ap (λ (l : List ℕ). take (from + (to - from)) l) same ∙ take-take (from + (to - from)) least before (omega arith)) in
+      sym (drop-take from (to - from) after) ∙ (ap (λ (l : List ℕ). drop from l) prefix ∙ drop-take from (to - from) before)
+]
+
+-- the same rest, and a stretch within it
+range_past : (from to least : ℕ) (before after : List ℕ) → least ≤ from → drop least after ≡ drop least before → slice_range after from to ≡ slice_range before from to
+range_past from to least before after le same =
+    let skip : from ≡ least + (from - least) = omega arith in
+    let rest : drop from after ≡ drop from before =
+    ap (λ (n : ℕ). drop n after) skip
+    ∙ (sym (drop-drop (from - least) least after) ∙ (ap (λ (l : List ℕ). drop (from - least) l) same ∙ (drop-drop (from - least) least before ∙ sym (ap (λ (n : ℕ). drop n before) skip)))) in
+    ap (λ (l : List ℕ). take (to - from) l) rest
+
+-- what stands before a write that was done in part stays
+pub torn_keeps_before : (pos count from to : ℕ) (before after : List ℕ) → Torn pos count before after → to ≤ pos → to ≤ length before → slice_range after from to ≡ slice_range before from to
+torn_keeps_before pos count from to before after torn le within =
+    range_within from to (min pos (length before)) before after (omega arith) (torn.front ∙ sym (min_front pos before))
+
+-- and so does what stands past it
+pub torn_keeps_past : (pos count from to : ℕ) (before after : List ℕ) → Torn pos count before after → pos + count ≤ from → slice_range after from to ≡ slice_range before from to
+torn_keeps_past pos count from to before after torn le = range_past from to (pos + count) before after le torn.back
+
+-- what stands before a cut that was done in part stays
+pub cut_keeps : (size from to : ℕ) (before after : List ℕ) → CutShort size before after → to ≤ size → to ≤ length before → slice_range after from to ≡ slice_range before from to
+cut_keeps size from to before after short le within =
+    range_within from to (min size (length before)) before after (omega arith) (short.front ∙ sym (min_front size before))

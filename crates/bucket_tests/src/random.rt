@@ -5,7 +5,7 @@ use crate::asked::{Kind, request};
 use oz_cache::Cached;
 use oz_epochs::Steps;
 use oz_fields::{List, Name, OutOfMemory, TryClone};
-use oz_model::{Namespace, TryClone, answer};
+use oz_model::{Namespace, answer};
 use oz_om_bucket::{Decision, decide};
 use oz_requests::{Reply, Request};
 use oz_rows::{Change, RowKey};

@@ -3,8 +3,8 @@ use Rattle.std.proofs.Common.{◌≡◌, ℕ, ◌<◌, ◌^◌, List, ◌++◌, 
 use Rattle.oz_fields.specs.declared.block.Piece.{Piece}
 use Rattle.oz_fields.specs.Field.{AreBytes, IsField, ◌>>=◌}
 use Rattle.oz_fields.specs.Number.{u32_bytes, u64_bytes, u32_at, u64_at}
-use Rattle.oz_fields.proofs.Fields.{first_of_fields, parts_then, found_is}
-use Rattle.oz_fields.proofs.Numbers.{u32_field, u64_field}
+use Rattle.oz_fields.specs.laws.Fields.{first_of_fields, parts_then, found_is}
+use Rattle.oz_fields.specs.laws.Numbers.{u32_field, u64_field}
 use Rattle.ground_tests.specs.Piece.{piece_bytes, piece_at, IsPiece}
 
 piece_back : (piece : Piece) (rest : List ℕ) → IsPiece piece → piece_at (piece_bytes piece ++ rest) ≡ Some (piece, rest)

@@ -6,7 +6,7 @@ use Rattle.std.specs.Int.{w32, from_be_bytes}
 use Rattle.byteorder.specs.Endian.{big_number, big_bytes}
 use Rattle.oz_fields.specs.Field.{AreBytes}
 use Rattle.oz_fields.specs.Number.{u32_bytes, u32_at, number_at}
-use Rattle.oz_fields.proofs.Numbers.{u32_field}
+use Rattle.oz_fields.specs.laws.Numbers.{u32_field}
 use Rattle.oz_journal.specs.Grammar.{sized}
 use Rattle.oz_journal.specs.Journal.{body_of}
 use Rattle.oz_journal.proofs.Records.{length-u32_bytes}

@@ -6,8 +6,8 @@ use Rattle.std.specs.Int.{w32, from_be_bytes}
 use Rattle.std.proofs.lemmas.Option.{some_pair_parts}
 use Rattle.oz_fields.specs.Field.{AreBytes}
 use Rattle.oz_fields.specs.Number.{u32_bytes, u32_at, number_at}
-use Rattle.oz_fields.proofs.Numbers.{u32_field}
-use Rattle.oz_fields.proofs.Bytes.{AreBytes-drop, AreBytes-behind}
+use Rattle.oz_fields.specs.laws.Numbers.{u32_field}
+use Rattle.oz_fields.specs.laws.Bytes.{AreBytes-drop, AreBytes-behind}
 use Rattle.oz_journal.specs.Grammar.{sized, records, HaveSizes, IsCutOff}
 
 pub length-u32_bytes : (n : ℕ) → length (u32_bytes n) ≡ 4

@@ -3,6 +3,7 @@ use Rattle.std.specs.Prelude.{◌≡◌, ℕ, Bool, not, ◌||◌, nat_lt, nat_l
 use Rattle.std.specs.FinMap.{empty, len, keys, insert, remove}
 use Rattle.oz_names.specs.declared.code.Code.{Code}
 use Rattle.oz_names.specs.declared.code.Code.TheVariants.{VolumeNotFound, VolumeAlreadyExists, VolumeNotEmpty, BucketNotFound, BucketAlreadyExists, BucketNotEmpty, ContainsSnapshot, InvalidVolumeName, InvalidBucketName, BucketLimit}
+use Rattle.oz_names.specs.declared.limits.TheConstants.{MOST_BUCKETS}
 use Rattle.oz_names.specs.Names.{is_volume_name}
 use Rattle.oz_namespace.specs.declared.namespace.Bucket.{Bucket}
 use Rattle.oz_namespace.specs.declared.namespace.Namespace.{Namespace}
@@ -21,16 +22,12 @@ abbrev pub buckets_at : Namespace → List ℕ → ByName Bucket
 buckets_at namespace volume = buckets_in (buckets_of namespace volume)
 
 -- a bucket, an empty one where there is no such bucket
-abbrev pub bucket_in : Option Bucket → Bucket
-bucket_in None = new_bucket
-bucket_in (Some bucket) = bucket
+abbrev pub bucket_or_new : Option Bucket → Bucket
+bucket_or_new None = new_bucket
+bucket_or_new (Some bucket) = bucket
 
 abbrev pub bucket_at : Namespace → List ℕ → List ℕ → Bucket
-bucket_at namespace volume bucket = bucket_in (bucket_of namespace volume bucket)
-
--- how many buckets a volume may have
-abbrev pub bucket_limit : ℕ
-bucket_limit = 1024
+bucket_at namespace volume bucket = bucket_or_new (bucket_of namespace volume bucket)
 
 -- the bucket has a key or a session
 abbrev pub is_in_use : Bucket → Bool
@@ -70,7 +67,7 @@ refusals namespace (DeleteVolume volume) = bad_volume volume ∷ no_volume names
 refusals namespace (CreateBucket volume bucket) =
     bad_volume volume ∷ bad_bucket bucket ∷ no_volume namespace volume
     ∷ where_so (has_bucket namespace volume bucket) BucketAlreadyExists
-    ∷ where_so (nat_le bucket_limit (len (buckets_at namespace volume))) BucketLimit ∷ []
+    ∷ where_so (nat_le MOST_BUCKETS (len (buckets_at namespace volume))) BucketLimit ∷ []
 refusals namespace (InfoBucket volume bucket) = bad_volume volume ∷ bad_bucket bucket ∷ no_volume namespace volume ∷ no_bucket namespace volume bucket ∷ []
 refusals namespace (DeleteBucket volume bucket) =
     bad_volume volume ∷ bad_bucket bucket ∷ no_volume namespace volume ∷ no_bucket namespace volume bucket

@@ -1,20 +1,17 @@
 ghost use Rattle.std.specs.Prelude.{◌≡◌, [], ◌∷◌, length, nat_lt, nat_le, IfOk};
 ghost use Rattle.std.specs.FinMap.{len};
 ghost use Rattle.oz_namespace.specs.Namespace.{has_volume, has_bucket};
-ghost use Rattle.oz_model.specs.Answers.{Answers, after, refusals, first_of, where_so, no_volume, no_bucket, buckets_at, bucket_at, bucket_limit, is_in_use, result_of, effect_of};
+ghost use Rattle.oz_model.specs.Answers.{Answers, after, refusals, first_of, where_so, no_volume, no_bucket, buckets_at, bucket_at, is_in_use, result_of, effect_of};
 
 use crate::lookups::{
     bucket_count, bucket_names, buckets_copied, counts, has_bucket, has_volume, in_use,
     snapshot_count, told,
 };
-use oz_fields::{Name, OutOfMemory};
-use oz_names::Code;
-use oz_namespace::{Bucket, NameMap, Namespace, TryClone};
+use oz_fields::{Name, OutOfMemory, TryClone};
+use oz_names::{Code, MOST_BUCKETS};
+use oz_namespace::{Bucket, NameMap, Namespace};
 use oz_requests::{Reply, Request};
 use std::alloc::Global;
-
-/// How many buckets a volume may have.
-const BUCKET_LIMIT: usize = 1024;
 
 /// The reply of one thread to a request, and the namespace that is left. A reply that would count 2^32 things or more
 /// can't be written; there it answers that memory ran out.
@@ -92,7 +89,7 @@ fn empty_volume(namespace: &Namespace, volume: &Name) -> Option<Code>
 fn new_bucket(namespace: &Namespace, volume: &Name, bucket: &Name) -> Option<Code>
     ensures { result ≡ first_of (no_volume namespace.now volume.now
         ∷ where_so (has_bucket namespace.now volume.now bucket.now) Code.BucketAlreadyExists
-        ∷ where_so (nat_le bucket_limit (len (buckets_at namespace.now volume.now))) Code.BucketLimit ∷ []) }
+        ∷ where_so (nat_le MOST_BUCKETS (len (buckets_at namespace.now volume.now))) Code.BucketLimit ∷ []) }
 {
     if let Some(code) = volume_there(namespace, volume) {
         return Some(code);
@@ -100,7 +97,7 @@ fn new_bucket(namespace: &Namespace, volume: &Name, bucket: &Name) -> Option<Cod
     if has_bucket(namespace, volume, bucket) {
         return Some(Code::BucketAlreadyExists);
     }
-    if bucket_count(namespace, volume) >= BUCKET_LIMIT {
+    if bucket_count(namespace, volume) >= MOST_BUCKETS as usize {
         return Some(Code::BucketLimit);
     }
     None

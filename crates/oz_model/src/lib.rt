@@ -7,5 +7,5 @@ mod lookups;
 mod reaching;
 
 pub use answering::answer;
-pub use oz_namespace::{Bucket, NameMap, Namespace, NumberMap, Session, Snapshot, TryClone};
+pub use oz_namespace::{Bucket, NameMap, Namespace, NumberMap, Session, Snapshot};
 pub use reaching::reach;

@@ -5,8 +5,8 @@ ghost use Rattle.std.specs.FinMap.{len, keys};
 ghost use Rattle.oz_namespace.specs.Namespace.{buckets_of, bucket_of, has_volume, has_bucket};
 ghost use Rattle.oz_model.specs.Answers.{buckets_at, bucket_at, is_in_use};
 
-use oz_fields::{List, Name, OutOfMemory};
-use oz_namespace::{Bucket, NameMap, Namespace, TryClone};
+use oz_fields::{List, Name, OutOfMemory, TryClone};
+use oz_namespace::{Bucket, NameMap, Namespace};
 use oz_requests::Counts;
 use std::alloc::{AllocError, Global};
 

@@ -12,7 +12,7 @@ use Rattle.oz_namespace.specs.declared.namespace.Bucket.{Bucket}
 use Rattle.oz_namespace.specs.declared.namespace.Namespace.{Namespace}
 use Rattle.oz_namespace.specs.declared.namespace.Session.{Session}
 use Rattle.oz_namespace.specs.Namespace.{ByName, buckets_of, bucket_of, session_of}
-use Rattle.oz_model.specs.Answers.{buckets_at, bucket_at, bucket_in}
+use Rattle.oz_model.specs.Answers.{buckets_at, bucket_at, bucket_or_new}
 use Rattle.oz_rows.specs.declared.key.RowKey.{RowKey}
 use Rattle.oz_rows.specs.declared.key.RowKey.TheVariants as keys
 use Rattle.oz_rows.specs.declared.row.Row.{Row}
@@ -137,11 +137,11 @@ as_key key = (key, None)
 abbrev as_session : List ℕ × ℕ → List ℕ × Option ℕ
 as_session one = (one.0, Some one.1)
 
-keys_looked_up : (o : Option Bucket) (q : List ℕ) → get (bucket_in o).keys q ≡ pieces_seen o q
+keys_looked_up : (o : Option Bucket) (q : List ℕ) → get (bucket_or_new o).keys q ≡ pieces_seen o q
 keys_looked_up (Some bucket) q = refl
 keys_looked_up None q = get-empty (slice_cmp nat_cmp) q
 
-sessions_looked_up : (o : Option Bucket) (n : ℕ) → get (bucket_in o).sessions n ≡ session_seen o n
+sessions_looked_up : (o : Option Bucket) (n : ℕ) → get (bucket_or_new o).sessions n ≡ session_seen o n
 sessions_looked_up (Some bucket) n = refl
 sessions_looked_up None n = get-empty nat_cmp n
 

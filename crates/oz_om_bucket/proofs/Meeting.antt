@@ -4,7 +4,7 @@ use mathlib.Core.Bool.{false≢true}
 use Rattle.oz_names.specs.declared.code.Code.{Code}
 use Rattle.oz_names.specs.declared.code.Code.TheVariants.{InvalidVolumeName, InvalidBucketName}
 use Rattle.oz_names.specs.Names.{is_volume_name, IsVolumeName}
-use Rattle.oz_names.proofs.NameTests.{volume_name-passes}
+use Rattle.oz_names.specs.laws.NameTests.{volume_name-passes}
 use Rattle.oz_namespace.specs.declared.namespace.Namespace.{Namespace}
 use Rattle.oz_model.specs.Answers.{first_of, refusals, result_of, reply_from, effect_of, after, Answers}
 use Rattle.oz_requests.specs.declared.reply.Reply.{Reply}
@@ -20,7 +20,7 @@ use Rattle.oz_tables.specs.Batches.{after_changes}
 use Rattle.oz_tables.specs.Tables.{Rows}
 use Rattle.oz_tables.proofs.Steps.{nothing_is_batch}
 use Rattle.oz_om_bucket.specs.Meets.{Stand, Meets}
-use Rattle.oz_om_bucket.specs.Records.{changes_for, changes_of, bytes_for, bytes_of}
+use Rattle.oz_om_bucket.specs.Records.{changes_for, recorded_changes, bytes_for, recorded_bytes}
 use Rattle.oz_om_bucket.proofs.Writing.{Writes, creates_volume, deletes_volume, creates_bucket, deletes_bucket}
 
 -- names that were tested are names
@@ -99,7 +99,7 @@ writes all namespace (InfoBucket v b) named stand none = record { batch = nothin
 writes all namespace (DeleteBucket v b) named stand none = deletes_bucket all namespace stand v b (volume_fits v (Some b) named) (bucket_fits v b named) none
 writes all namespace (ListBuckets v) named stand none = record { batch = nothing_is_batch all; leads = stand; keeps = λ e. refl }
 
-done : (all : Rows) (namespace : Namespace) (request : Request) (reply : Reply) → Answers namespace request reply → (w : Writes all namespace request) → bytes_of request reply ≡ bytes_for request → changes_of request reply ≡ changes_for request → after namespace request reply ≡ effect_of namespace request → Meets all namespace request reply (bytes_for request) (changes_for request)
+done : (all : Rows) (namespace : Namespace) (request : Request) (reply : Reply) → Answers namespace request reply → (w : Writes all namespace request) → recorded_bytes request reply ≡ bytes_for request → recorded_changes request reply ≡ changes_for request → after namespace request reply ≡ effect_of namespace request → Meets all namespace request reply (bytes_for request) (changes_for request)
 done all namespace request reply answers w bytes changes effect = record {
   answers = answers;
   batch = w.batch;
@@ -107,7 +107,7 @@ done all namespace request reply answers w bytes changes effect = record {
   keeps = λ e. w.keeps (sym effect ∙ e);
 }
 
-pub meets : (all : Rows) (namespace : Namespace) (request : Request) (reply : Reply) → name_fault request ≡ None → Stand all namespace → Answers namespace request reply → Meets all namespace request reply (bytes_of request reply) (changes_of request reply)
+pub meets : (all : Rows) (namespace : Namespace) (request : Request) (reply : Reply) → name_fault request ≡ None → Stand all namespace → Answers namespace request reply → Meets all namespace request reply (recorded_bytes request reply) (recorded_changes request reply)
 meets all namespace request (replies.Code code) named stand answers = nothing_changes all namespace request (replies.Code code) stand answers refl
 meets all namespace request replies.Done named stand answers = done all namespace request replies.Done answers (writes all namespace request named stand (not_refused _ replies.Done (result_of namespace request) (λ code e. absurd (cc)) answers)) refl refl refl
 meets all namespace request (replies.Count n) named stand answers = done all namespace request (replies.Count n) answers (writes all namespace request named stand (not_refused _ (replies.Count n) (result_of namespace request) (λ code e. absurd (cc)) answers)) refl refl refl
@@ -124,7 +124,7 @@ few_for (InfoBucket v b) named = omega arith
 few_for (ListBuckets v) named = omega arith
 
 -- no batch is longer than the longest operation
-pub few_bytes : (request : Request) (reply : Reply) → name_fault request ≡ None → length (bytes_of request reply) ≤ 6304
+pub few_bytes : (request : Request) (reply : Reply) → name_fault request ≡ None → length (recorded_bytes request reply) ≤ 6304
 few_bytes request (replies.Code code) named = omega arith
 few_bytes request replies.Done named = few_for request named
 few_bytes request (replies.Count n) named = few_for request named

@@ -9,7 +9,7 @@ use Rattle.oz_namespace.specs.declared.namespace.Bucket.{Bucket}
 use Rattle.oz_namespace.specs.declared.namespace.Namespace.{Namespace}
 use Rattle.oz_namespace.specs.declared.namespace.Snapshot.{Snapshot}
 use Rattle.oz_namespace.specs.Namespace.{bucket_of, snapshots_in}
-use Rattle.oz_model.specs.Answers.{bucket_at, bucket_in}
+use Rattle.oz_model.specs.Answers.{bucket_at, bucket_or_new}
 use Rattle.oz_rows.specs.declared.key.RowKey.{RowKey}
 use Rattle.oz_rows.specs.declared.key.RowKey.TheVariants as keys
 use Rattle.oz_rows.specs.declared.row.Row.{Row}
@@ -56,7 +56,7 @@ as_many all v b (n ∷ numbers) (s ∷ snapshots) are = ap suc (as_many all v b 
 as_many all v b [] (s ∷ snapshots) are = absurd are
 as_many all v b (n ∷ numbers) [] are = absurd are
 
-snapshots_looked_up : (o : Option Bucket) → (bucket_in o).snapshots ≡ snapshots_in o
+snapshots_looked_up : (o : Option Bucket) → (bucket_or_new o).snapshots ≡ snapshots_in o
 snapshots_looked_up None = refl
 snapshots_looked_up (Some bucket) = refl
 

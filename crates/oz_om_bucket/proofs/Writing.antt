@@ -14,7 +14,7 @@ use Rattle.oz_namespace.specs.declared.namespace.Bucket.{Bucket}
 use Rattle.oz_namespace.specs.declared.namespace.Namespace.{Namespace}
 use Rattle.oz_namespace.specs.declared.namespace.Snapshot.{Snapshot}
 use Rattle.oz_namespace.specs.Namespace.{ByName, has_volume, has_bucket, buckets_of, bucket_of, with_volume, new_bucket}
-use Rattle.oz_model.specs.Answers.{Refusal, first_of, refusals, effect_of, buckets_at, bucket_at, buckets_in, bucket_in}
+use Rattle.oz_model.specs.Answers.{Refusal, first_of, refusals, effect_of, buckets_at, bucket_at, buckets_in, bucket_or_new}
 use Rattle.oz_requests.specs.declared.request.Request.{Request}
 use Rattle.oz_requests.specs.declared.request.Request.TheVariants.{CreateVolume, DeleteVolume, CreateBucket, DeleteBucket}
 use Rattle.oz_rows.specs.declared.key.RowKey.{RowKey}
@@ -145,7 +145,7 @@ no_numbers all v b [] snapshots are e n among = false≢true among
 no_numbers all v b (m ∷ numbers) snapshots are e n among = subst (AreSnapshots all v b (m ∷ numbers)) e are
 
 -- in a bucket without keys, sessions and snapshots nothing is seen
-bare_seen : (o : Option Bucket) → (bucket_in o).keys ≡ empty → (bucket_in o).sessions ≡ empty → (bucket_in o).snapshots ≡ [] → SeenAlike o None
+bare_seen : (o : Option Bucket) → (bucket_or_new o).keys ≡ empty → (bucket_or_new o).sessions ≡ empty → (bucket_or_new o).snapshots ≡ [] → SeenAlike o None
 bare_seen None keys sessions snapshots = record { pieces = λ k. refl; sessions = λ n. refl; snapshots = refl }
 bare_seen (Some bucket) keys sessions snapshots = record {
   pieces = λ k. sym (ap (λ m. get m k) keys ∙ get-empty (slice_cmp nat_cmp) k);

@@ -11,5 +11,5 @@ abbrev pub IsReply : Rows → Request → Reply → Type 0
 IsReply rows request reply = (namespace : Namespace) → Stand rows namespace → Answers namespace request reply
 
 -- this is so of the namespace that the rows stand for
-abbrev pub Seen : Rows → (Namespace → Type 0) → Type 0
-Seen rows Holds = (namespace : Namespace) → Stand rows namespace → Holds namespace
+abbrev pub ShowsThat : Rows → (Namespace → Type 0) → Type 0
+ShowsThat rows Holds = (namespace : Namespace) → Stand rows namespace → Holds namespace

@@ -4,19 +4,16 @@ ghost use Rattle.std.specs.Prelude.{◌≡◌, [], ◌∷◌, true, IfOk};
 ghost use Rattle.oz_cache.specs.Cache.{newest};
 ghost use Rattle.oz_model.specs.Answers.{first_of, no_volume, no_bucket, is_in_use, bucket_at};
 ghost use Rattle.oz_names.specs.Names.{is_volume_name};
-ghost use Rattle.oz_om_bucket.specs.Replies.{IsReply, Seen};
+ghost use Rattle.oz_om_bucket.specs.Replies.{IsReply, ShowsThat};
 
 use crate::lookups::{
     bucket_count, has_bucket, has_volume, key_count, session_count, snapshot_count,
 };
 use oz_cache::Cached;
 use oz_fields::{Name, OutOfMemory};
-use oz_names::Code;
+use oz_names::{Code, MOST_BUCKETS};
 use oz_requests::{Counts, Reply, Request};
 use std::alloc::Global;
-
-/// How many buckets a volume may have.
-const BUCKET_LIMIT: u32 = 1024;
 
 pub(crate) fn create_bucket(
     alloc: Global,
@@ -34,7 +31,7 @@ pub(crate) fn create_bucket(
     if has_bucket(alloc, cached, volume, bucket)? {
         return Ok(Reply::Code(Code::BucketAlreadyExists));
     }
-    if bucket_count(alloc, cached, volume)? >= BUCKET_LIMIT {
+    if bucket_count(alloc, cached, volume)? >= MOST_BUCKETS {
         Ok(Reply::Code(Code::BucketLimit))
     } else {
         Ok(Reply::Done)
@@ -91,7 +88,7 @@ fn missing(
     volume: &Name,
     bucket: &Name,
 ) -> Result<Option<Code>, OutOfMemory>
-    ensures { IfOk result (λ code. Seen (newest cached.now) (λ namespace. code ≡ first_of (no_volume namespace volume.now ∷ no_bucket namespace volume.now bucket.now ∷ []))) }
+    ensures { IfOk result (λ code. ShowsThat (newest cached.now) (λ namespace. code ≡ first_of (no_volume namespace volume.now ∷ no_bucket namespace volume.now bucket.now ∷ []))) }
 {
     if !has_volume(alloc, cached, volume)? {
         return Ok(Some(Code::VolumeNotFound));
@@ -105,7 +102,7 @@ fn missing(
 
 /// Whether the bucket has a key or a session.
 fn in_use(alloc: Global, cached: &Cached, volume: &Name, bucket: &Name) -> Result<bool, OutOfMemory>
-    ensures { IfOk result (λ used. Seen (newest cached.now) (λ namespace. used ≡ is_in_use (bucket_at namespace volume.now bucket.now))) }
+    ensures { IfOk result (λ used. ShowsThat (newest cached.now) (λ namespace. used ≡ is_in_use (bucket_at namespace volume.now bucket.now))) }
 {
     if key_count(alloc, cached, volume, bucket)? > 0 {
         return Ok(true);

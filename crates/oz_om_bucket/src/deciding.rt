@@ -3,7 +3,7 @@ ghost use Rattle.oz_cache.specs.Cache.{newest};
 ghost use Rattle.oz_namespace.specs.declared.namespace.Namespace.{Namespace as AnyNamespace};
 ghost use Rattle.oz_requests.specs.Names.{name_fault};
 ghost use Rattle.oz_om_bucket.specs.Meets.{Meets, Stand};
-ghost use Rattle.oz_om_bucket.specs.Records.{changes_of};
+ghost use Rattle.oz_om_bucket.specs.Records.{recorded_changes};
 ghost use Rattle.oz_om_bucket.specs.Replies.{IsReply};
 
 use crate::buckets::{create_bucket, delete_bucket, info_bucket};
@@ -21,7 +21,7 @@ pub fn decide(alloc: Global, cached: &Cached, request: &Request) -> Result<Decis
         Stand (newest cached.now) namespace →
         Meets (newest cached.now) namespace request.now decision.reply decision.bytes decision.changes) }
     // Of the rows that no namespace shows, none changes.
-    ensures exact { IfOk result (λ decision. decision.changes ≡ changes_of request.now decision.reply) }
+    ensures exact { IfOk result (λ decision. decision.changes ≡ recorded_changes request.now decision.reply) }
     ensures recorded { IfOk result (λ decision. (decision.bytes ≡ []) ↔ (decision.changes ≡ [])) }
     ensures size { IfOk result (λ decision. length decision.bytes ≤ 6304) }
 {

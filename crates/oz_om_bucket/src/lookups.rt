@@ -5,35 +5,18 @@ ghost use Rattle.std.specs.FinMap.{len, keys};
 ghost use Rattle.oz_cache.specs.Cache.{newest};
 ghost use Rattle.oz_model.specs.Answers.{buckets_at, bucket_at};
 ghost use Rattle.oz_tables.specs.Counts.{IsCount};
-ghost use Rattle.oz_om_bucket.specs.Replies.{Seen};
+ghost use Rattle.oz_om_bucket.specs.Replies.{ShowsThat};
 
 use crate::walking::{buckets_named, keys_between, live_count};
 use oz_cache::Cached;
-use oz_fields::{List, Name, OutOfMemory, TryClone};
+use oz_fields::{List, Name, OutOfMemory};
 use oz_rows::RowKey;
 use std::alloc::Global;
-
-pub(crate) fn volume_key(alloc: Global, volume: &Name) -> Result<RowKey, OutOfMemory>
-    ensures { IfOk result (λ key. key ≡ RowKey.Volume volume.now) }
-{
-    Ok(RowKey::Volume {
-        volume: volume.try_clone(alloc)?,
-    })
-}
-
-pub(crate) fn bucket_key(alloc: Global, volume: &Name, bucket: &Name) -> Result<RowKey, OutOfMemory>
-    ensures { IfOk result (λ key. key ≡ RowKey.Bucket volume.now bucket.now) }
-{
-    Ok(RowKey::Bucket {
-        volume: volume.try_clone(alloc)?,
-        bucket: bucket.try_clone(alloc)?,
-    })
-}
 
 pub(crate) fn has_volume(alloc: Global, cached: &Cached, volume: &Name) -> Result<bool, OutOfMemory>
     ensures { IfOk result (λ there. there ≡ is_some (newest cached.now (RowKey.Volume volume.now))) }
 {
-    let key = volume_key(alloc, volume)?;
+    let key = RowKey::of_volume(alloc, volume)?;
     Ok(cached.get(&key).is_some())
 }
 
@@ -45,7 +28,7 @@ pub(crate) fn has_bucket(
 ) -> Result<bool, OutOfMemory>
     ensures { IfOk result (λ there. there ≡ is_some (newest cached.now (RowKey.Bucket volume.now bucket.now))) }
 {
-    let key = bucket_key(alloc, volume, bucket)?;
+    let key = RowKey::of_bucket(alloc, volume, bucket)?;
     Ok(cached.get(&key).is_some())
 }
 
@@ -77,8 +60,8 @@ fn bucket_bounds(alloc: Global, volume: &Name) -> Result<(RowKey, RowKey), OutOf
     ensures to { IfOk result (λ bounds. bounds.1 ≡ RowKey.Bucket (volume.now ++ 0 ∷ []) []) }
 {
     let none = Name::copy(alloc, b"")?;
-    let from = bucket_key(alloc, volume, &none)?;
-    let to = bucket_key(alloc, &next_name(alloc, volume)?, &none)?;
+    let from = RowKey::of_bucket(alloc, volume, &none)?;
+    let to = RowKey::of_bucket(alloc, &next_name(alloc, volume)?, &none)?;
     Ok((from, to))
 }
 
@@ -88,7 +71,7 @@ pub(crate) fn bucket_count(
     cached: &Cached,
     volume: &Name,
 ) -> Result<u32, OutOfMemory>
-    ensures { IfOk result (λ count. Seen (newest cached.now) (λ namespace. count ≡ len (buckets_at namespace volume.now))) }
+    ensures { IfOk result (λ count. ShowsThat (newest cached.now) (λ namespace. count ≡ len (buckets_at namespace volume.now))) }
 {
     let (from, to) = bucket_bounds(alloc, volume)?;
     Ok(counted(cached, from, to))
@@ -100,7 +83,7 @@ pub(crate) fn bucket_names(
     cached: &Cached,
     volume: &Name,
 ) -> Result<List<Name>, OutOfMemory>
-    ensures { IfOk result (λ names. Seen (newest cached.now) (λ namespace. names ≡ keys (buckets_at namespace volume.now))) }
+    ensures { IfOk result (λ names. ShowsThat (newest cached.now) (λ namespace. names ≡ keys (buckets_at namespace volume.now))) }
 {
     let (from, to) = bucket_bounds(alloc, volume)?;
     let found = keys_between(alloc, cached, from, to)?;
@@ -114,7 +97,7 @@ pub(crate) fn key_count(
     volume: &Name,
     bucket: &Name,
 ) -> Result<u32, OutOfMemory>
-    ensures { IfOk result (λ count. Seen (newest cached.now) (λ namespace. count ≡ len (bucket_at namespace volume.now bucket.now).keys)) }
+    ensures { IfOk result (λ count. ShowsThat (newest cached.now) (λ namespace. count ≡ len (bucket_at namespace volume.now bucket.now).keys)) }
 {
     let from = first_key(alloc, volume, bucket)?;
     let to = first_key(alloc, volume, &next_name(alloc, bucket)?)?;
@@ -125,11 +108,7 @@ pub(crate) fn key_count(
 fn first_key(alloc: Global, volume: &Name, bucket: &Name) -> Result<RowKey, OutOfMemory>
     ensures { IfOk result (λ key. key ≡ RowKey.Key volume.now bucket.now []) }
 {
-    Ok(RowKey::Key {
-        volume: volume.try_clone(alloc)?,
-        bucket: bucket.try_clone(alloc)?,
-        key: Name::copy(alloc, b"")?,
-    })
+    RowKey::of_key(alloc, volume, bucket, &Name::copy(alloc, b"")?)
 }
 
 /// How many sessions a bucket has.
@@ -139,7 +118,7 @@ pub(crate) fn session_count(
     volume: &Name,
     bucket: &Name,
 ) -> Result<u32, OutOfMemory>
-    ensures { IfOk result (λ count. Seen (newest cached.now) (λ namespace. count ≡ len (bucket_at namespace volume.now bucket.now).sessions)) }
+    ensures { IfOk result (λ count. ShowsThat (newest cached.now) (λ namespace. count ≡ len (bucket_at namespace volume.now bucket.now).sessions)) }
 {
     let from = first_open(alloc, volume, bucket)?;
     let to = first_open(alloc, volume, &next_name(alloc, bucket)?)?;
@@ -150,12 +129,7 @@ pub(crate) fn session_count(
 fn first_open(alloc: Global, volume: &Name, bucket: &Name) -> Result<RowKey, OutOfMemory>
     ensures { IfOk result (λ key. key ≡ RowKey.Open volume.now bucket.now [] 0) }
 {
-    Ok(RowKey::Open {
-        volume: volume.try_clone(alloc)?,
-        bucket: bucket.try_clone(alloc)?,
-        key: Name::copy(alloc, b"")?,
-        number: 0,
-    })
+    RowKey::of_session(alloc, volume, bucket, &Name::copy(alloc, b"")?, 0)
 }
 
 /// How many live snapshots a bucket has.
@@ -165,7 +139,7 @@ pub(crate) fn snapshot_count(
     volume: &Name,
     bucket: &Name,
 ) -> Result<u32, OutOfMemory>
-    ensures { IfOk result (λ count. Seen (newest cached.now) (λ namespace. count ≡ length (bucket_at namespace volume.now bucket.now).snapshots)) }
+    ensures { IfOk result (λ count. ShowsThat (newest cached.now) (λ namespace. count ≡ length (bucket_at namespace volume.now bucket.now).snapshots)) }
 {
     let from = first_snapshot(alloc, volume, bucket)?;
     let to = first_snapshot(alloc, volume, &next_name(alloc, bucket)?)?;
@@ -177,9 +151,5 @@ pub(crate) fn snapshot_count(
 fn first_snapshot(alloc: Global, volume: &Name, bucket: &Name) -> Result<RowKey, OutOfMemory>
     ensures { IfOk result (λ key. key ≡ RowKey.Snapshot volume.now bucket.now 0) }
 {
-    Ok(RowKey::Snapshot {
-        volume: volume.try_clone(alloc)?,
-        bucket: bucket.try_clone(alloc)?,
-        number: 0,
-    })
+    RowKey::of_snapshot(alloc, volume, bucket, 0)
 }

@@ -4,10 +4,9 @@ ghost use Rattle.std.specs.Prelude.{◌≡◌, ◌∷◌, [], None, IfOk};
 ghost use Rattle.oz_requests.specs.Names.{name_fault};
 ghost use Rattle.oz_rows.specs.Rows.{RowFits, KeyFits, row_bytes, key_bytes};
 ghost use Rattle.oz_tables.specs.Effects.{put, gone};
-ghost use Rattle.oz_om_bucket.specs.Records.{changes_of, bytes_of};
+ghost use Rattle.oz_om_bucket.specs.Records.{recorded_changes, recorded_bytes};
 
 use crate::decision::{Decision, unchanged};
-use crate::lookups::{bucket_key, volume_key};
 use oz_fields::{List, OutOfMemory};
 use oz_requests::{Reply, Request};
 use oz_rows::{Change, Row, RowKey, put_removal, put_row};
@@ -21,25 +20,25 @@ pub(crate) fn recorded(
 ) -> Result<Decision, OutOfMemory>
     requires { name_fault request.now ≡ None }
     ensures reply { IfOk result (λ decision. decision.reply ≡ reply) }
-    ensures bytes { IfOk result (λ decision. decision.bytes ≡ bytes_of request.now reply) }
-    ensures changes { IfOk result (λ decision. decision.changes ≡ changes_of request.now reply) }
+    ensures bytes { IfOk result (λ decision. decision.bytes ≡ recorded_bytes request.now reply) }
+    ensures changes { IfOk result (λ decision. decision.changes ≡ recorded_changes request.now reply) }
 {
     if let Reply::Code(_) = &reply {
         return Ok(unchanged(alloc, reply));
     }
     match request {
         Request::CreateVolume { volume } => {
-            row_put(alloc, reply, volume_key(alloc, volume)?, Row::Volume)
+            row_put(alloc, reply, RowKey::of_volume(alloc, volume)?, Row::Volume)
         }
-        Request::DeleteVolume { volume } => row_gone(alloc, reply, volume_key(alloc, volume)?),
+        Request::DeleteVolume { volume } => row_gone(alloc, reply, RowKey::of_volume(alloc, volume)?),
         Request::CreateBucket { volume, bucket } => row_put(
             alloc,
             reply,
-            bucket_key(alloc, volume, bucket)?,
+            RowKey::of_bucket(alloc, volume, bucket)?,
             Row::Bucket,
         ),
         Request::DeleteBucket { volume, bucket } => {
-            row_gone(alloc, reply, bucket_key(alloc, volume, bucket)?)
+            row_gone(alloc, reply, RowKey::of_bucket(alloc, volume, bucket)?)
         }
         Request::InfoVolume { .. } | Request::InfoBucket { .. } | Request::ListBuckets { .. } => {
             Ok(unchanged(alloc, reply))

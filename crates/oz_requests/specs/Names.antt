@@ -18,10 +18,13 @@ volume_in (ListBuckets volume) = volume
 
 -- the bucket that it speaks of, None where it speaks of none
 abbrev pub bucket_in : Request → Option (List ℕ)
+bucket_in (CreateVolume volume) = None
+bucket_in (InfoVolume volume) = None
+bucket_in (DeleteVolume volume) = None
 bucket_in (CreateBucket volume bucket) = Some bucket
 bucket_in (InfoBucket volume bucket) = Some bucket
 bucket_in (DeleteBucket volume bucket) = Some bucket
-bucket_in request = None
+bucket_in (ListBuckets volume) = None
 
 abbrev pub bucket_fault : Option (List ℕ) → Option Code
 bucket_fault None = None

@@ -7,10 +7,10 @@ use Rattle.std.proofs.lemmas.List.{append-nil}
 use Rattle.std.proofs.lemmas.List.Concat.{flat_map-cons}
 use Rattle.oz_fields.specs.Number.{u8_bytes, u16_bytes, u32_bytes, u64_bytes, u8_at, u16_at, u32_at, u64_at}
 use Rattle.oz_fields.specs.Text.{text_bytes, text_at}
-use Rattle.oz_fields.proofs.Numbers.{u8_field, u16_field, u32_field, u64_field}
-use Rattle.oz_fields.proofs.Texts.{text_field}
+use Rattle.oz_fields.specs.laws.Numbers.{u8_field, u16_field, u32_field, u64_field}
+use Rattle.oz_fields.specs.laws.Texts.{text_field}
 use Rattle.oz_names.specs.Names.{IsVolumeName, IsKeyName, is_volume_name, is_key_name}
-use Rattle.oz_names.proofs.NameTests.{volume_name-passes, volume_name-from, key_name-passes, key_name-from}
+use Rattle.oz_names.specs.laws.NameTests.{volume_name-passes, volume_name-from, key_name-passes, key_name-from}
 use Rattle.oz_rows.specs.declared.row.SnapshotState.{SnapshotState}
 use Rattle.oz_rows.specs.declared.row.SnapshotState.TheVariants.{Live, Marked}
 use Rattle.oz_rows.specs.Rows.{IsNumber, IsOwner, IsBlockNumber, IsBlock, IsPiece, AreItems, list_bytes, block_bytes, piece_bytes, state_number}

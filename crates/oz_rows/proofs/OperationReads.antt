@@ -5,8 +5,8 @@ use Rattle.std.proofs.lemmas.List.{append-nil}
 use Rattle.oz_fields.specs.Field.{AreBytes}
 use Rattle.oz_fields.specs.Number.{u8_bytes, u64_bytes, u8_at, u64_at}
 use Rattle.oz_fields.specs.Text.{text_bytes}
-use Rattle.oz_fields.proofs.Bytes.{AreBytes-behind}
-use Rattle.oz_fields.proofs.Numbers.{u8_field, u64_field}
+use Rattle.oz_fields.specs.laws.Bytes.{AreBytes-behind}
+use Rattle.oz_fields.specs.laws.Numbers.{u8_field, u64_field}
 use Rattle.oz_rows.specs.declared.operation.Operation.{Operation}
 use Rattle.oz_rows.specs.declared.operation.Operation.TheVariants.{Put, Remove, CopyKeys, MoveDeleted, DropKeys, DropOpen}
 use Rattle.oz_rows.specs.declared.key.RowKey.{RowKey}

@@ -8,7 +8,7 @@ use Rattle.oz_fields.specs.declared.block.Block.{Block}
 use Rattle.oz_fields.specs.Field.{AreBytes}
 use Rattle.oz_fields.specs.Number.{u8_bytes, u16_bytes, u64_bytes}
 use Rattle.oz_fields.specs.Text.{text_bytes}
-use Rattle.oz_fields.proofs.Bytes.{AreBytes-behind}
+use Rattle.oz_fields.specs.laws.Bytes.{AreBytes-behind}
 use Rattle.oz_rows.specs.declared.key.RowKey.{RowKey}
 use Rattle.oz_rows.specs.declared.key.RowKey.TheVariants as keys
 use Rattle.oz_rows.specs.declared.row.Row.{Row}

@@ -7,17 +7,17 @@ use Rattle.oz_requests.specs.declared.request.Request.{Request}
 use Rattle.oz_tables.specs.Tables.{Rows}
 use Rattle.oz_om_bucket.specs.declared.decision.Decision.{Decision}
 use Rattle.oz_om_bucket.specs.Meets.{Stand, Meets}
-use Rattle.oz_om_bucket.specs.Records.{changes_of, bytes_of}
+use Rattle.oz_om_bucket.specs.Records.{recorded_changes, recorded_bytes}
 use Rattle.oz_om_bucket.proofs.Meeting.{meets, refused, few_bytes}
 use Rattle.oz_om_bucket.proofs.deciding.decide.Goals as goal
 
-decided : {E : Type 0} (all : Rows) (request : Request) (reply : Reply) (r : Result Decision E) → IfOk r (λ d. d.reply ≡ reply) → IfOk r (λ d. d.bytes ≡ bytes_of request reply) → IfOk r (λ d. d.changes ≡ changes_of request reply)
-    → ((namespace : Namespace) → Stand all namespace → Meets all namespace request reply (bytes_of request reply) (changes_of request reply))
+decided : {E : Type 0} (all : Rows) (request : Request) (reply : Reply) (r : Result Decision E) → IfOk r (λ d. d.reply ≡ reply) → IfOk r (λ d. d.bytes ≡ recorded_bytes request reply) → IfOk r (λ d. d.changes ≡ recorded_changes request reply)
+    → ((namespace : Namespace) → Stand all namespace → Meets all namespace request reply (recorded_bytes request reply) (recorded_changes request reply))
     → IfOk r (λ d. (namespace : Namespace) → Stand all namespace → Meets all namespace request d.reply d.bytes d.changes)
 decided all request reply (Ok d) replies bytes changes meets = rw (replies, bytes, changes) meets
 decided all request reply (Err e) replies bytes changes meets = tt
 
-sized : {E : Type 0} (request : Request) (reply : Reply) (r : Result Decision E) → IfOk r (λ d. d.bytes ≡ bytes_of request reply) → length (bytes_of request reply) ≤ 6304 → IfOk r (λ d. length d.bytes ≤ 6304)
+sized : {E : Type 0} (request : Request) (reply : Reply) (r : Result Decision E) → IfOk r (λ d. d.bytes ≡ recorded_bytes request reply) → length (recorded_bytes request reply) ≤ 6304 → IfOk r (λ d. length d.bytes ≤ 6304)
 sized request reply (Ok d) bytes few = rw bytes few
 sized request reply (Err e) bytes few = tt
 

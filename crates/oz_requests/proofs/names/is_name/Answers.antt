@@ -1,6 +1,6 @@
 use Rattle.std.proofs.Common.{◌∙◌, ap, is_ok}
 use Rattle.oz_names.specs.Names.{is_volume_name}
-use Rattle.oz_names.proofs.NameTests.{volume_name-passes, volume_name-from}
+use Rattle.oz_names.specs.laws.NameTests.{volume_name-passes, volume_name-from}
 use Rattle.oz_requests.proofs.Tests.{tests_agree}
 use Rattle.oz_requests.proofs.names.is_name.Goals as goal
 

@@ -1,6 +1,6 @@
 use Rattle.std.proofs.Common.{◌∙◌, is_ok}
 use Rattle.oz_names.specs.Names.{is_key_name}
-use Rattle.oz_names.proofs.NameTests.{key_name-passes, key_name-from}
+use Rattle.oz_names.specs.laws.NameTests.{key_name-passes, key_name-from}
 use Rattle.oz_rows.proofs.Tests.{same_test}
 use Rattle.oz_rows.proofs.reading.is_key_name.Goals as goal
 

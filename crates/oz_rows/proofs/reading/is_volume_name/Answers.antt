@@ -1,6 +1,6 @@
 use Rattle.std.proofs.Common.{◌∙◌, is_ok}
 use Rattle.oz_names.specs.Names.{is_volume_name}
-use Rattle.oz_names.proofs.NameTests.{volume_name-passes, volume_name-from}
+use Rattle.oz_names.specs.laws.NameTests.{volume_name-passes, volume_name-from}
 use Rattle.oz_rows.proofs.Tests.{same_test}
 use Rattle.oz_rows.proofs.reading.is_volume_name.Goals as goal
 

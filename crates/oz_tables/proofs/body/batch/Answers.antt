@@ -1,5 +1,5 @@
 use Rattle.std.proofs.Common.{List, refl, sym, ◌∙◌, subst, arith}
-use Rattle.oz_fields.proofs.Bytes.{AreBytes-behind}
+use Rattle.oz_fields.specs.laws.Bytes.{AreBytes-behind}
 use Rattle.oz_rows.specs.Operations.{batch_bytes}
 use Rattle.oz_rows.proofs.Batches.{fewer_left}
 use Rattle.oz_tables.specs.declared.body.Step.{Step}

@@ -7,7 +7,7 @@ use Rattle.std.proofs.lemmas.List.{take_at, drop_at, take-append-drop, length-ap
 use Rattle.std.proofs.lemmas.Nat.{be_bytes_2, be_bytes_4, be_bytes_8, from_be_bytes-to_be_bytes_2, from_be_bytes-to_be_bytes_4, from_be_bytes-to_be_bytes_8}
 use Rattle.oz_fields.specs.Field.{AreBytes, IsField}
 use Rattle.oz_fields.specs.Number.{u8_bytes, u16_bytes, u32_bytes, u64_bytes, number_at, u8_at, u16_at, u32_at, u64_at}
-use Rattle.oz_fields.proofs.Bytes.{AreBytes-take, came_through}
+use Rattle.oz_fields.specs.laws.Bytes.{AreBytes-take, came_through}
 
 -- what std says of the bytes of one width
 record IsExact (w : Width) (bound : ℕ) : Type 0 where

@@ -5,8 +5,8 @@ use Rattle.std.proofs.lemmas.List.{take_at, drop_at, take-append-drop, length-ap
 use Rattle.oz_fields.specs.Field.{AreBytes, IsField, ◌>>=◌}
 use Rattle.oz_fields.specs.Number.{u16_bytes, u16_at}
 use Rattle.oz_fields.specs.Text.{text_bytes, front_at, text_at}
-use Rattle.oz_fields.proofs.Bytes.{came_through, both_found}
-use Rattle.oz_fields.proofs.Numbers.{u16_field}
+use Rattle.oz_fields.specs.laws.Bytes.{came_through, both_found}
+use Rattle.oz_fields.specs.laws.Numbers.{u16_field}
 
 front_back : (front rest : List ℕ) → front_at (length front) (front ++ rest) ≡ Some (front, rest)
 front_back front rest =

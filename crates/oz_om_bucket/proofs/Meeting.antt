@@ -15,7 +15,7 @@ use Rattle.oz_requests.specs.Names.{name_fault, first_fault, bucket_fault}
 use Rattle.oz_rows.specs.declared.key.RowKey.TheVariants as keys
 use Rattle.oz_rows.specs.declared.row.Row.TheVariants as rows
 use Rattle.oz_rows.specs.declared.operation.Operation.TheVariants.{Put, Remove}
-use Rattle.oz_rows.proofs.Sizes.{operation_size}
+use Rattle.oz_rows.specs.laws.Sizes.{operation_size}
 use Rattle.oz_tables.specs.Batches.{after_changes}
 use Rattle.oz_tables.specs.Tables.{Rows}
 use Rattle.oz_tables.proofs.Steps.{nothing_is_batch}

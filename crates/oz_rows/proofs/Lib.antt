@@ -1,11 +1,4 @@
-pub mod Batches
-pub mod Bodies
-pub mod FieldReads
-pub mod Grammar
 pub mod Loop
-pub mod OperationReads
-pub mod RowReads
-pub mod Sizes
 pub mod Spellings
 pub mod Tests
 pub mod TextField

@@ -1,6 +1,6 @@
 -- One row, and one operation, for each spelling.
 use Rattle.std.proofs.Common.{◌≡◌, ℕ, List, ◌++◌, Result, Ok, sym, ap, ◌∙◌}
-use Rattle.oz_rows.proofs.Grammar.{IsRead}
+use Rattle.oz_rows.specs.laws.Grammar.{IsRead}
 
 found : {A : Type 0} → A × List ℕ → Result (A × List ℕ) ℕ
 found read = Ok read

@@ -3,7 +3,7 @@ use Rattle.std.proofs.Common.{◌≡◌, ℕ, ◌-◌, Bool, true, List, length,
 use Rattle.std.proofs.lemmas.List.{take_rest}
 use Rattle.oz_fields.specs.Text.{text_at}
 use Rattle.oz_rows.specs.Reading.{kept, field}
-use Rattle.oz_rows.proofs.Grammar.{kept-found}
+use Rattle.oz_rows.specs.laws.Grammar.{kept-found}
 
 pub text_there : (rule : List ℕ → Bool) (bytes held later name : List ℕ) (first at place : ℕ)
     → text_at (drop first held) ≡ Some (name, drop at later) → later ≡ held → held ≡ bytes → first ≡ 0 → place ≡ at → rule name ≡ true

@@ -10,7 +10,7 @@ use Rattle.oz_rows.specs.declared.row.Row.{Row}
 use Rattle.oz_rows.specs.Rows.{row_bytes, IsRow}
 use Rattle.oz_rows.specs.Reading.{ReadFails, row_at}
 use Rattle.oz_rows.specs.Faults.{place_in, RowEnds, IsRowFault}
-use Rattle.oz_rows.proofs.RowReads.{row_reads}
+use Rattle.oz_rows.specs.laws.RowReads.{row_reads}
 
 abbrev pub Found : Type 0
 Found = Result ((RowKey × Row) × List ℕ) ℕ

@@ -4,3 +4,4 @@ pub mod Reading
 pub mod Faults
 pub mod Order
 pub mod KeyParts
+pub mod laws

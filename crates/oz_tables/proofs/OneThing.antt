@@ -16,8 +16,8 @@ use Rattle.oz_rows.specs.declared.operation.Operations.{Operations}
 use Rattle.oz_rows.specs.Order.{key_order}
 use Rattle.oz_rows.specs.Operations.{OperationFits, operation_bytes, AreOperations, batch_bytes, head_bytes, IsBody}
 use Rattle.oz_rows.specs.Reading.{head_at, operation_at}
-use Rattle.oz_rows.proofs.Bodies.{body_is}
-use Rattle.oz_rows.proofs.OperationReads.{operation_reads, head_reads}
+use Rattle.oz_rows.specs.laws.Bodies.{body_is}
+use Rattle.oz_rows.specs.laws.OperationReads.{operation_reads, head_reads}
 use Rattle.oz_tables.specs.declared.entry.Entry.{Entry}
 use Rattle.oz_tables.specs.Tables.{row_of, is_same, KeysRise}
 use Rattle.oz_tables.specs.Effects.{Leads, Becomes, IsPossible, changes_of}

@@ -6,8 +6,8 @@ use Rattle.oz_fields.specs.Field.{AreBytes}
 use Rattle.oz_rows.specs.declared.operation.Operation.{Operation}
 use Rattle.oz_rows.specs.Operations.{operation_bytes, AreOperations, batch_bytes}
 use Rattle.oz_rows.specs.Reading.{operation_at}
-use Rattle.oz_rows.proofs.Batches.{one_more}
-use Rattle.oz_rows.proofs.OperationReads.{operation_reads}
+use Rattle.oz_rows.specs.laws.Batches.{one_more}
+use Rattle.oz_rows.specs.laws.OperationReads.{operation_reads}
 use Rattle.oz_tables.specs.declared.body.Step.{Step}
 use Rattle.oz_tables.specs.declared.entry.Entry.{Entry}
 use Rattle.oz_tables.specs.Effects.{Leads, Becomes, IsPossible, changes_of}

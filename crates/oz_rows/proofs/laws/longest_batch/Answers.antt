@@ -1,4 +1,4 @@
-use Rattle.oz_rows.proofs.Sizes.{operation_size, purge_size}
+use Rattle.oz_rows.specs.laws.Sizes.{operation_size, purge_size}
 use Rattle.oz_rows.proofs.laws.longest_batch.Goals as goal
 
 pub returns-clause-operation : goal.returns-clause-operation

@@ -1,6 +1,6 @@
 use Rattle.oz_rows.specs.Operations.{OperationFits, operation_bytes}
 use Rattle.oz_rows.specs.Reading.{operation_at}
-use Rattle.oz_rows.proofs.OperationReads.{operation_reads}
+use Rattle.oz_rows.specs.laws.OperationReads.{operation_reads}
 use Rattle.oz_rows.proofs.Spellings.{told}
 use Rattle.oz_rows.proofs.laws.one_operation_for_a_spelling.Goals as goal
 

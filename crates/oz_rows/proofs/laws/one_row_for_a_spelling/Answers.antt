@@ -3,7 +3,7 @@ use Rattle.oz_rows.specs.declared.key.RowKey.{RowKey}
 use Rattle.oz_rows.specs.declared.row.Row.{Row}
 use Rattle.oz_rows.specs.Rows.{RowFits, row_bytes}
 use Rattle.oz_rows.specs.Reading.{row_at}
-use Rattle.oz_rows.proofs.RowReads.{row_reads}
+use Rattle.oz_rows.specs.laws.RowReads.{row_reads}
 use Rattle.oz_rows.proofs.Spellings.{told}
 use Rattle.oz_rows.proofs.laws.one_row_for_a_spelling.Goals as goal
 

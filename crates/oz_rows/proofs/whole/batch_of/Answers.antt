@@ -1,7 +1,7 @@
 use Rattle.std.proofs.Common.{arith}
 use Rattle.oz_fields.specs.laws.Bytes.{AreBytes-behind}
 use Rattle.oz_rows.specs.Operations.{batch_bytes}
-use Rattle.oz_rows.proofs.Batches.{one_more, fewer_left}
+use Rattle.oz_rows.specs.laws.Batches.{one_more, fewer_left}
 use Rattle.oz_rows.proofs.whole.batch_of.Goals as goal
 
 pub loop-rest-smaller : goal.loop-rest-smaller

@@ -1,5 +1,5 @@
 use Rattle.std.proofs.Common.{◌∙◌, arith}
-use Rattle.oz_rows.proofs.Bodies.{head_fault, no_head_fails, batch_fault, no_operation_fails, body_found, body_is}
+use Rattle.oz_rows.specs.laws.Bodies.{head_fault, no_head_fails, batch_fault, no_operation_fails, body_found, body_is}
 use Rattle.oz_rows.proofs.whole.operations.Goals as goal
 
 pub returns-in-Err-clause-only : goal.returns-in-Err-clause-only

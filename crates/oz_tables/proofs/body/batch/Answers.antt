@@ -1,7 +1,7 @@
 use Rattle.std.proofs.Common.{List, refl, sym, ◌∙◌, subst, arith}
 use Rattle.oz_fields.specs.laws.Bytes.{AreBytes-behind}
 use Rattle.oz_rows.specs.Operations.{batch_bytes}
-use Rattle.oz_rows.proofs.Batches.{fewer_left}
+use Rattle.oz_rows.specs.laws.Batches.{fewer_left}
 use Rattle.oz_tables.specs.declared.body.Step.{Step}
 use Rattle.oz_tables.specs.Steps.{operations_of, StepsLead}
 use Rattle.oz_tables.proofs.StepLists.{none_read, steps_more}

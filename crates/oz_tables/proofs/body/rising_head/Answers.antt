@@ -1,5 +1,5 @@
 use Rattle.std.proofs.Common.{◌≤◌, length, inr, arith}
-use Rattle.oz_rows.proofs.OperationReads.{head_reads}
+use Rattle.oz_rows.specs.laws.OperationReads.{head_reads}
 use Rattle.oz_tables.proofs.Heads.{head_has_bytes}
 use Rattle.oz_tables.proofs.body.rising_head.Goals as goal
 

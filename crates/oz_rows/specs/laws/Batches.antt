@@ -9,7 +9,7 @@ use Rattle.oz_rows.specs.declared.operation.Operation.{Operation}
 use Rattle.oz_rows.specs.Operations.{OperationFits, operation_bytes, AreOperations, batch_bytes}
 use Rattle.oz_rows.specs.Reading.{ReadFails, operation_at}
 use Rattle.oz_rows.specs.Faults.{BatchEnds, BatchFails}
-use Rattle.oz_rows.proofs.OperationReads.{operation_reads, some_bytes}
+use Rattle.oz_rows.specs.laws.OperationReads.{operation_reads, some_bytes}
 
 abbrev Found : Type 0
 Found = Result (Operation × List ℕ) ℕ

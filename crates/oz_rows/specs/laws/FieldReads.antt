@@ -15,7 +15,7 @@ use Rattle.oz_rows.specs.declared.row.SnapshotState.{SnapshotState}
 use Rattle.oz_rows.specs.declared.row.SnapshotState.TheVariants.{Live, Marked}
 use Rattle.oz_rows.specs.Rows.{IsNumber, IsOwner, IsBlockNumber, IsBlock, IsPiece, AreItems, list_bytes, block_bytes, piece_bytes, state_number}
 use Rattle.oz_rows.specs.Reading.{volume_name_at, key_name_at, owner_at, number_at, is_block_number, block_number_at, same_local_at, drawn_at, length_at, stripe_at, state_at, done, count_at, block_at, piece_at, items_at, list_at, field}
-use Rattle.oz_rows.proofs.Grammar.{IsRead, Finds, Backs, fits_as, field_reads, finds_done, finds_then, finds_last, backs_done, backs_then, backs_last, backs_as, is_read}
+use Rattle.oz_rows.specs.laws.Grammar.{IsRead, Finds, Backs, fits_as, field_reads, finds_done, finds_then, finds_last, backs_done, backs_then, backs_last, backs_as, is_read}
 
 pub volume_name_reads : IsRead IsVolumeName text_bytes volume_name_at
 unfolding volume_name_at

@@ -14,9 +14,9 @@ use Rattle.oz_rows.specs.declared.row.Row.{Row}
 use Rattle.oz_rows.specs.Rows.{KeyFits, RowFits, key_bytes, row_bytes}
 use Rattle.oz_rows.specs.Operations.{OperationFits, operation_bytes, IsIndex, head_bytes}
 use Rattle.oz_rows.specs.Reading.{field, put_at, remove_at, copy_keys_at, move_deleted_at, drop_keys_at, drop_open_at, operation_of_tag_at, operation_at, index_at, head_at}
-use Rattle.oz_rows.proofs.Grammar.{IsRead, Finds, Backs, fits_as, field_reads, finds_done, finds_then, finds_last, finds_either, finds_none, backs_done, backs_then, backs_last, backs_as, is_read}
-use Rattle.oz_rows.proofs.FieldReads.{volume_name_reads, number_reads, owner_reads}
-use Rattle.oz_rows.proofs.RowReads.{key_reads, row_reads}
+use Rattle.oz_rows.specs.laws.Grammar.{IsRead, Finds, Backs, fits_as, field_reads, finds_done, finds_then, finds_last, finds_either, finds_none, backs_done, backs_then, backs_last, backs_as, is_read}
+use Rattle.oz_rows.specs.laws.FieldReads.{volume_name_reads, number_reads, owner_reads}
+use Rattle.oz_rows.specs.laws.RowReads.{key_reads, row_reads}
 
 put_finds : Finds OperationFits operation_bytes (1 ∷ []) put_at
 unfolding put_at

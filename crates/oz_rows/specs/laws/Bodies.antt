@@ -9,8 +9,8 @@ use Rattle.oz_rows.specs.declared.operation.Operations.{Operations}
 use Rattle.oz_rows.specs.Operations.{AreOperations, batch_bytes, head_bytes, IsBody}
 use Rattle.oz_rows.specs.Reading.{ReadFails, head_at}
 use Rattle.oz_rows.specs.Faults.{place_in, IsBodyFault, BatchFails}
-use Rattle.oz_rows.proofs.OperationReads.{head_reads}
-use Rattle.oz_rows.proofs.Batches.{no_batch_fails, same_batch}
+use Rattle.oz_rows.specs.laws.OperationReads.{head_reads}
+use Rattle.oz_rows.specs.laws.Batches.{no_batch_fails, same_batch}
 
 abbrev Found : Type 0
 Found = Result (ℕ × List ℕ) ℕ

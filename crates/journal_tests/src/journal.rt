@@ -1,3 +1,5 @@
+//! What a journal loads, what it adds, and what a stop leaves of it.
+
 ghost use Rattle.std.specs.Prelude.{◌≡◌, ◌≤◌, ◌++◌, [], ◌∷◌, List, ℕ, length, false, IfOk, OnOk};
 ghost use Rattle.oz_journal.specs.Grammar.{IsJournal, TellsBodies};
 ghost use Rattle.oz_journal.specs.Journal.{body_of};

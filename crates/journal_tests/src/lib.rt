@@ -1,4 +1,8 @@
 //! Tests of the journal on a disk.
 #![tactic(auto)]
 
+#[cfg(test)]
+mod faults;
 mod journal;
+#[cfg(test)]
+mod limits;

@@ -3,6 +3,7 @@
 
 mod body;
 mod frame;
+mod framing;
 mod journal;
 mod laws;
 mod load_fault;
@@ -11,6 +12,7 @@ mod scan;
 mod store;
 
 pub use body::Body;
+pub use framing::Frame;
 pub use journal::Journal;
 pub use laws::{bytes_left_alone_stand_for_the_same, bytes_stand_for_one_thing};
 pub use load_fault::LoadFault;

@@ -1,3 +1,5 @@
+//! Calls of a list of epochs.
+
 ghost use Rattle.std.specs.Prelude.{◌≡◌, ◌<◌};
 
 use crate::draws::Draws;
@@ -127,6 +129,26 @@ fn play<R: Abort, L: Ledger>(rt: &R, alloc: Global, blank: Blank) -> Result<(), 
     Ok(())
 }
 
+/// How many entries a list is tried with where no memory is refused.
+const MANY: u64 = 5_000;
+
+/// Puts in so many entries and takes them out again, the last one first.
+fn fill_and_empty<R: Abort>(rt: &R, alloc: Global, twin: &mut Twin<u64>) -> Result<(), Fail> {
+    for number in 0..MANY {
+        twice!(twin.push(alloc, number / 8, number, number));
+    }
+    assert_eq!(rt; twin.len() as u64, MANY);
+    for number in (0..MANY).rev() {
+        let count = twin.len();
+        if count > 0 {
+            let ((epoch, key), mark) = twin.remove(count - 1);
+            assert_eq!(rt; (epoch, key, mark.number), (number / 8, number, number));
+        }
+    }
+    assert_eq!(rt; twin.len(), 0);
+    Ok(())
+}
+
 /// What is handed to it may cross threads.
 fn crosses<T: Send + Sync>(_value: &T) {}
 
@@ -138,6 +160,7 @@ fn pass_over<R: Abort, L: Ledger>(rt: &R, alloc: Global, blank: Blank) -> Result
     let mut steps = Steps::<L>::start(blank);
     let mut list = EpochList::new(alloc);
     twice!(list.reserve(alloc, 3));
+    assert!(rt; list.reserve(alloc, usize::MAX).is_err());
     let _a = list.push_back(1, 'a');
     let b = list.push_back(1, 'b');
     let _c = list.push_back(2, 'c');
@@ -152,6 +175,18 @@ fn pass_over<R: Abort, L: Ledger>(rt: &R, alloc: Global, blank: Blank) -> Result
 #[test]
 fn random_calls_agree_with_a_plain_vector(rt: HostRuntime) -> Result<(), Fail> {
     play::<_, Brand>(&rt, rt.alloc(), Blank::new(1))
+}
+
+#[test]
+fn thousands_of_entries_find_memory_one_by_one(rt: HostRuntime) -> Result<(), Fail> {
+    fill_and_empty(&rt, rt.alloc(), &mut Twin::new(rt.alloc()))
+}
+
+#[test]
+fn thousands_of_entries_find_memory_at_once(rt: HostRuntime) -> Result<(), Fail> {
+    let mut twin = Twin::new(rt.alloc());
+    twice!(twin.reserve(rt.alloc(), MANY as usize));
+    fill_and_empty(&rt, rt.alloc(), &mut twin)
 }
 
 #[test]

@@ -1,3 +1,5 @@
+//! Numbers that look drawn by chance.
+
 /// Numbers of a linear congruence, the same in each run.
 #[derive(Drop)]
 pub struct Draws {

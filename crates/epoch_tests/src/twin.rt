@@ -1,3 +1,5 @@
+//! A list of epochs beside a plain vector.
+
 ghost use Rattle.std.specs.Prelude.{◌≡◌, ◌<◌, [], length};
 
 use oz_epochs::{EpochList, OutOfMemory, Place, Steps};
@@ -53,6 +55,15 @@ impl<K: Drop> Twin<K> {
     /// The front of the list, and the mark at the front.
     pub fn fronts(&self) -> (Option<(u64, &K)>, Option<&Mark>) {
         (self.list.front(), self.plain.first())
+    }
+
+    /// Makes room for so many more entries in both.
+    pub fn reserve(&mut self, alloc: Global, more: usize) -> Result<(), OutOfMemory>
+        ensures { self.new ≡ self.old }
+    {
+        self.list.reserve(alloc, more)?;
+        self.plain.reserve(more)?;
+        Ok(())
     }
 
     /// Puts an entry into both, at the highest epoch so far where the one given is lower.

@@ -3,7 +3,7 @@ use Rattle.std.proofs.Common.{◌≡◌, ℕ, ◌+◌, ◌^◌, ◌<◌, [], ◌
 use Rattle.std.proofs.alloc.Resizes.{wider}
 use Rattle.std.specs.Allocator.{array_of, owned_block, HasLayout}
 use Rattle.std.specs.contracts.impls.GlobalAllocator.TheImpl.{ghosts}
-use Rattle.oz_epochs.specs.Places.{heap, bytes, fits, behind, owned}
+use Rattle.oz_epochs.specs.RawBlock.{heap, bytes, fits, past, owned}
 use Rattle.oz_epochs.proofs.Held.{nowhere}
 use Rattle.std.specs.Prelude.{Ok, Err}
 use Rattle.std.specs.contracts.alloc.AllocError as AE
@@ -41,8 +41,8 @@ module _ (R : RattleType) where
   whole : (o none room : ℕ) → none ≡ 0 → (o + none ≡ o) × (0 + room ≡ room)
   whole o none room e = (omega arith, omega arith)
 
-  behind_none : (b o room : ℕ) → behind R b o 0 room ≡ free (block_ptr b o) room
-  behind_none b o room =
+  past_none : (b o room : ℕ) → past R b o 0 room ≡ free (block_ptr b o) room
+  past_none b o room =
       let same = whole o (bytes R 0) room (zero-mul (size (lone R.mir))) in
       λ i. fsep (froom (array_of R room) b (same.0 i)) (ghosts.dealloc_token heap (array_of R (same.1 i)) (block_ptr b o))
 
@@ -51,11 +51,11 @@ module _ {M : Type 1} {𝓤 : Ura M} (𝓛 : Logic 𝓤) (R : RattleType) where
   emptied null_ptr room full = via 𝓤 (never 𝓤) (nowhere 𝓛 (0 + room) (omega arith)) (never_e 𝓤 _)
   emptied (block_ptr b o) room full = let all : 0 + room ≡ room = omega arith in
       qed 𝓛 (‵ (owned R (block_ptr b o) [] room) ∷ []) ∵ fsplit ! $ rewrite ! 0 (λ (k : ℕ). ‵ (fits R k)) all refl $
-      move ! (1 ∷ []) $ fsplit ! $ drop ! $ rewrite ! 0 (λ (F : Fml). ‵ F) (behind_none R b o room) refl $ move ! (1 ∷ 0 ∷ []) $ done !
+      move ! (1 ∷ []) $ fsplit ! $ drop ! $ rewrite ! 0 (λ (F : Fml). ‵ F) (past_none R b o room) refl $ move ! (1 ∷ 0 ∷ []) $ done !
 
   pub filled : (start : Ptr) (room : ℕ) → bytes R room < 2 ^ 63 → ent 𝓤 (sem 𝓛 (free R start room)) (sem 𝓛 (owned R start [] room))
   filled null_ptr room few = qed 𝓛 (‵ (free R null_ptr room) ∷ []) ∵ fsplit ! $ keep ! (0 ∷ []) $ by ! (never_e 𝓤 _)
-  filled (block_ptr b o) room few = qed 𝓛 (‵ (free R (block_ptr b o) room) ∷ []) ∵ rewrite ! 0 (λ (F : Fml). ‵ F) (sym (behind_none R b o room)) refl $
+  filled (block_ptr b o) room few = qed 𝓛 (‵ (free R (block_ptr b o) room) ∷ []) ∵ rewrite ! 0 (λ (F : Fml). ‵ F) (sym (past_none R b o room)) refl $
       nothing ! $ fjoin ! $ flt_i ! (bytes R (0 + room)) (2 ^ 63) (subst (λ (k : ℕ). bytes R k < 2 ^ 63) (omega arith) few) $ fjoin ! $ done !
 
 -- `Ok(())`, or that there was no memory

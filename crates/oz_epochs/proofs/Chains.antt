@@ -6,48 +6,48 @@ use Rattle.std.specs.List.{slice_get}
 use Rattle.oz_epochs.specs.declared.node.Node.{Node}
 use Rattle.oz_epochs.specs.declared.node.Node.TheVariants.{Used, Spare}
 use Rattle.oz_epochs.specs.declared.node.Linked.{Linked}
-use Rattle.oz_epochs.specs.Epochs.{Entry, IsAway, NoSlotTwice}
+use Rattle.oz_epochs.specs.Epochs.{EpochEntry, IsAway, NoSlotTwice}
 use Rattle.oz_epochs.specs.Links.{IsChain, entry_of, entries_from, linked, with_next, with_prev, IsUsed}
-use Rattle.oz_epochs.specs.Sound.{Keeps}
+use Rattle.oz_epochs.specs.Nodes.{Keeps}
 use Rattle.oz_epochs.proofs.Lists.{slice_get-set_same, slice_get-set_other}
 
 module _ {K : Type 0} where
   -- the nodes of the entries are the same
-  abbrev pub Agree : List (Node K) → List (Node K) → List (Entry K) → Type 0
+  abbrev pub Agree : List (Node K) → List (Node K) → List (EpochEntry K) → Type 0
   Agree nodes after es = (s : ℕ) → (IsAway s es → ⊥) → slice_get after s ≡ slice_get nodes s
 
-  pub chain_same : (nodes after : List (Node K)) (before here : Option ℕ) (es : List (Entry K)) (last end : Option ℕ)
+  pub chain_same : (nodes after : List (Node K)) (before here : Option ℕ) (es : List (EpochEntry K)) (last end : Option ℕ)
       → Agree nodes after es → IsChain nodes before here es last end → IsChain after before here es last end
   chain_same nodes after before here [] last end agree c = c
   chain_same nodes after before here (e ∷ es) last end agree c =
       (c.0, (c.1.0, agree e.slot (λ away. away.0 refl) ∙ c.1.1, chain_same nodes after (Some e.slot) c.1.0 es last end (λ s among. agree s (λ away. among away.1)) c.1.2))
 
-  pub chain_kept : (nodes after : List (Node K)) (before here : Option ℕ) (es : List (Entry K)) (last end : Option ℕ)
+  pub chain_kept : (nodes after : List (Node K)) (before here : Option ℕ) (es : List (EpochEntry K)) (last end : Option ℕ)
       → Keeps nodes after → IsChain nodes before here es last end → IsChain after before here es last end
   chain_kept nodes after before here [] last end keeps c = c
   chain_kept nodes after before here (e ∷ es) last end keeps c =
       (c.0, (c.1.0, keeps e.slot _ c.1.1, chain_kept nodes after (Some e.slot) c.1.0 es last end keeps c.1.2))
 
-  pub spare_is_away : (nodes : List (Node K)) (before here : Option ℕ) (es : List (Entry K)) (last end : Option ℕ) (s : ℕ) (next : Option ℕ)
+  pub spare_is_away : (nodes : List (Node K)) (before here : Option ℕ) (es : List (EpochEntry K)) (last end : Option ℕ) (s : ℕ) (next : Option ℕ)
       → IsChain nodes before here es last end → slice_get nodes s ≡ Some (Spare next) → IsAway s es
   spare_is_away nodes before here [] last end s next c at = tt
   spare_is_away nodes before here (e ∷ es) last end s next c at =
       ((λ is. let used = c.1.1 in let same : slice_get nodes e.slot ≡ slice_get nodes s = ap (slice_get nodes) is in cc), spare_is_away nodes (Some e.slot) c.1.0 es last end s next c.1.2 at)
 
-  pub chain_split : (nodes : List (Node K)) (before here : Option ℕ) (xs ys : List (Entry K)) (last end : Option ℕ)
+  pub chain_split : (nodes : List (Node K)) (before here : Option ℕ) (xs ys : List (EpochEntry K)) (last end : Option ℕ)
       → IsChain nodes before here (xs ++ ys) last end → (m : Option ℕ) × (n : Option ℕ) × IsChain nodes before here xs m n × IsChain nodes m n ys last end
   chain_split nodes before here [] ys last end c = (before, here, (refl, refl), c)
   chain_split nodes before here (e ∷ xs) ys last end c =
       let rest = chain_split nodes (Some e.slot) c.1.0 xs ys last end c.1.2 in (rest.0, rest.1, (c.0, (c.1.0, c.1.1, rest.2)), rest.3)
 
-  pub chain_join : (nodes : List (Node K)) (before here : Option ℕ) (xs ys : List (Entry K)) (m n last end : Option ℕ)
+  pub chain_join : (nodes : List (Node K)) (before here : Option ℕ) (xs ys : List (EpochEntry K)) (m n last end : Option ℕ)
       → IsChain nodes before here xs m n → IsChain nodes m n ys last end → IsChain nodes before here (xs ++ ys) last end
   chain_join nodes before here [] ys m n last end c d =
       subst (λ k. IsChain nodes k here ys last end) c.1 (subst (λ k. IsChain nodes m k ys last end) (sym c.0) d)
   chain_join nodes before here (e ∷ xs) ys m n last end c d =
       (c.0, (c.1.0, c.1.1, chain_join nodes (Some e.slot) c.1.0 xs ys m n last end c.1.2 d))
 
-  pub entries_from_chain : (nodes : List (Node K)) (before here : Option ℕ) (es : List (Entry K)) (last end : Option ℕ)
+  pub entries_from_chain : (nodes : List (Node K)) (before here : Option ℕ) (es : List (EpochEntry K)) (last end : Option ℕ)
       → IsChain nodes before here es last end → entries_from nodes (length es) here ≡ es
   entries_from_chain nodes before here [] last end c = refl
   entries_from_chain nodes before here (e ∷ es) last end c =
@@ -56,7 +56,7 @@ module _ {K : Type 0} where
       ∙ ap (λ rest. e ∷ rest) (entries_from_chain nodes (Some e.slot) c.1.0 es last end c.1.2)
 
   -- the last of the entries is among them, and its node is in use
-  last_among : (nodes : List (Node K)) (before here : Option ℕ) (e : Entry K) (es : List (Entry K)) (last end : Option ℕ) (s : ℕ)
+  last_among : (nodes : List (Node K)) (before here : Option ℕ) (e : EpochEntry K) (es : List (EpochEntry K)) (last end : Option ℕ) (s : ℕ)
       → IsChain nodes before here (e ∷ es) last end → last ≡ Some s → IsUsed nodes s × (IsAway s (e ∷ es) → ⊥)
   last_among nodes before here e [] last end s c is =
       let same : e.slot ≡ s = same_Some e.slot s (sym c.1.2.1 ∙ is) in
@@ -64,17 +64,17 @@ module _ {K : Type 0} where
   last_among nodes before here e (f ∷ es) last end s c is =
       let rest = last_among nodes (Some e.slot) c.1.0 f es last end s c.1.2 is in (rest.0, (λ away. rest.1 away.1))
 
-  pub last_used : (nodes : List (Node K)) (here : Option ℕ) (es : List (Entry K)) (last end : Option ℕ) (s : ℕ)
+  pub last_used : (nodes : List (Node K)) (here : Option ℕ) (es : List (EpochEntry K)) (last end : Option ℕ) (s : ℕ)
       → IsChain nodes None here es last end → last ≡ Some s → IsUsed nodes s × (IsAway s es → ⊥)
   last_used nodes here [] last end s c is = let none = c.1 in cc
   last_used nodes here (e ∷ es) last end s c is = last_among nodes None here e es last end s c is
 
-  last_is_some : (nodes : List (Node K)) (before here : Option ℕ) (e : Entry K) (es : List (Entry K)) (last end : Option ℕ)
+  last_is_some : (nodes : List (Node K)) (before here : Option ℕ) (e : EpochEntry K) (es : List (EpochEntry K)) (last end : Option ℕ)
       → IsChain nodes before here (e ∷ es) last end → is_some last ≡ true
   last_is_some nodes before here e [] last end c = ap is_some c.1.2.1
   last_is_some nodes before here e (f ∷ es) last end c = last_is_some nodes (Some e.slot) c.1.0 f es last end c.1.2
 
-  pub first_used : (nodes : List (Node K)) (before here : Option ℕ) (es : List (Entry K)) (last : Option ℕ) (s : ℕ)
+  pub first_used : (nodes : List (Node K)) (before here : Option ℕ) (es : List (EpochEntry K)) (last : Option ℕ) (s : ℕ)
       → IsChain nodes before here es last None → here ≡ Some s → IsUsed nodes s × (IsAway s es → ⊥)
   first_used nodes before here [] last s c is = let none = c.0 in cc
   first_used nodes before here (e ∷ es) last s c is =
@@ -119,7 +119,7 @@ module _ {K : Type 0} where
       ap (λ o. slice_get (linked nodes s o f) s) at ∙ slice_get-set_same nodes s _ (slice_get_within nodes s _ at)
 
   -- the last of some entries leads elsewhere
-  next_of_some : (nodes : List (Node K)) (before here : Option ℕ) (e : Entry K) (es : List (Entry K)) (last end n : Option ℕ)
+  next_of_some : (nodes : List (Node K)) (before here : Option ℕ) (e : EpochEntry K) (es : List (EpochEntry K)) (last end n : Option ℕ)
       → IsChain nodes before here (e ∷ es) last end → NoSlotTwice (e ∷ es) → IsChain (with_next nodes last n) before here (e ∷ es) last n
   next_of_some nodes before here e [] last end n c once =
       let is : last ≡ Some e.slot = c.1.2.1 in
@@ -128,7 +128,7 @@ module _ {K : Type 0} where
       let other : last ≡ Some e.slot → ⊥ = λ is. (last_among nodes (Some e.slot) c.1.0 f es last end e.slot c.1.2 is).1 once.0 in
       (c.0, (c.1.0, with_next_other nodes last n e.slot other ∙ c.1.1, next_of_some nodes (Some e.slot) c.1.0 f es last end n c.1.2 once.1))
 
-  pub chain_next : (nodes : List (Node K)) (here : Option ℕ) (es : List (Entry K)) (last end n : Option ℕ)
+  pub chain_next : (nodes : List (Node K)) (here : Option ℕ) (es : List (EpochEntry K)) (last end n : Option ℕ)
       → IsChain nodes None here es last end → NoSlotTwice es → IsChain (with_next nodes last n) None (cond (is_some last) here n) es last n
   chain_next nodes here [] last end n c once = let none : last ≡ None = c.1 in (ap (λ k. cond (is_some k) here n) none, none)
   chain_next nodes here (e ∷ es) last end n c once =
@@ -136,7 +136,7 @@ module _ {K : Type 0} where
       (next_of_some nodes None here e es last end n c once)
 
   -- the first of some entries leads back elsewhere
-  pub chain_prev : (nodes : List (Node K)) (before here : Option ℕ) (es : List (Entry K)) (last m : Option ℕ)
+  pub chain_prev : (nodes : List (Node K)) (before here : Option ℕ) (es : List (EpochEntry K)) (last m : Option ℕ)
       → IsChain nodes before here es last None → NoSlotTwice es → IsChain (with_prev nodes here m) m here es (cond (is_some here) last m) None
   chain_prev nodes before here [] last m c once = let none : here ≡ None = c.0 in (none, ap (λ k. cond (is_some k) last m) none)
   chain_prev nodes before here (e ∷ es) last m c once =

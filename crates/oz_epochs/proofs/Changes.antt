@@ -1,4 +1,4 @@
--- A list is sound after an entry was put at its end, after one was taken out, and after it grew.
+-- A list stays linked after an entry was put at its end, after one was taken out, and after it grew.
 use Rattle.std.proofs.Common.{◌≡◌, ◌≢◌, ℕ, ◌+◌, ◌-◌, ◌≤◌, ◌<◌, ◌^◌, cond, List, [], ◌∷◌, ◌++◌, length, set, refl, sym, ap, ◌∙◌, subst, Option, Some, None, is_some, arith, length-append}
 use Rattle.std.proofs.lemmas.Option.{slice_get_within}
 use Rattle.std.proofs.lemmas.List.{length-set}
@@ -7,9 +7,9 @@ use Rattle.std.specs.Prelude.{IsSome, IfSome}
 use Rattle.oz_epochs.specs.declared.node.Node.{Node}
 use Rattle.oz_epochs.specs.declared.node.Node.TheVariants.{Used, Spare}
 use Rattle.oz_epochs.specs.declared.node.Linked.{Linked}
-use Rattle.oz_epochs.specs.Epochs.{AreInOrder, Entry, entry, found, without, IsAway, NoSlotTwice, EndsBy, EpochsRise}
+use Rattle.oz_epochs.specs.Epochs.{AreInOrder, EpochEntry, entry, found, without, IsAway, NoSlotTwice, EndsBy, EpochsRise}
 use Rattle.oz_epochs.specs.Links.{node, IsChain, IsNoneOf, entries_from, with_next, with_prev, IsUsed}
-use Rattle.oz_epochs.specs.Sound.{HasSpare, IsSound, entries_of, Keeps}
+use Rattle.oz_epochs.specs.Nodes.{HasSpare, IsLinked, entries_of, Keeps}
 use Rattle.oz_epochs.proofs.Lists.{slice_get-set_same, slice_get-set_other}
 use Rattle.oz_epochs.proofs.Chains.{chain_same, chain_kept, spare_is_away, chain_split, chain_join, entries_from_chain, last_used, first_used, with_next_other, with_prev_other, length-with_next, length-with_prev, chain_next, chain_prev}
 use Rattle.oz_epochs.proofs.Spares.{Taken, taken, spare_same, used_is_none}
@@ -21,21 +21,21 @@ module _ {K : Type 0} where
   if_used (Some t) nodes each = each t refl
 
   -- the entries are those that the links lead through
-  pub entries_are : (nodes : List (Node K)) (front back spare_front : Option ℕ) (spare : ℕ) (es : List (Entry K))
-      → IsSound nodes front back spare_front spare es → entries_of nodes front spare ≡ es
+  pub entries_are : (nodes : List (Node K)) (front back spare_front : Option ℕ) (spare : ℕ) (es : List (EpochEntry K))
+      → IsLinked nodes front back spare_front spare es → entries_of nodes front spare ≡ es
   entries_are nodes front back spare_front spare es s =
       let all = s.all in let count : length nodes - spare ≡ length es = omega arith in
       ap (λ n. entries_from nodes n front) count ∙ entries_from_chain nodes None front es back None s.chain
 
-  pub sound_here : (nodes : List (Node K)) (front back spare_front : Option ℕ) (spare : ℕ) (es : List (Entry K))
-      → IsSound nodes front back spare_front spare es → IsSound nodes front back spare_front spare (entries_of nodes front spare)
-  sound_here nodes front back spare_front spare es s = subst (IsSound nodes front back spare_front spare) (sym (entries_are nodes front back spare_front spare es s)) s
+  pub linked_here : (nodes : List (Node K)) (front back spare_front : Option ℕ) (spare : ℕ) (es : List (EpochEntry K))
+      → IsLinked nodes front back spare_front spare es → IsLinked nodes front back spare_front spare (entries_of nodes front spare)
+  linked_here nodes front back spare_front spare es s = subst (IsLinked nodes front back spare_front spare) (sym (entries_are nodes front back spare_front spare es s)) s
 
-  pub order_here : (nodes : List (Node K)) (front back spare_front : Option ℕ) (spare : ℕ) (es : List (Entry K))
-      → IsSound nodes front back spare_front spare es → AreInOrder (entries_of nodes front spare)
-  order_here nodes front back spare_front spare es s = (sound_here nodes front back spare_front spare es s).order
+  pub order_here : (nodes : List (Node K)) (front back spare_front : Option ℕ) (spare : ℕ) (es : List (EpochEntry K))
+      → IsLinked nodes front back spare_front spare es → AreInOrder (entries_of nodes front spare)
+  order_here nodes front back spare_front spare es s = (linked_here nodes front back spare_front spare es s).order
 
-  module _ (nodes : List (Node K)) (front back here : Option ℕ) (spare : ℕ) (es : List (Entry K)) (s : IsSound nodes front back here spare es) where
+  module _ (nodes : List (Node K)) (front back here : Option ℕ) (spare : ℕ) (es : List (EpochEntry K)) (s : IsLinked nodes front back here spare es) where
     module _ (slot epoch : ℕ) (key : K) (next : Option ℕ) (is : here ≡ Some slot) (at : slice_get nodes slot ≡ Some (Spare next)) where
       abbrev put : List (Node K)
       put = set nodes slot (node back None epoch key)
@@ -59,7 +59,7 @@ module _ {K : Type 0} where
       pub put_slot_away : IsAway slot es
       put_slot_away = own
 
-      pub pushed : EndsBy epoch es → (left : ℕ) → left + 1 ≡ spare → IsSound grown (cond (is_some back) front (Some slot)) (Some slot) next left (es ++ entry slot epoch key ∷ [])
+      pub pushed : EndsBy epoch es → (left : ℕ) → left + 1 ≡ spare → IsLinked grown (cond (is_some back) front (Some slot)) (Some slot) next left (es ++ entry slot epoch key ∷ [])
       pushed ends left count =
           let t : Taken nodes slot next spare = taken nodes here spare slot next s.spares is at in
           let within = slice_get_within nodes slot _ at in
@@ -84,16 +84,16 @@ module _ {K : Type 0} where
 
       pub pushed_to : EndsBy epoch es → (left : ℕ) → left + 1 ≡ spare → (placed after : List (Node K)) (first : Option ℕ)
           → placed ≡ put → after ≡ with_next placed back (Some slot) → first ≡ cond (is_some back) front (Some slot)
-          → IsSound after first (Some slot) next left (es ++ entry slot epoch key ∷ [])
+          → IsLinked after first (Some slot) next left (es ++ entry slot epoch key ∷ [])
       pushed_to ends left count placed after first placed_is after_is first_is =
-          subst (λ k. IsSound after k (Some slot) next left (es ++ entry slot epoch key ∷ [])) (sym first_is)
-          (subst (λ k. IsSound k (cond (is_some back) front (Some slot)) (Some slot) next left (es ++ entry slot epoch key ∷ [])) (sym (after_is ∙ ap (λ k. with_next k back (Some slot)) placed_is))
+          subst (λ k. IsLinked after k (Some slot) next left (es ++ entry slot epoch key ∷ [])) (sym first_is)
+          (subst (λ k. IsLinked k (cond (is_some back) front (Some slot)) (Some slot) next left (es ++ entry slot epoch key ∷ [])) (sym (after_is ∙ ap (λ k. with_next k back (Some slot)) placed_is))
           (pushed ends left count))
 
     pub grown_to : (wider after : List (Node K)) (first : Option ℕ) (capacity total : ℕ)
         → wider ≡ nodes → capacity < 2 ^ 64 → length wider ≤ capacity → length after ≡ capacity → Keeps wider after
         → ((n : ℕ) → HasSpare wider here n → HasSpare after first (n + (capacity - length wider))) → total ≡ spare + (capacity - length wider)
-        → IsSound after front back first total es
+        → IsLinked after front back first total es
     grown_to wider after first capacity total wider_is small within full keeps more total_is =
         let all = s.all in let same : length wider ≡ length nodes = ap length wider_is in
         record {
@@ -123,9 +123,9 @@ module _ {K : Type 0} where
 
       -- the entries before and behind the one that is taken out
       record Cut : Type 0 where
-        xs : List (Entry K)
-        e : Entry K
-        ys : List (Entry K)
+        xs : List (EpochEntry K)
+        e : EpochEntry K
+        ys : List (EpochEntry K)
         whole : es ≡ xs ++ e ∷ ys
         slot_is : e.slot ≡ slot
         same : n ≡ record { prev = n.prev; next = n.next; epoch = e.epoch; key = e.key }
@@ -192,7 +192,7 @@ module _ {K : Type 0} where
       left_other : (t : ℕ) → (n.next ≡ Some t → ⊥) → (n.prev ≡ Some t → ⊥) → slot ≢ t → slice_get left t ≡ slice_get nodes t
       left_other t not_next not_prev other = with_prev_other led n.next n.prev t not_next ∙ with_next_other freed n.prev n.next t not_prev ∙ freed_other t other
 
-      pub removed : IsSound left (cond (is_some n.prev) front n.next) (cond (is_some n.next) back n.prev) (Some slot) (spare + 1) (without slot es)
+      pub removed : IsLinked left (cond (is_some n.prev) front n.next) (cond (is_some n.next) back n.prev) (Some slot) (spare + 1) (without slot es)
       removed =
           let xs = cut.xs in let e = cut.e in let ys = cut.ys in let parts = cut.parts in
           let front_freed : IsChain freed None front xs n.prev (Some slot) =
@@ -219,7 +219,7 @@ module _ {K : Type 0} where
           let all = s.all in let fits = s.fits in let count = s.spares.count in
           let long_before : length es ≡ length (xs ++ e ∷ ys) = ap length cut.whole in
           let long_parts = length-append xs (e ∷ ys) in let long_after = length-append xs ys in
-          subst (IsSound left (cond (is_some n.prev) front n.next) (cond (is_some n.next) back n.prev) (Some slot) (spare + 1)) (sym rest) (record {
+          subst (IsLinked left (cond (is_some n.prev) front n.next) (cond (is_some n.next) back n.prev) (Some slot) (spare + 1)) (sym rest) (record {
             chain = chain_join left None (cond (is_some n.prev) front n.next) xs ys n.prev n.next (cond (is_some n.next) back n.prev) None front_left back_left;
             spares = record {
               slots = slot ∷ s.spares.slots;
@@ -235,12 +235,12 @@ module _ {K : Type 0} where
       pub removed_to : (placed linked after : List (Node K)) (first last : Option ℕ)
           → placed ≡ freed → linked ≡ with_next placed n.prev n.next → after ≡ with_prev linked n.next n.prev
           → first ≡ cond (is_some n.prev) front n.next → last ≡ cond (is_some n.next) back n.prev
-          → IsSound after first last (Some slot) (spare + 1) (without slot es)
+          → IsLinked after first last (Some slot) (spare + 1) (without slot es)
       removed_to placed linked after first last placed_is linked_is after_is first_is last_is =
           let is : left ≡ after = sym (after_is ∙ ap (λ k. with_prev k n.next n.prev) (linked_is ∙ ap (λ k. with_next k n.prev n.next) placed_is)) in
-          subst (λ k. IsSound after first k (Some slot) (spare + 1) (without slot es)) (sym last_is)
-          (subst (λ k. IsSound after k (cond (is_some n.next) back n.prev) (Some slot) (spare + 1) (without slot es)) (sym first_is)
-          (subst (λ k. IsSound k (cond (is_some n.prev) front n.next) (cond (is_some n.next) back n.prev) (Some slot) (spare + 1) (without slot es)) is removed))
+          subst (λ k. IsLinked after first k (Some slot) (spare + 1) (without slot es)) (sym last_is)
+          (subst (λ k. IsLinked after k (cond (is_some n.next) back n.prev) (Some slot) (spare + 1) (without slot es)) (sym first_is)
+          (subst (λ k. IsLinked k (cond (is_some n.prev) front n.next) (cond (is_some n.next) back n.prev) (Some slot) (spare + 1) (without slot es)) is removed))
 
       pub removed_entry : found slot es ≡ Some (n.epoch, n.key)
       removed_entry =

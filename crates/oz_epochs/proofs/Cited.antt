@@ -1,4 +1,4 @@
--- The names that the proofs about `Places` cite.
+-- The names that the proofs about `RawBlock` cite.
 pub use Rattle.std.proofs.Common.{ℕ, [], ◌∷◌, refl, lit<, true, false, ◌≡◌, List, arith, ◌+◌, ◌^◌, ◌<◌, ◌≤◌, ◌-◌, sym, subst, length, ap, ◌++◌, suc}
 pub use Rattle.std.proofs.Words.{pointer_in, pointer_out}
 pub use Rattle.std.proofs.alloc.Calls.{Answer, Answer-typed, answer_val}

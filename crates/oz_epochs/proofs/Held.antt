@@ -1,8 +1,8 @@
--- What the proofs of the functions of `Places` share.
+-- What the proofs of the functions of `RawBlock` share.
 use Rattle.std.proofs.Common.{◌≡◌, ℕ, ◌+◌, ◌*◌, ◌^◌, ◌<◌, List, [], ◌∷◌, refl, sym, ap, subst, length, arith}
-use Rattle.oz_epochs.specs.Places.{bytes, behind, owned}
-use Rattle.oz_epochs.specs.declared.places.Places.{Places}
-use Rattle.oz_epochs.specs.contracts.places.Places as C
+use Rattle.oz_epochs.specs.RawBlock.{bytes, past, owned}
+use Rattle.oz_epochs.specs.declared.raw_block.RawBlock.{RawBlock}
+use Rattle.oz_epochs.specs.contracts.raw_block.RawBlock as C
 use base.Fml.{Fml, Lft, Share, GName, feq, fat, fbor, fobor, fobs, fauth, flft}
 use base.Fraction.{full_share}
 use base.Logic.{SProp, ent, sep, never}
@@ -29,7 +29,7 @@ use types.Logic.{Logic, sem}
 use types.Mut.{open_ref}
 use types.SemTy.{cells, Body}
 
--- the machine value of places that begin there
+-- the machine value of a raw block that begins there
 abbrev pub word : Ptr → Val
 word start = vstruct (vcons (ptr_val start) vnil)
 
@@ -42,19 +42,19 @@ module _ (R : RattleType) where
   names start b o = fat full_share (lone Row.mir) b o (word start)
 
 module _ {M : Type 1} {𝓤 : Ura M} {𝓛 : Logic 𝓤} {K : Type 0} {Γ : List (Item 𝓤)} {G : Goal 𝓤 𝓛.H} where
-  -- what the places own is all that a value of the type needs
-  pub placed : K → (R : RattleType) (p : Places R.Denot)
+  -- what a raw block owns is all that a value of the type needs
+  pub placed : K → (R : RattleType) (p : RawBlock R.Denot)
       → Step K 𝓛 (‵ ((Row R).own_val p (word p.start ∷ [])) ∷ Γ) G (‵ (owned R p.start p.items p.room) ∷ Γ) G
   placed t R p = step (λ rest.
       let Fields : RattleType = Struct (shape (C.the_type R)) in
       owns_it t Fields (Is Fields) (Struct-Makes 𝓛 (shape (C.the_type R)) ((λ x vs. tt), tt)) (to (C.the_type R) p) (word p.start ∷ []) ((ptr_val p.start ∷ [], tt), (refl, (refl, tt))) $
       fjoin t $ rest)
 
--- places that are there lie in a block
+-- room that is there lies in a block
 pub nowhere : {M : Type 1} {𝓤 : Ura M} (𝓛 : Logic 𝓤) (count : ℕ) → 0 < count → ent 𝓤 (sem 𝓛 (feq ℕ count 0)) (never 𝓤)
 nowhere 𝓛 count full = qed 𝓛 (‵ (feq ℕ count 0) ∷ []) ∵ feq_l ! (λ none. absurd (omega arith))
 
-module _ {M : Type 1} {𝓤 : Ura M} (𝓛 : Logic 𝓤) (R : RattleType) (p : Places R.Denot) (b o : ℕ) where
+module _ {M : Type 1} {𝓤 : Ura M} (𝓛 : Logic 𝓤) (R : RattleType) (p : RawBlock R.Denot) (b o : ℕ) where
   pub apart : ent 𝓤 (sem 𝓛 (part_at (Row R) full_share p b o)) (sep 𝓤 (sem 𝓛 (names R p.start b o)) (sem 𝓛 (owned R p.start p.items p.room)))
   apart = qed 𝓛 (‵ (part_at (Row R) full_share p b o) ∷ []) ∵
       use1 𝓛 (some (λ (v : Val). ‵ (fat full_share (lone (Row R).mir) b o v) ⊛ ‵ ((Row R).own_val p (v ∷ [])))) (part_out 𝓛 (Row R) refl full_share p b o) $ pick ! (λ v.
@@ -69,8 +69,8 @@ module _ {M : Type 1} {𝓤 : Ura M} (𝓛 : Logic 𝓤) (R : RattleType) (p : P
         move ! (1 ∷ []) $ placed ! R p $ move ! (1 ∷ 0 ∷ []) $ by ! (part_in 𝓛 (Row R) refl full_share p b o (word p.start))
 
 module _ {M : Type 1} {𝓤 : Ura M} {𝓛 : Logic 𝓤} {K : Type 0} {Γ : List (Item 𝓤)} {G : Goal 𝓤 𝓛.H} where
-  -- a `&mut` to places that are there is opened
-  pub opened : K → Soaks G → (R : RattleType) {κ : Lft} {q : Share} {γ : GName} (p : Places R.Denot) (b o : ℕ) → 0 < length p.items + p.room
+  -- a `&mut` to room that is there is opened
+  pub opened : K → Soaks G → (R : RattleType) {κ : Lft} {q : Share} {γ : GName} (p : RawBlock R.Denot) (b o : ℕ) → 0 < length p.items + p.room
       → ((b' o' : ℕ) → p.start ≡ block_ptr b' o' → Seq K 𝓛 (‵ (names R (block_ptr b' o') b o) ∷ ‵ (owned R (block_ptr b' o') p.items p.room)
       ∷ ‵ (fobor κ q (Body (mem (Row R)) b o γ)) ∷ ‵ (fobs γ ((Row R).coded.code p)) ∷ ‵ (fauth γ ((Row R).coded.code p)) ∷ Γ) G)
       → Seq K 𝓛 (‵ (fobs γ ((Row R).coded.code p)) ∷ ‵ (fbor κ (Body (mem (Row R)) b o γ)) ∷ ‵ (flft κ q) ∷ Γ) G
@@ -79,14 +79,14 @@ module _ {M : Type 1} {𝓤 : Ura M} {𝓛 : Logic 𝓤} {K : Type 0} {Γ : List
       in_a_block t p.start (λ s. owned R s p.items p.room) (nowhere 𝓛 (length p.items + p.room) full) (λ b' o' e. move t (1 ∷ []) $ rewrite t 0 (λ (s : Ptr). ‵ (names R s b o)) e refl $ k b' o' e)
 
 -- other items, as many as before
-module _ {M : Type 1} {𝓤 : Ura M} (𝓛 : Logic 𝓤) (R : RattleType) (p : Places R.Denot) (b o b' o' : ℕ) (e : p.start ≡ block_ptr b' o') where
+module _ {M : Type 1} {𝓤 : Ura M} (𝓛 : Logic 𝓤) (R : RattleType) (p : RawBlock R.Denot) (b o b' o' : ℕ) (e : p.start ≡ block_ptr b' o') where
   abbrev pub around : SProp 𝓤
-  around = sep 𝓤 (sem 𝓛 (names R (block_ptr b' o') b o)) (sem 𝓛 (behind R b' o' (length p.items) p.room))
+  around = sep 𝓤 (sem 𝓛 (names R (block_ptr b' o') b o)) (sem 𝓛 (past R b' o' (length p.items) p.room))
 
   pub refilled : bytes R (length p.items + p.room) < 2 ^ 63 → (items : List R.Denot) → length items ≡ length p.items
       → ent 𝓤 (sep 𝓤 (sem 𝓛 (cells (mem R) items b' o')) around) (sem 𝓛 (part_at (Row R) full_share (record p { items = items }) b o))
-  refilled few items as_many = qed 𝓛 (‵ (cells (mem R) items b' o') ∷ (‵ (names R (block_ptr b' o') b o) ⊛ ‵ (behind R b' o' (length p.items) p.room)) ∷ []) ∵
-      move ! (1 ∷ []) $ split ! $ move ! (1 ∷ []) $ rewrite ! 0 (λ (k : ℕ). ‵ (behind R b' o' k p.room)) (sym as_many) refl $ move ! (2 ∷ 0 ∷ []) $ fjoin ! $
+  refilled few items as_many = qed 𝓛 (‵ (cells (mem R) items b' o') ∷ (‵ (names R (block_ptr b' o') b o) ⊛ ‵ (past R b' o' (length p.items) p.room)) ∷ []) ∵
+      move ! (1 ∷ []) $ split ! $ move ! (1 ∷ []) $ rewrite ! 0 (λ (k : ℕ). ‵ (past R b' o' k p.room)) (sym as_many) refl $ move ! (2 ∷ 0 ∷ []) $ fjoin ! $
       flt_i ! (bytes R (length items + p.room)) (2 ^ 63) (subst (λ (k : ℕ). bytes R (k + p.room) < 2 ^ 63) (sym as_many) few) $ fjoin ! $ move ! (1 ∷ 0 ∷ []) $
       by ! (together 𝓛 R (record p { items = items }) b o b' o' e)
 

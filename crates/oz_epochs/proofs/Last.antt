@@ -1,11 +1,11 @@
--- Some items apart from the others, and the place behind the last.
+-- Some items apart from the others, and the room behind the last.
 use Rattle.std.proofs.Common.{◌≡◌, ℕ, zero, suc, ◌+◌, ◌<◌, List, [], ◌∷◌, ◌++◌, refl, ap, ◌∙◌, subst, length, arith}
 use Rattle.std.proofs.RawLayout.{as_raw, as_written}
 use Rattle.std.proofs.ptr.Rows.{next}
 use Rattle.std.specs.Allocator.{array_of}
 use Rattle.std.specs.Prelude.{slice_get, slice_set, Some}
 use Rattle.std.specs.contracts.impls.GlobalAllocator.TheImpl.{ghosts}
-use Rattle.oz_epochs.specs.Places.{heap, bytes, behind}
+use Rattle.oz_epochs.specs.RawBlock.{heap, bytes, past}
 use base.Fml.{Fml, fsep, froom}
 use base.Fraction.{full_share}
 use base.Logic.{SProp, ent, sep, emp, via, emp∗, snd∗, assoc', assoc∗, mono_r}
@@ -62,10 +62,10 @@ module _ (R : RattleType) where
   beyond b o count room =
       fsep (froom (array_of R room) b (o + bytes R count + one)) (ghosts.dealloc_token heap (array_of R (count + suc room)) (block_ptr b o))
 
-  pub beyond_is : (b o room : ℕ) (items : List R.Denot) (item : R.Denot) → behind R b o (length (items ++ item ∷ [])) room ≡ beyond b o (length items) room
+  pub beyond_is : (b o room : ℕ) (items : List R.Denot) (item : R.Denot) → past R b o (length (items ++ item ∷ [])) room ≡ beyond b o (length items) room
   beyond_is b o room items item =
       let count : ℕ = length items in let all : count + 1 + room ≡ count + suc room = omega arith in
-      ap (λ (k : ℕ). behind R b o k room) (length-append items (item ∷ [])) ∙
+      ap (λ (k : ℕ). past R b o k room) (length-append items (item ∷ [])) ∙
       (λ i. fsep (froom (array_of R room) b (shifted o (bytes R count) (bytes R (count + 1)) one (next count one) i)) (ghosts.dealloc_token heap (array_of R (all i)) (block_ptr b o)))
 
 module _ {M : Type 1} {𝓤 : Ura M} (𝓛 : Logic 𝓤) (R : RattleType) (b : ℕ) where

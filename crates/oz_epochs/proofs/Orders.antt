@@ -2,46 +2,46 @@
 use Rattle.std.proofs.Common.{◌≡◌, ◌≢◌, ℕ, ◌⊎◌, cond, List, [], ◌∷◌, ◌++◌, refl, sym, ap, ◌∙◌, subst, Some, not, arith, inl, inr}
 use Rattle.std.proofs.lemmas.Bool.{cases_eq, eq-eqb, ne_eqb, false≢true}
 use Rattle.std.specs.Prelude.{IsSome}
-use Rattle.oz_epochs.specs.Epochs.{Entry, entry, found, without, IsAway, NoSlotTwice, EndsBy, EpochsRise, AreInOrder, behind}
+use Rattle.oz_epochs.specs.Epochs.{EpochEntry, entry, found, without, IsAway, NoSlotTwice, EndsBy, EpochsRise, AreInOrder, behind}
 
 module _ {K : Type 0} where
-  pub away_behind : (s : ℕ) (xs : List (Entry K)) (e : Entry K) → IsAway s xs → e.slot ≢ s → IsAway s (xs ++ e ∷ [])
+  pub away_behind : (s : ℕ) (xs : List (EpochEntry K)) (e : EpochEntry K) → IsAway s xs → e.slot ≢ s → IsAway s (xs ++ e ∷ [])
   away_behind s [] e away other = (other, tt)
   away_behind s (x ∷ xs) e away other = (away.0, away_behind s xs e away.1 other)
 
-  pub once_behind : (xs : List (Entry K)) (e : Entry K) → NoSlotTwice xs → IsAway e.slot xs → NoSlotTwice (xs ++ e ∷ [])
+  pub once_behind : (xs : List (EpochEntry K)) (e : EpochEntry K) → NoSlotTwice xs → IsAway e.slot xs → NoSlotTwice (xs ++ e ∷ [])
   once_behind [] e once away = (tt, tt)
   once_behind (x ∷ xs) e once away = (away_behind x.slot xs e once.0 (λ is. away.0 (sym is)), once_behind xs e once.1 away.1)
 
-  pub rise_behind : (xs : List (Entry K)) (e : Entry K) → EpochsRise xs → EndsBy e.epoch xs → EpochsRise (xs ++ e ∷ [])
+  pub rise_behind : (xs : List (EpochEntry K)) (e : EpochEntry K) → EpochsRise xs → EndsBy e.epoch xs → EpochsRise (xs ++ e ∷ [])
   rise_behind [] e rise ends = tt
   rise_behind (x ∷ []) e rise ends = (ends, tt)
   rise_behind (x ∷ y ∷ xs) e rise ends = (rise.0, rise_behind (y ∷ xs) e rise.1 ends)
 
-  rise_tail : (e : Entry K) (ys : List (Entry K)) → EpochsRise (e ∷ ys) → EpochsRise ys
+  rise_tail : (e : EpochEntry K) (ys : List (EpochEntry K)) → EpochsRise (e ∷ ys) → EpochsRise ys
   rise_tail e [] rise = tt
   rise_tail e (y ∷ ys) rise = rise.1
 
-  pub rise_without : (xs : List (Entry K)) (e : Entry K) (ys : List (Entry K)) → EpochsRise (xs ++ e ∷ ys) → EpochsRise (xs ++ ys)
+  pub rise_without : (xs : List (EpochEntry K)) (e : EpochEntry K) (ys : List (EpochEntry K)) → EpochsRise (xs ++ e ∷ ys) → EpochsRise (xs ++ ys)
   rise_without [] e ys rise = rise_tail e ys rise
   rise_without (x ∷ []) e [] rise = tt
   rise_without (x ∷ []) e (y ∷ ys) rise = let low = rise.0 in let high = rise.1.0 in (omega arith, rise.1.1)
   rise_without (x ∷ y ∷ xs) e ys rise = (rise.0, rise_without (y ∷ xs) e ys rise.1)
 
-  away_front : (s : ℕ) (xs ys : List (Entry K)) → IsAway s (xs ++ ys) → IsAway s xs
+  away_front : (s : ℕ) (xs ys : List (EpochEntry K)) → IsAway s (xs ++ ys) → IsAway s xs
   away_front s [] ys away = tt
   away_front s (x ∷ xs) ys away = (away.0, away_front s xs ys away.1)
 
-  away_back : (s : ℕ) (xs ys : List (Entry K)) → IsAway s (xs ++ ys) → IsAway s ys
+  away_back : (s : ℕ) (xs ys : List (EpochEntry K)) → IsAway s (xs ++ ys) → IsAway s ys
   away_back s [] ys away = away
   away_back s (x ∷ xs) ys away = away_back s xs ys away.1
 
-  away_both : (s : ℕ) (xs ys : List (Entry K)) → IsAway s xs → IsAway s ys → IsAway s (xs ++ ys)
+  away_both : (s : ℕ) (xs ys : List (EpochEntry K)) → IsAway s xs → IsAway s ys → IsAway s (xs ++ ys)
   away_both s [] ys a b = b
   away_both s (x ∷ xs) ys a b = (a.0, away_both s xs ys a.1 b)
 
   -- what an entry in the middle keeps apart
-  pub record Apart (xs : List (Entry K)) (e : Entry K) (ys : List (Entry K)) : Type 0 where
+  pub record Apart (xs : List (EpochEntry K)) (e : EpochEntry K) (ys : List (EpochEntry K)) : Type 0 where
     pub front_once : NoSlotTwice xs
     pub back_once : NoSlotTwice ys
     pub front_away : IsAway e.slot xs
@@ -50,14 +50,14 @@ module _ {K : Type 0} where
     pub among_back : (s : ℕ) → (IsAway s ys → ⊥) → IsAway s xs
     pub joined : NoSlotTwice (xs ++ ys)
 
-  away_or : (s : ℕ) (ys : List (Entry K)) → IsAway s ys ⊎ (IsAway s ys → ⊥)
+  away_or : (s : ℕ) (ys : List (EpochEntry K)) → IsAway s ys ⊎ (IsAway s ys → ⊥)
   away_or s [] = inl tt
   away_or s (y ∷ ys) = elim (cases_eq y.slot s) [
     | inl is ↦ inr (λ away. away.0 is)
     | inr other ↦ elim (away_or s ys) [ inl away ↦ inl (other, away) | inr among ↦ inr (λ away. among away.1) ]
   ]
 
-  pub apart : (xs : List (Entry K)) (e : Entry K) (ys : List (Entry K)) → NoSlotTwice (xs ++ e ∷ ys) → Apart xs e ys
+  pub apart : (xs : List (EpochEntry K)) (e : EpochEntry K) (ys : List (EpochEntry K)) → NoSlotTwice (xs ++ e ∷ ys) → Apart xs e ys
   apart [] e ys once = record {
     front_once = tt;
     back_once = once.1;
@@ -83,26 +83,26 @@ module _ {K : Type 0} where
         joined = (away_both x.slot xs ys (away_front x.slot xs (e ∷ ys) once.0) past.1, rest.joined);
       }
 
-  without_away : (s : ℕ) (xs : List (Entry K)) → IsAway s xs → without s xs ≡ xs
+  without_away : (s : ℕ) (xs : List (EpochEntry K)) → IsAway s xs → without s xs ≡ xs
   without_away s [] away = refl
   without_away s (x ∷ xs) away =
       ap (λ b. cond (not b) (x ∷ without s xs) (without s xs)) (ne_eqb x.slot s away.0) ∙ ap (λ l. x ∷ l) (without_away s xs away.1)
 
-  pub without_one : (xs : List (Entry K)) (e : Entry K) (ys : List (Entry K)) → IsAway e.slot xs → IsAway e.slot ys → without e.slot (xs ++ e ∷ ys) ≡ xs ++ ys
+  pub without_one : (xs : List (EpochEntry K)) (e : EpochEntry K) (ys : List (EpochEntry K)) → IsAway e.slot xs → IsAway e.slot ys → without e.slot (xs ++ e ∷ ys) ≡ xs ++ ys
   without_one [] e ys front back =
       ap (λ b. cond (not b) (e ∷ without e.slot ys) (without e.slot ys)) (eq-eqb e.slot e.slot refl) ∙ without_away e.slot ys back
   without_one (x ∷ xs) e ys front back =
       ap (λ b. cond (not b) (x ∷ without e.slot (xs ++ e ∷ ys)) (without e.slot (xs ++ e ∷ ys))) (ne_eqb x.slot e.slot front.0)
       ∙ ap (λ l. x ∷ l) (without_one xs e ys front.1 back)
 
-  pub found_one : (xs : List (Entry K)) (e : Entry K) (ys : List (Entry K)) → IsAway e.slot xs → found e.slot (xs ++ e ∷ ys) ≡ Some (e.epoch, e.key)
+  pub found_one : (xs : List (EpochEntry K)) (e : EpochEntry K) (ys : List (EpochEntry K)) → IsAway e.slot xs → found e.slot (xs ++ e ∷ ys) ≡ Some (e.epoch, e.key)
   found_one [] e ys front = ap (λ b. cond b (Some (e.epoch, e.key)) (found e.slot ys)) (eq-eqb e.slot e.slot refl)
   found_one (x ∷ xs) e ys front =
       ap (λ b. cond b (Some (x.epoch, x.key)) (found e.slot (xs ++ e ∷ ys))) (ne_eqb x.slot e.slot front.0) ∙ found_one xs e ys front.1
 
   -- the entry of a slot, and those before and behind it
-  pub found_between : (s : ℕ) (es : List (Entry K)) → IsSome (found s es)
-      → (xs : List (Entry K)) × (e : Entry K) × (ys : List (Entry K)) × (es ≡ xs ++ e ∷ ys) × (e.slot ≡ s)
+  pub found_between : (s : ℕ) (es : List (EpochEntry K)) → IsSome (found s es)
+      → (xs : List (EpochEntry K)) × (e : EpochEntry K) × (ys : List (EpochEntry K)) × (es ≡ xs ++ e ∷ ys) × (e.slot ≡ s)
   found_between s [] some = absurd (false≢true some)
   found_between s (x ∷ es) some = elim (cases_eq x.slot s) [
     | inl is ↦ ([], x, es, refl, is)
@@ -112,11 +112,11 @@ module _ {K : Type 0} where
   ]
 
   -- without the first entry the others are left
-  pub without_first : (slot epoch : ℕ) (key : K) (es : List (Entry K)) → es ≡ entry slot epoch key ∷ behind es → AreInOrder es → without slot es ≡ behind es
+  pub without_first : (slot epoch : ℕ) (key : K) (es : List (EpochEntry K)) → es ≡ entry slot epoch key ∷ behind es → AreInOrder es → without slot es ≡ behind es
   without_first slot epoch key es is order =
       let once : NoSlotTwice (entry slot epoch key ∷ behind es) = subst NoSlotTwice is order.slots in
       ap (λ l. without slot l) is ∙ without_one [] (entry slot epoch key) (behind es) tt once.0
 
-  pub in_order_behind : (es : List (Entry K)) → AreInOrder es → AreInOrder (behind es)
+  pub in_order_behind : (es : List (EpochEntry K)) → AreInOrder es → AreInOrder (behind es)
   in_order_behind [] order = order
   in_order_behind (e ∷ es) order = record { slots = order.slots.1; epochs = rise_tail e es order.epochs }

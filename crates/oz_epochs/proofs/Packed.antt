@@ -2,7 +2,7 @@
 use Rattle.std.proofs.Common.{◌≡◌, ℕ, ◌+◌, ◌-◌, ◌^◌, ◌<◌, ◌≤◌, List, [], ◌∷◌, refl, sym, ap, subst, length, arith}
 use Rattle.std.specs.Allocator.{array_of, block_with_items}
 use Rattle.std.specs.contracts.impls.GlobalAllocator.TheImpl.{ghosts}
-use Rattle.oz_epochs.specs.Places.{heap, bytes, behind, owned}
+use Rattle.oz_epochs.specs.RawBlock.{heap, bytes, past, owned}
 use base.Fml.{Fml, fsep, feq, froom}
 use base.Fraction.{full_share}
 use base.Logic.{ent, never_e}
@@ -21,7 +21,7 @@ in_a_row : (R : RattleType) (items : List R.Denot) (b o : ℕ) → cells (mem R)
 in_a_row R [] b o = refl
 in_a_row R (x ∷ items) b o = ap (fsep (part_at R full_share x b o)) (in_a_row R items b (o + (mem R).size))
 
--- a block of so many places for these items, as the heap sees it
+-- a block with so much room for these items, as the heap sees it
 abbrev pub block : (R : RattleType) → Ptr → ℕ → ℕ → List R.Denot → Fml
 block = block_with_items (ghosts.dealloc_token heap)
 
@@ -30,7 +30,7 @@ module _ {M : Type 1} {𝓤 : Ura M} (𝓛 : Logic 𝓤) (R : RattleType) (items
   packed b o room filled = let left : room ≡ capacity - count = omega arith in let whole : count + room ≡ capacity = omega arith in
       qed 𝓛 (‵ (owned R (block_ptr b o) items room) ∷ []) ∵ fsplit ! $ drop ! $ fsplit ! $ rewrite ! 0 (λ (F : Fml). ‵ F) (in_a_row R items b o) refl $
       feq_i ! ℕ (length items) count (sym all) $ fjoin ! $ use1 𝓛 (‵ (part_at (Array R count) full_share items b o)) (Array-whole 𝓛 R full_share count items b o) $ move ! (1 ∷ []) $
-      rewrite ! 0 (λ (k : ℕ). ‵ (behind R b o k room)) (sym all) refl $ fsplit ! $ rewrite ! 0 (λ (k : ℕ). ‵ (froom (array_of R k) b (o + bytes R count))) left refl $
+      rewrite ! 0 (λ (k : ℕ). ‵ (past R b o k room)) (sym all) refl $ fsplit ! $ rewrite ! 0 (λ (k : ℕ). ‵ (froom (array_of R k) b (o + bytes R count))) left refl $
       rewrite ! 1 (λ (k : ℕ). ‵ (ghosts.dealloc_token heap (array_of R k) (block_ptr b o))) whole refl $ move ! (2 ∷ 0 ∷ 1 ∷ []) $ fjoin3 ! $ done !
 
   pub unpacked : Single R.mir → count ≤ capacity → bytes R capacity < 2 ^ 63 → (start : Ptr) → ent 𝓤 (sem 𝓛 (block R start count capacity items)) (sem 𝓛 (owned R start items (capacity - count)))

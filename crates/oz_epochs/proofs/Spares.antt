@@ -6,7 +6,7 @@ use Rattle.std.specs.Prelude.{IsSome}
 use Rattle.oz_epochs.specs.declared.node.Node.{Node}
 use Rattle.oz_epochs.specs.declared.node.Node.TheVariants.{Spare}
 use Rattle.oz_epochs.specs.Links.{AreSpare, IsUsed, IsNoneOf, NoneTwice}
-use Rattle.oz_epochs.specs.Sound.{HasSpare, Keeps}
+use Rattle.oz_epochs.specs.Nodes.{HasSpare, Keeps}
 use Rattle.oz_epochs.proofs.Lists.{slice_get-front, slice_get-end}
 
 module _ {K : Type 0} where

@@ -1,5 +1,5 @@
 pub mod Epochs
 pub mod Block
-pub mod Places
+pub mod RawBlock
 pub mod Links
-pub mod Sound
+pub mod Nodes

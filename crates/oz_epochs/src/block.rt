@@ -1,46 +1,49 @@
-ghost use Rattle.std.specs.Prelude.{◌≡◌, ◌+◌, ◌<◌, ◌≤◌, [], ◌∷◌, ◌++◌, length, slice_get, slice_set, Some, OnOk, IsTrue, MatchResult};
+//! A block of memory that owns its items.
+
+ghost use Rattle.std.specs.Prelude.{◌≡◌, ◌+◌, ◌<◌, ◌≤◌, [], ◌∷◌, ◌++◌, length, slice_get, slice_set};
+ghost use Rattle.std.specs.Prelude.{Some, OnOk, OnErr, IsTrue, MatchResult};
 ghost use Rattle.std.specs.Allocator.{FitsBlock};
 
 use crate::OutOfMemory;
-use crate::places::{Places, item_bytes};
+use crate::raw_block::{RawBlock, item_bytes};
 use std::alloc::Global;
 use std::marker::Model;
 
 const MAX_BYTES: usize = isize::MAX as usize;
 
 /// Items in one block of memory. At its end they are dropped, and the memory is given back. A block without
-/// places has none.
+/// room has none.
 pub struct Block<T> {
-    places: Places<T>,
+    raw: RawBlock<T>,
     count: usize,
     capacity: usize,
     alloc: Global,
 }
 
 impl<T> Model for Block<T> {
-    ghost use Rattle.oz_epochs.specs.Block.{Contents};
+    ghost use Rattle.oz_epochs.specs.Block.{BlockView};
     ghost use Rattle.std.specs.Prelude.{◌≡◌, ◌+◌, length};
 
-    ghost Value = { Contents T };
+    ghost Value = { BlockView T };
 
-    ghost view = { λ b. record { items = b.places.items; capacity = b.capacity } };
+    ghost view = { λ b. record { items = b.raw.items; capacity = b.capacity } };
 
-    ghost invariant = { λ b. (b.count ≡ length b.places.items) × (b.capacity ≡ length b.places.items + b.places.room) };
+    ghost invariant = { λ b. (b.count ≡ length b.raw.items) × (b.capacity ≡ length b.raw.items + b.raw.room) };
 }
 
 impl<T: Drop> Drop for Block<T> {
     fn drop(mut self) {
         while self.count > 0 {
             self.count -= 1;
-            let _item = self.places.pull(self.count);
+            let _item = self.raw.pull(self.count);
         }
         let Block {
-            places,
+            raw,
             count: _,
             capacity,
             alloc,
         } = self;
-        places.free(&alloc, capacity);
+        raw.free(&alloc, capacity);
     }
 }
 
@@ -53,7 +56,7 @@ impl<T> Block<T> {
         ensures capacity { result.capacity ≡ 0 }
     {
         Block {
-            places: Places::none(),
+            raw: RawBlock::none(),
             count: 0,
             capacity: 0,
             alloc,
@@ -77,15 +80,16 @@ impl<T> Block<T> {
         requires { index < length self.now.items }
         ensures { slice_get self.now.items index ≡ Some result.now }
     {
-        &self.places.items(self.count)[index]
+        &self.raw.items(self.count)[index]
     }
 
     pub fn get_mut(&mut self, index: usize) -> &mut T
         requires { index < length self.old.items }
-        ensures* writes_back { sem 𝓛 (Lends (the_row T.row) T.row self.entry result (λ item. record self.old { items = slice_set self.old.items index item })) }
+        ensures* writes_back { sem 𝓛 (Lends (the_row T.row) T.row self.entry result
+            (λ item. record self.old { items = slice_set self.old.items index item })) }
         ensures item { slice_get self.old.items index ≡ Some result.now }
     {
-        self.places.get_mut(index)
+        self.raw.get_mut(index)
     }
 
     pub fn replace(&mut self, index: usize, item: T) -> T
@@ -102,14 +106,16 @@ impl<T> Block<T> {
         ensures items { self.new.items ≡ self.old.items ++ item ∷ [] }
         ensures capacity { self.new.capacity ≡ self.old.capacity }
     {
-        self.places.put(self.count, item);
+        self.raw.put(self.count, item);
         self.count += 1;
     }
 
-    /// Doubles the places at least, where there are too few.
+    /// Makes room for so many more items, and doubles the block at least where there is less. After an error the
+    /// block is as before.
     pub fn grow(&mut self, alloc: Global, more: usize) -> Result<(), OutOfMemory>
         ensures items { self.new.items ≡ self.old.items }
         ensures room { OnOk result (length self.new.items + more ≤ self.new.capacity) }
+        ensures refused { OnErr result (self.new ≡ self.old) }
     {
         let Some(needed) = self.count.checked_add(more) else {
             return Err(OutOfMemory);
@@ -129,12 +135,12 @@ impl<T> Block<T> {
         requires fits { FitsBlock T.row capacity }
         ensures items { self.new.items ≡ self.old.items }
         ensures room { OnOk result (self.new.capacity ≡ capacity) }
+        ensures refused { OnErr result (self.new ≡ self.old) }
     {
         if self.capacity == 0 {
-            self.places.take(&alloc, capacity)?;
+            self.raw.take(&alloc, capacity)?;
         } else {
-            self.places
-                .widen(&alloc, self.count, self.capacity, capacity)?;
+            self.raw.widen(&alloc, self.count, self.capacity, capacity)?;
         }
         self.capacity = capacity;
         Ok(())

@@ -4,7 +4,7 @@
 mod block;
 mod list;
 mod node;
-mod places;
+mod raw_block;
 mod steps;
 
 pub use list::{EpochList, Place};

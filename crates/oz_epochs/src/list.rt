@@ -1,4 +1,7 @@
-ghost use Rattle.std.specs.Prelude.{◌≡◌, ◌+◌, ◌<◌, ◌≤◌, [], ◌∷◌, ◌++◌, if◌then◌else◌, is_some, IsSome, MatchOption, OnOk, IsOk, None, Some};
+//! The list of epochs: entries in the order of their epochs, each at a place of its own.
+
+ghost use Rattle.std.specs.Prelude.{◌≡◌, ◌+◌, ◌<◌, ◌≤◌, [], ◌∷◌, ◌++◌, if◌then◌else◌};
+ghost use Rattle.std.specs.Prelude.{is_some, IsSome, MatchOption, OnOk, OnErr, IsOk, None, Some};
 ghost use Rattle.oz_epochs.specs.Epochs.{entry, found, without, first, first_by, behind, IsAway, EndsBy, AreInOrder};
 
 use crate::OutOfMemory;
@@ -27,13 +30,14 @@ pub struct EpochList<K> {
 
 impl<K> Model for EpochList<K> {
     ghost use Rattle.oz_epochs.specs.Epochs.{Epochs};
-    ghost use Rattle.oz_epochs.specs.Sound.{IsSound, entries_of};
+    ghost use Rattle.oz_epochs.specs.Nodes.{IsLinked, entries_of};
 
     ghost Value = { Epochs K };
 
     ghost view = { λ l. record { entries = entries_of l.nodes.items l.front l.spare; spare = l.spare } };
 
-    ghost invariant = { λ l. IsSound l.nodes.items l.front l.back l.spare_front l.spare (entries_of l.nodes.items l.front l.spare) };
+    ghost invariant = { λ l. IsLinked l.nodes.items l.front l.back l.spare_front l.spare
+        (entries_of l.nodes.items l.front l.spare) };
 }
 
 impl<K> EpochList<K> {
@@ -52,12 +56,13 @@ impl<K> EpochList<K> {
     }
 
     /// Makes room for so many more entries, and takes memory only where there is less. It is the one
-    /// call that takes any. The entries keep their places.
+    /// call that takes any. The entries keep their places. After an error the list is as before.
     pub fn reserve(&mut self, alloc: Global, more: usize) -> Result<(), OutOfMemory>
         ensures room { OnOk result (more ≤ self.new.spare) }
         ensures there { more ≤ self.old.spare → IsOk result }
         ensures entries { self.new.entries ≡ self.old.entries }
         ensures spare { self.old.spare ≤ self.new.spare }
+        ensures refused { OnErr result (self.new ≡ self.old) }
     {
         if more <= self.spare {
             return Ok(());

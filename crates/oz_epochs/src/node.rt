@@ -1,10 +1,12 @@
+//! The nodes of a list, and how their links change.
+
 ghost use Rattle.std.specs.Prelude.{◌≡◌, ◌+◌, ◌-◌, ◌≤◌, ℕ, length, is_some, if◌then◌else◌, IfSome};
 ghost use Rattle.oz_epochs.specs.Links.{IsUsed, with_next, with_prev};
-ghost use Rattle.oz_epochs.specs.Sound.{HasSpare, Keeps};
+ghost use Rattle.oz_epochs.specs.Nodes.{HasSpare, Keeps};
 
 use crate::block::Block;
 
-/// A place of the block: a node of the list, or a spare one with the next that is spare.
+/// An item of the block: a node of the list, or a spare one with the next that is spare.
 #[derive(Drop)]
 pub enum Node<K> {
     Used(Linked<K>),
@@ -60,7 +62,7 @@ pub(crate) fn link_prev<K>(
     }
 }
 
-/// Fills all places that are left with spare nodes, and gives the first of them.
+/// Fills all room that is left with spare nodes, and gives the first of them.
 pub(crate) fn fill_spare<K>(nodes: &mut Block<Node<K>>, spare_front: Option<usize>) -> Option<usize>
     ensures full { length nodes.new.items ≡ nodes.old.capacity }
     ensures kept { Keeps nodes.old.items nodes.new.items }

@@ -1,7 +1,7 @@
 use Rattle.std.proofs.Common.{◌≡◌, ◌+◌, ◌-◌, ◌∷◌, [], ◌++◌, length, Some, sym, ap, ◌∙◌, subst, arith, length-append}
 use Rattle.std.specs.List.{slice_get}
 use Rattle.oz_epochs.specs.declared.node.Node.TheVariants.{Spare}
-use Rattle.oz_epochs.specs.Sound.{HasSpare}
+use Rattle.oz_epochs.specs.Nodes.{HasSpare}
 use Rattle.oz_epochs.proofs.Lists.{slice_get-front}
 use Rattle.oz_epochs.proofs.Spares.{spare_pushed}
 use Rattle.oz_epochs.proofs.node.fill_spare.Goals as goal

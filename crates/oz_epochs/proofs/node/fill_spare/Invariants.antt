@@ -1,5 +1,5 @@
 use Rattle.std.proofs.Common.{◌≡◌, ◌≤◌, ◌+◌, ◌-◌, ℕ, length}
-use Rattle.oz_epochs.specs.Sound.{HasSpare, Keeps}
+use Rattle.oz_epochs.specs.Nodes.{HasSpare, Keeps}
 use Rattle.oz_epochs.proofs.node.fill_spare.Given as goal
 
 abbrev pub invariant-loop-slot : goal.invariant-loop-slot

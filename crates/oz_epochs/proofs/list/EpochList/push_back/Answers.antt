@@ -4,9 +4,9 @@ use Rattle.std.proofs.lemmas.Option.{slice_get_within}
 use Rattle.std.specs.Prelude.{IsSome, IfSome}
 use Rattle.oz_epochs.specs.Epochs.{Epochs, entry, IsAway, EndsBy}
 use Rattle.oz_epochs.specs.Links.{IsUsed}
-use Rattle.oz_epochs.specs.Sound.{entries_of}
+use Rattle.oz_epochs.specs.Nodes.{entries_of}
 use Rattle.oz_epochs.proofs.Spares.{spare_there, spare_first}
-use Rattle.oz_epochs.proofs.Changes.{entries_are, order_here, sound_here, put_back_used, put_slot_away, pushed_to}
+use Rattle.oz_epochs.proofs.Changes.{entries_are, order_here, linked_here, put_back_used, put_slot_away, pushed_to}
 use Rattle.oz_epochs.proofs.list.EpochList.push_back.Goals as goal
 
 pub unreachable-requires : goal.unreachable-requires
@@ -43,7 +43,7 @@ invariant_of-self g c =
     let es = entries_of i.nodes.items i.front i.spare in
     let room = subst (λ (v : Epochs g.row.K.Denot). 1 ≤ v.spare) (sym c.self.view_is) c.requires.room in
     let ends = subst (λ (v : Epochs g.row.K.Denot). EndsBy c.args.epoch v.entries) (sym c.self.view_is) c.requires.order in
-    sound_here c.link_next.new.nodes.items c.link_next.new.front (Some c.in-Some.slot) c.in-Spare.next (i.spare - 1) (es ++ entry c.in-Some.slot c.args.epoch c.args.key ∷ [])
+    linked_here c.link_next.new.nodes.items c.link_next.new.front (Some c.in-Some.slot) c.in-Spare.next (i.spare - 1) (es ++ entry c.in-Some.slot c.args.epoch c.args.key ∷ [])
     (pushed_to i.nodes.items i.front i.back i.spare_front i.spare es c.self.invariant c.in-Some.slot c.args.epoch c.args.key c.in-Spare.next c.in-Some.is at ends (i.spare - 1) (omega arith)
     c.replace.new.self.items c.link_next.new.nodes.items c.link_next.new.front c.replace.ensures.items c.link_next.ensures.nodes c.link_next.ensures.front)
 

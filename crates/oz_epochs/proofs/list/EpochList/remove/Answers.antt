@@ -3,8 +3,8 @@ use Rattle.std.proofs.lemmas.Option.{same_Some, slice_get_within}
 use Rattle.std.specs.Prelude.{IsSome, IfSome}
 use Rattle.oz_epochs.specs.Epochs.{Epochs, found, without}
 use Rattle.oz_epochs.specs.Links.{IsUsed, with_next}
-use Rattle.oz_epochs.specs.Sound.{entries_of}
-use Rattle.oz_epochs.proofs.Changes.{entries_are, order_here, sound_here, found_used, freed_prev_used, led_next_used, removed_to, removed_entry, room_for_one}
+use Rattle.oz_epochs.specs.Nodes.{entries_of}
+use Rattle.oz_epochs.proofs.Changes.{entries_are, order_here, linked_here, found_used, freed_prev_used, led_next_used, removed_to, removed_entry, room_for_one}
 use Rattle.oz_epochs.proofs.list.EpochList.remove.Goals as goal
 
 pub replace-requires : goal.replace-requires
@@ -48,7 +48,7 @@ invariant_of-self g c =
     let i = c.self.inside in let es = entries_of i.nodes.items i.front i.spare in let n = c.in-Used.node in let slot = c.args.place.slot in
     let some = subst (λ (v : Epochs g.row.K.Denot). IsSome (found slot v.entries)) (sym c.self.view_is) c.requires in
     let at = c.replace.ensures.value ∙ ap Some c.in-Used.is in
-    sound_here c.link_prev.new.nodes.items c.link_next.new.front c.link_prev.new.back (Some slot) (i.spare + 1) (without slot es)
+    linked_here c.link_prev.new.nodes.items c.link_next.new.front c.link_prev.new.back (Some slot) (i.spare + 1) (without slot es)
     (removed_to i.nodes.items i.front i.back i.spare_front i.spare es c.self.invariant slot n at some
     c.replace.new.self.items c.link_next.new.nodes.items c.link_prev.new.nodes.items c.link_next.new.front c.link_prev.new.back
     c.replace.ensures.items c.link_next.ensures.nodes c.link_prev.ensures.nodes c.link_next.ensures.front c.link_prev.ensures.back)

@@ -1,7 +1,7 @@
 use Rattle.std.proofs.Common.{◌≡◌, ◌+◌, ◌-◌, ◌<◌, ◌≤◌, ◌^◌, length, ap, ◌∙◌, arith}
 use Rattle.oz_epochs.specs.Epochs.{Epochs}
-use Rattle.oz_epochs.specs.Sound.{entries_of}
-use Rattle.oz_epochs.proofs.Changes.{entries_are, sound_here, grown_to}
+use Rattle.oz_epochs.specs.Nodes.{entries_of}
+use Rattle.oz_epochs.proofs.Changes.{entries_are, linked_here, grown_to}
 use Rattle.oz_epochs.proofs.list.EpochList.reserve.Goals as goal
 
 pub invariant_of-self-2 : goal.invariant_of-self-2
@@ -11,7 +11,7 @@ invariant_of-self-2 g c =
     let small : capacity < 2 ^ 64 = omega (arith, c.capacity.type_inv, c.capacity.ensures) in
     let within : length items ≤ capacity = omega (arith, c.len.ensures.len, c.len.ensures.within) in
     let count : total ≡ i.spare + (capacity - length items) = omega (arith, c.len.ensures.len, c.capacity.ensures) in
-    sound_here fill.new.nodes.items i.front i.back fill.result total es
+    linked_here fill.new.nodes.items i.front i.back fill.result total es
     (grown_to i.nodes.items i.front i.back i.spare_front i.spare es c.self.invariant items fill.new.nodes.items fill.result capacity total c.grow.ensures.items small within fill.ensures.full fill.ensures.kept fill.ensures.spare count)
 
 pub returns-clause-entries : goal.returns-clause-entries

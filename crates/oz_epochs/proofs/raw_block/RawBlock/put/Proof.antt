@@ -1,12 +1,12 @@
 use Rattle.oz_epochs.proofs.Cited.{◌≡◌, ℕ, suc, ◌+◌, ◌-◌, ◌^◌, ◌<◌, List, [], ◌∷◌, ◌++◌, refl, sym, ap, subst, length, arith, wider, after, says_two, one as single, times_below, proved_at, array_of, Fml, ftrue, flft, froom, SProp, ◌⊑◌, fact, tables, usize, yes, no, lone, mem, part_at, param, layouts, param_laws, RattleType, owns, mut_vals, plain, types_at, heard, nothing, Stays, stay_ref, stay_dropped, walk_of, ends_at, Goes-ref, Goes-dropped, length-append, inst_fn, a_type, w64, Val, vint, vptr, vunit, part_in, close_ref, cells, add_comm, full_share, WpFn, alloc_all, pass_all, free_all, look_at, get, through, sets, env, ‵, raw, prop, ◌⊛◌, at_ret, ◌$◌, ◌∵◌, !, qed, done, move, keep, use1, use2, split, split3, join, fsplit, fsplit3, fjoin, fjoin3, feq_i, flt_l, flt_i, rewrite, regoal, suffices, whole, sub, look_in, enter, of_opd, load, fld, stop, bin, unit_lit, init, assigns_last, first, blocks, exec, returns, is}
-use Rattle.oz_epochs.specs.Places.{bytes, behind}
-use Rattle.oz_epochs.specs.declared.places.Places.{Places}
-use Rattle.oz_epochs.specs.contracts.places.Places.put as f
-use Rattle.oz_epochs.specs.contracts.places.Places.put.Key
+use Rattle.oz_epochs.specs.RawBlock.{bytes, past}
+use Rattle.oz_epochs.specs.declared.raw_block.RawBlock.{RawBlock}
+use Rattle.oz_epochs.specs.contracts.raw_block.RawBlock.put as f
+use Rattle.oz_epochs.specs.contracts.raw_block.RawBlock.put.Key
 use Rattle.oz_epochs.proofs.Held.{counts, Row, opened, together as joined}
 use Rattle.oz_epochs.proofs.Last.{one, beyond, beyond_is, together, room_apart}
-use Rattle.oz_epochs.proofs.places.Places.put.Statement.{statement}
-use Rattle.oz_epochs.proofs.places.Places.put.Code as code
+use Rattle.oz_epochs.proofs.raw_block.RawBlock.put.Statement.{statement}
+use Rattle.oz_epochs.proofs.raw_block.RawBlock.put.Code as code
 
 abbrev stayed : (T : RattleType) → Stays (f.ended T).signature.params (f.ended T).kept
 stayed T = (stay_ref (0 ∷ []) tt (plain (λ _. Row (param 0 T))), (stay_dropped _ yes, (stay_dropped _ no, tt)))
@@ -18,7 +18,7 @@ put_spec 𝓤 𝓛 𝓜 𝓡 wired T L =
     proved_at 𝓛 (f.ended T) (stayed T) c 𝓜 𝓡 (Goes-ref 𝓛 2 0 tt (plain (λ _. Row R)), (Goes-dropped 𝓛 2 (plain (λ _. usize)) yes (λ κs x w. refl), (Goes-dropped 𝓛 2 (plain (λ _. R)) no (λ κs x w. refl), tt)))
     (Key.name (layouts (a_type ∷ []) (T, tt))) fn (code.unfolded 𝓤 𝓛.H 𝓜 𝓡 wired (T, tt)) (λ y are.
     let κs = y.0.0 in let qs = y.0.1 in let a = y.0.3 in let vss = y.0.4 in
-    let p : Places T.Denot = a.0.now in let n = a.1.0 in let item = a.1.1.0 in let b = a.0.ref_ptr.0 in let o = a.0.ref_ptr.1 in
+    let p : RawBlock T.Denot = a.0.now in let n = a.1.0 in let item = a.1.1.0 in let b = a.0.ref_ptr.0 in let o = a.0.ref_ptr.1 in
     let word = single (record { row = T; laws = L }) vss.1.1.0 (((param_laws 0 T L).lawful 𝓛).typed item vss.1.1.0 are.1.1.0) in
     let v : Val = word.0 in
     let given : ◌≡◌ {A = List Val × (List Val × List Val)} (vss.0, (vss.1.0, vss.1.1.0)) (mut_vals a.0, (vint w64 n ∷ [], v ∷ [])) = λ i. (are.0.0 i, (are.1.0.0 i, word.1 i)) in
@@ -34,9 +34,9 @@ put_spec 𝓤 𝓛 𝓜 𝓡 wired T L =
     enter ! _ _ _ _ _ $ alloc_all ! (λ l. pass_all ! refl ((tt, tt), ((tt, record { fits = are.1.0.1 }), (word.2, tt))) $
     opened ! tt R p b o (omega arith) (λ b' o' e. move ! (1 ∷ []) $ fsplit ! $ flt_l ! (λ few. fsplit ! $ move ! (1 ∷ []) $
     let s : ℕ = one R in let at : ℕ = o' + bytes R n in let room : ℕ = p.room - 1 in let left : p.room ≡ suc room = omega arith in
-    let items : List T.Denot = p.items ++ item ∷ [] in let longer : length items ≡ length p.items + 1 = length-append p.items (item ∷ []) in let q : Places T.Denot = record p { items = items; room = room } in
+    let items : List T.Denot = p.items ++ item ∷ [] in let longer : length items ≡ length p.items + 1 = length-append p.items (item ∷ []) in let q : RawBlock T.Denot = record p { items = items; room = room } in
     let below : bytes R n < 2 ^ 63 = times_below n (length p.items + p.room) s (2 ^ 63) (omega arith) few in
-    rewrite ! 0 (λ (k : ℕ). ‵ (behind R b' o' k p.room)) (sym count) refl $ rewrite ! 0 (λ (k : ℕ). ‵ (behind R b' o' n k)) left refl $ fsplit ! $
+    rewrite ! 0 (λ (k : ℕ). ‵ (past R b' o' k p.room)) (sym count) refl $ rewrite ! 0 (λ (k : ℕ). ‵ (past R b' o' n k)) left refl $ fsplit ! $
     use1 𝓛 (‵ (froom (lone R.mir) b' at) ⊛ ‵ (froom (array_of R room) b' (at + s))) (room_apart 𝓛 R b' at room) $ split ! $
     -- [the place; those behind it; the right to the block; the items; the word; the open loan, in three parts; the token of the type; the item]
     first ! $ blocks ! $ sets ! (of_opd ! (load ! (through ! refl (fld ! refl (stop !))) (look_in ! 4 (sub ! 0 refl (whole !))))) refl (tt, tt) $

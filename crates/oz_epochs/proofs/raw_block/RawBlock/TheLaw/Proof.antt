@@ -1,4 +1,4 @@
--- A `&` to the places is a `&` to each item that they hold.
+-- A `&` to a raw block is a `&` to each item that they hold.
 use Rattle.std.specs.Prelude.{ℕ, ◌+◌, List, [], ◌∷◌, length}
 use mathlib.Core.List.{◌++◌}
 use seplogic.Ra.Ura.{Ura}
@@ -19,9 +19,9 @@ use denote.Struct.Laws.{RawPtr-copy}
 use denote.Struct.Lending.{Lends, Lends-both, Lends-first, Lends-nothing, Lends-said, of_Lends}
 use types.Logic.{Logic}
 use types.SemTy.{cells}
-use Rattle.oz_epochs.specs.Places.{fits, owned, lent, behind}
-use Rattle.oz_epochs.specs.contracts.places.Places as C
-use Rattle.oz_epochs.proofs.places.Places.TheLaw.Statement.{statement}
+use Rattle.oz_epochs.specs.RawBlock.{fits, owned, lent, past}
+use Rattle.oz_epochs.specs.contracts.raw_block.RawBlock as C
+use Rattle.oz_epochs.proofs.raw_block.RawBlock.TheLaw.Statement.{statement}
 
 module _ (T : RattleType) (L : Laws T) where
   again : (p : Ptr) (items : List T.Denot) (room : ℕ) → ShrLaws (lent T p items room)
@@ -41,9 +41,9 @@ module _ (T : RattleType) (L : Laws T) where
     all : (p : Ptr) (items : List T.Denot) (room : ℕ) → Lends 𝓛 (owned T p items room) (lent T p items room) l
     all (block_ptr b o) items room =
         let few : Fml = fits T (length items + room) in
-        Lends-both 𝓛 few (fsep (cells (mem T) items b o) (behind T b o (length items) room)) (said few) (elements_shared T items b o) l
+        Lends-both 𝓛 few (fsep (cells (mem T) items b o) (past T b o (length items) room)) (said few) (elements_shared T items b o) l
         (Lends-said 𝓛 few tt l)
-        (Lends-first 𝓛 (cells (mem T) items b o) (behind T b o (length items) room) (elements_shared T items b o) l (each items b o))
+        (Lends-first 𝓛 (cells (mem T) items b o) (past T b o (length items) room) (elements_shared T items b o) l (each items b o))
     all null_ptr items room = Lends-said 𝓛 (feq ℕ (length items + room) 0) tt l
 
 pub shares : (T : RattleType) (L : Laws T) → statement T L

@@ -2,14 +2,14 @@ use Rattle.oz_epochs.proofs.Cited.{ftrue, flft, emp, id⊢, array_of, HasLayout,
 use Rattle.std.specs.contracts.impls.GlobalAllocator.deallocate as g
 use Rattle.std.specs.contracts.alloc.Global as H
 use Rattle.std.proofs.impls.GlobalAllocator.deallocate.Met.{met}
-use Rattle.oz_epochs.specs.Places.{bytes, fits, owned}
-use Rattle.oz_epochs.specs.contracts.places.Places as C
-use Rattle.oz_epochs.specs.contracts.places.Places.free as f
-use Rattle.oz_epochs.specs.contracts.places.Places.free.Key
+use Rattle.oz_epochs.specs.RawBlock.{bytes, fits, owned}
+use Rattle.oz_epochs.specs.contracts.raw_block.RawBlock as C
+use Rattle.oz_epochs.specs.contracts.raw_block.RawBlock.free as f
+use Rattle.oz_epochs.specs.contracts.raw_block.RawBlock.free.Key
 use Rattle.oz_epochs.proofs.Held.{counts, Row, word}
 use Rattle.oz_epochs.proofs.Blocks.{free, emptied, laid}
-use Rattle.oz_epochs.proofs.places.Places.free.Statement.{statement}
-use Rattle.oz_epochs.proofs.places.Places.free.Code as code
+use Rattle.oz_epochs.proofs.raw_block.RawBlock.free.Statement.{statement}
+use Rattle.oz_epochs.proofs.raw_block.RawBlock.free.Code as code
 
 abbrev stayed : (T : RattleType) → Stays (f.ended T).signature.params (f.ended T).kept
 stayed T = (stay_dropped _ no, (stay_dropped _ yes, (stay_dropped _ yes, tt)))
@@ -27,7 +27,7 @@ free_spec 𝓤 𝓛 𝓜 𝓡 wired T L =
     ∷ (raw (fact 𝓤 (κs.1.0 ⊑ T.lives)) ⊛ raw (fact 𝓤 (p.items ≡ [])) ⊛ raw (fact 𝓤 (n ≡ p.room))) ∷ []) ∵
     move ! (1 ∷ []) $ split3 ! $ move ! (1 ∷ 2 ∷ []) $ heard ! _ (λ empty. heard ! _ (λ count.
     move ! (1 ∷ []) $ split ! $ split3 ! $ move ! (3 ∷ []) $ fsplit ! $ fsplit ! $ move ! (2 ∷ []) $ fsplit ! $ keep ! (0 ∷ 3 ∷ 4 ∷ 5 ∷ []) $
-    -- [the handle; what the places own; its token; the token of the type]
+    -- [the handle; what the block owns; its token; the token of the type]
     enter ! _ _ _ _ _ $ alloc_all ! (λ l. pass_all ! refl ((((lawful (C.the_type R) (RawPtr-laws, tt) 𝓛).typed p _ are.0).0), ((tt, tt), ((tt, record { fits = are.1.1.0.1 }), tt))) $
     let al : ℕ = capped (align (lone R.mir)) in let G = triple_of 𝓛 g.signature (g.spec 𝓛 𝓜.mem 𝓡.returns) in
     let z : G.Ghost = (((κs.0, tt), (qs.0, tt), tt, (alloc, (p.start, (bytes R n, (al, tt)))), (shr_vals alloc, (rawptr_vals p.start, (uint_vals w64 (bytes R n), (uint_vals w64 al, tt))))), array_of R n) in

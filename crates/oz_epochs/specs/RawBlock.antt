@@ -1,4 +1,4 @@
--- What the places of a block own.
+-- What a raw block owns, for private calls and their proofs.
 use Rattle.std.specs.Prelude.{ℕ, ◌+◌, ◌*◌, ◌^◌, List, length}
 use Rattle.std.specs.Allocator.{array_of}
 use Rattle.std.specs.Global.{Global}
@@ -23,14 +23,16 @@ module _ (R : RattleType) where
   abbrev pub fits : ℕ → Fml
   fits count = flt (bytes count) (2 ^ 63)
 
-  -- what lies behind so many items: room for others, and the right to give the whole block back
-  abbrev pub behind : ℕ → ℕ → ℕ → ℕ → Fml
-  behind b o count room =
-      fsep (froom (array_of R room) b (o + bytes count)) (ghosts.dealloc_token heap (array_of R (count + room)) (block_ptr b o))
+  -- what lies past so many items: room for others, and the right to give the whole block back
+  abbrev pub past : ℕ → ℕ → ℕ → ℕ → Fml
+  past b o count room =
+      fsep (froom (array_of R room) b (o + bytes count))
+      (ghosts.dealloc_token heap (array_of R (count + room)) (block_ptr b o))
 
-  -- A block has its items from its start on. Where there is none, there are no places.
+  -- A block has its items from its start on. Where there is none, there is no room.
   abbrev pub owned : Ptr → List R.Denot → ℕ → Fml
-  owned (block_ptr b o) items room = fsep (fits (length items + room)) (fsep (cells (mem R) items b o) (behind b o (length items) room))
+  owned (block_ptr b o) items room =
+      fsep (fits (length items + room)) (fsep (cells (mem R) items b o) (past b o (length items) room))
   owned null_ptr items room = feq ℕ (length items + room) 0
 
   -- what is seen of the items through a `&`

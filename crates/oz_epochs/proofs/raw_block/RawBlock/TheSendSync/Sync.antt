@@ -1,7 +1,7 @@
--- The places may be seen from several threads where their items may.
+-- A raw block may be seen from several threads where its items may.
 use Rattle.std.proofs.Common.{ℕ, ◌+◌, List, [], ◌∷◌}
-use Rattle.oz_epochs.specs.Places.{lent}
-use Rattle.oz_epochs.specs.contracts.places.Places as C
+use Rattle.oz_epochs.specs.RawBlock.{lent}
+use Rattle.oz_epochs.specs.contracts.raw_block.RawBlock as C
 use base.Fml.{Lft}
 use base.Shift.{Keyless}
 use denote.Memory.{mem}

@@ -1,16 +1,16 @@
 use Rattle.oz_epochs.proofs.Cited.{ftrue, flft, emp, ex, never, fst∗, id⊢, Fml, lasts, array_of, FitsBlock, owned as owned_by, ◌⊑◌, fact, fact_i, tables, RefOf, usize, yes, param, layouts, uint_vals, uint_Tells, uint_Makes, RattleType, owns, Ptr, rawptr_vals, shr_vals, shr_Tells, mut_vals, mut_Tells, plain, types_at, heard, nothing, calls_at_last, triple_of, framed, Stays, stay_ref, stay_dropped, Goes-ref, walk_of, ends_at, says, Goes-dropped, lone, size, inst_fn, a_type, named, w64, Val, T as Holds, has_ty, WT, full_share, mem, part_at, block_ptr, null_ptr, sem, close_ref, agg, store_in, assigns, switches, MatchResult, fobs, fbor, Is, Body, Bool, layout, look_in, load, times_below, ffalse, fsep, lands_last, get_tag, through, sets_last, alloc_all, pass_all, free_all, look_at, get, get_in, sets, is as same, env, ‵, raw, ◌⊛◌, at_ret, some, later, await, pick, ◌$◌, ◌∵◌, !, qed, done, move, keep, drop, use0, use1, use2, by, split, split3, join, fsplit, fsplit3, fjoin, fjoin3, feq_i, rewrite, suffices, whole, sub, enter, of_opd, lit, unit_lit, fld, stop, and_then, no_more, first, blocks, exec, returns, true, false, ◌≡◌, ℕ, ◌+◌, ◌^◌, ◌<◌, ◌≤◌, ◌-◌, List, [], ◌∷◌, refl, sym, subst, length, arith, lit<, after, proved, Answer, answer_val, Answer-typed, Flagged, by_flag, flagged, resized_if_ok, ghosts, Ok, Err, vrt, in_variant}
-use Rattle.oz_epochs.specs.declared.places.Places.{Places}
+use Rattle.oz_epochs.specs.declared.raw_block.RawBlock.{RawBlock}
 use Rattle.std.specs.contracts.impls.GlobalAllocator.grow as g
 use Rattle.std.specs.contracts.alloc.Global as H
 use Rattle.std.proofs.impls.GlobalAllocator.grow.Met.{met}
-use Rattle.oz_epochs.specs.Places.{bytes, owned}
-use Rattle.oz_epochs.specs.contracts.places.Places.widen as f
-use Rattle.oz_epochs.specs.contracts.places.Places.widen.Key
+use Rattle.oz_epochs.specs.RawBlock.{bytes, owned}
+use Rattle.oz_epochs.specs.contracts.raw_block.RawBlock.widen as f
+use Rattle.oz_epochs.specs.contracts.raw_block.RawBlock.widen.Key
 use Rattle.oz_epochs.proofs.Held.{Row, opened, together}
 use Rattle.oz_epochs.proofs.Blocks.{Taken, taken, ok, refused, is_ok, is_refused}
-use Rattle.oz_epochs.proofs.places.Places.widen.Statement.{statement}
-use Rattle.oz_epochs.proofs.places.Places.widen.Code as code
-use Rattle.oz_epochs.specs.Places.{heap}
+use Rattle.oz_epochs.proofs.raw_block.RawBlock.widen.Statement.{statement}
+use Rattle.oz_epochs.proofs.raw_block.RawBlock.widen.Code as code
+use Rattle.oz_epochs.specs.RawBlock.{heap}
 use Rattle.oz_epochs.proofs.Packed.{block, packed, unpacked}
 
 abbrev stayed : (T : RattleType) → Stays (f.ended T).signature.params (f.ended T).kept
@@ -27,7 +27,7 @@ widen_spec 𝓤 𝓛 𝓜 𝓡 wired T L =
     let p = a.0.now in let alloc = a.1.0 in let n = a.1.1.0 in let old = a.1.1.1.0 in let new = a.1.1.1.1.0 in let b = a.0.ref_ptr.0 in let o = a.0.ref_ptr.1 in
     let κ = κs.1.0 in let q = qs.1.0 in let κT = κs.1.1.0 in let qT = qs.1.1.0 in
     let y : W.Ghost = ((κs, qs, bounds, a, (mut_vals a.0, (shr_vals alloc, (uint_vals w64 n, (uint_vals w64 old, (uint_vals w64 new, tt)))))), h) in
-    let ended = λ (now : Places T.Denot) (r : Taken.Denot) (w : Val) (is : Is Taken r (w ∷ [])) (so : MatchResult r (λ _. (now.items ≡ p.items) × (n + now.room ≡ new)) (λ _. now ≡ p)).
+    let ended = λ (now : RawBlock T.Denot) (r : Taken.Denot) (w : Val) (is : Is Taken r (w ∷ [])) (so : MatchResult r (λ _. (now.items ≡ p.items) × (n + now.room ≡ new)) (λ _. now ≡ p)).
     qed 𝓛 (‵ (fobs a.0.ghost_name ((Row R).coded.code now)) ∷ ‵ (fbor κs.0 (Body (mem (Row R)) b o a.0.ghost_name)) ∷ ‵ (flft κs.0 qs.0) ∷ ‵ (flft κ q) ∷ ‵ (flft κT qT) ∷ []) ∵
     suffices ! _ (ends_at 𝓛 (f.ended T) (stayed T) c y w r (now, (tt, (tt, (tt, (tt, tt))))) (tt, (tt, (tt, (tt, (tt, tt)))))) $ says ! so $
     feq_i ! (List Val) (mut_vals a.0) (mut_vals a.0) refl $ fjoin3 ! $ nothing ! $ nothing ! $ fjoin ! $ nothing ! $ fjoin ! $ nothing ! $ fjoin ! $ nothing ! $ fjoin ! $ move ! (1 ∷ 0 ∷ []) $ fjoin ! $
@@ -61,7 +61,7 @@ widen_spec 𝓤 𝓛 𝓜 𝓡 wired T L =
     -- [what was given; the handle's token; the token of the type; nothing; the word; the open loan, in three parts]
     flagged ! v left (λ b₂ o₂ is. lands_last ! refl (typed true b₂ o₂ v is) $ exec ! 𝓣.C 𝓣.Λ (env fn.locals l) (after 1 fn.body) (at_ret (env fn.locals l) (W.post y)) $ sets ! (same ! (of_opd ! (get ! refl)) is) refl (Answer-typed true b₂ o₂) $
     use1 𝓛 (‵ (owned R (block_ptr b₂ o₂) items (new - n))) (unpacked 𝓛 R items n new count tt le sizes.2 (block_ptr b₂ o₂)) $ move ! (4 ∷ 0 ∷ []) $
-    let made : Places T.Denot = record { start = block_ptr b₂ o₂; items = items; room = new - n } in
+    let made : RawBlock T.Denot = record { start = block_ptr b₂ o₂; items = items; room = new - n } in
     first ! $ switches ! (get_tag ! (vrt ! refl (fld ! refl (stop !))) (whole !)) (
       λ _.
           sets ! (of_opd ! (get_in ! (vrt ! refl (fld ! refl (stop !))) (in_variant ! 0 0 refl refl (whole !)))) refl (tt, tt) $

@@ -1,8 +1,8 @@
 use Rattle.oz_epochs.proofs.Cited.{ℕ, [], ◌∷◌, refl, proved, ftrue, usize, lone, param, layouts, uint_Makes, owned, nothing, alive, walk_of, ends_at, says, inst_fn, a_type, w64, vint, capped_fits, size, capped, alloc_all, pass_all, free_all, look_at, sets, ‵, raw, ◌⊛◌, ◌$◌, ◌∵◌, !, qed, done, keep, move, split, suffices, enter, of_opd, size_word, returns}
-use Rattle.oz_epochs.specs.contracts.places.item_bytes as f
-use Rattle.oz_epochs.specs.contracts.places.item_bytes.Key
-use Rattle.oz_epochs.proofs.places.item_bytes.Statement.{statement}
-use Rattle.oz_epochs.proofs.places.item_bytes.Code as code
+use Rattle.oz_epochs.specs.contracts.raw_block.item_bytes as f
+use Rattle.oz_epochs.specs.contracts.raw_block.item_bytes.Key
+use Rattle.oz_epochs.proofs.raw_block.item_bytes.Statement.{statement}
+use Rattle.oz_epochs.proofs.raw_block.item_bytes.Code as code
 
 pub item_bytes_spec : {M : Type 1} → statement M
 item_bytes_spec 𝓤 𝓛 𝓜 𝓡 wired T L =

@@ -1,16 +1,16 @@
 use Rattle.oz_epochs.proofs.Cited.{ftrue, flft, emp, ex, never, fst∗, id⊢, Fml, lasts, array_of, HasLayout, FitsBlock, owned as owned_by, capped_fits, ◌⊑◌, fact, fact_i, tables, RefOf, usize, yes, param, layouts, uint_vals, uint_Tells, uint_Makes, RattleType, owns, shr_vals, shr_Tells, mut_vals, mut_Tells, plain, types_at, heard, nothing, calls_at, triple_of, framed, Stays, stay_ref, stay_dropped, Goes-ref, walk_of, ends_at, says, Goes-dropped, wider, lone, size, align, capped, inst_fn, a_type, named, w64, Val, full_share, mem, part_at, block_ptr, null_ptr, sem, open_ref, close_ref, agg, store_in, assigns, switches, MatchResult, fobs, fbor, Is, Body, get_tag, through, sets_last, lands_as, alloc_all, pass_all, free_all, look_at, get, get_in, sets, env, ‵, raw, ◌⊛◌, at_ret, some, later, await, pick, ◌$◌, ◌∵◌, !, qed, done, move, keep, drop, use0, use1, use2, by, split, split3, join, fsplit, fsplit3, fjoin, fjoin3, feq_i, suffices, whole, sub, enter, of_opd, lit, unit_lit, fld, stop, align_word, and_then, no_more, first, exec, returns, true, false, ◌≡◌, ℕ, List, [], ◌∷◌, refl, arith, lit<, after, proved, Answer, Answer-typed, Flagged, by_flag, flagged, block_if_ok, ghosts, Ok, Err, vrt, in_variant}
-use Rattle.oz_epochs.specs.declared.places.Places.{Places}
+use Rattle.oz_epochs.specs.declared.raw_block.RawBlock.{RawBlock}
 use Rattle.std.specs.contracts.impls.GlobalAllocator.allocate as g
 use Rattle.std.specs.contracts.alloc.Global as H
 use Rattle.std.proofs.impls.GlobalAllocator.allocate.Met.{met}
-use Rattle.oz_epochs.specs.Places.{bytes, owned}
-use Rattle.oz_epochs.specs.contracts.places.Places.take as f
-use Rattle.oz_epochs.specs.contracts.places.Places.take.Key
+use Rattle.oz_epochs.specs.RawBlock.{bytes, owned}
+use Rattle.oz_epochs.specs.contracts.raw_block.RawBlock.take as f
+use Rattle.oz_epochs.specs.contracts.raw_block.RawBlock.take.Key
 use Rattle.oz_epochs.proofs.Held.{counts, Row, names, apart, together}
 use Rattle.oz_epochs.proofs.Blocks.{filled, laid, Taken, taken, ok, refused, is_ok, is_refused}
-use Rattle.oz_epochs.proofs.places.Places.take.Statement.{statement}
-use Rattle.oz_epochs.proofs.places.Places.take.Code as code
-use Rattle.oz_epochs.specs.Places.{heap}
+use Rattle.oz_epochs.proofs.raw_block.RawBlock.take.Statement.{statement}
+use Rattle.oz_epochs.proofs.raw_block.RawBlock.take.Code as code
+use Rattle.oz_epochs.specs.RawBlock.{heap}
 
 abbrev stayed : (T : RattleType) → Stays (f.ended T).signature.params (f.ended T).kept
 stayed T = (stay_ref (0 ∷ []) tt (plain (λ _. Row (param 0 T))), (stay_dropped _ yes, (stay_dropped _ yes, tt)))
@@ -24,7 +24,7 @@ take_spec 𝓤 𝓛 𝓜 𝓡 wired T L =
     (λ κs. (mut_vals, (shr_vals, (uint_vals w64, tt)))) (λ κs. (mut_Tells (named 0) κs.0 (Row R), (shr_Tells (named 1) κs.1.0 H.the_row, (uint_Tells w64, tt)))) (λ κs qs bounds a h are.
     let p = a.0.now in let alloc = a.1.0 in let n = a.1.1.0 in let b = a.0.ref_ptr.0 in let o = a.0.ref_ptr.1 in let κ = κs.1.0 in let q = qs.1.0 in
     let y : W.Ghost = ((κs, qs, bounds, a, (mut_vals a.0, (shr_vals alloc, (uint_vals w64 n, tt)))), h) in
-    let ended = λ (now : Places T.Denot) (r : Taken.Denot) (w : Val) (is : Is Taken r (w ∷ [])) (so : MatchResult r (λ _. (now.items ≡ []) × (now.room ≡ n)) (λ _. now ≡ p)).
+    let ended = λ (now : RawBlock T.Denot) (r : Taken.Denot) (w : Val) (is : Is Taken r (w ∷ [])) (so : MatchResult r (λ _. (now.items ≡ []) × (now.room ≡ n)) (λ _. now ≡ p)).
     qed 𝓛 (‵ (fobs a.0.ghost_name ((Row R).coded.code now)) ∷ ‵ (fbor κs.0 (Body (mem (Row R)) b o a.0.ghost_name)) ∷ ‵ (flft κs.0 qs.0) ∷ ‵ (flft κ q) ∷ ‵ (flft κs.1.1.0 qs.1.1.0) ∷ []) ∵
     suffices ! _ (ends_at 𝓛 (f.ended T) (stayed T) c y w r (now, (tt, (tt, tt))) (tt, (tt, (tt, tt)))) $ says ! so $
     feq_i ! (List Val) (mut_vals a.0) (mut_vals a.0) refl $ fjoin3 ! $ nothing ! $ nothing ! $ fjoin ! $ nothing ! $ fjoin ! $ move ! (1 ∷ 0 ∷ []) $ fjoin ! $
@@ -51,7 +51,7 @@ take_spec 𝓤 𝓛 𝓜 𝓡 wired T L =
     flagged ! v given (λ b' o' e. lands_as ! e refl (Answer-typed true b' o') $ move ! (2 ∷ 3 ∷ 4 ∷ []) $ open_ref ! tt (mem (Row R)) $
     use1 𝓛 (‵ (names R p.start b o) ⊛ ‵ (owned R p.start p.items p.room)) (apart 𝓛 R p b o) $ split ! $ move ! (1 ∷ []) $ drop ! $ move ! (4 ∷ []) $
     use1 𝓛 (‵ (owned R (block_ptr b' o') [] n)) (filled 𝓛 R (block_ptr b' o') n few) $ move ! (1 ∷ 0 ∷ []) $
-    let made : Places T.Denot = record { start = block_ptr b' o'; items = []; room = n } in
+    let made : RawBlock T.Denot = record { start = block_ptr b' o'; items = []; room = n } in
     -- [the word; the block; the open loan, in three parts; the handle's token; the token of the type]
     first ! $ switches ! (get_tag ! (vrt ! refl (fld ! refl (stop !))) (whole !)) (
       λ _.

@@ -1,10 +1,10 @@
--- The places may go to another thread where their items may.
+-- A raw block may go to another thread where its items may.
 use Rattle.std.proofs.Common.{ℕ, ◌+◌, List, [], ◌∷◌}
 use Rattle.std.proofs.Crossing.{frees}
 use Rattle.std.specs.Allocator.{array_of}
 use Rattle.std.specs.Prelude.{length}
-use Rattle.oz_epochs.specs.Places.{heap, owned}
-use Rattle.oz_epochs.specs.contracts.places.Places as C
+use Rattle.oz_epochs.specs.RawBlock.{heap, owned}
+use Rattle.oz_epochs.specs.contracts.raw_block.RawBlock as C
 use base.Fraction.{full_share}
 use base.Shift.{Keyless}
 use denote.Memory.{mem}

@@ -5,7 +5,7 @@ use mathlib.Core.Option.{some, some-ne-none, some-injective}
 use native.Mathlib.Decide.{ℕ_discrete}
 use lib.ListN.{get_elem?}
 use Rattle.atomic_table.proofs.Lists.{at_set, set_here, set_else}
-use Rattle.oz_turn.specs.Told.{Telling}
+use Rattle.oz_turn.specs.Telling.{Telling}
 use Rattle.oz_turn.specs.Kept.{Apart, Waits, IsHome, IsOut}
 use Rattle.oz_turn.specs.declared.view.View.{View}
 

@@ -8,3 +8,4 @@ pub mod Gives
 pub mod Makes
 pub mod Joins
 pub mod Closes
+pub mod Ready

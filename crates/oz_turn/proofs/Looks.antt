@@ -7,8 +7,10 @@ use mathlib.Core.Option.{some, none}
 use lib.ListN.{get_elem?}
 use Rattle.atomic_table.specs.Table.{State, Allows, Valid, Act, Me, keeps, takes, stepped, carried_after}
 use Rattle.atomic_table.proofs.Lists.{set_again, set_here, one_turn}
-use Rattle.oz_turn.specs.Told.{Telling, own_entries, BeginsWith}
-use Rattle.oz_turn.specs.Views.{own, taking}
+use Rattle.oz_turn.specs.Told.{own_entries, BeginsWith}
+use Rattle.oz_turn.specs.Telling.{Telling}
+use Rattle.oz_turn.specs.Views.{taking}
+use Rattle.oz_turn.specs.Own.{own}
 use Rattle.oz_turn.specs.Kept.{times, share_count, ticket_count, FitsView, FitsShare, IsHome, IsOut, IsKept}
 use Rattle.oz_turn.specs.Plays.{Takes, Looks}
 use Rattle.oz_turn.specs.declared.view.Share.{Share}

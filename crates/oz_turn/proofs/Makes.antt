@@ -9,7 +9,7 @@ use mathlib.Core.Option.{some, some-ne-none, some-injective}
 use lib.ListN.{get_elem?}
 use Rattle.atomic_table.specs.Table.{Splits, Joins, opening}
 use Rattle.atomic_table.proofs.Lists.{at_longer, set_else}
-use Rattle.oz_turn.specs.Told.{Telling}
+use Rattle.oz_turn.specs.Telling.{Telling}
 use Rattle.oz_turn.specs.Views.{fresh, seated, next, joined, spent}
 use Rattle.oz_turn.specs.Kept.{Apart, one_if_some, times, share_count, ticket_count, FitsView, FitsShare, IsHome, IsOut, IsKept}
 use Rattle.oz_turn.specs.declared.view.Share.{Share}

@@ -6,7 +6,7 @@ use Rattle.std.proofs.lemmas.List.{append-nil}
 use Rattle.std.proofs.lemmas.List.Elements.{All-nil, All-cons, All-head, All-tail, filter-append}
 use Rattle.std.proofs.lemmas.List.Sums.{sum_by-cons}
 use Rattle.oz_turn.specs.Told.{own_entries, BeginsWith}
-use Rattle.oz_turn.specs.Views.{own_of}
+use Rattle.oz_turn.specs.Own.{own_of}
 use Rattle.oz_turn.specs.declared.view.Share.{Share}
 
 -- a view with one share has its own alone

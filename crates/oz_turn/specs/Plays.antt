@@ -1,11 +1,14 @@
--- What each step tells: of the seat before, the number found and the seat after.
+-- What each step tells, of the seat before, the number found and the seat after: for private calls and their proofs.
 use Rattle.std.specs.Prelude.{ℕ, ◌≡◌, ◌≢◌, ◌%◌, ◌^◌, ◌==◌, List, [], ◌∷◌, Option, Some, MatchBool}
 use Rattle.atomic_table.specs.Table.{Me}
-use Rattle.oz_turn.specs.Told.{Telling, own_entries, BeginsWith}
-use Rattle.oz_turn.specs.Views.{own, numbered, ticketed, taking, counting, serving}
+use Rattle.oz_turn.specs.Told.{own_entries, BeginsWith}
+use Rattle.oz_turn.specs.Telling.{Telling}
+use Rattle.oz_turn.specs.Views.{numbered, ticketed, taking, counting, serving}
+use Rattle.oz_turn.specs.Own.{own, KnowsOwn}
 use Rattle.oz_turn.specs.declared.view.View.{View}
 
--- the value that is taken begins with what the seat has seen, has the entries that the seat gave and no others of its number, and the seat's room
+-- the value that is taken begins with what the seat has seen, has the entries that the seat gave and no others of its
+-- number, and the seat's room
 pub record Finds {T E : Type 0} (m : Telling T E) (v : View T E) (value : T) : Type 0 where
   pub seen : BeginsWith (m.entries value) (own v).seen
   pub mine : own_entries m.seat_of (own v).number (m.entries value) ≡ (own v).mine
@@ -37,13 +40,16 @@ module _ {T E : Type 0} (m : Telling T E) where
 
   -- the list of the value in the slot is the story
   abbrev pub Counts : SeatState → ℕ → SeatState → Type 0
-  Counts a n b = (x : T) → a.1 ≡ carrying (Some x) → (own_entries m.seat_of (own a.0).number (own a.0).seen ≡ (own a.0).mine) × (b ≡ (counting a.0 (m.entries x) (own_entries m.seat_of (own a.0).number (m.entries x)), a.1))
+  Counts a n b =
+      (x : T) → a.1 ≡ carrying (Some x) → KnowsOwn m.seat_of (own a.0)
+      × (b ≡ (counting a.0 (m.entries x) (own_entries m.seat_of (own a.0).number (m.entries x)), a.1))
 
   -- the value in the slot is given back
   abbrev pub Serves : SeatState → ℕ → SeatState → Type 0
   Serves a n b = (x : T) → a.1 ≡ carrying (Some x) → b ≡ (serving a.0 (m.room x (own a.0).number), [])
 
--- The value in the slot may be given back: its list is the one that the seat has seen, and its rooms for other numbers are those that it had when it was taken
+-- The value in the slot may be given back: its list is the one that the seat has seen, and its rooms for other numbers
+-- are those that it had when it was taken
 pub record MayServe {T E : Type 0} (m : Telling T E) (a : Me (Option T) (View T E)) : Type 0 where
   pub value : T
   pub before : T

@@ -1,14 +1,5 @@
--- A value that tells a list of entries, and lists that threads add to.
+-- Lists of entries that seats add to.
 use Rattle.std.specs.Prelude.{ℕ, ◌≡◌, ◌≢◌, ◌==◌, List, [], ◌∷◌, ◌++◌, filter, Option, IsSomeAnd}
-
--- what is told of a value of T: its entries, the seat of an entry, and the room of a seat
-pub record Telling (T E : Type 0) : Type 0 where
-  pub entries : T → List E
-  pub seat_of : E → ℕ
-  pub room : T → ℕ → ℕ
-
-abbrev pub telling : {T E : Type 0} → (T → List E) → (E → ℕ) → (T → ℕ → ℕ) → Telling T E
-telling entries seat_of room = record { entries = entries; seat_of = seat_of; room = room }
 
 -- the entries of one seat, in their order
 abbrev pub own_entries : {E : Type 0} → (E → ℕ) → ℕ → List E → List E
@@ -24,4 +15,5 @@ AddsOne {E} seat_of number before after = (e : E) × (after ≡ before ++ e ∷ 
 
 -- the value was taken, and keeps the rooms of all other seats
 abbrev pub KeepsOtherRooms : {T : Type 0} → (T → ℕ → ℕ) → ℕ → Option T → T → Type 0
-KeepsOtherRooms room number taken value = IsSomeAnd taken (λ before. (n : ℕ) → n ≢ number → room value n ≡ room before n)
+KeepsOtherRooms room number taken value =
+    IsSomeAnd taken (λ before. (n : ℕ) → n ≢ number → room value n ≡ room before n)

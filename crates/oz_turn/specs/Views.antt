@@ -1,20 +1,9 @@
--- How a step changes what a seat knows.
+-- How a step changes what a seat knows: for private calls and their proofs.
 use Rattle.std.specs.Prelude.{ℕ, ◌+◌, List, [], ◌∷◌, ◌++◌, Some, None}
-use Rattle.oz_turn.specs.declared.view.Share.{Share}
+use Rattle.oz_turn.specs.Own.{share, own}
 use Rattle.oz_turn.specs.declared.view.View.{View}
 
-abbrev pub share : {E : Type 0} → ℕ → List E → List E → ℕ → Share E
-share number seen mine room = record { number = number; seen = seen; mine = mine; room = room }
-
--- the share of a seat that has one
-abbrev pub own_of : {E : Type 0} → List (Share E) → Share E
-own_of [] = share 0 [] [] 0
-own_of (s ∷ _) = s
-
 module _ {T E : Type 0} where
-  abbrev pub own : View T E → Share E
-  own v = own_of v.shares
-
   -- a seat with no number, which may claim the next one
   abbrev pub fresh : ℕ → View T E
   fresh claimed = record { shares = []; ticket = None; taken = None; claims = Some claimed }
@@ -29,15 +18,30 @@ module _ {T E : Type 0} where
 
   -- look, where it is the seat's turn: the value is taken, and its list seen
   abbrev pub taking : View T E → T → List E → View T E
-  taking v x story = record { shares = share (own v).number story (own v).mine (own v).room ∷ []; ticket = v.ticket; taken = Some x; claims = v.claims }
+  taking v x story = record {
+    shares = share (own v).number story (own v).mine (own v).room ∷ [];
+    ticket = v.ticket;
+    taken = Some x;
+    claims = v.claims;
+  }
 
   -- count: the longer list was seen, and the last entry is the seat's
   abbrev pub counting : View T E → List E → List E → View T E
-  counting v story mine = record { shares = share (own v).number story mine (own v).room ∷ []; ticket = v.ticket; taken = v.taken; claims = v.claims }
+  counting v story mine = record {
+    shares = share (own v).number story mine (own v).room ∷ [];
+    ticket = v.ticket;
+    taken = v.taken;
+    claims = v.claims;
+  }
 
   -- serve: the value is given back, with this room for the seat
   abbrev pub serving : View T E → ℕ → View T E
-  serving v room = record { shares = share (own v).number (own v).seen (own v).mine room ∷ []; ticket = None; taken = None; claims = v.claims }
+  serving v room = record {
+    shares = share (own v).number (own v).seen (own v).mine room ∷ [];
+    ticket = None;
+    taken = None;
+    claims = v.claims;
+  }
 
   -- split: who claimed the last number goes on without the next one
   abbrev pub seated : View T E → View T E

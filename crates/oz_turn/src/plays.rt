@@ -1,5 +1,5 @@
 //! Names for the kinds of step, by which the table's calls are told what to prove.
-ghost use Rattle.oz_turn.specs.Told.{telling};
+ghost use Rattle.oz_turn.specs.Telling.{telling};
 ghost use Rattle.oz_turn.specs.Views.{seated, next, joined, spent};
 ghost use Rattle.oz_turn.specs.Plays.{Claims, Draws, Looks, Counts, Serves};
 

@@ -1,3 +1,5 @@
+//! The turn and its calls.
+
 ghost use Rattle.std.specs.Prelude.{◌≡◌, ◌≤◌, drop, IfOk};
 ghost use Rattle.oz_turn.specs.Steady.{IsBoard};
 
@@ -23,7 +25,8 @@ pub struct Turn<T: Told> {
 impl<T: Told> Turn<T> {
     ghost use Rattle.std.specs.Prelude.{◌≡◌, ℕ, ◌<◌, ◌≤◌, [], ◌∷◌, ◌++◌, length, drop, None, IfOk, IfErr, All, Any};
     ghost use Rattle.oz_turn.specs.Told.{own_entries, BeginsWith, AddsOne, KeepsOtherRooms};
-    ghost use Rattle.oz_turn.specs.Seat.{turn_of, number_of, seen_of, mine_of, room_of, taken_of, IsSameSeat, AreNewSeats};
+    ghost use Rattle.oz_turn.specs.Seat.{turn_of, number_of, seen_of, mine_of, room_of, taken_of};
+    ghost use Rattle.oz_turn.specs.Seat.{IsSameSeat, AreNewSeats};
     ghost use Rattle.oz_turn.specs.Turn.{turn_id, seats_of};
 
     /// Makes a turn of the value, and its seats, numbered from 0.

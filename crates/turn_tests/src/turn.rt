@@ -1,15 +1,20 @@
-ghost use Rattle.std.specs.Prelude.{◌≡◌, ◌+◌, ◌≤◌, ◌<◌, [], ◌∷◌, ◌++◌, vec_len, IfOk, OnOk, IfSome, OnSome};
-ghost use Rattle.oz_turn.specs.Seat.{mine_of};
-ghost use Rattle.oz_turn.specs.Turn.{turn_id, seats_of};
-ghost use Rattle.turn_tests.specs.Notes.{IsReady, AreReady};
+//! Calls of a turn, by one thread and by two.
 
-use oz_turn::{Ring, Seat, Told, Turn};
+ghost use Rattle.std.specs.Prelude.{◌≡◌, ◌+◌, ◌≤◌, ◌<◌, [], ◌∷◌, ◌++◌, vec_len, IfOk, OnOk, IfSome, OnSome};
+ghost use Rattle.oz_turn.specs.Told.{own_entries};
+ghost use Rattle.oz_turn.specs.Seat.{number_of, seen_of, mine_of, IsReady, AreReady};
+ghost use Rattle.oz_turn.specs.Turn.{turn_id, seats_of};
+
+use oz_turn::{
+    Ring, Seat, Told, Turn, new_seats_are_ready, ready_seats_may_close, seats_stay_ready,
+};
 use std::alloc::{AllocError, Global};
 use std::marker::{Brand, Model, PhantomData};
 use std::process::Abort;
-use std::sync::{Mutex, Wait};
+use std::sync::{Barrier, Mutex, Wait};
 use std::test::Fail;
-use std::thread::{Threads, join};
+use std::thread::{Threads, join, sleep};
+use std::time::{Clock, Duration};
 
 #[derive(Clone, Copy, PartialEq, Eq, Debug)]
 struct Note {
@@ -55,7 +60,10 @@ fn made(alloc: Global, seats: u16) -> Result<(Turn<Notes>, Vec<Seat<Notes>>), Fa
         second: 0,
     };
     match Turn::make(alloc, notes, seats) {
-        Ok(made) => Ok(made),
+        Ok(made) => {
+            new_seats_are_ready::<Notes>();
+            Ok(made)
+        }
         Err((_, error)) => Err(error.into()),
     }
 }
@@ -69,7 +77,8 @@ fn add<R: Wait>(
 ) -> Option<u64>
     requires { IsReady (turn_id turn.now) number seat.old }
     ensures ready { IsReady (turn_id turn.now) number seat.new }
-    ensures added { IfSome result (λ _. mine_of seat.new ≡ mine_of seat.old ++ record { seat = number; text = text } ∷ []) }
+    ensures added { IfSome result (λ _. mine_of seat.new
+        ≡ mine_of seat.old ++ record { seat = number; text = text } ∷ []) }
 {
     let (mut notes, held) = turn.take(rt, seat);
     match notes.list.push(Note { seat: number, text }) {
@@ -93,6 +102,7 @@ fn add_at<R: Wait>(
     ensures count { vec_len seats.new ≡ vec_len seats.old }
     ensures ready { AreReady (turn_id turn.now) seats.new.items }
 {
+    seats_stay_ready::<Notes>();
     add(rt, turn, &mut seats[n], n as u64, text)
 }
 
@@ -109,6 +119,7 @@ fn look_at<R: Wait>(
     ensures count { vec_len seats.new ≡ vec_len seats.old }
     ensures ready { AreReady (turn_id turn.now) seats.new.items }
 {
+    seats_stay_ready::<Notes>();
     turn.look(rt, alloc, &mut seats[n], first)
 }
 
@@ -118,6 +129,7 @@ fn pop_last(turn: &Turn<Notes>, seats: &mut Vec<Seat<Notes>>) -> Option<Seat<Not
     ensures count { OnSome result (vec_len seats.new + 1 ≡ vec_len seats.old) }
     ensures rest { AreReady (turn_id turn.now) seats.new.items }
 {
+    seats_stay_ready::<Notes>();
     seats.pop()
 }
 
@@ -131,6 +143,7 @@ fn push_next(
     ensures seats { OnOk result (AreReady (turn_id turn.now) seats.new.items) }
     ensures count { OnOk result (vec_len seats.new ≡ vec_len seats.old + 1) }
 {
+    seats_stay_ready::<Notes>();
     seats.push(seat)?;
     Ok(())
 }
@@ -139,7 +152,19 @@ fn ended(turn: Turn<Notes>, seats: Vec<Seat<Notes>>) -> Notes
     requires seats { vec_len seats ≡ seats_of turn }
     requires ready { AreReady (turn_id turn) seats.items }
 {
+    ready_seats_may_close::<Notes>();
     turn.close(seats)
+}
+
+// What a seat keeps, by its type alone and by the call that says so.
+fn knows_own_by_type(seat: &Seat<Notes>)
+    ensures { own_entries (λ note. note.seat) (number_of seat.now) (seen_of seat.now) ≡ mine_of seat.now }
+{}
+
+fn knows_own_by_call(seat: &Seat<Notes>)
+    ensures { own_entries (λ note. note.seat) (number_of seat.now) (seen_of seat.now) ≡ mine_of seat.now }
+{
+    seat.knows_own();
 }
 
 #[test]
@@ -197,23 +222,55 @@ fn a_room_is_changed_by_giving_back(rt: HostRuntime) -> Result<(), Fail> {
     Ok(())
 }
 
-#[test]
-fn sixty_four_seats(rt: HostRuntime) -> Result<(), Fail> {
-    let (turn, mut seats) = made(rt.alloc(), 64)?;
+/// How often each of 64 seats adds a note.
+const ROUNDS: u64 = 64;
+
+fn add_rounds<R: Wait>(rt: &R, turn: &Turn<Notes>, seats: &mut Vec<Seat<Notes>>) -> Option<u64>
+    requires count { vec_len seats.old ≡ 64 }
+    requires ready { AreReady (turn_id turn.now) seats.old.items }
+    ensures count { vec_len seats.new ≡ 64 }
+    ensures ready { AreReady (turn_id turn.now) seats.new.items }
+{
+    let mut last = None;
+    for text in 0..ROUNDS {
+        last = add_round(rt, turn, seats, text);
+    }
+    last
+}
+
+fn add_round<R: Wait>(
+    rt: &R,
+    turn: &Turn<Notes>,
+    seats: &mut Vec<Seat<Notes>>,
+    text: u64,
+) -> Option<u64>
+    requires count { vec_len seats.old ≡ 64 }
+    requires ready { AreReady (turn_id turn.now) seats.old.items }
+    ensures count { vec_len seats.new ≡ 64 }
+    ensures ready { AreReady (turn_id turn.now) seats.new.items }
+{
     let mut last = None;
     for n in 0..64usize {
-        last = add_at(&rt, &turn, &mut seats, n, n as u64);
+        last = add_at(rt, turn, seats, n, text);
     }
+    last
+}
+
+#[test]
+fn sixty_four_seats_find_memory_for_thousands(rt: HostRuntime) -> Result<(), Fail> {
+    let (turn, mut seats) = made(rt.alloc(), 64)?;
+    let last = add_rounds(&rt, &turn, &mut seats);
+    let seen = look_at(&rt, rt.alloc(), &turn, &mut seats, 63, 0)?;
     let notes = ended(turn, seats);
-    assert_eq!(rt; (last, notes.list.len()), (Some(64), 64));
+    assert_eq!(rt; last, Some(64 * ROUNDS));
+    assert_eq!(rt; seen.as_slice(), notes.list.as_slice());
     for (n, note) in notes.list.iter().enumerate() {
-        assert_eq!(rt;
-            *note,
-            Note {
-                seat: n as u64,
-                text: n as u64
-            }
-        );
+        let n = n as u64;
+        let expected = Note {
+            seat: n % 64,
+            text: n / 64,
+        };
+        assert_eq!(rt; *note, expected);
     }
     Ok(())
 }
@@ -284,6 +341,89 @@ fn check_order<R: Abort>(rt: &R, notes: &[Note]) {
     assert!(rt; next == [EACH, EACH]);
 }
 
+/// How many milliseconds the value is held while another seat waits: enough for that seat's thread to fall asleep.
+const HELD_FOR: u64 = 300;
+
+/// Tells that it has taken the value, and holds it for a while.
+fn hold<R: Wait + Clock>(
+    rt: &R,
+    turn: &Turn<Notes>,
+    mut seat: Seat<Notes>,
+    taken: &Barrier,
+) -> Seat<Notes>
+    requires { IsReady (turn_id turn.now) 0 seat }
+    ensures { IsReady (turn_id turn.now) 0 result }
+{
+    let (mut notes, held) = turn.take(rt, &mut seat);
+    let _ = taken.wait(rt);
+    sleep(rt, Duration::from_millis(HELD_FOR));
+    match notes.list.push(Note { seat: 0, text: 0 }) {
+        Ok(()) => {
+            let _ = turn.give(&mut seat, notes, held);
+        }
+        Err(_) => turn.give_back(&mut seat, notes, held),
+    }
+    seat
+}
+
+/// Adds a note once another seat has taken the value.
+fn add_behind<R: Wait>(
+    rt: &R,
+    turn: &Turn<Notes>,
+    mut seat: Seat<Notes>,
+    taken: &Barrier,
+) -> Seat<Notes>
+    requires { IsReady (turn_id turn.now) 1 seat }
+    ensures { IsReady (turn_id turn.now) 1 result }
+{
+    let _ = taken.wait(rt);
+    let _ = add(rt, turn, &mut seat, 1, 0);
+    seat
+}
+
+fn one_behind_the_other<R: Threads + Wait + Clock + Sync>(
+    rt: &R,
+    turn: &Turn<Notes>,
+    one: Seat<Notes>,
+    two: Seat<Notes>,
+    taken: &Barrier,
+) -> (Seat<Notes>, Seat<Notes>)
+    requires one { IsReady (turn_id turn.now) 0 one }
+    requires two { IsReady (turn_id turn.now) 1 two }
+    ensures one { IsReady (turn_id turn.now) 0 result.0 }
+    ensures two { IsReady (turn_id turn.now) 1 result.1 }
+{
+    join(
+        rt,
+        move || -> Seat<Notes>
+            requires { IsReady (turn_id turn.now) 0 one }
+            ensures { IsReady (turn_id turn.entry.now) 0 result }
+        { hold(rt, turn, one, taken) },
+        move || -> Seat<Notes>
+            requires { IsReady (turn_id turn.now) 1 two }
+            ensures { IsReady (turn_id turn.entry.now) 1 result }
+        { add_behind(rt, turn, two, taken) },
+    )
+}
+
+#[test]
+fn a_seat_sleeps_until_the_value_is_given_back(rt: HostRuntime) -> Result<(), Fail> {
+    let (turn, mut seats) = made(rt.alloc(), 2)?;
+    let Some(two) = pop_last(&turn, &mut seats) else {
+        return Err("no seat".into());
+    };
+    let Some(one) = pop_last(&turn, &mut seats) else {
+        return Err("one seat".into());
+    };
+    let (one, two) = one_behind_the_other(&rt, &turn, one, two, &Barrier::new(2));
+    push_next(&turn, &mut seats, one)?;
+    push_next(&turn, &mut seats, two)?;
+    let notes = ended(turn, seats);
+    let expected = [Note { seat: 0, text: 0 }, Note { seat: 1, text: 0 }];
+    assert_eq!(rt; notes.list.as_slice(), expected.as_slice());
+    Ok(())
+}
+
 // The seat 0 under a lock, where only its type says which turn it is of. Contracts see the notes that it gave.
 #[derive(Drop)]
 struct Shelf<R: Ring> {
@@ -295,7 +435,7 @@ impl<R: Ring> Model for Shelf<R> {
     ghost use Rattle.std.specs.Prelude.{List};
     ghost use Rattle.oz_turn.specs.Seat.{mine_of};
     ghost use Rattle.turn_tests.specs.declared.turn.Note.{Note};
-    ghost use Rattle.turn_tests.specs.Notes.{IsReady};
+    ghost use Rattle.oz_turn.specs.Seat.{IsReady};
 
     ghost Value = { List Note };
 

@@ -1,6 +1,8 @@
-use Rattle.std.proofs.Common.{◌≡◌, ◌∷◌, ◌++◌, None, length, rules, ap, ◌∙◌}
+use Rattle.std.proofs.Common.{◌≡◌, [], ◌∷◌, ◌++◌, None, length, rules, sym, ap, ◌∙◌}
 use Rattle.std.specs.Prelude.{Contains}
-use Rattle.oz_turn.specs.Told.{telling}
+use Rattle.std.proofs.lemmas.List.{append-nil}
+use Rattle.std.proofs.lemmas.List.Elements.{All-nil}
+use Rattle.oz_turn.specs.Telling.{telling}
 use Rattle.oz_turn.specs.Seat.{turn_of, taken_of, share_of}
 use Rattle.oz_turn.proofs.Shares.{single}
 use Rattle.oz_turn.proofs.Makes.{joins}
@@ -43,3 +45,18 @@ returns-clause-shares g c =
     let i = c.loop-seat.invariant in
     let none : length c.loop-seat.rest.items ≡ 0 = search rules in
     all_gone (λ s. Contains c.loop-seat.all.me.0.shares (share_of s)) _ _ i.gone i.split none i.joined
+
+pub loop-seat-init : goal.loop-seat-init
+loop-seat-init g c =
+    let seat = c.in-Some.last in
+    let last = c.in-Some.ensures.items in
+    let token = c.into_token-all.ensures in
+    let whole = sym (append-nil c.args.seats.items) in
+    let turn : turn_of seat ≡ c.args.steps.now.table_id = All-popped (λ s. turn_of s ≡ c.args.steps.now.table_id) _ _ _ [] seat whole last c.requires.turn in
+    let free : taken_of seat ≡ None = All-popped (λ s. taken_of s ≡ None) _ _ _ [] seat whole last c.requires.free in record {
+      turn = ap (λ t. t.table_id) token ∙ turn;
+      free = ap (λ t. t.me.0.taken) token ∙ free;
+      gone = seat ∷ [];
+      split = last;
+      joined = joined_more share_of [] _ [] seat (ap (λ t. t.me.0.shares) token ∙ single _ seat.one) (All-nil _);
+    }

@@ -1,5 +1,5 @@
 use Rattle.oz_turn.specs.Turn.{turn_id}
-use Rattle.turn_tests.specs.Notes.{IsReady}
+use Rattle.oz_turn.specs.Seat.{IsReady}
 use Rattle.turn_tests.proofs.turn.add_many.Given as goal
 
 abbrev pub invariant-loop-text : goal.invariant-loop-text

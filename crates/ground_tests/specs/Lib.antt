@@ -1,3 +1,3 @@
-pub mod Entry
 pub mod Kept
 pub mod Piece
+pub mod Sample

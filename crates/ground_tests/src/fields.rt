@@ -1,14 +1,18 @@
+//! A crate over fields, names and lists: what their contracts give a caller.
+
 ghost use Rattle.std.specs.Prelude.{◌≡◌, ◌+◌, ◌++◌, ◌↔◌, IsTrue, IfOk, OnOk, ◌<◌, ◌^◌, length, vec_len, map, sum_by, MatchOption, Some, None};
 ghost use Rattle.oz_fields.specs.Field.{IsField};
 ghost use Rattle.oz_fields.specs.Cursor.{unread};
-ghost use Rattle.ground_tests.specs.Entry.{name_of, with_block};
+ghost use Rattle.ground_tests.specs.Sample.{name_of, with_block};
 ghost use Rattle.ground_tests.specs.Piece.{piece_bytes, piece_at, IsPiece, texts_at};
 
-use oz_fields::{Block, List, Name, OutOfMemory, Piece, Reader, put_u32, put_u64};
+use oz_fields::{
+    Block, List, Name, OutOfMemory, Piece, Reader, put_u32, put_u64, u32_is_a_field, u64_is_a_field,
+};
 use std::alloc::Global;
 
 #[derive(Debug, Drop, PartialEq, Eq)]
-pub enum Entry {
+pub enum Sample {
     Empty,
     Named(Name),
     Held(Name, List<Block>),
@@ -20,25 +24,25 @@ pub fn is_same(left: &Name, right: &Name) -> bool
     left == right
 }
 
-pub fn name(entry: &Entry) -> &[u8]
-    ensures { result.now ≡ name_of entry.now }
+pub fn name(sample: &Sample) -> &[u8]
+    ensures { result.now ≡ name_of sample.now }
 {
-    match entry {
-        Entry::Empty => &[],
-        Entry::Named(name) | Entry::Held(name, _) => name.bytes(),
+    match sample {
+        Sample::Empty => &[],
+        Sample::Named(name) | Sample::Held(name, _) => name.bytes(),
     }
 }
 
-pub fn extended(alloc: Global, entry: Entry, block: Block) -> Result<Entry, OutOfMemory>
-    ensures { IfOk result (λ after. after ≡ with_block entry block) }
+pub fn extended(alloc: Global, sample: Sample, block: Block) -> Result<Sample, OutOfMemory>
+    ensures { IfOk result (λ after. after ≡ with_block sample block) }
 {
-    let (name, mut blocks) = match entry {
-        Entry::Empty => (Name::copy(alloc, b"")?, List::new(alloc)),
-        Entry::Named(name) => (name, List::new(alloc)),
-        Entry::Held(name, blocks) => (name, blocks),
+    let (name, mut blocks) = match sample {
+        Sample::Empty => (Name::copy(alloc, b"")?, List::new(alloc)),
+        Sample::Named(name) => (name, List::new(alloc)),
+        Sample::Held(name, blocks) => (name, blocks),
     };
     match blocks.push(alloc, block) {
-        Ok(()) => Ok(Entry::Held(name, blocks)),
+        Ok(()) => Ok(Sample::Held(name, blocks)),
         Err((_, cause)) => Err(cause),
     }
 }
@@ -54,7 +58,8 @@ pub fn put_piece(alloc: Global, out: &mut Vec<u8>, piece: &Piece) -> Result<(), 
 
 #[tactic(auto, unfolding(crate::specs::Piece::piece_at))]
 pub fn read_piece(reader: &mut Reader<'_>) -> Option<Piece>
-    ensures { MatchOption result (piece_at (unread reader.old) ≡ None) (λ piece. piece_at (unread reader.old) ≡ Some (piece, unread reader.new)) }
+    ensures { MatchOption result (piece_at (unread reader.old) ≡ None)
+        (λ piece. piece_at (unread reader.old) ≡ Some (piece, unread reader.new)) }
 {
     let container = reader.u64()?;
     let local = reader.u64()?;
@@ -67,7 +72,8 @@ pub fn read_piece(reader: &mut Reader<'_>) -> Option<Piece>
 
 #[tactic(auto, unfolding(crate::specs::Piece::texts_at))]
 pub fn read_two_texts<'a>(reader: &mut Reader<'a>) -> Option<(&'a [u8], &'a [u8])>
-    ensures { MatchOption result (texts_at (unread reader.old) ≡ None) (λ texts. texts_at (unread reader.old) ≡ Some ((texts.0.now, texts.1.now), unread reader.new)) }
+    ensures { MatchOption result (texts_at (unread reader.old) ≡ None)
+        (λ texts. texts_at (unread reader.old) ≡ Some ((texts.0.now, texts.1.now), unread reader.new)) }
 {
     let first = reader.text()?;
     let second = reader.text()?;
@@ -103,7 +109,10 @@ pub fn locals(alloc: Global, blocks: List<Block>) -> Result<List<u64>, OutOfMemo
 
 pub fn piece_is_a_field()
     ensures { IsField IsPiece piece_bytes piece_at }
-{}
+{
+    u64_is_a_field();
+    u32_is_a_field();
+}
 
 #[cfg(test)]
 mod tests {
@@ -364,15 +373,15 @@ mod tests {
     };
 
     #[test]
-    fn entries_by_hand(rt: HostRuntime) -> Result<(), Fail> {
+    fn samples_by_hand(rt: HostRuntime) -> Result<(), Fail> {
         let alloc = rt.alloc();
-        let entry = Entry::Named(Name::copy(alloc, b"key")?);
-        assert_eq!(rt; name(&entry), b"key".as_slice());
-        let entry = extended(alloc, extended(alloc, entry, FIRST)?, SECOND)?;
+        let sample = Sample::Named(Name::copy(alloc, b"key")?);
+        assert_eq!(rt; name(&sample), b"key".as_slice());
+        let sample = extended(alloc, extended(alloc, sample, FIRST)?, SECOND)?;
         let blocks = List::of(vec![in alloc; FIRST, SECOND]?);
-        let want = Entry::Held(Name::copy(alloc, b"key")?, blocks);
-        assert!(rt; entry == want);
-        assert!(rt; entry != Entry::Empty);
+        let want = Sample::Held(Name::copy(alloc, b"key")?, blocks);
+        assert!(rt; sample == want);
+        assert!(rt; sample != Sample::Empty);
         Ok(())
     }
 

@@ -1,3 +1,5 @@
+//! A function over any disk, and the in-memory implementations by hand.
+
 ghost use Rattle.std.specs.Prelude.{◌≡◌, ◌<◌, ◌≤◌, ◌^◌, ◌-◌, [], length, Some, OnOk, OnErr, IfSome};
 ghost use Rattle.oz_world.specs.Faults.{Rose};
 ghost use Rattle.oz_world.specs.Disk.{last_moment, IsStable};
@@ -5,7 +7,7 @@ ghost use Rattle.ground_tests.specs.Kept.{IsKeptOrNothing};
 
 use oz_world::{Disk, Failed};
 
-/// Puts bytes on an empty disk. A stop at any moment leaves a front of as many bytes as there are,
+/// Puts bytes on an empty disk. A stop at any moment leaves a prefix of as many bytes as there are,
 /// and once the call has answered Ok it leaves these bytes.
 pub fn keep<D: Disk>(disk: &mut D, bytes: &[u8]) -> Result<(), Failed>
     requires empty { D.told disk.old ≡ Some [] }

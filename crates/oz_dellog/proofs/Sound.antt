@@ -16,16 +16,9 @@ use Rattle.oz_fields.specs.declared.block.Block.{Block}
 use Rattle.oz_dellog.specs.declared.logged.Logged.{Logged}
 use Rattle.oz_dellog.specs.Logged.{pending_txn, txn_of, new_logged, with_acknowledgement}
 use Rattle.oz_dellog.specs.Log.{Log, pending, is_pending, IsLogged, with_txn, acknowledged, without_txn}
-use Rattle.oz_dellog.specs.Index.{IsSound, Names, listed, numbers_in, without, pending_at}
+use Rattle.oz_dellog.specs.Index.{IsSound, Lists, Unlists, Names, listed, numbers_in, without, pending_at}
 use Rattle.oz_dellog.proofs.Rising.{rises, found_all, put_at_end, all_set, looks, has_entries, is_put, is_taken}
 use Rattle.oz_dellog.proofs.Numbers.{numbers_all, numbers_push, below_push, below_next, undone, numbers_set, numbers_remove, below_remove, tells_all}
-
--- what a container's list becomes where a number is put behind it, and where it is taken away
-abbrev pub Lists : BTreeMap ℕ (Vec ℕ) → BTreeMap ℕ (Vec ℕ) → ℕ → ℕ → Type 0
-Lists old new container number = (c : ℕ) → listed new c ≡ cond (c == container) (listed old c ++ number ∷ []) (listed old c)
-
-abbrev pub Unlists : BTreeMap ℕ (Vec ℕ) → BTreeMap ℕ (Vec ℕ) → ℕ → ℕ → Type 0
-Unlists old new container number = (c : ℕ) → listed new c ≡ cond (c == container) (without number (listed old c)) (listed old c)
 
 pub is_added : (last number : ℕ) (m n : BTreeMap ℕ Logged) (i j : BTreeMap ℕ (Vec ℕ)) (v : Logged) → IsSound last m i → number ≡ last + 1
     → n.entries ≡ insert_entry nat_cmp m.entries number v → IsOrdered nat_cmp n → Lists i j v.container number → IsSound number n j

@@ -1,5 +1,5 @@
 -- How the log keeps its transactions: in a map by their numbers, and in an index the numbers container by container.
-use Rattle.std.specs.Prelude.{◌≡◌, ℕ, ◌≤◌, ◌==◌, List, [], ◌∷◌, if◌then◌else◌, filter, not, Option, Contains, IsSomeAnd}
+use Rattle.std.specs.Prelude.{◌≡◌, ℕ, ◌≤◌, ◌==◌, List, [], ◌∷◌, ◌++◌, if◌then◌else◌, filter, not, Option, Contains, IsSomeAnd}
 use Rattle.std.specs.Global.{Vec}
 use Rattle.std.specs.List.{AllByRecursion}
 use Rattle.std.specs.Option.{option_map_or, option_and_then}
@@ -13,8 +13,16 @@ use Rattle.oz_dellog.specs.Logged.{pending_txn}
 abbrev pub listed : BTreeMap ℕ (Vec ℕ) → ℕ → List ℕ
 listed index container = option_map_or (λ numbers. numbers.items) (get nat_cmp index container) []
 
+-- a number is put behind those of a container
+abbrev pub Lists : BTreeMap ℕ (Vec ℕ) → BTreeMap ℕ (Vec ℕ) → ℕ → ℕ → Type 0
+Lists old new container number = (c : ℕ) → listed new c ≡ (if c == container then listed old c ++ number ∷ [] else listed old c)
+
 abbrev pub without : ℕ → List ℕ → List ℕ
 without number numbers = filter (λ n. not (n == number)) numbers
+
+-- a number is taken away from those of a container
+abbrev pub Unlists : BTreeMap ℕ (Vec ℕ) → BTreeMap ℕ (Vec ℕ) → ℕ → ℕ → Type 0
+Unlists old new container number = (c : ℕ) → listed new c ≡ (if c == container then without number (listed old c) else listed old c)
 
 -- the numbers of the transactions of a container
 abbrev pub numbers_in : List (ℕ × Logged) → ℕ → List ℕ

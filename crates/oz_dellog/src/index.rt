@@ -1,6 +1,6 @@
 //! The numbers of the transactions, container by container, so that a look-up by container doesn't walk the whole log.
-ghost use Rattle.std.specs.Prelude.{◌≡◌, ℕ, ◌==◌, ◌++◌, ◌∷◌, [], OnOk, OnErr, if◌then◌else◌};
-ghost use Rattle.oz_dellog.specs.Index.{listed, without};
+ghost use Rattle.std.specs.Prelude.{◌≡◌, ℕ, OnOk, OnErr};
+ghost use Rattle.oz_dellog.specs.Index.{listed, Lists, Unlists, without};
 
 use oz_fields::OutOfMemory;
 use std::alloc::Global;
@@ -22,7 +22,7 @@ pub(crate) fn list(
     container: u64,
     number: u64,
 ) -> Result<(), OutOfMemory>
-    ensures ok { OnOk result ((c : ℕ) → listed index.new c ≡ (if c == container then listed index.old c ++ number ∷ [] else listed index.old c)) }
+    ensures ok { OnOk result (Lists index.old index.new container number) }
     ensures err { OnErr result ((c : ℕ) → listed index.new c ≡ listed index.old c) }
 {
     if let Some(numbers) = index.get_mut(&container) {
@@ -37,7 +37,7 @@ pub(crate) fn list(
 
 /// Takes a number away from those of the container, and the container's entry with the last of them.
 pub(crate) fn unlist(index: &mut BTreeMap<u64, Vec<u64>>, container: u64, number: u64)
-    ensures { (c : ℕ) → listed index.new c ≡ (if c == container then without number (listed index.old c) else listed index.old c) }
+    ensures { Unlists index.old index.new container number }
 {
     if let Some(numbers) = index.get_mut(&container) {
         take_away(numbers, number);

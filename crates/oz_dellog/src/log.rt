@@ -1,8 +1,9 @@
 //! The transactions that aren't retired, by their numbers.
-ghost use Rattle.std.specs.Prelude.{◌≡◌, ◌≤◌, ◌+◌, ◌↔◌, ℕ, length, IsTrue, IfOk, IfErr, OnOk, OnErr, Any, filter_map};
+ghost use Rattle.std.specs.Prelude.{◌≡◌, ◌≤◌, ◌+◌, ◌↔◌, ℕ, length, IsTrue, IfOk, IfErr, OnOk, OnErr, Any, filter_map, option_copied};
 ghost use Rattle.std.specs.Bool.{OnTrue, OnFalse};
 ghost use Rattle.oz_dellog.specs.Index.{pending_at, Names};
-ghost use Rattle.std.specs.FinMap.{empty};
+ghost use Rattle.std.specs.FinMap.{empty, get, entries};
+ghost use Rattle.std.specs.Map.Iter.{ShowsInOrder, deref_pair};
 
 use crate::index::{list, numbers_of, unlist};
 use crate::logged::{Logged, acknowledge, is_done, new_logged, pending_txn};
@@ -10,6 +11,7 @@ use crate::txn::Txn;
 use oz_fields::{Block, List, OutOfMemory};
 use std::alloc::{AllocError, Global};
 use std::collections::BTreeMap;
+use std::collections::btree_map::Iter;
 use std::marker::Model;
 
 /// The log of deleted blocks. A transaction has a number of its own, one above the last, from 1, and is kept until it is
@@ -36,6 +38,7 @@ impl Model for DelLog {
 }
 
 impl DelLog {
+    ghost use Rattle.oz_dellog.specs.declared.logged.Logged.{Logged as Entry};
     ghost use Rattle.oz_dellog.specs.Log.{with_txn, pending, awaits, acknowledged, is_done, without_txn, IsLogged};
 
     /// A log in which no transaction was logged. It takes no memory.
@@ -47,6 +50,28 @@ impl DelLog {
             unretired: BTreeMap::new(alloc),
             index: BTreeMap::new(alloc),
         }
+    }
+
+    /// The number of the last transaction that was logged, 0 for none.
+    pub fn last(&self) -> u64
+        ensures { result ≡ self.now.last }
+    {
+        self.last
+    }
+
+    /// What was logged under a number and isn't retired.
+    pub fn get(&self, number: u64) -> Option<&Logged>
+        ensures { option_copied result ≡ get self.now.unretired number }
+    {
+        self.unretired.get(&number)
+    }
+
+    /// What was logged and isn't retired, in the order of the numbers.
+    pub fn unretired(&self) -> Iter<'_, u64, Logged>
+        ensures rest { result ≡ entries self.now.unretired }
+        ensures runs { ShowsInOrder (deref_pair {K = ℕ} {X = Entry}) }
+    {
+        self.unretired.iter()
     }
 
     /// Logs that these blocks of a container are to be deleted, and gives the number of the transaction. Where memory

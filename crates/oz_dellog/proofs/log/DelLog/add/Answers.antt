@@ -1,6 +1,7 @@
 use Rattle.std.proofs.Common.{sym, ap, subst}
 use Rattle.oz_dellog.specs.declared.logged.Logged.{Logged}
-use Rattle.oz_dellog.proofs.Sound.{Lists, is_added, is_undone, logs}
+use Rattle.oz_dellog.specs.Index.{Lists}
+use Rattle.oz_dellog.proofs.Sound.{is_added, is_undone, logs}
 use Rattle.oz_dellog.proofs.log.DelLog.add.Goals as goal
 
 pub invariant_of-self-in-Ok-insert : goal.invariant_of-self-in-Ok-insert

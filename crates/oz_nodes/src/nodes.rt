@@ -100,7 +100,8 @@ impl Nodes {
         self.pick(0, &[]).is_some()
     }
 
-    fn pipelines(&self) -> u8
+    /// How many pipelines the datanodes make. They are numbered from 0.
+    pub fn pipelines(&self) -> u8
         ensures count { result ≡ pipelines_of (length self.now) }
         ensures some { 0 < result }
         ensures few { result ≤ 16 }

@@ -3,3 +3,4 @@ pub mod Spellings
 pub mod Tests
 pub mod TextField
 pub mod WholeRows
+pub mod EachBody

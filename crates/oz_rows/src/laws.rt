@@ -1,12 +1,16 @@
 //! What holds of all rows and operations.
 
-ghost use Rattle.std.specs.Prelude.{◌≡◌, ◌≤◌, ◌<◌, ◌^◌, ◌∷◌, ◌++◌, ℕ, List, length};
+ghost use Rattle.std.specs.Prelude.{◌≡◌, ◌⊎◌, ◌≤◌, ◌<◌, ◌^◌, ◌∷◌, ◌++◌, ℕ, List, length};
 ghost use Rattle.std.specs.List.{flat_map, AllByRecursion};
 ghost use Rattle.oz_rows.specs.declared.key.RowKey.{RowKey as AnyKey};
 ghost use Rattle.oz_rows.specs.declared.row.Row.{Row as AnyRow};
 ghost use Rattle.oz_rows.specs.declared.operation.Operation.{Operation as AnyOperation};
+ghost use Rattle.oz_fields.specs.Field.{AreBytes};
+ghost use Rattle.oz_rows.specs.declared.operation.Operations.{Operations as AnyBody};
+ghost use Rattle.oz_rows.specs.declared.fault.RowFault.TheVariants.{At};
+ghost use Rattle.oz_rows.specs.Faults.{IsBodyFault};
 ghost use Rattle.oz_rows.specs.Rows.{KeyFits, RowFits, key_bytes, row_bytes};
-ghost use Rattle.oz_rows.specs.Operations.{OperationFits, operation_bytes};
+ghost use Rattle.oz_rows.specs.Operations.{OperationFits, operation_bytes, IsBody};
 ghost use Rattle.oz_rows.specs.Order.{key_order};
 
 use crate::key::RowKey;
@@ -25,6 +29,16 @@ pub fn one_operation_for_a_spelling()
         → OperationFits operation → OperationFits other
         → operation_bytes operation ++ rest ≡ operation_bytes other ++ left
         → (operation ≡ other) × (rest ≡ left) }
+{}
+
+/// Bytes are a body, or a fault stands at one place of them.
+pub fn bytes_are_a_body_or_at_fault()
+    ensures each { (bytes : List ℕ) → AreBytes bytes
+        → ((body : AnyBody) × IsBody bytes body) ⊎ ((place : ℕ) × IsBodyFault bytes (At place)) }
+    ensures not_both { (bytes : List ℕ) (body : AnyBody) (place : ℕ)
+        → IsBody bytes body → IsBodyFault bytes (At place) → ⊥ }
+    ensures one_place { (bytes : List ℕ) (place other : ℕ)
+        → IsBodyFault bytes (At place) → IsBodyFault bytes (At other) → place ≡ other }
 {}
 
 /// An operation has at most 6,304 bytes, and the removals of 1,024 rows are below 2 MiB.

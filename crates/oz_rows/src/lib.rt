@@ -18,7 +18,8 @@ pub use encoding::{encode, put_head, put_operation, put_removal, put_row};
 pub use fault::{ReadFault, RowFault};
 pub use key::RowKey;
 pub use laws::{
-    keys_are_in_order, longest_batch, one_operation_for_a_spelling, one_row_for_a_spelling,
+    bytes_are_a_body_or_at_fault, keys_are_in_order, longest_batch, one_operation_for_a_spelling,
+    one_row_for_a_spelling,
 };
 pub use operation::{Change, END_OF_INDEXES, LAYOUT, Operation, Operations};
 pub use operation_reading::{head_of, operation_of};

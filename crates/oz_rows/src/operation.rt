@@ -2,7 +2,8 @@
 
 use crate::key::RowKey;
 use crate::row::Row;
-use oz_fields::{List, Name};
+use oz_fields::{List, Name, OutOfMemory, TryClone};
+use std::alloc::Global;
 
 /// The layout of all bodies so far.
 pub const LAYOUT: u8 = 1;
@@ -62,4 +63,12 @@ pub struct Operations {
 pub struct Change {
     pub key: RowKey,
     pub row: Option<Row>,
+}
+
+impl TryClone for Change {
+    fn try_clone(&self, alloc: Global) -> Result<Change, OutOfMemory> {
+        let key = self.key.try_clone(alloc)?;
+        let row = self.row.try_clone(alloc)?;
+        Ok(Change { key, row })
+    }
 }

@@ -5,9 +5,9 @@ use Rattle.std.proofs.lemmas.List.Concat.{flat_map-append}
 use Rattle.oz_rows.specs.declared.operation.Operation.{Operation}
 use Rattle.oz_rows.specs.Operations.{operation_bytes, batch_bytes, head_bytes, IsBody}
 use Rattle.oz_tables.specs.declared.body.Step.{Step}
-use Rattle.oz_tables.specs.declared.entry.Entry.{Entry}
-use Rattle.oz_tables.specs.Build.{AllAreBased, IsNextBody, IsDamagedBody}
-use Rattle.oz_tables.specs.Steps.{operations_of, AreLeft, BatchLeads, HeadRises, NoneAtFault, FirstAtFault}
+use Rattle.oz_tables.specs.declared.entry.RowEntry.{RowEntry}
+use Rattle.oz_tables.specs.Build.{AllAreBased, NoneAtFault, IsNextBody, IsDamagedBody}
+use Rattle.oz_tables.specs.Steps.{operations_of, AreLeft, BatchLeads, HeadRises, FirstAtFault}
 use Rattle.oz_tables.proofs.Based.{based_after}
 
 operations_split : (earlier : List Step) (step : Step) (later : List Step) → operations_of (earlier ++ step ∷ later) ≡ operations_of earlier ++ step.operation ∷ operations_of later
@@ -18,12 +18,12 @@ left_at : (earlier : List Step) (step : Step) (later : List Step) → AreLeft 0 
 left_at [] step later left = left.0
 left_at (first ∷ earlier) step later left = left_at earlier step later left.1
 
-module _ (last : ℕ) (before : List Entry) (bytes : List ℕ) (index : ℕ) (rest : List ℕ) (head : HeadRises last bytes index rest) where
-  module _ (steps : List Step) (after : List Entry) (leads : BatchLeads before rest steps after) where
+module _ (last : ℕ) (before : List RowEntry) (bytes : List ℕ) (index : ℕ) (rest : List ℕ) (head : HeadRises last bytes index rest) where
+  module _ (steps : List Step) (after : List RowEntry) (leads : BatchLeads before rest steps after) where
     is_body : IsBody bytes (record { layout = 1; index = index; items = operations_of steps })
     is_body = (refl, head.fits, leads.fit, head.parts ∙ ap (λ (rest : List ℕ). head_bytes index ++ rest) (leads.parts ∙ append-nil (batch_bytes (operations_of steps))))
 
-    pub body_follows : AllAreBased before → NoneAtFault after (operations_of steps) (operations_of steps) → IsNextBody last before bytes (record { layout = 1; index = index; items = operations_of steps }) after
+    pub body_follows : AllAreBased before → NoneAtFault after (operations_of steps) (operations_of steps) [] → IsNextBody last before bytes (record { layout = 1; index = index; items = operations_of steps }) after
     body_follows based none = record { body_is = is_body; rises = head.rises; leads = leads.leads; based = based_after before (operations_of steps) after based leads.leads none }
 
     pub orphan_left : (left : ℕ) → FirstAtFault after steps left → IsDamagedBody last before bytes (length bytes - left)

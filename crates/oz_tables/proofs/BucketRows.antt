@@ -13,6 +13,7 @@ use Rattle.oz_namespace.specs.declared.namespace.Session.{Session}
 use Rattle.oz_namespace.specs.declared.namespace.Snapshot.{Snapshot}
 use Rattle.oz_namespace.specs.Namespace.{sixteen, has_volume, has_bucket, bucket_of, snapshots_in}
 use Rattle.oz_names.specs.Names.{stripe_of}
+use Rattle.oz_names.specs.declared.limits.TheConstants.{MOST_BUCKETS, MOST_KEYS, MOST_SNAPSHOTS}
 use Rattle.oz_rows.specs.declared.key.RowKey.{RowKey}
 use Rattle.oz_rows.specs.declared.key.RowKey.TheVariants as keys
 use Rattle.oz_rows.specs.declared.row.Row.{Row}
@@ -154,6 +155,7 @@ module _ (all now : Rows) (agree : (key : RowKey) → 2 < kind_of key → now ke
 
     names_again : NamesAreSound all → NamesAreSound now
     names_again sound = record {
+      one_snapshot = λ v b name n p m q here there. sound.one_snapshot v b name n p m q (sym (agree (keys.Snapshot v b n) (omega arith)) ∙ here) (sym (agree (keys.Snapshot v b m) (omega arith)) ∙ there);
       one_name = λ v b name another n block here there. sound.one_name v b name another n block (has_before v b n block name here) (has_before v b n block another there);
       open_name = λ v b key name session n block here there. sound.open_name v b key name session n block (block_before block _ here) (has_before v b n block name there);
       renamed = λ v b name another n owner block has is. sound.renamed v b name another n owner block (has_before v b n block name has) (rename_before v b n block.local owner another is);
@@ -185,15 +187,15 @@ module _ (all now : Rows) (agree : (key : RowKey) → 2 < kind_of key → now ke
     at_most : {A : Type 0} (P Q : A → Type 0) (n : ℕ) → ((a : A) → P a → Q a) → AtMost n Q → AtMost n P
     at_most P Q n f most items differ all = most items differ (all_before P Q f items all)
 
-    counts_again : ((v : List ℕ) → AtMost 1024 (λ b. IsSome (now (keys.Bucket v b)))) → CountsAreSound all → CountsAreSound now
+    counts_again : ((v : List ℕ) → AtMost MOST_BUCKETS (λ b. IsSome (now (keys.Bucket v b)))) → CountsAreSound all → CountsAreSound now
     counts_again buckets sound = record {
       buckets = buckets;
-      keys_and_sessions = λ v b. at_most _ _ 4096 (using_before v b) (sound.keys_and_sessions v b);
-      snapshots = λ v b. at_most _ _ 32 (live_before v b) (sound.snapshots v b);
-      snapshot_keys = λ v b n live. at_most _ _ 4096 (λ key some. some_before (keys.SnapshotKey v b n key) (omega arith) some) (sound.snapshot_keys v b n (live_before v b n live));
+      keys_and_sessions = λ v b. at_most _ _ MOST_KEYS (using_before v b) (sound.keys_and_sessions v b);
+      snapshots = λ v b. at_most _ _ MOST_SNAPSHOTS (live_before v b) (sound.snapshots v b);
+      snapshot_keys = λ v b n live. at_most _ _ MOST_KEYS (λ key some. some_before (keys.SnapshotKey v b n key) (omega arith) some) (sound.snapshot_keys v b n (live_before v b n live));
     }
 
-    pub sound_again : ((v : List ℕ) → AtMost 1024 (λ b. IsSome (now (keys.Bucket v b)))) → IsSound all → IsSound now
+    pub sound_again : ((v : List ℕ) → AtMost MOST_BUCKETS (λ b. IsSome (now (keys.Bucket v b)))) → IsSound all → IsSound now
     sound_again buckets sound = record {
       blocks = blocks_again sound.blocks;
       names = names_again sound.names;

@@ -3,17 +3,17 @@ use Rattle.std.proofs.Common.{◌≡◌, ℕ, suc, List, ◌∷◌, ◌++◌, ta
 use Rattle.std.specs.List.{insert, remove}
 use Rattle.oz_rows.specs.declared.key.RowKey.{RowKey}
 use Rattle.oz_rows.specs.declared.row.Row.{Row}
-use Rattle.oz_tables.specs.declared.entry.Entry.{Entry}
+use Rattle.oz_tables.specs.declared.entry.RowEntry.{RowEntry}
 use Rattle.oz_tables.specs.Tables.{row_of, is_same, KeysRise}
 use Rattle.oz_tables.specs.Places.{IsAt, IsGap}
 use Rattle.oz_tables.proofs.Splits.{parts, parts_at, set_parts}
 use Rattle.oz_tables.proofs.Lookups.{entry_key, AllBelow, AllAbove, row_at, row_behind, row_above, row_added, row_replaced, row_removed, row_absent}
 use Rattle.oz_tables.proofs.Rising.{before_at, behind_at, rise_with, rise_without, rise_replaced}
 
-abbrev pub entry_of : RowKey → Row → Entry
+abbrev pub entry_of : RowKey → Row → RowEntry
 entry_of key row = record { key = key; row = row }
 
-module _ (l : List Entry) (rise : KeysRise l) (key : RowKey) (at : ℕ) (is_at : IsAt l key at) (d : Entry) where
+module _ (l : List RowEntry) (rise : KeysRise l) (key : RowKey) (at : ℕ) (is_at : IsAt l key at) (d : RowEntry) where
   around : l ≡ take at l ++ get_or l at d ∷ drop (suc at) l
   around = parts_at l at d is_at.in_range
 
@@ -27,7 +27,7 @@ module _ (l : List Entry) (rise : KeysRise l) (key : RowKey) (at : ℕ) (is_at :
   above = behind_at entry_key (take at l) (drop (suc at) l) (get_or l at d) key (is_at.has_key d) rise_around
 
   pub row_there : d ≡ get_or l at d → Some d.row ≡ row_of l key
-  row_there it = ap (λ (entry : Entry). Some entry.row) it ∙ sym (ap (λ l. row_of l key) around ∙ row_at (take at l) (drop (suc at) l) (get_or l at d) key below (is_at.has_key d))
+  row_there it = ap (λ (entry : RowEntry). Some entry.row) it ∙ sym (ap (λ l. row_of l key) around ∙ row_at (take at l) (drop (suc at) l) (get_or l at d) key below (is_at.has_key d))
 
   pub rise_removed : KeysRise (remove l at)
   rise_removed = rise_without entry_key (take at l) (drop (suc at) l) (get_or l at d) rise_around
@@ -44,7 +44,7 @@ module _ (l : List Entry) (rise : KeysRise l) (key : RowKey) (at : ℕ) (is_at :
       ∙ row_replaced (take at l) (drop (suc at) l) (get_or l at d) (entry_of key row) (is_at.has_key d) below q
       ∙ ap (λ l. cond (is_same key q) (Some row) (row_of l q)) (sym around)
 
-module _ (l : List Entry) (key : RowKey) (at : ℕ) (gap : IsGap l key at) where
+module _ (l : List RowEntry) (key : RowKey) (at : ℕ) (gap : IsGap l key at) where
   pub no_row : row_of l key ≡ None
   no_row = ap (λ l. row_of l key) (parts l at) ∙ row_behind (take at l) (drop at l) key gap.before ∙ row_above (drop at l) key gap.after
 

@@ -14,19 +14,19 @@ use Rattle.oz_rows.specs.declared.operation.Operation.TheVariants.{Put, Remove, 
 use Rattle.oz_rows.specs.Rows.{RowFits, ValueFits, IsBlock}
 use Rattle.oz_rows.specs.Operations.{OperationFits, AreOperations}
 use Rattle.oz_names.specs.Names.{IsVolumeName, IsKeyName}
-use Rattle.oz_tables.specs.declared.entry.Entry.{Entry}
+use Rattle.oz_tables.specs.declared.entry.RowEntry.{RowEntry}
 use Rattle.oz_tables.specs.Tables.{row_of, row_after, row_after_one, is_same, KeysRise, IsBelow}
-use Rattle.oz_tables.specs.Effects.{Leads, changes_of, copied, moved, dropped, closed, freed, is_bucket, is_in_a_key, put}
+use Rattle.oz_tables.specs.Effects.{Leads, operation_changes, copied, moved, dropped, closed, freed, is_bucket, is_in_a_key, put}
 use Rattle.oz_tables.specs.Build.{Builds, BuildsFrom}
 use Rattle.oz_tables.proofs.Order.{itself}
 use Rattle.oz_tables.proofs.Same.{same_is_one}
 use Rattle.oz_tables.proofs.Steps.{some_inside, some_apart, leads_rise}
 
-abbrev AllFit : List Entry → Type 0
+abbrev AllFit : List RowEntry → Type 0
 AllFit l = (key : RowKey) (row : Row) → row_of l key ≡ Some row → RowFits key row
 
-abbrev EntriesFit : List Entry → Type 0
-EntriesFit l = AllByRecursion (λ (e : Entry). RowFits e.key e.row) l
+abbrev EntriesFit : List RowEntry → Type 0
+EntriesFit l = AllByRecursion (λ (e : RowEntry). RowFits e.key e.row) l
 
 abbrev ChangeFits : Change → Type 0
 ChangeFits change = IfSome change.row (λ row. RowFits change.key row)
@@ -35,20 +35,20 @@ abbrev ChangesFit : List Change → Type 0
 ChangesFit changes = AllByRecursion ChangeFits changes
 
 -- each entry is the row of its key
-entries_fit : (all l : List Entry) → AllFit all → KeysRise l → ((e : Entry) → row_of l e.key ≡ Some e.row → row_of all e.key ≡ Some e.row) → EntriesFit l
+entries_fit : (all l : List RowEntry) → AllFit all → KeysRise l → ((e : RowEntry) → row_of l e.key ≡ Some e.row → row_of all e.key ≡ Some e.row) → EntriesFit l
 entries_fit all [] fit rise there = tt
 entries_fit all (x ∷ l) fit rise there = (
   fit x.key x.row (there x (ap (λ o. cond (is_eq o) (Some x.row) (row_of l x.key)) (itself x.key))),
   entries_fit all l fit rise.1 (λ e found. there e (later e found)),
 )
   where
-    later : (e : Entry) → row_of l e.key ≡ Some e.row → row_of (x ∷ l) e.key ≡ Some e.row
+    later : (e : RowEntry) → row_of l e.key ≡ Some e.row → row_of (x ∷ l) e.key ≡ Some e.row
     later e found = by_test (is_same x.key e.key) refl
       where
         by_test : (t : Bool) → is_same x.key e.key ≡ t → row_of (x ∷ l) e.key ≡ Some e.row
         by_test true same = absurd (apart l rise.0 found (same_is_one x.key e.key same))
           where
-            apart : (m : List Entry) → AllByRecursion (λ (other : Entry). IsBelow x.key other.key) m → row_of m e.key ≡ Some e.row → x.key ≡ e.key → ⊥
+            apart : (m : List RowEntry) → AllByRecursion (λ (other : RowEntry). IsBelow x.key other.key) m → row_of m e.key ≡ Some e.row → x.key ≡ e.key → ⊥
             apart [] below found one = some_apart (sym found)
             apart (y ∷ m) below found one = by_key (is_same y.key e.key) refl (apart m below.1)
               where
@@ -78,7 +78,7 @@ all_append : (a b : List Change) → ChangesFit a → ChangesFit b → ChangesFi
 all_append [] b fit_a fit_b = fit_b
 all_append (x ∷ a) b fit_a fit_b = (fit_a.0, all_append a b fit_a.1 fit_b)
 
-all_over : (f : Entry → List Change) (l : List Entry) → EntriesFit l → ((e : Entry) → RowFits e.key e.row → ChangesFit (f e)) → ChangesFit (flat_map f l)
+all_over : (f : RowEntry → List Change) (l : List RowEntry) → EntriesFit l → ((e : RowEntry) → RowFits e.key e.row → ChangesFit (f e)) → ChangesFit (flat_map f l)
 all_over f [] fits each = tt
 all_over f (x ∷ l) fits each = all_append (f x) (flat_map f l) (each x fits.0) (all_over f l fits.1 each)
 
@@ -128,7 +128,7 @@ module _ (volume bucket : List ℕ) (is_volume : IsVolumeName volume) (is_a_buck
   renamed_value v b o l to (rows.SnapshotKey n p) fits = absurd fits
   renamed_value v b o l to (rows.Stripe n) fits = absurd fits
 
-  moved_fits : (all : List Entry) (from to : ℕ) → to < 2 ^ 64 → (key : RowKey) (row : Row) → RowFits key row → ChangesFit (moved all volume bucket from to key row)
+  moved_fits : (all : List RowEntry) (from to : ℕ) → to < 2 ^ 64 → (key : RowKey) (row : Row) → RowFits key row → ChangesFit (moved all volume bucket from to key row)
   moved_fits all from to is (keys.Deleted v b o k l) row fits = where_so (is_bucket volume bucket v b && o == from) _ (tt, (((is_volume, is_a_bucket, is, fits.0.3, fits.0.4), deleted_value v b k o l to row fits.1), tt))
   moved_fits all from to is (keys.Renamed v b o l) row fits = where_so (is_bucket volume bucket v b && o == from) _ (tt, last)
     where
@@ -168,7 +168,7 @@ module _ (volume bucket : List ℕ) (is_volume : IsVolumeName volume) (is_a_buck
   closed_fits (keys.Renamed v b o l) = tt
   closed_fits (keys.Stripe s) = tt
 
-  each_freed : (all : List Entry) (k : List ℕ) → IsKeyName k → (blocks : List Block) → AllByRecursion IsBlock blocks → ChangesFit (map (λ (block : Block). put (keys.Deleted volume bucket 0 k block.local) (rows.Deleted (block ∷ []))) (filter (λ block. not (is_in_a_key all block)) blocks))
+  each_freed : (all : List RowEntry) (k : List ℕ) → IsKeyName k → (blocks : List Block) → AllByRecursion IsBlock blocks → ChangesFit (map (λ (block : Block). put (keys.Deleted volume bucket 0 k block.local) (rows.Deleted (block ∷ []))) (filter (λ block. not (is_in_a_key all block)) blocks))
   each_freed all k is [] fits = tt
   each_freed all k is (x ∷ blocks) fits = by_test (not (is_in_a_key all x)) (each_freed all k is blocks fits.1)
     where
@@ -176,7 +176,7 @@ module _ (volume bucket : List ℕ) (is_volume : IsVolumeName volume) (is_a_buck
       by_test true later = (((is_volume, is_a_bucket, omega arith, is, fits.0.1), ((omega arith, (fits.0, tt)), refl)), later)
       by_test false later = later
 
-  freed_fits : (all : List Entry) (key : RowKey) (row : Row) → RowFits key row → ChangesFit (freed all volume bucket key row)
+  freed_fits : (all : List RowEntry) (key : RowKey) (row : Row) → RowFits key row → ChangesFit (freed all volume bucket key row)
   freed_fits all (keys.Open v b k n) (rows.Open blocks) fits = where_so (is_bucket volume bucket v b) _ (each_freed all k fits.0.2 blocks fits.1.1)
   freed_fits all (keys.Open v b k n) rows.Volume fits = tt
   freed_fits all (keys.Open v b k n) rows.Bucket fits = tt
@@ -199,7 +199,7 @@ unless_same : (t : Bool) (a : List Change) → ChangesFit a → ChangesFit (if t
 unless_same true a fit = tt
 unless_same false a fit = fit
 
-operation_changes_fit : (all : List Entry) (operation : Operation) → EntriesFit all → OperationFits operation → ChangesFit (changes_of all operation)
+operation_changes_fit : (all : List RowEntry) (operation : Operation) → EntriesFit all → OperationFits operation → ChangesFit (operation_changes all operation)
 operation_changes_fit all (Put key row) entries fits = (fits, tt)
 operation_changes_fit all (Remove key) entries fits = (tt, tt)
 operation_changes_fit all (CopyKeys volume bucket number) entries fits = all_over _ all entries (λ e fit. copied_fits volume bucket fits.0 fits.1 number fits.2 e.key e.row fit)
@@ -207,19 +207,19 @@ operation_changes_fit all (MoveDeleted volume bucket from to) entries fits = unl
 operation_changes_fit all (DropKeys volume bucket number) entries fits = all_over _ all entries (λ e fit. dropped_fits volume bucket fits.0 fits.1 number e.key)
 operation_changes_fit all (DropOpen volume bucket) entries fits = all_append _ _ (all_over _ all entries (λ e fit. closed_fits volume bucket fits.0 fits.1 e.key)) (all_over _ all entries (λ e fit. freed_fits volume bucket fits.0 fits.1 all e.key e.row fit))
 
-leads_fit : (before : List Entry) (items : List Operation) (after : List Entry) → Leads before items after → AreOperations items → KeysRise before → AllFit before → AllFit after
+leads_fit : (before : List RowEntry) (items : List Operation) (after : List RowEntry) → Leads before items after → AreOperations items → KeysRise before → AllFit before → AllFit after
 unfolding Leads
 leads_fit before [] after leads fits rise all = subst AllFit (sym leads) all
 leads_fit before (item ∷ items) after leads fits rise all =
     let entries = entries_fit before before all rise (λ e found. found) in
     let changes = operation_changes_fit before item entries fits.0 in
-    leads_fit leads.0 items after leads.3 fits.1 leads.2.in_order (λ key row is. row_fits_after (changes_of before item) key (row_of before key) row changes (λ old found. all key old found) (sym (leads.2.rows key) ∙ is))
+    leads_fit leads.0 items after leads.3 fits.1 leads.2.in_order (λ key row is. row_fits_after (operation_changes before item) key (row_of before key) row changes (λ old found. all key old found) (sym (leads.2.rows key) ∙ is))
 
-fit_from : (before : List Entry) (last : ℕ) (bodies : List (List ℕ)) (all : List Entry) (index : ℕ) → BuildsFrom before last bodies all index → KeysRise before → AllFit before → AllFit all
+fit_from : (before : List RowEntry) (last : ℕ) (bodies : List (List ℕ)) (all : List RowEntry) (index : ℕ) → BuildsFrom before last bodies all index → KeysRise before → AllFit before → AllFit all
 unfolding BuildsFrom
 fit_from before last [] all index builds rise fit = subst AllFit (sym builds.0) fit
 fit_from before last (first ∷ bodies) all index builds rise fit =
     fit_from builds.1 builds.0.index bodies all index builds.3 (leads_rise before builds.0.items builds.1 builds.2.leads rise) (leads_fit before builds.0.items builds.1 builds.2.leads builds.2.body_is.2 rise fit)
 
-pub bodies_fit : (bodies : List (List ℕ)) (all : List Entry) (last : ℕ) → Builds bodies all last → (key : RowKey) (row : Row) → row_of all key ≡ Some row → RowFits key row
+pub bodies_fit : (bodies : List (List ℕ)) (all : List RowEntry) (last : ℕ) → Builds bodies all last → (key : RowKey) (row : Row) → row_of all key ≡ Some row → RowFits key row
 bodies_fit bodies all last builds = fit_from [] 0 bodies all last builds tt (λ key row is. absurd (some_apart (sym is)))

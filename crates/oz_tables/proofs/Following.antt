@@ -8,7 +8,7 @@ use Rattle.std.specs.declared.cmp.Ordering.TheVariants.{Less, Equal, Greater}
 use Rattle.oz_rows.specs.declared.key.RowKey.{RowKey}
 use Rattle.oz_rows.specs.Rows.{kind_of}
 use Rattle.oz_rows.specs.Order.{key_order}
-use Rattle.oz_tables.specs.declared.entry.Entry.{Entry}
+use Rattle.oz_tables.specs.declared.entry.RowEntry.{RowEntry}
 use Rattle.oz_tables.specs.Tables.{row_of, is_same, KeysRise, IsBelow, IsAbove, IsNext, HasNoNext}
 use Rattle.oz_tables.specs.Places.{IsBehind}
 use Rattle.oz_tables.proofs.Splits.{parts}
@@ -21,12 +21,12 @@ le_below a b c Less e le below = key_order_total.trans a b c e below
 le_below a b c Equal e le below = alike_left a b c e ∙ below
 le_below a b c Greater e le below = absurd (false≢true le)
 
-all_below : (key q : RowKey) → IsBelow key q → (a : List Entry) → AllByRecursion (λ entry. is_le (key_order entry.key key) ≡ true) a → AllBelow q a
+all_below : (key q : RowKey) → IsBelow key q → (a : List RowEntry) → AllByRecursion (λ entry. is_le (key_order entry.key key) ≡ true) a → AllBelow q a
 all_below key q below [] le = tt
 all_below key q below (x ∷ a) le = (le_below x.key key q _ refl le.0 below, all_below key q below a le.1)
 
 -- a key that has a row among greater ones is greater
-pub found_over : (key q : RowKey) (b : List Entry) → AllByRecursion (λ other. IsBelow key other.key) b → IsSome (row_of b q) → IsBelow key q
+pub found_over : (key q : RowKey) (b : List RowEntry) → AllByRecursion (λ other. IsBelow key other.key) b → IsSome (row_of b q) → IsBelow key q
 found_over key q [] over found = absurd (false≢true found)
 found_over key q (x ∷ b) over found = by_test (is_same x.key q) refl (found_over key q b over.1)
   where
@@ -35,27 +35,27 @@ found_over key q (x ∷ b) over found = by_test (is_same x.key q) refl (found_ov
     by_test false e later = later (subst (λ (t : Bool). IsSome (cond t (Some x.row) (row_of b q))) e found)
 
 -- the first of rows in order is not above any that has a row
-pub first_least : (x : Entry) (b : List Entry) (q : RowKey) → KeysRise (x ∷ b) → IsSome (row_of (x ∷ b) q) → is_gt (key_order x.key q) ≡ false
+pub first_least : (x : RowEntry) (b : List RowEntry) (q : RowKey) → KeysRise (x ∷ b) → IsSome (row_of (x ∷ b) q) → is_gt (key_order x.key q) ≡ false
 first_least x b q rise found = by_test (is_same x.key q) refl
   where
     by_test : (t : Bool) → is_same x.key q ≡ t → is_gt (key_order x.key q) ≡ false
     by_test true e = ap is_gt (equal_from_test _ e)
     by_test false e = ap is_gt (found_over x.key q b rise.0 (subst (λ (t : Bool). IsSome (cond t (Some x.row) (row_of b q))) e found))
 
-pub drop_past : (l : List Entry) (at : ℕ) → length l ≤ at → drop at l ≡ []
+pub drop_past : (l : List RowEntry) (at : ℕ) → length l ≤ at → drop at l ≡ []
 drop_past [] zero le = refl
 drop_past [] (suc at) le = refl
 drop_past (x ∷ l) zero le = absurd (omega arith)
 drop_past (x ∷ l) (suc at) le = drop_past l at (omega arith)
 
-module _ (l : List Entry) (rise : KeysRise l) (key : RowKey) (at : ℕ) (behind : IsBehind l key at) where
+module _ (l : List RowEntry) (rise : KeysRise l) (key : RowKey) (at : ℕ) (behind : IsBehind l key at) where
   row_later : (q : RowKey) → IsBelow key q → row_of l q ≡ row_of (drop at l) q
   row_later q below = ap (λ l. row_of l q) (parts l at) ∙ row_behind (take at l) (drop at l) q (all_below key q below (take at l) behind.before)
 
   pub none_behind : length l ≤ at → HasNoNext (row_of l) key
   none_behind le q is_above = absurd (false≢true (subst (λ rest. IsSome (row_of rest q)) (drop_past l at le) (subst IsSome (row_later q is_above.above) is_above.has_row)))
 
-  module _ (x : Entry) (lt : at < length l) (it : x ≡ get_or l at x) where
+  module _ (x : RowEntry) (lt : at < length l) (it : x ≡ get_or l at x) where
     rest : drop at l ≡ x ∷ drop (suc at) l
     rest = drop-cons l at x lt ∙ ap (λ y. y ∷ drop (suc at) l) (sym it)
 

@@ -28,3 +28,4 @@ pub mod Bodies
 pub mod Journals
 pub mod OneThing
 pub mod RangeCounts
+pub mod EachBody

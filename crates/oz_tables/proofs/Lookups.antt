@@ -5,46 +5,46 @@ use Rattle.std.specs.Ordering.{is_eq}
 use Rattle.std.specs.declared.cmp.Ordering.TheVariants.{Less, Equal, Greater}
 use Rattle.oz_rows.specs.declared.key.RowKey.{RowKey}
 use Rattle.oz_rows.specs.Order.{key_order}
-use Rattle.oz_tables.specs.declared.entry.Entry.{Entry}
+use Rattle.oz_tables.specs.declared.entry.RowEntry.{RowEntry}
 use Rattle.oz_tables.specs.Tables.{row_of, is_same}
 use Rattle.oz_tables.proofs.Order.{equal_from_test, alike, alike_left}
 
-abbrev pub entry_key : Entry → RowKey
+abbrev pub entry_key : RowEntry → RowKey
 entry_key entry = entry.key
 
-abbrev pub AllBelow : RowKey → List Entry → Type 0
+abbrev pub AllBelow : RowKey → List RowEntry → Type 0
 AllBelow key entries = AllByRecursion (λ entry. key_order entry.key key ≡ Less) entries
 
-abbrev pub AllAbove : RowKey → List Entry → Type 0
+abbrev pub AllAbove : RowKey → List RowEntry → Type 0
 AllAbove key entries = AllByRecursion (λ entry. key_order entry.key key ≡ Greater) entries
 
 -- lower keys do not hide a row
-pub row_behind : (a b : List Entry) (q : RowKey) → AllBelow q a → row_of (a ++ b) q ≡ row_of b q
+pub row_behind : (a b : List RowEntry) (q : RowKey) → AllBelow q a → row_of (a ++ b) q ≡ row_of b q
 row_behind [] b q below = refl
 row_behind (x ∷ a) b q below = ap (λ o. cond (is_eq o) (Some x.row) (row_of (a ++ b) q)) below.0 ∙ row_behind a b q below.1
 
-pub row_above : (b : List Entry) (q : RowKey) → AllAbove q b → row_of b q ≡ None
+pub row_above : (b : List RowEntry) (q : RowKey) → AllAbove q b → row_of b q ≡ None
 row_above [] q above = refl
 row_above (x ∷ b) q above = ap (λ o. cond (is_eq o) (Some x.row) (row_of b q)) above.0 ∙ row_above b q above.1
 
 -- nor does another key
-pub row_beside : (a b : List Entry) (x : Entry) (q : RowKey) → is_same x.key q ≡ false → row_of (a ++ x ∷ b) q ≡ row_of (a ++ b) q
+pub row_beside : (a b : List RowEntry) (x : RowEntry) (q : RowKey) → is_same x.key q ≡ false → row_of (a ++ x ∷ b) q ≡ row_of (a ++ b) q
 row_beside [] b x q other = ap (λ (t : Bool). cond t (Some x.row) (row_of b q)) other
 row_beside (y ∷ a) b x q other = ap (cond (is_same y.key q) (Some y.row)) (row_beside a b x q other)
 
-pub all_below_same : (key q : RowKey) → key_order key q ≡ Equal → (a : List Entry) → AllBelow key a → AllBelow q a
+pub all_below_same : (key q : RowKey) → key_order key q ≡ Equal → (a : List RowEntry) → AllBelow key a → AllBelow q a
 all_below_same key q same [] below = tt
 all_below_same key q same (x ∷ a) below = (sym (alike key q x.key same) ∙ below.0, all_below_same key q same a below.1)
 
-pub all_above_same : (key q : RowKey) → key_order key q ≡ Equal → (a : List Entry) → AllAbove key a → AllAbove q a
+pub all_above_same : (key q : RowKey) → key_order key q ≡ Equal → (a : List RowEntry) → AllAbove key a → AllAbove q a
 all_above_same key q same [] above = tt
 all_above_same key q same (x ∷ a) above = (sym (alike key q x.key same) ∙ above.0, all_above_same key q same a above.1)
 
-pub row_at : (a b : List Entry) (x : Entry) (q : RowKey) → AllBelow q a → key_order x.key q ≡ Equal → row_of (a ++ x ∷ b) q ≡ Some x.row
+pub row_at : (a b : List RowEntry) (x : RowEntry) (q : RowKey) → AllBelow q a → key_order x.key q ≡ Equal → row_of (a ++ x ∷ b) q ≡ Some x.row
 row_at a b x q below same = row_behind a (x ∷ b) q below ∙ ap (λ o. cond (is_eq o) (Some x.row) (row_of b q)) same
 
 -- an entry between lower keys and others is found under its key, and the others as before
-pub row_added : (a b : List Entry) (x : Entry) → AllBelow x.key a → (q : RowKey) → row_of (a ++ x ∷ b) q ≡ cond (is_same x.key q) (Some x.row) (row_of (a ++ b) q)
+pub row_added : (a b : List RowEntry) (x : RowEntry) → AllBelow x.key a → (q : RowKey) → row_of (a ++ x ∷ b) q ≡ cond (is_same x.key q) (Some x.row) (row_of (a ++ b) q)
 row_added a b x below q = by_test (is_same x.key q) refl
   where
     by_test : (t : Bool) → is_same x.key q ≡ t → row_of (a ++ x ∷ b) q ≡ cond (is_same x.key q) (Some x.row) (row_of (a ++ b) q)
@@ -52,7 +52,7 @@ row_added a b x below q = by_test (is_same x.key q) refl
     by_test false e = row_beside a b x q e ∙ ap (λ (t : Bool). cond t (Some x.row) (row_of (a ++ b) q)) (sym e)
 
 -- so is one that stands in the place of another with its key
-pub row_replaced : (a b : List Entry) (old new : Entry) → key_order old.key new.key ≡ Equal → AllBelow new.key a → (q : RowKey) → row_of (a ++ new ∷ b) q ≡ cond (is_same new.key q) (Some new.row) (row_of (a ++ old ∷ b) q)
+pub row_replaced : (a b : List RowEntry) (old new : RowEntry) → key_order old.key new.key ≡ Equal → AllBelow new.key a → (q : RowKey) → row_of (a ++ new ∷ b) q ≡ cond (is_same new.key q) (Some new.row) (row_of (a ++ old ∷ b) q)
 row_replaced a b old new same below q = row_added a b new below q ∙ by_test (is_same new.key q) refl
   where
     by_test : (t : Bool) → is_same new.key q ≡ t → cond (is_same new.key q) (Some new.row) (row_of (a ++ b) q) ≡ cond (is_same new.key q) (Some new.row) (row_of (a ++ old ∷ b) q)
@@ -60,7 +60,7 @@ row_replaced a b old new same below q = row_added a b new below q ∙ by_test (i
     by_test false e = ap (cond (is_same new.key q) (Some new.row)) (sym (row_beside a b old q (ap is_eq (alike_left old.key new.key q same) ∙ e)))
 
 -- without the entry of a key the key has no row
-pub row_removed : (a b : List Entry) (x : Entry) (key : RowKey) → key_order x.key key ≡ Equal → AllBelow key a → AllAbove key b → (q : RowKey) → row_of (a ++ b) q ≡ cond (is_same key q) None (row_of (a ++ x ∷ b) q)
+pub row_removed : (a b : List RowEntry) (x : RowEntry) (key : RowKey) → key_order x.key key ≡ Equal → AllBelow key a → AllAbove key b → (q : RowKey) → row_of (a ++ b) q ≡ cond (is_same key q) None (row_of (a ++ x ∷ b) q)
 row_removed a b x key same below above q = by_test (is_same key q) refl
   where
     by_test : (t : Bool) → is_same key q ≡ t → row_of (a ++ b) q ≡ cond (is_same key q) None (row_of (a ++ x ∷ b) q)
@@ -70,7 +70,7 @@ row_removed a b x key same below above q = by_test (is_same key q) refl
     by_test false e = sym (row_beside a b x q (ap is_eq (alike_left x.key key q same) ∙ e)) ∙ ap (λ (t : Bool). cond t None (row_of (a ++ x ∷ b) q)) (sym e)
 
 -- taking away a key that has no entry changes nothing
-pub row_absent : (a b : List Entry) (key : RowKey) → AllBelow key a → AllAbove key b → (q : RowKey) → row_of (a ++ b) q ≡ cond (is_same key q) None (row_of (a ++ b) q)
+pub row_absent : (a b : List RowEntry) (key : RowKey) → AllBelow key a → AllAbove key b → (q : RowKey) → row_of (a ++ b) q ≡ cond (is_same key q) None (row_of (a ++ b) q)
 row_absent a b key below above q = by_test (is_same key q) refl
   where
     by_test : (t : Bool) → is_same key q ≡ t → row_of (a ++ b) q ≡ cond (is_same key q) None (row_of (a ++ b) q)

@@ -8,37 +8,37 @@ use Rattle.std.specs.Ordering.{is_eq}
 use Rattle.std.specs.declared.cmp.Ordering.{Ordering}
 use Rattle.std.specs.declared.cmp.Ordering.TheVariants.{Less, Equal, Greater}
 use Rattle.oz_rows.specs.declared.operation.Change.{Change}
-use Rattle.oz_tables.specs.declared.entry.Entry.{Entry}
+use Rattle.oz_tables.specs.declared.entry.RowEntry.{RowEntry}
 use Rattle.oz_tables.specs.Parts.{IsPart, part_order}
 
-pub flat_each : (f g : Entry → List Change) → ((entry : Entry) → f entry ≡ g entry) → (l : List Entry) → flat_map f l ≡ flat_map g l
+pub flat_each : (f g : RowEntry → List Change) → ((entry : RowEntry) → f entry ≡ g entry) → (l : List RowEntry) → flat_map f l ≡ flat_map g l
 flat_each f g same [] = refl
 flat_each f g same (entry ∷ l) = flat_map-cons f entry l ∙ ap (λ (changes : List Change). changes ++ flat_map f l) (same entry) ∙ ap (λ (changes : List Change). g entry ++ changes) (flat_each f g same l) ∙ sym (flat_map-cons g entry l)
 
-module _ (P : Entry → Type 0) (f g : Entry → List Change) (same : (entry : Entry) → P entry → f entry ≡ g entry) where
-  pub flat_same : (l : List Entry) → AllByRecursion P l → flat_map f l ≡ flat_map g l
+module _ (P : RowEntry → Type 0) (f g : RowEntry → List Change) (same : (entry : RowEntry) → P entry → f entry ≡ g entry) where
+  pub flat_same : (l : List RowEntry) → AllByRecursion P l → flat_map f l ≡ flat_map g l
   flat_same [] all = refl
   flat_same (entry ∷ l) all = flat_map-cons f entry l ∙ ap (λ (changes : List Change). changes ++ flat_map f l) (same entry all.0) ∙ ap (λ (changes : List Change). g entry ++ changes) (flat_same l all.1) ∙ sym (flat_map-cons g entry l)
 
-module _ (P : Entry → Type 0) (f : Entry → List Change) (nothing : (entry : Entry) → P entry → f entry ≡ []) where
-  pub flat_none : (l : List Entry) → AllByRecursion P l → flat_map f l ≡ []
+module _ (P : RowEntry → Type 0) (f : RowEntry → List Change) (nothing : (entry : RowEntry) → P entry → f entry ≡ []) where
+  pub flat_none : (l : List RowEntry) → AllByRecursion P l → flat_map f l ≡ []
   flat_none [] all = refl
   flat_none (entry ∷ l) all = flat_map-cons f entry l ∙ ap (λ (changes : List Change). changes ++ flat_map f l) (nothing entry all.0) ∙ flat_none l all.1
 
-module _ (P : Entry → Type 0) (test : Entry → Bool) (fails : (entry : Entry) → P entry → test entry ≡ false) where
-  pub any_none : (l : List Entry) → AllByRecursion P l → list_any test l ≡ false
+module _ (P : RowEntry → Type 0) (test : RowEntry → Bool) (fails : (entry : RowEntry) → P entry → test entry ≡ false) where
+  pub any_none : (l : List RowEntry) → AllByRecursion P l → list_any test l ≡ false
   any_none [] all = refl
   any_none (entry ∷ l) all = ap (λ (t : Bool). t || list_any test l) (fails entry all.0) ∙ any_none l all.1
 
-abbrev pub to_key : List (List ℕ) → Ordering → Entry → Type 0
+abbrev pub to_key : List (List ℕ) → Ordering → RowEntry → Type 0
 to_key front order entry = part_order front entry.key ≡ order
 
-three : (f : Entry → List Change) (a b c : List Entry) → flat_map f (a ++ (b ++ c)) ≡ flat_map f a ++ (flat_map f b ++ flat_map f c)
+three : (f : RowEntry → List Change) (a b c : List RowEntry) → flat_map f (a ++ (b ++ c)) ≡ flat_map f a ++ (flat_map f b ++ flat_map f c)
 three f a b c = flat_map-append f a (b ++ c) ∙ ap (λ (changes : List Change). flat_map f a ++ changes) (flat_map-append f b c)
 
 -- only rows of the part give something
-pub flat_part : (f : Entry → List Change) (all : List Entry) (front : List (List ℕ)) (part : List Entry) → IsPart all front part
-    → ((entry : Entry) → is_eq (part_order front entry.key) ≡ false → f entry ≡ []) → flat_map f all ≡ flat_map f part
+pub flat_part : (f : RowEntry → List Change) (all : List RowEntry) (front : List (List ℕ)) (part : List RowEntry) → IsPart all front part
+    → ((entry : RowEntry) → is_eq (part_order front entry.key) ≡ false → f entry ≡ []) → flat_map f all ≡ flat_map f part
 flat_part f all front part is outside =
     ap (flat_map f) is.parts
     ∙ three f is.lower part is.greater
@@ -46,8 +46,8 @@ flat_part f all front part is outside =
     ∙ ap (λ (changes : List Change). flat_map f part ++ changes) (flat_none (to_key front Less) f (λ entry e. outside entry (ap is_eq e)) is.greater is.behind)
     ∙ append-nil (flat_map f part)
 
-pub any_part : (test : Entry → Bool) (all : List Entry) (front : List (List ℕ)) (part : List Entry) → IsPart all front part
-    → ((entry : Entry) → is_eq (part_order front entry.key) ≡ false → test entry ≡ false) → list_any test all ≡ list_any test part
+pub any_part : (test : RowEntry → Bool) (all : List RowEntry) (front : List (List ℕ)) (part : List RowEntry) → IsPart all front part
+    → ((entry : RowEntry) → is_eq (part_order front entry.key) ≡ false → test entry ≡ false) → list_any test all ≡ list_any test part
 any_part test all front part is outside =
     ap (list_any test) is.parts
     ∙ list_any-append test is.lower (part ++ is.greater)
@@ -61,10 +61,10 @@ any_part test all front part is outside =
     or_false false = refl
 
 -- Rows of two parts give something. Those of the first and before it give nothing of what the second gives.
-module _ (f second : Entry → List Change) (all : List Entry) (front later : List (List ℕ)) (part other : List Entry) (is : IsPart all front part) (is_later : IsPart all later other)
-    (none_before : (entry : Entry) → part_order front entry.key ≡ Greater → f entry ≡ []) (not_before : (entry : Entry) → part_order front entry.key ≡ Greater → second entry ≡ [])
-    (not_here : (entry : Entry) → part_order front entry.key ≡ Equal → second entry ≡ []) (behind : (entry : Entry) → part_order front entry.key ≡ Less → f entry ≡ second entry)
-    (outside : (entry : Entry) → is_eq (part_order later entry.key) ≡ false → second entry ≡ []) (inside : (entry : Entry) → part_order later entry.key ≡ Equal → f entry ≡ second entry) where
+module _ (f second : RowEntry → List Change) (all : List RowEntry) (front later : List (List ℕ)) (part other : List RowEntry) (is : IsPart all front part) (is_later : IsPart all later other)
+    (none_before : (entry : RowEntry) → part_order front entry.key ≡ Greater → f entry ≡ []) (not_before : (entry : RowEntry) → part_order front entry.key ≡ Greater → second entry ≡ [])
+    (not_here : (entry : RowEntry) → part_order front entry.key ≡ Equal → second entry ≡ []) (behind : (entry : RowEntry) → part_order front entry.key ≡ Less → f entry ≡ second entry)
+    (outside : (entry : RowEntry) → is_eq (part_order later entry.key) ≡ false → second entry ≡ []) (inside : (entry : RowEntry) → part_order later entry.key ≡ Equal → f entry ≡ second entry) where
   rest_second : flat_map second all ≡ flat_map second is.greater
   rest_second =
       ap (flat_map second) is.parts

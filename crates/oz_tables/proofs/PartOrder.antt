@@ -13,7 +13,7 @@ use Rattle.std.proofs.lemmas.List.{take_all, length-drop}
 use Rattle.std.proofs.lemmas.Bool.Decides.{nat_tests}
 use Rattle.std.proofs.lemmas.Cmp.{lists_total, nat_list_cmp_total}
 use Rattle.oz_rows.specs.declared.key.RowKey.{RowKey}
-use Rattle.oz_tables.specs.declared.entry.Entry.{Entry}
+use Rattle.oz_tables.specs.declared.entry.RowEntry.{RowEntry}
 use Rattle.oz_tables.specs.Tables.{KeysRise, IsBelow}
 use Rattle.oz_tables.specs.Parts.{IsPart, fields_of, part_order}
 use Rattle.oz_tables.proofs.Order.{greater_from_test}
@@ -78,71 +78,71 @@ module _ (front : List (List ℕ)) where
           let less = below_not_above lists front _ _ _ refl (rises a b below) (is_less (part_order front a) same) in
           absurd (false≢true (sym (ap is_ge less) ∙ e))
 
-at_place : (P : Entry → Type 0) (l : List Entry) → AllByRecursion P l → (k : ℕ) (d : Entry) → k < length l → P (get_or l k d)
+at_place : (P : RowEntry → Type 0) (l : List RowEntry) → AllByRecursion P l → (k : ℕ) (d : RowEntry) → k < length l → P (get_or l k d)
 at_place P [] all k d lt = absurd (omega arith)
 at_place P (x ∷ l) all zero d lt = all.0
 at_place P (x ∷ l) all (suc k) d lt = at_place P l all.1 k d (omega arith)
 
-rises_between : (l : List Entry) → KeysRise l → (i j : ℕ) (d : Entry) → i < j → j < length l → IsBelow (get_or l i d).key (get_or l j d).key
+rises_between : (l : List RowEntry) → KeysRise l → (i j : ℕ) (d : RowEntry) → i < j → j < length l → IsBelow (get_or l i d).key (get_or l j d).key
 rises_between [] rise i j d lt in_range = absurd (omega arith)
 rises_between (x ∷ l) rise i zero d lt in_range = absurd (omega arith)
-rises_between (x ∷ l) rise zero (suc j) d lt in_range = at_place (λ (other : Entry). IsBelow x.key other.key) l rise.0 j d (omega arith)
+rises_between (x ∷ l) rise zero (suc j) d lt in_range = at_place (λ (other : RowEntry). IsBelow x.key other.key) l rise.0 j d (omega arith)
 rises_between (x ∷ l) rise (suc i) (suc j) d lt in_range = rises_between l rise.1 i j d (omega arith) (omega arith)
 
 module _ (test : RowKey → Bool) (falls : (a b : RowKey) → IsBelow a b → test b ≡ true → test a ≡ true) where
-  pub parted : (l : List Entry) → KeysRise l → IsPartitionedBy (λ (entry : Entry). test entry.key) l
+  pub parted : (l : List RowEntry) → KeysRise l → IsPartitionedBy (λ (entry : RowEntry). test entry.key) l
   parted l rise i j d le lt e = by (i == j) refl
     where
       by : (t : Bool) → (i == j) ≡ t → test (get_or l i d).key ≡ true
       by true same = let at : i ≡ j = eqb-true i j same in subst (λ (n : ℕ). test (get_or l n d).key ≡ true) (sym at) e
       by false other = let apart : i < j = grind (arith, nat_tests, other, le) in falls (get_or l i d).key (get_or l j d).key (rises_between l rise i j d apart lt) e
 
-module _ (front : List (List ℕ)) (l : List Entry) (rise : KeysRise l) where
-  pub parted_above : IsPartitionedBy (λ (entry : Entry). is_gt (part_order front entry.key)) l
+module _ (front : List (List ℕ)) (l : List RowEntry) (rise : KeysRise l) where
+  pub parted_above : IsPartitionedBy (λ (entry : RowEntry). is_gt (part_order front entry.key)) l
   parted_above = parted (λ key. is_gt (part_order front key)) (above_falls front) l rise
 
-  pub parted_not_below : IsPartitionedBy (λ (entry : Entry). is_ge (part_order front entry.key)) l
+  pub parted_not_below : IsPartitionedBy (λ (entry : RowEntry). is_ge (part_order front entry.key)) l
   parted_not_below = parted (λ key. is_ge (part_order front key)) (not_below_falls front) l rise
 
-abbrev pub Parts : (Entry → Bool) → List Entry → ℕ → Type 0
+abbrev pub Parts : (RowEntry → Bool) → List RowEntry → ℕ → Type 0
 Parts test l at = IsPartitionPoint (λ entry. test entry ≡ true) (λ entry. test entry ≡ false) l at
 
-both : (P Q R : Entry → Type 0) → ((entry : Entry) → P entry → Q entry → R entry) → (l : List Entry) → AllByRecursion P l → AllByRecursion Q l → AllByRecursion R l
+both : (P Q R : RowEntry → Type 0) → ((entry : RowEntry) → P entry → Q entry → R entry) → (l : List RowEntry) → AllByRecursion P l → AllByRecursion Q l → AllByRecursion R l
 both P Q R from [] p q = tt
 both P Q R from (x ∷ l) p q = (from x p.0 q.0, both P Q R from l p.1 q.1)
 
-front_of : (P : Entry → Type 0) (l : List Entry) (n : ℕ) → AllByRecursion P l → AllByRecursion P (take n l)
+front_of : (P : RowEntry → Type 0) (l : List RowEntry) (n : ℕ) → AllByRecursion P l → AllByRecursion P (take n l)
 front_of P l zero all = tt
 front_of P [] (suc n) all = tt
 front_of P (x ∷ l) (suc n) all = (all.0, front_of P l n all.1)
 
 -- the rows between two places that halving found
-pub is_part : (front : List (List ℕ)) (l : List Entry) (start len : ℕ) → start ≤ length l → len ≤ length (drop start l)
+pub is_part : (front : List (List ℕ)) (l : List RowEntry) (start len : ℕ) → start ≤ length l → len ≤ length (drop start l)
     → Parts (λ entry. is_gt (part_order front entry.key)) l start → Parts (λ entry. is_ge (part_order front entry.key)) (drop start l) len
     → IsPart l front (take len (drop start l))
 is_part front l start len in_range len_in_range begins ends =
     let rest = drop start l in
-    let not_lower = all_rest (λ (entry : Entry). is_gt (part_order front entry.key) ≡ false) l start (λ k d le lt. begins.1 k d le lt) in
-    let not_greater = all_front (λ (entry : Entry). is_ge (part_order front entry.key) ≡ true) (drop start l) len len_in_range (λ k d lt. ends.0 k d (omega arith) lt) in
+    let not_lower = all_rest (λ (entry : RowEntry). is_gt (part_order front entry.key) ≡ false) l start (λ k d le lt. begins.1 k d le lt) in
+    let not_greater = all_front (λ (entry : RowEntry). is_ge (part_order front entry.key) ≡ true) (drop start l) len len_in_range (λ k d lt. ends.0 k d (omega arith) lt) in
     record {
       lower = take start l;
       greater = drop len (drop start l);
-      parts = parts l start ∙ ap (λ (others : List Entry). take start l ++ others) (parts (drop start l) len);
-      before = all_front (λ (entry : Entry). part_order front entry.key ≡ Greater) l start in_range (λ k d lt. greater_from_test _ (begins.0 k d (omega arith) lt));
-      among = both (λ (entry : Entry). is_gt (part_order front entry.key) ≡ false) (λ (entry : Entry). is_ge (part_order front entry.key) ≡ true) (λ (entry : Entry). part_order front entry.key ≡ Equal) (λ entry p q. is_equal _ p q) _ (front_of _ (drop start l) len not_lower) not_greater;
-      behind = all_rest (λ (entry : Entry). part_order front entry.key ≡ Less) (drop start l) len (λ k d le lt. is_less _ (ends.1 k d le lt));
+      parts = parts l start ∙ ap (λ (others : List RowEntry). take start l ++ others) (parts (drop start l) len);
+      before = all_front (λ (entry : RowEntry). part_order front entry.key ≡ Greater) l start in_range (λ k d lt. greater_from_test _ (begins.0 k d (omega arith) lt));
+      among = both (λ (entry : RowEntry). is_gt (part_order front entry.key) ≡ false) (λ (entry : RowEntry). is_ge (part_order front entry.key) ≡ true) (λ (entry : RowEntry). part_order front entry.key ≡ Equal) (λ entry p q. is_equal _ p q) _ (front_of _ (drop start l) len not_lower) not_greater;
+      behind = all_rest (λ (entry : RowEntry). part_order front entry.key ≡ Less) (drop start l) len (λ k d le lt. is_less _ (ends.1 k d le lt));
     }
 
 -- the same where the rows from the first place on are told as another list
-pub is_part_of : (front : List (List ℕ)) (l rest : List Entry) (start len : ℕ) → drop start l ≡ rest → start ≤ length l → len ≤ length rest
+pub is_part_of : (front : List (List ℕ)) (l rest : List RowEntry) (start len : ℕ) → drop start l ≡ rest → start ≤ length l → len ≤ length rest
     → Parts (λ entry. is_gt (part_order front entry.key)) l start → Parts (λ entry. is_ge (part_order front entry.key)) rest len
     → IsPart l front (take len rest)
 is_part_of front l rest start len same in_range len_in_range begins ends =
-    subst (λ (rest : List Entry). IsPart l front (take len rest)) same
-    (is_part front l start len in_range (subst (λ (rest : List Entry). len ≤ length rest) (sym same) len_in_range) begins (subst (λ (rest : List Entry). Parts (λ entry. is_ge (part_order front entry.key)) rest len) (sym same) ends))
+    subst (λ (rest : List RowEntry). IsPart l front (take len rest)) same
+    (is_part front l start len in_range (subst (λ (rest : List RowEntry). len ≤ length rest) (sym same) len_in_range) begins (subst (λ (rest : List RowEntry). Parts (λ entry. is_ge (part_order front entry.key)) rest len) (sym same) ends))
 
-pub rise_from : (l rest : List Entry) (start : ℕ) → drop start l ≡ rest → KeysRise l → KeysRise rest
+pub rise_from : (l rest : List RowEntry) (start : ℕ) → drop start l ≡ rest → KeysRise l → KeysRise rest
 rise_from l rest start same rise = subst KeysRise same (rise_rest entry_key l start rise)
 
-pub rest_is : (l : List Entry) (start : ℕ) → drop start l ≡ take (length l - start) (drop start l)
+pub rest_is : (l : List RowEntry) (start : ℕ) → drop start l ≡ take (length l - start) (drop start l)
 rest_is l start = sym (take_all (length l - start) (drop start l) (omega (arith, length-drop start l)))

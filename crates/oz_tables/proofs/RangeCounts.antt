@@ -7,7 +7,7 @@ use Rattle.std.specs.declared.cmp.Ordering.{Ordering}
 use Rattle.oz_rows.specs.declared.key.RowKey.{RowKey}
 use Rattle.oz_rows.specs.declared.row.Row.{Row}
 use Rattle.oz_rows.specs.Order.{key_order}
-use Rattle.oz_tables.specs.declared.entry.Entry.{Entry}
+use Rattle.oz_tables.specs.declared.entry.RowEntry.{RowEntry}
 use Rattle.oz_tables.specs.Counts.{IsBetween, AllRise, IsCount}
 use Rattle.oz_tables.specs.Sound.{AllDiffer}
 use Rattle.oz_tables.specs.Tables.{Rows, row_of, is_same, KeysRise, IsBelow}
@@ -64,15 +64,15 @@ module _ (from to : RowKey) where
       by_test true e = absurd (over (less_from_test _ e))
       by_test false e = (λ i. not (e i) && is_lt (key_order key to)) ∙ ap is_lt below
 
-  pub size : List Entry → ℕ
+  pub size : List RowEntry → ℕ
   size [] = 0
   size (x ∷ l) = cond (in_range x.key) 1 0 + size l
 
-  keys_in : List Entry → List RowKey
+  keys_in : List RowEntry → List RowKey
   keys_in [] = []
   keys_in (x ∷ l) = cond (in_range x.key) (x.key ∷ keys_in l) (keys_in l)
 
-  as_many : (l : List Entry) → size l ≡ length (keys_in l)
+  as_many : (l : List RowEntry) → size l ≡ length (keys_in l)
   unfolding size keys_in
   as_many [] = refl
   as_many (x ∷ l) = by_test (in_range x.key) (as_many l)
@@ -81,7 +81,7 @@ module _ (from to : RowKey) where
       by_test true e = omega (arith, e)
       by_test false e = omega (arith, e)
 
-  under : (x : Entry) (l : List Entry) → AllByRecursion (λ other. IsBelow x.key other.key) l → AllByRecursion (λ key. IsBelow x.key key) (keys_in l)
+  under : (x : RowEntry) (l : List RowEntry) → AllByRecursion (λ other. IsBelow x.key other.key) l → AllByRecursion (λ key. IsBelow x.key key) (keys_in l)
   unfolding keys_in
   under x [] all = tt
   under x (y ∷ l) all = by_test (in_range y.key) (under x l all.1)
@@ -90,7 +90,7 @@ module _ (from to : RowKey) where
       by_test true later = (all.0, later)
       by_test false later = later
 
-  rises : (l : List Entry) → KeysRise l → AllRise (keys_in l)
+  rises : (l : List RowEntry) → KeysRise l → AllRise (keys_in l)
   unfolding keys_in
   rises [] rise = tt
   rises (x ∷ l) rise = by_test (in_range x.key) (rises l rise.1)
@@ -103,7 +103,7 @@ module _ (from to : RowKey) where
   stay_some true row o some = refl
   stay_some false row o some = some
 
-  each_between : (l : List Entry) → AllByRecursion (IsBetween (row_of l) from to) (keys_in l)
+  each_between : (l : List RowEntry) → AllByRecursion (IsBetween (row_of l) from to) (keys_in l)
   unfolding keys_in
   each_between [] = tt
   each_between (x ∷ l) = by_test (in_range x.key) refl (each_in_turn _ _ (λ key is. record { has_row = stay_some (is_same x.key key) x.row (row_of l key) is.has_row; not_below = is.not_below; below = is.below }) (keys_in l) (each_between l))
@@ -120,7 +120,7 @@ module _ (from to : RowKey) where
           )
       by_test false e later = later
 
-  every_between : (l : List Entry) (key : RowKey) → IsSome (row_of l key) → in_range key ≡ true → list_any (is_same key) (keys_in l) ≡ true
+  every_between : (l : List RowEntry) (key : RowKey) → IsSome (row_of l key) → in_range key ≡ true → list_any (is_same key) (keys_in l) ≡ true
   unfolding keys_in
   every_between [] key some e = absurd (false≢true some)
   every_between (x ∷ l) key some e = by_test (is_same x.key key) refl (in_range x.key) refl (λ some. every_between l key some e)
@@ -138,31 +138,31 @@ module _ (from to : RowKey) where
       by_test true is false out later = absurd (false≢true (sym out ∙ ap in_range (same_is_one x.key key is) ∙ e))
       by_test false is s in_it later = head s (later (subst (λ (t : Bool). IsSome (cond t (Some x.row) (row_of l key))) is some))
 
-  pub size_counts : (l : List Entry) → KeysRise l → IsCount (row_of l) from to (size l)
+  pub size_counts : (l : List RowEntry) → KeysRise l → IsCount (row_of l) from to (size l)
   size_counts l rise = (keys_in l, record { rise = rises l rise; each = each_between l; every = λ key is. every_between l key is.has_row (range_from key is.not_below is.below) }, as_many l)
 
-  size_append : (a b : List Entry) → size (a ++ b) ≡ size a + size b
+  size_append : (a b : List RowEntry) → size (a ++ b) ≡ size a + size b
   unfolding size
   size_append [] b = omega arith
   size_append (x ∷ a) b = omega (arith, size_append a b)
 
   -- a row more among others
-  size_with : (a b : List Entry) (x : Entry) → in_range x.key ≡ true → size (a ++ x ∷ b) ≡ size (a ++ b) + 1
+  size_with : (a b : List RowEntry) (x : RowEntry) → in_range x.key ≡ true → size (a ++ x ∷ b) ≡ size (a ++ b) + 1
   unfolding size
   size_with a b x e =
       let one : ◌≡◌ {A = ℕ} (cond (in_range x.key) 1 0) 1 = ap (λ (t : Bool). cond t 1 0) e in
       omega (arith, size_append a (x ∷ b), size_append a b, one)
 
   -- rows in order after one row came or went, and how many are between then
-  pub record After (l : List Entry) (key : RowKey) (row : Option Row) : Type 0 where
-    pub now : List Entry
+  pub record After (l : List RowEntry) (key : RowKey) (row : Option Row) : Type 0 where
+    pub now : List RowEntry
     pub rise : KeysRise now
     pub rows : (q : RowKey) → row_of now q ≡ cond (is_same key q) row (row_of l q)
     pub sized : size now ≡ counted_anew (size l) (is_some (row_of l key)) (is_some row)
 
-  put_after : (key : RowKey) (row : Row) (l : List Entry) → in_range key ≡ true → KeysRise l → Spot key l → After l key (Some row)
+  put_after : (key : RowKey) (row : Row) (l : List RowEntry) → in_range key ≡ true → KeysRise l → Spot key l → After l key (Some row)
   put_after key row _ e rise (at a b x same) =
-      let new : Entry = record { key = key; row = row } in
+      let new : RowEntry = record { key = key; row = row } in
       let below = before_at entry_key a b x key same rise in
       let it : x.key ≡ key = same_is_one x.key key (ap is_eq same) in
       let had : is_some (row_of (a ++ x ∷ b) key) ≡ true = ap is_some (row_at a b x key below same) in
@@ -173,7 +173,7 @@ module _ (from to : RowKey) where
         sized = size_with a b new e ∙ sym (size_with a b x (ap in_range it ∙ e)) ∙ sym (ap (λ (t : Bool). counted_anew (size (a ++ x ∷ b)) t true) had);
       }
   put_after key row _ e rise (between a b below above) =
-      let new : Entry = record { key = key; row = row } in
+      let new : RowEntry = record { key = key; row = row } in
       let none : is_some (row_of (a ++ b) key) ≡ false = ap is_some (row_behind a b key below ∙ row_above b key above) in
       record {
         now = a ++ new ∷ b;
@@ -185,7 +185,7 @@ module _ (from to : RowKey) where
   one_fewer : (m n : ℕ) → m ≡ n + 1 → n ≡ m - 1
   one_fewer m n e = omega (arith, e)
 
-  gone_after : (key : RowKey) (l : List Entry) → in_range key ≡ true → KeysRise l → Spot key l → After l key None
+  gone_after : (key : RowKey) (l : List RowEntry) → in_range key ≡ true → KeysRise l → Spot key l → After l key None
   gone_after key _ e rise (at a b x same) =
       let below = before_at entry_key a b x key same rise in
       let it : x.key ≡ key = same_is_one x.key key (ap is_eq same) in
@@ -205,6 +205,6 @@ module _ (from to : RowKey) where
         sized = sym (ap (λ (t : Bool). counted_anew (size (a ++ b)) t false) none);
       }
 
-  pub after_one : (l : List Entry) (key : RowKey) (row : Option Row) → in_range key ≡ true → KeysRise l → After l key row
+  pub after_one : (l : List RowEntry) (key : RowKey) (row : Option Row) → in_range key ≡ true → KeysRise l → After l key row
   after_one l key (Some row) e rise = put_after key row l e rise (spot key l rise)
   after_one l key None e rise = gone_after key l e rise (spot key l rise)

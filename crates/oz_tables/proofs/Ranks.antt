@@ -9,7 +9,7 @@ use Rattle.std.specs.declared.cmp.Ordering.{Ordering}
 use Rattle.std.specs.declared.cmp.Ordering.TheVariants.{Less, Equal, Greater}
 use Rattle.oz_rows.specs.declared.key.RowKey.{RowKey}
 use Rattle.oz_rows.specs.Order.{key_order}
-use Rattle.oz_tables.specs.declared.entry.Entry.{Entry}
+use Rattle.oz_tables.specs.declared.entry.RowEntry.{RowEntry}
 use Rattle.oz_tables.specs.Tables.{row_of, is_same, KeysRise, IsBelow}
 use Rattle.oz_tables.specs.Places.{IsRank}
 use Rattle.oz_tables.specs.Counts.{IsBetween, AllRise, IsCount}
@@ -27,7 +27,7 @@ lt_falls Equal Greater le e = absurd (false≢true e)
 lt_falls Greater Equal le e = absurd (false≢true e)
 lt_falls Greater Greater le e = e
 
-module _ (l : List Entry) (rise : KeysRise l) (key : RowKey) where
+module _ (l : List RowEntry) (rise : KeysRise l) (key : RowKey) where
   pub parted_below : IsPartitionedBy (λ entry. is_lt (key_order entry.key key)) l
   parted_below i j d le lt e = lt_falls _ _ (comparisons_rise entry_key l rise key i j d le lt) e
 
@@ -38,10 +38,10 @@ module _ (l : List Entry) (rise : KeysRise l) (key : RowKey) where
     after = λ k d le lt below. false≢true (sym (parted.1 k d le lt) ∙ ap is_lt below);
   }
 
-abbrev keys_of : List Entry → List RowKey
-keys_of l = map (λ (entry : Entry). entry.key) l
+abbrev keys_of : List RowEntry → List RowKey
+keys_of l = map (λ (entry : RowEntry). entry.key) l
 
-all_keys : (P : RowKey → Type 0) (l : List Entry) (a n : ℕ) → ((k : ℕ) (d : Entry) → a ≤ k → k < a + n → k < length l → P (get_or l k d).key) → AllByRecursion P (keys_of (take n (drop a l)))
+all_keys : (P : RowKey → Type 0) (l : List RowEntry) (a n : ℕ) → ((k : ℕ) (d : RowEntry) → a ≤ k → k < a + n → k < length l → P (get_or l k d).key) → AllByRecursion P (keys_of (take n (drop a l)))
 all_keys P l a zero each = tt
 all_keys P [] zero (suc n) each = tt
 all_keys P [] (suc a) (suc n) each = tt
@@ -49,7 +49,7 @@ all_keys P (x ∷ l) zero (suc n) each = (each 0 x (omega arith) (omega arith) (
 all_keys P (x ∷ l) (suc a) (suc n) each = all_keys P l a (suc n) (λ k d le lt in_l. each (suc k) d (omega arith) (omega arith) (omega arith))
 
 -- what passes a test at a place between stands between
-any_key : (p : RowKey → Bool) (l : List Entry) (a n i : ℕ) (d : Entry) → a ≤ i → i < a + n → i < length l → p (get_or l i d).key ≡ true → list_any p (keys_of (take n (drop a l))) ≡ true
+any_key : (p : RowKey → Bool) (l : List RowEntry) (a n i : ℕ) (d : RowEntry) → a ≤ i → i < a + n → i < length l → p (get_or l i d).key ≡ true → list_any p (keys_of (take n (drop a l))) ≡ true
 any_key p l a zero i d le lt in_l e = absurd (omega arith)
 any_key p [] a (suc n) i d le lt in_l e = absurd (omega arith)
 any_key p (x ∷ l) zero (suc n) zero d le lt in_l e = ap (λ (t : Bool). t || list_any p (keys_of (take n l))) e
@@ -61,24 +61,24 @@ any_key p (x ∷ l) zero (suc n) (suc i) d le lt in_l e = later (p x.key) (any_k
 any_key p (x ∷ l) (suc a) (suc n) zero d le lt in_l e = absurd (omega arith)
 any_key p (x ∷ l) (suc a) (suc n) (suc i) d le lt in_l e = any_key p l a (suc n) i d (omega arith) (omega arith) (omega arith) e
 
-rise_front : (l : List Entry) (n : ℕ) → KeysRise l → AllRise (keys_of (take n l))
+rise_front : (l : List RowEntry) (n : ℕ) → KeysRise l → AllRise (keys_of (take n l))
 rise_front l zero rise = tt
 rise_front [] (suc n) rise = tt
 rise_front (x ∷ l) (suc n) rise = (under l n rise.0, rise_front l n rise.1)
   where
-    under : (l : List Entry) (n : ℕ) → AllByRecursion (λ other. IsBelow x.key other.key) l → AllByRecursion (λ other. IsBelow x.key other) (keys_of (take n l))
+    under : (l : List RowEntry) (n : ℕ) → AllByRecursion (λ other. IsBelow x.key other.key) l → AllByRecursion (λ other. IsBelow x.key other) (keys_of (take n l))
     under l zero all = tt
     under [] (suc n) all = tt
     under (y ∷ l) (suc n) all = (all.0, under l n all.1)
 
 -- a key with a row has a place, where an entry of that key stands
-pub record PlaceOf (l : List Entry) (key : RowKey) : Type 0 where
+pub record PlaceOf (l : List RowEntry) (key : RowKey) : Type 0 where
   pub place : ℕ
-  pub entry : Entry
+  pub entry : RowEntry
   pub in_range : place < length l
-  pub tied : (d : Entry) → key_order (get_or l place d).key key ≡ Equal
+  pub tied : (d : RowEntry) → key_order (get_or l place d).key key ≡ Equal
 
-pub place_of_row : (l : List Entry) (key : RowKey) → IsSome (row_of l key) → PlaceOf l key
+pub place_of_row : (l : List RowEntry) (key : RowKey) → IsSome (row_of l key) → PlaceOf l key
 place_of_row [] key some = absurd (false≢true some)
 place_of_row (x ∷ l) key some = by_test (is_same x.key key) refl (place_of_row l key)
   where
@@ -89,7 +89,7 @@ place_of_row (x ∷ l) key some = by_test (is_same x.key key) refl (place_of_row
         record { place = suc found.place; entry = x; in_range = omega (arith, found.in_range); tied = found.tied }
 
 -- and the key at a place has a row
-some_row : (l : List Entry) (k : ℕ) (d : Entry) → k < length l → IsSome (row_of l (get_or l k d).key)
+some_row : (l : List RowEntry) (k : ℕ) (d : RowEntry) → k < length l → IsSome (row_of l (get_or l k d).key)
 some_row [] k d lt = absurd (omega arith)
 some_row (x ∷ l) zero d lt = ap (λ (o : Ordering). is_some (cond (is_eq o) (Some x.row) (row_of l x.key))) (itself x.key)
 some_row (x ∷ l) (suc k) d lt = later (is_same x.key (get_or l k d).key) (some_row l k d (omega arith))
@@ -98,14 +98,14 @@ some_row (x ∷ l) (suc k) d lt = later (is_same x.key (get_or l k d).key) (some
     later true some = refl
     later false some = some
 
-size_of : (l : List Entry) (a n : ℕ) → n ≤ length l - a → n ≡ length (keys_of (take n (drop a l)))
+size_of : (l : List RowEntry) (a n : ℕ) → n ≤ length l - a → n ≡ length (keys_of (take n (drop a l)))
 size_of l a zero le = refl
 size_of [] zero (suc n) le = absurd (omega arith)
 size_of [] (suc a) (suc n) le = absurd (omega arith)
 size_of (x ∷ l) zero (suc n) le = ap suc (size_of l zero n (omega arith))
 size_of (x ∷ l) (suc a) (suc n) le = size_of l a (suc n) (omega arith)
 
-module _ (l : List Entry) (rise : KeysRise l) (from to : RowKey) (a b : ℕ) (low : IsRank l from a) (high : IsRank l to b) where
+module _ (l : List RowEntry) (rise : KeysRise l) (from to : RowKey) (a b : ℕ) (low : IsRank l from a) (high : IsRank l to b) where
   each : AllByRecursion (IsBetween (row_of l) from to) (keys_of (take (b - a) (drop a l)))
   each = all_keys _ l a (b - a) (λ k d le lt in_l. record {
     has_row = some_row l k d in_l;
@@ -114,7 +114,7 @@ module _ (l : List Entry) (rise : KeysRise l) (from to : RowKey) (a b : ℕ) (lo
   })
 
   module _ (key : RowKey) (is : IsBetween (row_of l) from to key) (at : PlaceOf l key) where
-    entry : Entry
+    entry : RowEntry
     entry = get_or l at.place at.entry
 
     not_before : a ≤ at.place

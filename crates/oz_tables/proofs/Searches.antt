@@ -7,7 +7,7 @@ use Rattle.std.specs.declared.cmp.Ordering.{Ordering}
 use Rattle.std.specs.declared.cmp.Ordering.TheVariants.{Less, Equal, Greater}
 use Rattle.oz_rows.specs.declared.key.RowKey.{RowKey}
 use Rattle.oz_rows.specs.Order.{key_order}
-use Rattle.oz_tables.specs.declared.entry.Entry.{Entry}
+use Rattle.oz_tables.specs.declared.entry.RowEntry.{RowEntry}
 use Rattle.oz_tables.specs.Tables.{KeysRise}
 use Rattle.oz_tables.specs.Places.{IsAt, IsGap, IsBehind}
 use Rattle.oz_tables.proofs.Splits.{all_front, all_rest}
@@ -26,7 +26,7 @@ greater Less e = absurd (false≢true (sym e))
 greater Equal e = absurd (false≢true (sym e))
 greater Greater e = refl
 
-module _ (l : List Entry) (rise : KeysRise l) (key : RowKey) where
+module _ (l : List RowEntry) (rise : KeysRise l) (key : RowKey) where
   pub searched : (r : Result ℕ ℕ) → IsSearchInRange r (length l) → IsBinarySearchResult (λ entry. key_order entry.key key) l r → record { found : IfOk r (IsAt l key); absent : IfErr r (IsGap l key) }
   searched = halved entry_key l rise key (IsAt l key) (IsGap l key)
       (λ at it. record { in_range = it.in_range; has_key = it.tied })

@@ -9,13 +9,13 @@ use Rattle.oz_rows.specs.Reading.{operation_at}
 use Rattle.oz_rows.specs.laws.Batches.{one_more}
 use Rattle.oz_rows.specs.laws.OperationReads.{operation_reads}
 use Rattle.oz_tables.specs.declared.body.Step.{Step}
-use Rattle.oz_tables.specs.declared.entry.Entry.{Entry}
-use Rattle.oz_tables.specs.Effects.{Leads, Becomes, IsPossible, changes_of}
+use Rattle.oz_tables.specs.declared.entry.RowEntry.{RowEntry}
+use Rattle.oz_tables.specs.Effects.{Leads, Becomes, IsPossible, operation_changes}
 use Rattle.oz_tables.specs.Steps.{operations_of, AreLeft, StepsLead}
 
-pub leads_push : (before : List Entry) (items : List Operation) (operation : Operation) (between after : List Entry) → Leads before items between → IsPossible between operation → Becomes between (changes_of between operation) after → Leads before (items ++ operation ∷ []) after
+pub leads_push : (before : List RowEntry) (items : List Operation) (operation : Operation) (between after : List RowEntry) → Leads before items between → IsPossible between operation → Becomes between (operation_changes between operation) after → Leads before (items ++ operation ∷ []) after
 unfolding Leads
-leads_push before [] operation between after leads possible becomes = (after, subst (λ (rows : List Entry). IsPossible rows operation) leads possible, subst (λ (rows : List Entry). Becomes rows (changes_of rows operation) after) leads becomes, refl)
+leads_push before [] operation between after leads possible becomes = (after, subst (λ (rows : List RowEntry). IsPossible rows operation) leads possible, subst (λ (rows : List RowEntry). Becomes rows (operation_changes rows operation) after) leads becomes, refl)
 leads_push before (first ∷ items) operation between after (one, possible_first, becomes_first, leads) possible becomes = (one, possible_first, becomes_first, leads_push one items operation between after leads possible becomes)
 
 operations_push : (steps : List Step) (step : Step) → operations_of (steps ++ step ∷ []) ≡ operations_of steps ++ step.operation ∷ []
@@ -36,12 +36,12 @@ left_push (first ∷ steps) step rest after parts is left =
     = ap (λ (items : List Operation). length (batch_bytes (first.operation ∷ items))) (operations_push steps step) ∙ batch_push (operations_of (first ∷ steps)) step.operation in
     (omega (arith, more, left.0, parts), left_push steps step rest after parts is left.1)
 
-pub none_read : (bytes : List ℕ) (all : List Entry) → StepsLead all bytes [] bytes all
+pub none_read : (bytes : List ℕ) (all : List RowEntry) → StepsLead all bytes [] bytes all
 unfolding Leads
 none_read bytes all = record { fit = tt; parts = refl; leads = refl; left = tt }
 
-pub steps_more : (before : List Entry) (bytes : List ℕ) (steps : List Step) (rest : List ℕ) (between : List Entry) (operation : Operation) (behind : List ℕ) (after : List Entry)
-    → AreBytes rest → operation_at rest ≡ Ok (operation, behind) → IsPossible between operation → Becomes between (changes_of between operation) after
+pub steps_more : (before : List RowEntry) (bytes : List ℕ) (steps : List Step) (rest : List ℕ) (between : List RowEntry) (operation : Operation) (behind : List ℕ) (after : List RowEntry)
+    → AreBytes rest → operation_at rest ≡ Ok (operation, behind) → IsPossible between operation → Becomes between (operation_changes between operation) after
     → StepsLead before bytes steps rest between → StepsLead before bytes (steps ++ record { left = length rest; operation = operation } ∷ []) behind after
 steps_more before bytes steps rest between operation behind after fit here possible becomes so_far =
     let step : Step = record { left = length rest; operation = operation } in

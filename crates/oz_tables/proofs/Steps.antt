@@ -9,7 +9,7 @@ use Rattle.oz_rows.specs.declared.operation.Operation.TheVariants.{Put, Remove}
 use Rattle.oz_rows.specs.declared.operation.Operations.{Operations}
 use Rattle.oz_rows.specs.Rows.{RowFits, KeyFits, row_bytes, key_bytes}
 use Rattle.oz_rows.specs.Operations.{IsIndex, head_bytes}
-use Rattle.oz_tables.specs.declared.entry.Entry.{Entry}
+use Rattle.oz_tables.specs.declared.entry.RowEntry.{RowEntry}
 use Rattle.oz_tables.specs.Tables.{Rows, row_of, is_same, KeysRise}
 use Rattle.oz_tables.specs.Effects.{Leads, put, gone}
 use Rattle.oz_tables.specs.Build.{base_of, AllAreBased, Builds, BuildsFrom, IsNextBody}
@@ -28,7 +28,7 @@ some_inside {A} d a b e = ap inside e
     inside (Some x) = x
 
 -- a row that is put goes on needing what it needs, and takes from no other what that needs
-module _ (l after : List Entry) (key : RowKey) (row : Row) (rows : (q : RowKey) → row_of after q ≡ cond (is_same key q) (Some row) (row_of l q)) where
+module _ (l after : List RowEntry) (key : RowKey) (row : Row) (rows : (q : RowKey) → row_of after q ≡ cond (is_same key q) (Some row) (row_of l q)) where
   stays : (q : RowKey) → row_of after q ≡ None → row_of l q ≡ None
   stays q absent = by_test (is_same key q) refl
     where
@@ -47,7 +47,7 @@ module _ (l after : List Entry) (key : RowKey) (row : Row) (rows : (q : RowKey) 
       by_test false e = based q base (record { row = orphan.row; stands = sym (rows q ∙ ap (λ (t : Bool). cond t (Some row) (row_of l q)) e) ∙ orphan.stands; needs = orphan.needs; absent = stays base orphan.absent })
 
 -- a row that no other needs may go
-module _ (l after : List Entry) (key : RowKey) (rows : (q : RowKey) → row_of after q ≡ cond (is_same key q) None (row_of l q)) where
+module _ (l after : List RowEntry) (key : RowKey) (rows : (q : RowKey) → row_of after q ≡ cond (is_same key q) None (row_of l q)) where
   pub gone_based : AllAreBased l → ((q : RowKey) (row : Row) → row_of l q ≡ Some row → base_of q row ≡ Some key → ⊥) → AllAreBased after
   gone_based based unneeded q base orphan = by_test (is_same key q) refl (is_same key base) refl
     where
@@ -98,7 +98,7 @@ pub nothing_is_batch : (rows : Rows) → IsBatchOf rows [] []
 unfolding Leads
 nothing_is_batch rows = record { items = []; fit = tt; bytes_are = refl; comes = λ all are based. record { after = all; leads = refl; based = based; rows_are = λ q. refl } }
 
-pub one_more : (before : List Entry) (last : ℕ) (bodies : List (List ℕ)) (all : List Entry) (index : ℕ) → BuildsFrom before last bodies all index → (bytes : List ℕ) (body : Operations) (after : List Entry) → IsNextBody index all bytes body after → BuildsFrom before last (bodies ++ bytes ∷ []) after body.index
+pub one_more : (before : List RowEntry) (last : ℕ) (bodies : List (List ℕ)) (all : List RowEntry) (index : ℕ) → BuildsFrom before last bodies all index → (bytes : List ℕ) (body : Operations) (after : List RowEntry) → IsNextBody index all bytes body after → BuildsFrom before last (bodies ++ bytes ∷ []) after body.index
 unfolding BuildsFrom
 one_more before last [] all index builds bytes body after next =
     (body, after, subst (λ l. IsNextBody l before bytes body after) builds.1 (subst (λ rows. IsNextBody index rows bytes body after) builds.0 next), (refl, refl))
@@ -106,25 +106,25 @@ one_more before last (first ∷ bodies) all index builds bytes body after next =
     (builds.0, builds.1, builds.2, one_more builds.1 builds.0.index bodies all index builds.3 bytes body after next)
 
 -- what holds of the rows of bodies
-based_from : (before : List Entry) (last : ℕ) (bodies : List (List ℕ)) (all : List Entry) (index : ℕ) → BuildsFrom before last bodies all index → AllAreBased before → AllAreBased all
+based_from : (before : List RowEntry) (last : ℕ) (bodies : List (List ℕ)) (all : List RowEntry) (index : ℕ) → BuildsFrom before last bodies all index → AllAreBased before → AllAreBased all
 unfolding BuildsFrom
 based_from before last [] all index builds based = subst AllAreBased (sym builds.0) based
 based_from before last (first ∷ bodies) all index builds based = based_from builds.1 builds.0.index bodies all index builds.3 builds.2.based
 
-pub bodies_based : (bodies : List (List ℕ)) (all : List Entry) (last : ℕ) → Builds bodies all last → AllAreBased all
+pub bodies_based : (bodies : List (List ℕ)) (all : List RowEntry) (last : ℕ) → Builds bodies all last → AllAreBased all
 bodies_based bodies all last builds = based_from [] 0 bodies all last builds (λ key base orphan. some_apart (sym orphan.stands))
 
-pub leads_rise : (before : List Entry) (items : List Operation) (after : List Entry) → Leads before items after → KeysRise before → KeysRise after
+pub leads_rise : (before : List RowEntry) (items : List Operation) (after : List RowEntry) → Leads before items after → KeysRise before → KeysRise after
 unfolding Leads
 leads_rise before [] after leads rise = subst KeysRise (sym leads) rise
 leads_rise before (item ∷ items) after leads rise = leads_rise leads.0 items after leads.3 leads.2.in_order
 
-rise_from : (before : List Entry) (last : ℕ) (bodies : List (List ℕ)) (all : List Entry) (index : ℕ) → BuildsFrom before last bodies all index → KeysRise before → KeysRise all
+rise_from : (before : List RowEntry) (last : ℕ) (bodies : List (List ℕ)) (all : List RowEntry) (index : ℕ) → BuildsFrom before last bodies all index → KeysRise before → KeysRise all
 unfolding BuildsFrom
 rise_from before last [] all index builds rise = subst KeysRise (sym builds.0) rise
 rise_from before last (first ∷ bodies) all index builds rise = rise_from builds.1 builds.0.index bodies all index builds.3 (leads_rise before builds.0.items builds.1 builds.2.leads rise)
 
-pub body_follows : (bodies : List (List ℕ)) (all : List Entry) (last index : ℕ) (batch : List ℕ) (changes : List Change) → Builds bodies all last → IsIndex index → last < index → IsBatchOf (row_of all) batch changes → (after : List Entry) × Builds (bodies ++ (head_bytes index ++ batch) ∷ []) after index × AreRows after (after_changes changes (row_of all))
+pub body_follows : (bodies : List (List ℕ)) (all : List RowEntry) (last index : ℕ) (batch : List ℕ) (changes : List Change) → Builds bodies all last → IsIndex index → last < index → IsBatchOf (row_of all) batch changes → (after : List RowEntry) × Builds (bodies ++ (head_bytes index ++ batch) ∷ []) after index × AreRows after (after_changes changes (row_of all))
 body_follows bodies all last index batch changes builds fits rises is =
     let rise = rise_from [] 0 bodies all last builds tt in
     let comes = is.comes all (record { in_order = rise; rows_are = λ q. refl }) (bodies_based bodies all last builds) in

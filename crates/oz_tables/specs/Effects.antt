@@ -10,7 +10,7 @@ use Rattle.oz_rows.specs.declared.row.Row.TheVariants as rows
 use Rattle.oz_rows.specs.declared.operation.Change.{Change}
 use Rattle.oz_rows.specs.declared.operation.Operation.{Operation}
 use Rattle.oz_rows.specs.declared.operation.Operation.TheVariants.{Put, Remove, CopyKeys, MoveDeleted, DropKeys, DropOpen}
-use Rattle.oz_tables.specs.declared.entry.Entry.{Entry}
+use Rattle.oz_tables.specs.declared.entry.RowEntry.{RowEntry}
 use Rattle.oz_tables.specs.Tables.{row_of, row_after, is_same, KeysRise}
 
 -- the row has this value, and the row is gone
@@ -32,7 +32,7 @@ copied volume bucket number key row = []
 
 -- A deleted or renamed row of one owner goes to another. Of two renamed rows for one block that of the first owner stays,
 -- or that of the second where the first is 0.
-abbrev pub moved : List Entry → List ℕ → List ℕ → ℕ → ℕ → RowKey → Row → List Change
+abbrev pub moved : List RowEntry → List ℕ → List ℕ → ℕ → ℕ → RowKey → Row → List Change
 moved all volume bucket from to (keys.Deleted of_volume of_bucket owner key local) row =
     if is_bucket volume bucket of_volume of_bucket && owner == from
     then gone (keys.Deleted volume bucket from key local) ∷ put (keys.Deleted volume bucket to key local) row ∷ []
@@ -63,11 +63,11 @@ abbrev pub has_block : Block → Row → Bool
 has_block block (rows.Key made pieces) = list_any (λ (piece : Piece). is_block block piece.block) pieces
 has_block block row = false
 
-abbrev pub is_in_a_key : List Entry → Block → Bool
-is_in_a_key all block = list_any (λ (entry : Entry). has_block block entry.row) all
+abbrev pub is_in_a_key : List RowEntry → Block → Bool
+is_in_a_key all block = list_any (λ (entry : RowEntry). has_block block entry.row) all
 
 -- each block of an open row of the bucket that stands in no key row gets a deleted row of its own
-abbrev pub freed : List Entry → List ℕ → List ℕ → RowKey → Row → List Change
+abbrev pub freed : List RowEntry → List ℕ → List ℕ → RowKey → Row → List Change
 freed all volume bucket (keys.Open of_volume of_bucket key number) (rows.Open blocks) =
     if is_bucket volume bucket of_volume of_bucket
     then map (λ (block : Block). put (keys.Deleted volume bucket 0 key block.local) (rows.Deleted (block ∷ []))) (filter (λ block. not (is_in_a_key all block)) blocks)
@@ -75,26 +75,26 @@ freed all volume bucket (keys.Open of_volume of_bucket key number) (rows.Open bl
 freed all volume bucket key row = []
 
 -- what an operation changes among these rows, the first change first
-abbrev pub changes_of : List Entry → Operation → List Change
-changes_of all (Put key row) = put key row ∷ []
-changes_of all (Remove key) = gone key ∷ []
-changes_of all (CopyKeys volume bucket number) = flat_map (λ (entry : Entry). copied volume bucket number entry.key entry.row) all
-changes_of all (MoveDeleted volume bucket from to) = if from == to then [] else flat_map (λ (entry : Entry). moved all volume bucket from to entry.key entry.row) all
-changes_of all (DropKeys volume bucket number) = flat_map (λ (entry : Entry). dropped volume bucket number entry.key) all
-changes_of all (DropOpen volume bucket) = flat_map (λ (entry : Entry). closed volume bucket entry.key) all ++ flat_map (λ (entry : Entry). freed all volume bucket entry.key entry.row) all
+abbrev pub operation_changes : List RowEntry → Operation → List Change
+operation_changes all (Put key row) = put key row ∷ []
+operation_changes all (Remove key) = gone key ∷ []
+operation_changes all (CopyKeys volume bucket number) = flat_map (λ (entry : RowEntry). copied volume bucket number entry.key entry.row) all
+operation_changes all (MoveDeleted volume bucket from to) = if from == to then [] else flat_map (λ (entry : RowEntry). moved all volume bucket from to entry.key entry.row) all
+operation_changes all (DropKeys volume bucket number) = flat_map (λ (entry : RowEntry). dropped volume bucket number entry.key) all
+operation_changes all (DropOpen volume bucket) = flat_map (λ (entry : RowEntry). closed volume bucket entry.key) all ++ flat_map (λ (entry : RowEntry). freed all volume bucket entry.key entry.row) all
 
 -- the rows after changes: in order, and each key has the row that the changes lead to
-pub record Becomes (before : List Entry) (changes : List Change) (after : List Entry) : Type 0 where
+pub record Becomes (before : List RowEntry) (changes : List Change) (after : List RowEntry) : Type 0 where
   pub in_order : KeysRise after
   pub rows : (key : RowKey) → row_of after key ≡ row_after changes key (row_of before key)
 
 -- a row that is removed is there
-abbrev pub IsPossible : List Entry → Operation → Type 0
+abbrev pub IsPossible : List RowEntry → Operation → Type 0
 IsPossible all (Remove key) = IsSome (row_of all key)
 IsPossible all operation = Unit {0}
 
 -- operations lead from rows to rows
-unfoldable pub Leads : List Entry → List Operation → List Entry → Type 0
+unfoldable pub Leads : List RowEntry → List Operation → List RowEntry → Type 0
 Leads before [] after = after ≡ before
 Leads before (operation ∷ operations) after =
-    (between : List Entry) × IsPossible before operation × Becomes before (changes_of before operation) between × Leads between operations after
+    (between : List RowEntry) × IsPossible before operation × Becomes before (operation_changes before operation) between × Leads between operations after

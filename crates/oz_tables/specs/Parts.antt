@@ -8,7 +8,7 @@ use Rattle.std.specs.Cmp.Lexicographic.{slice_cmp}
 use Rattle.oz_rows.specs.declared.key.RowKey.{RowKey}
 use Rattle.oz_rows.specs.Rows.{kind_of}
 use Rattle.oz_rows.specs.Order.{key_fields}
-use Rattle.oz_tables.specs.declared.entry.Entry.{Entry}
+use Rattle.oz_tables.specs.declared.entry.RowEntry.{RowEntry}
 
 -- the kind and the key fields, as the order of keys sees them
 abbrev pub fields_of : RowKey → List (List ℕ)
@@ -19,9 +19,9 @@ abbrev pub part_order : List (List ℕ) → RowKey → Ordering
 part_order front key = slice_cmp (slice_cmp nat_cmp) front (take (length front) (fields_of key))
 
 -- all rows whose keys begin with these fields, between lower and greater ones
-pub record IsPart (all : List Entry) (front : List (List ℕ)) (part : List Entry) : Type 0 where
-  pub lower : List Entry
-  pub greater : List Entry
+pub record IsPart (all : List RowEntry) (front : List (List ℕ)) (part : List RowEntry) : Type 0 where
+  pub lower : List RowEntry
+  pub greater : List RowEntry
   pub parts : all ≡ lower ++ (part ++ greater)
   pub before : AllByRecursion (λ entry. part_order front entry.key ≡ Greater) lower
   pub among : AllByRecursion (λ entry. part_order front entry.key ≡ Equal) part

@@ -4,10 +4,12 @@ use Rattle.std.specs.List.{AllByRecursion, list_any}
 use Rattle.oz_fields.specs.declared.block.Block.{Block}
 use Rattle.oz_fields.specs.declared.block.Piece.{Piece}
 use Rattle.oz_names.specs.Names.{stripe_of}
+use Rattle.oz_names.specs.declared.limits.TheConstants.{MOST_BUCKETS, MOST_KEYS, MOST_SNAPSHOTS}
 use Rattle.oz_rows.specs.declared.key.RowKey.{RowKey}
 use Rattle.oz_rows.specs.declared.key.RowKey.TheVariants as keys
 use Rattle.oz_rows.specs.declared.row.Row.{Row}
 use Rattle.oz_rows.specs.declared.row.Row.TheVariants as rows
+use Rattle.oz_rows.specs.declared.row.SnapshotState.TheVariants.{Live}
 use Rattle.oz_tables.specs.Effects.{is_block}
 use Rattle.oz_tables.specs.StandsFor.{IsLive, drawn_in}
 use Rattle.oz_tables.specs.Tables.{Rows}
@@ -27,16 +29,16 @@ pub record StandsIn (all : Rows) (block : Block) (key : RowKey) : Type 0 where
   pub has : list_any (is_block block) (blocks_of row) ≡ true
 
 -- the volume and the bucket of a row, None for the rows of no bucket
-abbrev pub place_of : RowKey → Option (List ℕ × List ℕ)
-place_of (keys.Volume volume) = None
-place_of (keys.Bucket volume bucket) = Some (volume, bucket)
-place_of (keys.Key volume bucket key) = Some (volume, bucket)
-place_of (keys.Open volume bucket key number) = Some (volume, bucket)
-place_of (keys.Deleted volume bucket owner key local) = Some (volume, bucket)
-place_of (keys.Snapshot volume bucket number) = Some (volume, bucket)
-place_of (keys.SnapshotKey volume bucket snapshot key) = Some (volume, bucket)
-place_of (keys.Renamed volume bucket owner local) = Some (volume, bucket)
-place_of (keys.Stripe stripe) = None
+abbrev pub bucket_of_row : RowKey → Option (List ℕ × List ℕ)
+bucket_of_row (keys.Volume volume) = None
+bucket_of_row (keys.Bucket volume bucket) = Some (volume, bucket)
+bucket_of_row (keys.Key volume bucket key) = Some (volume, bucket)
+bucket_of_row (keys.Open volume bucket key number) = Some (volume, bucket)
+bucket_of_row (keys.Deleted volume bucket owner key local) = Some (volume, bucket)
+bucket_of_row (keys.Snapshot volume bucket number) = Some (volume, bucket)
+bucket_of_row (keys.SnapshotKey volume bucket snapshot key) = Some (volume, bucket)
+bucket_of_row (keys.Renamed volume bucket owner local) = Some (volume, bucket)
+bucket_of_row (keys.Stripe stripe) = None
 
 -- the rows of keys and of deleted keys, which keep a block for the snapshots
 abbrev pub IsKeeper : RowKey → Type 0
@@ -94,7 +96,7 @@ IsUsing all volume bucket (key, Some number) = IsSome (all (keys.Open volume buc
 -- Where blocks stand: in the rows of one bucket, and in one row of a key, an open key or a deleted one. A live snapshot's
 -- block is kept by a row of a key or of a deleted one. What one row has is in the same live snapshots.
 pub record BlocksAreSound (all : Rows) : Type 0 where
-  pub one_bucket : (block : Block) (key other : RowKey) → StandsIn all block key → StandsIn all block other → place_of key ≡ place_of other
+  pub one_bucket : (block : Block) (key other : RowKey) → StandsIn all block key → StandsIn all block other → bucket_of_row key ≡ bucket_of_row other
   pub one_home : (block : Block) (key other : RowKey) → IsHome key → IsHome other → StandsIn all block key → StandsIn all block other → key ≡ other
   pub one_local : (block twin : Block) (key other : RowKey) → StandsIn all block key → StandsIn all twin other → block.local ≡ twin.local → block ≡ twin
   pub kept : (volume bucket name : List ℕ) (number : ℕ) (block : Block) → SnapshotHas all volume bucket number block name → (key : RowKey) × IsKeeper key × StandsIn all block key
@@ -102,8 +104,10 @@ pub record BlocksAreSound (all : Rows) : Type 0 where
   pub key_together : (volume bucket key : List ℕ) (block other : Block) → StandsIn all block (keys.Key volume bucket key) → StandsIn all other (keys.Key volume bucket key) → AreTogether all volume bucket block other
 
 -- Under which names blocks stand: in a live snapshot under one, and a block of an open key only under that key. The first
--- rename behind a snapshot has the snapshot's name, and there is one where the block is named anew.
+-- rename behind a snapshot has the snapshot's name, and there is one where the block is named anew. Live snapshots of one
+-- bucket have different names.
 pub record NamesAreSound (all : Rows) : Type 0 where
+  pub one_snapshot : (volume bucket name : List ℕ) (number previous other before : ℕ) → all (keys.Snapshot volume bucket number) ≡ Some (rows.Snapshot name previous Live) → all (keys.Snapshot volume bucket other) ≡ Some (rows.Snapshot name before Live) → number ≡ other
   pub one_name : (volume bucket name another : List ℕ) (number : ℕ) (block : Block) → SnapshotHas all volume bucket number block name → SnapshotHas all volume bucket number block another → name ≡ another
   pub open_name : (volume bucket key name : List ℕ) (session number : ℕ) (block : Block) → StandsIn all block (keys.Open volume bucket key session) → SnapshotHas all volume bucket number block name → name ≡ key
   pub renamed : (volume bucket name another : List ℕ) (number owner : ℕ) (block : Block) → SnapshotHas all volume bucket number block name → IsRename all volume bucket number block.local owner another → another ≡ name
@@ -120,10 +124,10 @@ pub record NumbersAreSound (all : Rows) : Type 0 where
 
 -- How many there are: buckets of a volume, keys and sessions of a bucket, live snapshots of a bucket, keys of each.
 pub record CountsAreSound (all : Rows) : Type 0 where
-  pub buckets : (volume : List ℕ) → AtMost 1024 (λ bucket. IsSome (all (keys.Bucket volume bucket)))
-  pub keys_and_sessions : (volume bucket : List ℕ) → AtMost 4096 (IsUsing all volume bucket)
-  pub snapshots : (volume bucket : List ℕ) → AtMost 32 (IsLive all volume bucket)
-  pub snapshot_keys : (volume bucket : List ℕ) (number : ℕ) → IsLive all volume bucket number → AtMost 4096 (λ key. IsSome (all (keys.SnapshotKey volume bucket number key)))
+  pub buckets : (volume : List ℕ) → AtMost MOST_BUCKETS (λ bucket. IsSome (all (keys.Bucket volume bucket)))
+  pub keys_and_sessions : (volume bucket : List ℕ) → AtMost MOST_KEYS (IsUsing all volume bucket)
+  pub snapshots : (volume bucket : List ℕ) → AtMost MOST_SNAPSHOTS (IsLive all volume bucket)
+  pub snapshot_keys : (volume bucket : List ℕ) (number : ℕ) → IsLive all volume bucket number → AtMost MOST_KEYS (λ key. IsSome (all (keys.SnapshotKey volume bucket number key)))
 
 pub record IsSound (all : Rows) : Type 0 where
   pub blocks : BlocksAreSound all

@@ -1,6 +1,6 @@
 -- What the single steps of building make and find.
 use Rattle.std.specs.Prelude.{◌≡◌, ℕ, Bool, true, false, not, ◌&&◌, ◌==◌, ◌+◌, ◌-◌, ◌<◌, ◌≤◌, ◌⊎◌, List, [], ◌∷◌, ◌++◌, length, map, Option, None, Some, is_some, Ok, Err, if◌then◌else◌}
-use Rattle.std.specs.List.{AllByRecursion, flat_map, list_any}
+use Rattle.std.specs.List.{flat_map, list_any}
 use Rattle.std.specs.Ordering.{nat_cmp, ordering_then}
 use Rattle.std.specs.declared.cmp.Ordering.{Ordering}
 use Rattle.std.specs.BTreeSet.{BTreeSet, contains}
@@ -19,12 +19,12 @@ use Rattle.oz_rows.specs.declared.operation.Operations.{Operations}
 use Rattle.oz_rows.specs.Operations.{IsIndex, AreOperations, batch_bytes, head_bytes}
 use Rattle.oz_rows.specs.Reading.{head_at, operation_at}
 use Rattle.oz_tables.specs.declared.body.Step.{Step}
-use Rattle.oz_tables.specs.declared.entry.Entry.{Entry}
+use Rattle.oz_tables.specs.declared.entry.RowEntry.{RowEntry}
 use Rattle.oz_tables.specs.declared.fault.BuildFault.{BuildFault}
 use Rattle.oz_tables.specs.declared.fault.BuildFault.TheVariants as faults
-use Rattle.oz_tables.specs.Tables.{Contents, row_of, is_same}
+use Rattle.oz_tables.specs.Tables.{TableView, row_of, is_same}
 use Rattle.oz_tables.specs.Effects.{Leads, gone, put, is_bucket}
-use Rattle.oz_tables.specs.Build.{base_of, puts, IsAtFault, IsNextBody}
+use Rattle.oz_tables.specs.Build.{base_of, puts, IsAtFault, NoneAtFault, IsNextBody}
 
 -- a fault of reading, as a place in a body
 abbrev pub fault_in : ℕ → List ℕ → ReadFault → BuildFault
@@ -47,7 +47,7 @@ pub record HeadRises (last : ℕ) (bytes : List ℕ) (index : ℕ) (rest : List 
   pub rises : last < index
 
 -- an operation removes a row that isn't there
-pub record RemovesNothing (all : List Entry) (operation : Operation) : Type 0 where
+pub record RemovesNothing (all : List RowEntry) (operation : Operation) : Type 0 where
   pub key : RowKey
   pub is : operation ≡ Remove key
   pub absent : row_of all key ≡ None
@@ -58,18 +58,18 @@ AreLeft behind [] = Unit {0}
 AreLeft behind (step ∷ steps) = (step.left ≡ length (batch_bytes (operations_of (step ∷ steps))) + behind) × AreLeft behind steps
 
 -- operations that were read from the front of the bytes and applied
-pub record StepsLead (before : List Entry) (bytes : List ℕ) (steps : List Step) (rest : List ℕ) (after : List Entry) : Type 0 where
+pub record StepsLead (before : List RowEntry) (bytes : List ℕ) (steps : List Step) (rest : List ℕ) (after : List RowEntry) : Type 0 where
   pub fit : AreOperations (operations_of steps)
   pub parts : bytes ≡ batch_bytes (operations_of steps) ++ rest
   pub leads : Leads before (operations_of steps) after
   pub left : AreLeft (length rest) steps
 
 -- all of the bytes
-abbrev pub BatchLeads : List Entry → List ℕ → List Step → List Entry → Type 0
+abbrev pub BatchLeads : List RowEntry → List ℕ → List Step → List RowEntry → Type 0
 BatchLeads before bytes steps after = StepsLead before bytes steps [] after
 
 -- behind operations that may follow each other so many bytes are left, from a fault on
-pub record BatchStops (before : List Entry) (bytes : List ℕ) (between : List Entry) (left : ℕ) : Type 0 where
+pub record BatchStops (before : List RowEntry) (bytes : List ℕ) (between : List RowEntry) (left : ℕ) : Type 0 where
   pub items : List Operation
   pub rest : List ℕ
   pub fit : AreOperations items
@@ -79,23 +79,19 @@ pub record BatchStops (before : List Entry) (bytes : List ℕ) (between : List E
   pub fails : (operation_at rest ≡ Err left) ⊎ ((key : RowKey) × (behind : List ℕ) × (operation_at rest ≡ Ok (Remove key, behind)) × (row_of between key ≡ None) × (left ≡ length rest))
 
 -- what a body makes of tables, and their index
-pub record Follows (before : Contents) (bytes : List ℕ) (after : Contents) : Type 0 where
+pub record Follows (before : TableView) (bytes : List ℕ) (after : TableView) : Type 0 where
   pub body : Operations
   pub next : IsNextBody before.last_index before.rows bytes body after.rows
   pub index : body.index ≡ after.last_index
 
--- none of these operations of a body is at fault
-abbrev pub NoneAtFault : List Entry → List Operation → List Operation → Type 0
-NoneAtFault all items operations = AllByRecursion (λ operation. IsAtFault all items operation → ⊥) operations
-
 -- the first step that is
-pub record FirstAtFault (all : List Entry) (steps : List Step) (left : ℕ) : Type 0 where
+pub record FirstAtFault (all : List RowEntry) (steps : List Step) (left : ℕ) : Type 0 where
   pub earlier : List Step
   pub step : Step
   pub later : List Step
   pub parts : steps ≡ earlier ++ step ∷ later
-  pub first : NoneAtFault all (operations_of steps) (operations_of earlier)
-  pub at_fault : IsAtFault all (operations_of steps) step.operation
+  pub first : NoneAtFault all (operations_of steps) (operations_of earlier) (operations_of (step ∷ later))
+  pub at_fault : IsAtFault all (operations_of steps) (operations_of later) step.operation
   pub left_is : left ≡ step.left
 
 abbrev pub is_live : Row → Bool
@@ -107,19 +103,15 @@ is_needed base None = false
 is_needed base (Some needed) = is_same base needed
 
 -- the row needs the one of this key
-abbrev pub stands_on : RowKey → Entry → Bool
+abbrev pub stands_on : RowKey → RowEntry → Bool
 stands_on base entry = is_needed base (base_of entry.key entry.row)
 
 -- and no operation put it
-abbrev pub is_left : List Operation → RowKey → Entry → Bool
+abbrev pub is_left : List Operation → RowKey → RowEntry → Bool
 is_left items base entry = stands_on base entry && not (list_any (puts entry.key) items)
 
--- the key's row isn't there, and a row needs it that no operation put
-abbrev pub LeavesOne : List Entry → List Operation → RowKey → Type 0
-LeavesOne all items base = IsAtFault all items (Remove base)
-
 -- a renamed row of one owner goes to another, unless that one's stays
-abbrev pub renamed_moved : List Entry → List ℕ → List ℕ → ℕ → ℕ → ℕ → Row → List Change
+abbrev pub renamed_moved : List RowEntry → List ℕ → List ℕ → ℕ → ℕ → ℕ → Row → List Change
 renamed_moved all volume bucket from to local row =
     gone (keys.Renamed volume bucket from local) ∷ (if from == 0 && is_some (row_of all (keys.Renamed volume bucket to local)) then [] else put (keys.Renamed volume bucket to local) row ∷ [])
 

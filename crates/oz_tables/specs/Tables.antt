@@ -8,11 +8,11 @@ use Rattle.oz_rows.specs.declared.row.Row.{Row}
 use Rattle.oz_rows.specs.declared.operation.Change.{Change}
 use Rattle.oz_rows.specs.Rows.{kind_of}
 use Rattle.oz_rows.specs.Order.{key_order}
-use Rattle.oz_tables.specs.declared.entry.Entry.{Entry}
+use Rattle.oz_tables.specs.declared.entry.RowEntry.{RowEntry}
 
 -- the rows, the last index, and the number of changes for which there is room
-pub record Contents : Type 0 where
-  pub rows : List Entry
+pub record TableView : Type 0 where
+  pub rows : List RowEntry
   pub last_index : ℕ
   pub spare : ℕ
 
@@ -24,12 +24,12 @@ abbrev pub is_same : RowKey → RowKey → Bool
 is_same a b = is_eq (key_order a b)
 
 -- each key is below those behind it
-abbrev pub KeysRise : List Entry → Type 0
+abbrev pub KeysRise : List RowEntry → Type 0
 KeysRise [] = Unit {0}
 KeysRise (entry ∷ others) = AllByRecursion (λ other. IsBelow entry.key other.key) others × KeysRise others
 
 -- the row that a key has
-abbrev pub row_of : List Entry → RowKey → Option Row
+abbrev pub row_of : List RowEntry → RowKey → Option Row
 row_of [] key = None
 row_of (entry ∷ others) key = if is_same entry.key key then Some entry.row else row_of others key
 

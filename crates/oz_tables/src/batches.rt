@@ -6,7 +6,7 @@ ghost use Rattle.oz_rows.specs.declared.row.Row.{Row as AnyRow};
 ghost use Rattle.oz_rows.specs.declared.operation.Change.{Change as AnyChange};
 ghost use Rattle.oz_rows.specs.Rows.{RowFits, KeyFits, row_bytes, key_bytes};
 ghost use Rattle.oz_rows.specs.Operations.{IsIndex, head_bytes};
-ghost use Rattle.oz_tables.specs.declared.entry.Entry.{Entry as AnyEntry};
+ghost use Rattle.oz_tables.specs.declared.entry.RowEntry.{RowEntry as AnyEntry};
 ghost use Rattle.oz_tables.specs.Batches.{AreRows, IsBatchOf, after_changes};
 ghost use Rattle.oz_tables.specs.Build.{base_of, AllAreBased, Builds};
 ghost use Rattle.oz_tables.specs.Effects.{put, gone};

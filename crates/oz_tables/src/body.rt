@@ -2,11 +2,11 @@
 
 ghost use Rattle.std.specs.Prelude.{◌≡◌, ◌-◌, ◌<◌, ◌≤◌, ℕ, length, OnOk, IfOk, IfErr, MatchResult};
 ghost use Rattle.std.specs.Bool.{OnTrue, OnFalse};
-ghost use Rattle.oz_tables.specs.Effects.{Becomes, IsPossible, changes_of as changed_by};
+ghost use Rattle.oz_tables.specs.Effects.{Becomes, IsPossible, operation_changes as changed_by};
 ghost use Rattle.oz_tables.specs.Build.{AllAreBased, HeadFails, IsDamagedBody};
 ghost use Rattle.oz_tables.specs.Steps.{Follows, RemovesNothing, BatchLeads, BatchStops, HeadRises, IfLeft};
 
-use crate::effects::changes_of;
+use crate::effects::operation_changes;
 use crate::needs::first_at_fault;
 use crate::tables::Tables;
 use oz_fields::OutOfMemory;
@@ -95,7 +95,7 @@ fn perform(alloc: Global, tables: &mut Tables, operation: &Operation) -> Result<
     ensures last_index { tables.new.last_index ≡ tables.old.last_index }
     ensures becomes { OnOk result (Becomes tables.old.rows (changed_by tables.old.rows operation.now) tables.new.rows) }
 {
-    let changes = changes_of(alloc, tables, operation)?;
+    let changes = operation_changes(alloc, tables, operation)?;
     tables.reserve(alloc, changes.len())?;
     tables.enter_all(changes);
     let _in_order = tables.rows();

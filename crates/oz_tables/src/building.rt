@@ -1,8 +1,9 @@
 //! Tables from the bodies of a journal.
 
-ghost use Rattle.std.specs.Prelude.{◌≡◌, ◌<◌, ◌^◌, ℕ, IfOk, IfErr};
+ghost use Rattle.std.specs.Prelude.{◌≡◌, ◌<◌, ℕ, IfOk, IfErr};
+ghost use Rattle.oz_rows.specs.declared.operation.TheConstants.{END_OF_INDEXES};
 ghost use Rattle.oz_journal.specs.Body.{bodies_in};
-ghost use Rattle.oz_tables.specs.Build.{Builds, Fails};
+ghost use Rattle.oz_tables.specs.Build.{Builds, FailsAt};
 ghost use Rattle.oz_tables.specs.Steps.{fault_in};
 
 use crate::body::follow;
@@ -15,8 +16,8 @@ use std::alloc::Global;
 /// The tables that the bodies of a manager's journal make, one after another.
 pub fn build(alloc: Global, bodies: &[Body]) -> Result<Tables, BuildFault>
     ensures built { IfOk result (λ tables. Builds (bodies_in bodies.now) tables.rows tables.last_index) }
-    ensures index { IfOk result (λ tables. tables.last_index < 2 ^ 63) }
-    ensures damaged { IfErr result (λ fault. (body at : ℕ) → fault ≡ BuildFault.Damaged body at → Fails (bodies_in bodies.now) body at) }
+    ensures index { IfOk result (λ tables. tables.last_index < END_OF_INDEXES) }
+    ensures damaged { IfErr result (λ fault. (body at : ℕ) → fault ≡ BuildFault.Damaged body at → FailsAt (bodies_in bodies.now) body at) }
 {
     let mut tables = Tables::new(alloc);
     for (count, body) in bodies.iter().enumerate() {

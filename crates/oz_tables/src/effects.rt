@@ -2,14 +2,13 @@
 
 ghost use Rattle.std.specs.Prelude.{◌≡◌, ◌∷◌, ◌++◌, ◌||◌, [], not, map, filter, OnOk, IfOk};
 ghost use Rattle.std.specs.List.{flat_map, list_any};
-ghost use Rattle.oz_tables.specs.Effects.{copied, moved, dropped, closed, freed, put, gone, is_bucket as is_same_bucket, is_block as is_same_block, has_block as does_have, is_in_a_key as is_kept, changes_of as changed_by};
+ghost use Rattle.oz_tables.specs.Effects.{copied, moved, dropped, closed, freed, put, gone, is_bucket as is_same_bucket, is_block as is_same_block, has_block as does_have, is_in_a_key as is_kept, operation_changes as changed_by};
 ghost use Rattle.oz_fields.specs.declared.block.Block.{Block as AnyBlock};
 ghost use Rattle.oz_tables.specs.Steps.{renamed_moved, freed_block, freed_but, holds as does_hold};
-ghost use Rattle.oz_rows.specs.declared.key.RowKey.{RowKey as AnyKey};
 ghost use Rattle.oz_rows.specs.declared.row.Row.{Row as AnyRow};
 ghost use Rattle.oz_rows.specs.declared.operation.Operation.{Operation as AnyOperation};
 
-use crate::entry::Entry;
+use crate::entry::RowEntry;
 use crate::parts::bucket_rows;
 use crate::tables::Tables;
 use oz_fields::{Block, List, Name, OutOfMemory, Piece, TryClone};
@@ -18,7 +17,7 @@ use std::alloc::Global;
 use std::collections::BTreeSet;
 
 /// The changes that an operation stands for, the first one first.
-pub(crate) fn changes_of(
+pub(crate) fn operation_changes(
     alloc: Global,
     tables: &Tables,
     operation: &Operation,
@@ -69,7 +68,7 @@ fn only(alloc: Global, key: RowKey, row: Option<Row>) -> Result<Vec<Change>, Out
 /// The key rows as a snapshot keeps them.
 fn copies(
     alloc: Global,
-    rows: &[Entry],
+    rows: &[RowEntry],
     volume: &Name,
     bucket: &Name,
     number: u64,
@@ -86,7 +85,7 @@ fn copies(
 fn add_copy(
     alloc: Global,
     changes: &mut Vec<Change>,
-    entry: &Entry,
+    entry: &RowEntry,
     volume: &Name,
     bucket: &Name,
     number: u64,
@@ -111,12 +110,13 @@ fn add_copy(
     if !is_bucket(volume, bucket, of_volume, of_bucket) {
         return Ok(());
     }
-    let kept = snapshot_key(alloc, volume, bucket, number, key)?;
+    let kept = RowKey::of_snapshot_key(alloc, volume, bucket, number, key)?;
+    let pieces = pieces.try_clone(alloc)?;
     changes.push(Change {
         key: kept,
         row: Some(Row::SnapshotKey {
             number: *made,
-            pieces: List::of(Vec::from_slice(alloc, pieces.items())?),
+            pieces,
         }),
     })?;
     Ok(())
@@ -166,7 +166,7 @@ fn add_moves(
     alloc: Global,
     changes: &mut Vec<Change>,
     tables: &Tables,
-    rows: &[Entry],
+    rows: &[RowEntry],
     volume: &Name,
     bucket: &Name,
     from: u64,
@@ -184,7 +184,7 @@ fn add_moved(
     alloc: Global,
     changes: &mut Vec<Change>,
     tables: &Tables,
-    entry: &Entry,
+    entry: &RowEntry,
     volume: &Name,
     bucket: &Name,
     from: u64,
@@ -200,8 +200,8 @@ fn add_moved(
             key,
             local,
         } if is_bucket(volume, bucket, of_volume, of_bucket) && *owner == from => {
-            let old = deleted_key(alloc, volume, bucket, from, key, *local)?;
-            let new = deleted_key(alloc, volume, bucket, to, key, *local)?;
+            let old = RowKey::of_deleted(alloc, volume, bucket, from, key, *local)?;
+            let new = RowKey::of_deleted(alloc, volume, bucket, to, key, *local)?;
             add_move(alloc, changes, old, new, &entry.row)
         }
         RowKey::Renamed {
@@ -230,8 +230,8 @@ fn add_renamed(
 ) -> Result<(), OutOfMemory>
     ensures { OnOk result (changes.new.items ≡ changes.old.items ++ renamed_moved tables.now.rows volume.now bucket.now from to local row.now) }
 {
-    let old = renamed_key(alloc, volume, bucket, from, local)?;
-    let new = renamed_key(alloc, volume, bucket, to, local)?;
+    let old = RowKey::of_renamed(alloc, volume, bucket, from, local)?;
+    let new = RowKey::of_renamed(alloc, volume, bucket, to, local)?;
     if from == 0 && tables.get(&new).is_some() {
         changes.push(Change {
             key: old,
@@ -263,63 +263,10 @@ fn add_move(
     Ok(())
 }
 
-fn deleted_key(
-    alloc: Global,
-    volume: &Name,
-    bucket: &Name,
-    owner: u64,
-    key: &Name,
-    local: u64,
-) -> Result<RowKey, OutOfMemory>
-    ensures { IfOk result (λ made. made ≡ AnyKey.Deleted volume.now bucket.now owner key.now local) }
-{
-    Ok(RowKey::Deleted {
-        volume: volume.try_clone(alloc)?,
-        bucket: bucket.try_clone(alloc)?,
-        owner,
-        key: key.try_clone(alloc)?,
-        local,
-    })
-}
-
-fn renamed_key(
-    alloc: Global,
-    volume: &Name,
-    bucket: &Name,
-    owner: u64,
-    local: u64,
-) -> Result<RowKey, OutOfMemory>
-    ensures { IfOk result (λ made. made ≡ AnyKey.Renamed volume.now bucket.now owner local) }
-{
-    Ok(RowKey::Renamed {
-        volume: volume.try_clone(alloc)?,
-        bucket: bucket.try_clone(alloc)?,
-        owner,
-        local,
-    })
-}
-
-fn snapshot_key(
-    alloc: Global,
-    volume: &Name,
-    bucket: &Name,
-    snapshot: u64,
-    key: &Name,
-) -> Result<RowKey, OutOfMemory>
-    ensures { IfOk result (λ made. made ≡ AnyKey.SnapshotKey volume.now bucket.now snapshot key.now) }
-{
-    Ok(RowKey::SnapshotKey {
-        volume: volume.try_clone(alloc)?,
-        bucket: bucket.try_clone(alloc)?,
-        snapshot,
-        key: key.try_clone(alloc)?,
-    })
-}
-
 /// The snapshot's key rows, gone.
 fn drops(
     alloc: Global,
-    rows: &[Entry],
+    rows: &[RowEntry],
     volume: &Name,
     bucket: &Name,
     number: u64,
@@ -355,7 +302,7 @@ fn add_drop(
     if !is_bucket(volume, bucket, of_volume, of_bucket) || *snapshot != number {
         return Ok(());
     }
-    let made = snapshot_key(alloc, volume, bucket, number, key)?;
+    let made = RowKey::of_snapshot_key(alloc, volume, bucket, number, key)?;
     changes.push(Change {
         key: made,
         row: None,
@@ -403,13 +350,9 @@ fn add_closed(
     if !is_bucket(volume, bucket, of_volume, of_bucket) {
         return Ok(());
     }
+    let made = RowKey::of_session(alloc, volume, bucket, key, *number)?;
     changes.push(Change {
-        key: RowKey::Open {
-            volume: volume.try_clone(alloc)?,
-            bucket: bucket.try_clone(alloc)?,
-            key: key.try_clone(alloc)?,
-            number: *number,
-        },
+        key: made,
         row: None,
     })?;
     Ok(())
@@ -419,7 +362,7 @@ fn add_freed(
     alloc: Global,
     changes: &mut Vec<Change>,
     kept: &BTreeSet<Block>,
-    sessions: &[Entry],
+    sessions: &[RowEntry],
     volume: &Name,
     bucket: &Name,
 ) -> Result<(), OutOfMemory>
@@ -435,7 +378,7 @@ fn add_freed_of(
     alloc: Global,
     changes: &mut Vec<Change>,
     kept: &BTreeSet<Block>,
-    entry: &Entry,
+    entry: &RowEntry,
     volume: &Name,
     bucket: &Name,
 ) -> Result<(), OutOfMemory>
@@ -490,7 +433,7 @@ fn add_block(
     if is_held(kept, block) {
         return Ok(());
     }
-    let made = deleted_key(alloc, volume, bucket, 0, key, block.local)?;
+    let made = RowKey::of_deleted(alloc, volume, bucket, 0, key, block.local)?;
     let only_block = Vec::from_slice(alloc, &[*block])?;
     changes.push(Change {
         key: made,
@@ -508,7 +451,7 @@ fn is_held(kept: &BTreeSet<Block>, block: &Block) -> bool
 }
 
 /// The blocks that key rows have.
-fn blocks_in_keys(alloc: Global, rows: &[Entry]) -> Result<BTreeSet<Block>, OutOfMemory>
+fn blocks_in_keys(alloc: Global, rows: &[RowEntry]) -> Result<BTreeSet<Block>, OutOfMemory>
     ensures { IfOk result (λ kept. (block : AnyBlock) → does_hold kept block ≡ is_kept rows.now block) }
 {
     let mut kept = BTreeSet::new(alloc);

@@ -1,8 +1,10 @@
+//! A row of the tables.
+
 use oz_rows::{Row, RowKey};
 
 /// A row, beside its key.
 #[derive(Debug, Drop)]
-pub struct Entry {
+pub struct RowEntry {
     pub key: RowKey,
     pub row: Row,
 }

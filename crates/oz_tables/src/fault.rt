@@ -1,3 +1,5 @@
+//! Why bodies make no tables.
+
 /// Why bodies make no tables.
 #[derive(Clone, Copy, Debug, PartialEq, Eq)]
 pub enum BuildFault {

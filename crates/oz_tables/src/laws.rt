@@ -1,24 +1,28 @@
 //! What holds of all keys, and of all bodies of a journal.
 
-ghost use Rattle.std.specs.Prelude.{◌≡◌, ◌≤◌, true, ℕ, List, Some, length, slice_get};
+ghost use Rattle.std.specs.Prelude.{◌≡◌, ◌⊎◌, ◌≤◌, true, ℕ, List, Some, length, slice_get};
+ghost use Rattle.std.specs.List.{AllByRecursion};
+ghost use Rattle.oz_fields.specs.Field.{AreBytes};
 ghost use Rattle.oz_rows.specs.declared.key.RowKey.{RowKey as AnyKey};
-ghost use Rattle.oz_tables.specs.declared.entry.Entry.{Entry as AnyEntry};
+ghost use Rattle.oz_tables.specs.declared.entry.RowEntry.{RowEntry as AnyEntry};
 ghost use Rattle.oz_tables.specs.Tables.{is_same};
-ghost use Rattle.oz_tables.specs.Build.{Builds, Fails};
+ghost use Rattle.oz_tables.specs.Build.{Builds, FailsAt};
 
 /// Keys that the order takes for the same are one key.
 pub fn same_keys_are_one()
     ensures { (a b : AnyKey) → is_same a b ≡ true → a ≡ b }
 {}
 
-/// The bodies of a journal make one thing, or are damaged.
+/// The bodies of a journal make one thing, or are damaged at one place.
 pub fn bodies_make_one_thing()
+    ensures each { (bodies : List (List ℕ)) → AllByRecursion AreBytes bodies
+        → ((all : List AnyEntry) × (index : ℕ) × Builds bodies all index) ⊎ ((count : ℕ) × (place : ℕ) × FailsAt bodies count place) }
     ensures one_table { (bodies : List (List ℕ)) (all other : List AnyEntry) (index last : ℕ)
         → Builds bodies all index → Builds bodies other last → (all ≡ other) × (index ≡ last) }
     ensures not_both { (bodies : List (List ℕ)) (all : List AnyEntry) (index count place : ℕ)
-        → Builds bodies all index → Fails bodies count place → ⊥ }
+        → Builds bodies all index → FailsAt bodies count place → ⊥ }
     ensures one_fault { (bodies : List (List ℕ)) (count place other at : ℕ)
-        → Fails bodies count place → Fails bodies other at → (count ≡ other) × (place ≡ at) }
-    ensures within { (bodies : List (List ℕ)) (count place : ℕ) → Fails bodies count place
+        → FailsAt bodies count place → FailsAt bodies other at → (count ≡ other) × (place ≡ at) }
+    ensures within { (bodies : List (List ℕ)) (count place : ℕ) → FailsAt bodies count place
         → (body : List ℕ) × (slice_get bodies count ≡ Some body) × (place ≤ length body) }
 {}

@@ -1,17 +1,17 @@
 //! The rows that rows need, and the operations at fault where one is missing.
 
-ghost use Rattle.std.specs.Prelude.{◌≡◌, ◌∷◌, ◌&&◌, ◌⊎◌, ℕ, Option, None, not, map, IfOk, MatchOption, MatchBool};
+ghost use Rattle.std.specs.Prelude.{◌≡◌, [], ◌∷◌, ◌&&◌, ◌⊎◌, ℕ, Option, None, false, not, map, IfOk, MatchOption, MatchBool};
 ghost use Rattle.std.specs.List.{list_any};
 ghost use Rattle.oz_rows.specs.declared.key.RowKey.{RowKey as AnyKey};
 ghost use Rattle.oz_tables.specs.Tables.{is_same, KeysRise};
-ghost use Rattle.oz_tables.specs.Build.{base_of as needed_by, puts as is_put_by, IsOrphan, IsAtFault};
-ghost use Rattle.oz_tables.specs.Steps.{operations_of, FirstAtFault, NoneAtFault, stands_on as does_stand_on, is_left as does_leave, is_live as is_live_row, LeavesOne};
+ghost use Rattle.oz_tables.specs.Build.{base_of as needed_by, puts as is_put_by, removes as is_removed_by, IsOrphan, LeavesOne, IsAtFault, NoneAtFault};
+ghost use Rattle.oz_tables.specs.Steps.{operations_of, FirstAtFault, stands_on as does_stand_on, is_left as does_leave, is_live as is_live_row};
 
 use crate::body::Step;
-use crate::entry::Entry;
+use crate::entry::RowEntry;
 use crate::parts::{bucket_rows, buckets_of};
 use crate::tables::Tables;
-use oz_fields::{Name, OutOfMemory, TryClone};
+use oz_fields::{Name, OutOfMemory};
 use oz_rows::{Operation, Row, RowKey, SnapshotState};
 use std::alloc::Global;
 
@@ -23,29 +23,31 @@ pub(crate) fn first_at_fault(
     steps: &[Step],
 ) -> Result<Option<usize>, OutOfMemory>
     ensures { IfOk result (λ found. MatchOption found
-        (NoneAtFault tables.now.rows (operations_of steps.now) (operations_of steps.now))
+        (NoneAtFault tables.now.rows (operations_of steps.now) (operations_of steps.now) [])
         (FirstAtFault tables.now.rows steps.now)) }
 {
-    for step in steps {
-        if is_at_fault(alloc, tables, steps, &step.operation)? {
+    for (at, step) in steps.iter().enumerate() {
+        if is_at_fault(alloc, tables, steps, &steps[at + 1..], &step.operation)? {
             return Ok(Some(step.left));
         }
     }
     Ok(None)
 }
 
+/// Whether an operation of a body is at fault, behind which the later ones stand.
 fn is_at_fault(
     alloc: Global,
     tables: &Tables,
     steps: &[Step],
+    later: &[Step],
     operation: &Operation,
 ) -> Result<bool, OutOfMemory>
-    ensures { let fault = IsAtFault tables.now.rows (operations_of steps.now) operation.now in
+    ensures { let fault = IsAtFault tables.now.rows (operations_of steps.now) (operations_of later.now) operation.now in
         IfOk result (λ found. MatchBool found fault (fault → ⊥)) }
 {
     match operation {
         Operation::Put { key, .. } => is_orphan(alloc, tables, key),
-        Operation::Remove { key } => Ok(leaves_orphan(tables, steps, key)),
+        Operation::Remove { key } => Ok(is_last_to_leave(tables, steps, later, key)),
         _ => Ok(false),
     }
 }
@@ -68,29 +70,51 @@ fn base_of(alloc: Global, key: &RowKey, row: &Row) -> Result<Option<RowKey>, Out
     ensures { IfOk result (λ base. base ≡ needed_by key.now row.now) }
 {
     Ok(match (key, row) {
-        (RowKey::Bucket { volume, .. }, _) => Some(RowKey::Volume {
-            volume: volume.try_clone(alloc)?,
-        }),
-        (RowKey::Key { volume, bucket, .. }, _) => Some(bucket_key(alloc, volume, bucket)?),
-        (RowKey::Open { volume, bucket, .. }, _) => Some(bucket_key(alloc, volume, bucket)?),
+        (RowKey::Bucket { volume, .. }, _) => Some(RowKey::of_volume(alloc, volume)?),
+        (RowKey::Key { volume, bucket, .. }, _) => Some(RowKey::of_bucket(alloc, volume, bucket)?),
+        (RowKey::Open { volume, bucket, .. }, _) => Some(RowKey::of_bucket(alloc, volume, bucket)?),
         (
             RowKey::Snapshot { volume, bucket, .. },
             Row::Snapshot {
                 state: SnapshotState::Live,
                 ..
             },
-        ) => Some(bucket_key(alloc, volume, bucket)?),
+        ) => Some(RowKey::of_bucket(alloc, volume, bucket)?),
         _ => None,
     })
 }
 
-fn bucket_key(alloc: Global, volume: &Name, bucket: &Name) -> Result<RowKey, OutOfMemory>
-    ensures { IfOk result (λ key. key ≡ AnyKey.Bucket volume.now bucket.now) }
+/// Whether no later operation removes this row, and a row needs it that none of them all put.
+fn is_last_to_leave(tables: &Tables, steps: &[Step], later: &[Step], base: &RowKey) -> bool
+    ensures { let leaves = LeavesOne tables.now.rows (operations_of steps.now) base.now × (list_any (is_removed_by base.now) (operations_of later.now) ≡ false) in
+        MatchBool result leaves (leaves → ⊥) }
 {
-    Ok(RowKey::Bucket {
-        volume: volume.try_clone(alloc)?,
-        bucket: bucket.try_clone(alloc)?,
-    })
+    if !leaves_orphan(tables, steps, base) {
+        return false;
+    }
+    !is_removed(later, base)
+}
+
+/// Whether one of the operations removes the row.
+fn is_removed(steps: &[Step], key: &RowKey) -> bool
+    ensures { result ≡ list_any (is_removed_by key.now) (operations_of steps.now) }
+{
+    some_step_removes(steps, key)
+}
+
+fn some_step_removes(steps: &[Step], key: &RowKey) -> bool
+    ensures { result ≡ list_any (λ step. is_removed_by key.now step.operation) steps.now }
+{
+    steps.iter().any(|step| removes(&step.operation, key))
+}
+
+fn removes(operation: &Operation, key: &RowKey) -> bool
+    ensures { result ≡ is_removed_by key.now operation.now }
+{
+    match operation {
+        Operation::Remove { key: other } => other.cmp(key).is_eq(),
+        _ => false,
+    }
 }
 
 /// Whether a row needs this one that isn't there, and none of the operations put it.
@@ -115,7 +139,7 @@ fn leaves_orphan(tables: &Tables, steps: &[Step], base: &RowKey) -> bool
 }
 
 /// The same of the buckets of a volume.
-fn is_bucket_left(rows: &[Entry], steps: &[Step], base: &RowKey, volume: &Name) -> bool
+fn is_bucket_left(rows: &[RowEntry], steps: &[Step], base: &RowKey, volume: &Name) -> bool
     requires in_order { KeysRise rows.now }
     requires base { base.now ≡ AnyKey.Volume volume.now }
     ensures { result ≡ list_any (does_leave (operations_of steps.now) base.now) rows.now }
@@ -125,7 +149,7 @@ fn is_bucket_left(rows: &[Entry], steps: &[Step], base: &RowKey, volume: &Name) 
 
 /// The same of the keys, the open keys and the snapshots of a bucket.
 fn is_content_left(
-    rows: &[Entry],
+    rows: &[RowEntry],
     steps: &[Step],
     base: &RowKey,
     volume: &Name,
@@ -145,13 +169,13 @@ fn is_content_left(
 }
 
 /// Whether one of the rows needs this one, and none of the operations put it.
-fn is_one_left(rows: &[Entry], steps: &[Step], base: &RowKey) -> bool
+fn is_one_left(rows: &[RowEntry], steps: &[Step], base: &RowKey) -> bool
     ensures { result ≡ list_any (does_leave (operations_of steps.now) base.now) rows.now }
 {
     rows.iter().any(|entry| is_left(entry, steps, base))
 }
 
-fn is_left(entry: &Entry, steps: &[Step], base: &RowKey) -> bool
+fn is_left(entry: &RowEntry, steps: &[Step], base: &RowKey) -> bool
     ensures { result ≡ does_leave (operations_of steps.now) base.now entry.now }
 {
     stands_on(entry, base) && !is_put(steps, &entry.key)
@@ -179,7 +203,7 @@ fn puts(operation: &Operation, key: &RowKey) -> bool
 }
 
 /// Whether the row needs the other one.
-fn stands_on(entry: &Entry, base: &RowKey) -> bool
+fn stands_on(entry: &RowEntry, base: &RowKey) -> bool
     ensures { result ≡ does_stand_on base.now entry.now }
 {
     match &entry.key {

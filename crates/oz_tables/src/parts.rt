@@ -6,18 +6,18 @@ ghost use Rattle.std.specs.Ordering.{nat_cmp};
 ghost use Rattle.std.specs.Cmp.Lexicographic.{slice_cmp};
 ghost use Rattle.oz_tables.specs.Parts.{IsPart, part_order};
 
-use crate::entry::Entry;
+use crate::entry::RowEntry;
 use oz_fields::Name;
 use oz_rows::RowKey;
 use std::cmp::Ordering;
 
 /// The bucket's rows of a kind.
 pub(crate) fn bucket_rows<'a>(
-    rows: &'a [Entry],
+    rows: &'a [RowEntry],
     kind: u8,
     volume: &Name,
     bucket: &Name,
-) -> &'a [Entry]
+) -> &'a [RowEntry]
     requires in_order { KeysRise rows.now }
     requires low { 2 ≤ kind }
     requires high { kind ≤ 8 }
@@ -32,7 +32,7 @@ pub(crate) fn bucket_rows<'a>(
 }
 
 /// The buckets of a volume.
-pub(crate) fn buckets_of<'a>(rows: &'a [Entry], volume: &Name) -> &'a [Entry]
+pub(crate) fn buckets_of<'a>(rows: &'a [RowEntry], volume: &Name) -> &'a [RowEntry]
     requires { KeysRise rows.now }
     ensures { IsPart rows.now ((2 ∷ []) ∷ volume.now ∷ []) result.now }
 {

@@ -1,3 +1,5 @@
+//! The rows of a manager, as one map in the order of their keys.
+
 ghost use Rattle.std.specs.Prelude.{◌≡◌, ◌+◌, ◌^◌, ◌<◌, ◌≤◌, [], length, slice_set, insert, vec_len, vec_capacity, option_copied, None, Some, if◌then◌else◌, MatchOption, IfOk, IfErr, IsOk, OnOk, OnErr};
 ghost use Rattle.oz_rows.specs.declared.key.RowKey.{RowKey as AnyKey};
 ghost use Rattle.oz_rows.specs.Order.{key_order};
@@ -5,7 +7,7 @@ ghost use Rattle.oz_tables.specs.Tables.{row_of, row_after, row_after_one, is_sa
 ghost use Rattle.oz_tables.specs.Places.{IsAt, IsGap, IsBehind, IsRank};
 ghost use Rattle.oz_tables.specs.Counts.{IsCount};
 
-use crate::entry::Entry;
+use crate::entry::RowEntry;
 use oz_fields::OutOfMemory;
 use oz_rows::{Change, Row, RowKey};
 use std::alloc::Global;
@@ -16,15 +18,15 @@ use std::mem::replace;
 /// Rows by their keys, and the index of the last transaction that they stand for.
 #[derive(Debug, Drop)]
 pub struct Tables {
-    entries: Vec<Entry>,
+    entries: Vec<RowEntry>,
     last_index: u64,
 }
 
 impl Model for Tables {
     ghost use Rattle.std.specs.Prelude.{◌-◌, vec_len, vec_capacity};
-    ghost use Rattle.oz_tables.specs.Tables.{Contents, KeysRise};
+    ghost use Rattle.oz_tables.specs.Tables.{TableView, KeysRise};
 
-    ghost Value = { Contents };
+    ghost Value = { TableView };
 
     ghost view = { λ t. record { rows = t.entries.items; last_index = t.last_index; spare = vec_capacity t.entries - vec_len t.entries } };
 
@@ -110,7 +112,7 @@ impl Tables {
     }
 
     /// All rows, in the order of their keys.
-    pub fn rows(&self) -> &[Entry]
+    pub fn rows(&self) -> &[RowEntry]
         ensures rows { result.now ≡ self.now.rows }
         ensures in_order { KeysRise result.now }
     {
@@ -158,8 +160,8 @@ impl Tables {
         ensures spare { self.old.spare ≤ self.new.spare + 1 }
     {
         match self.position(&key) {
-            Ok(at) => write_over(&mut self.entries, at, Entry { key, row }),
-            Err(at) => put_in(&mut self.entries, at, Entry { key, row }),
+            Ok(at) => write_over(&mut self.entries, at, RowEntry { key, row }),
+            Err(at) => put_in(&mut self.entries, at, RowEntry { key, row }),
         }
     }
 
@@ -201,14 +203,14 @@ impl Tables {
     }
 }
 
-fn compared(entry: &Entry, key: &RowKey) -> Ordering
+fn compared(entry: &RowEntry, key: &RowKey) -> Ordering
     ensures { result ≡ key_order entry.now.key key.now }
 {
     entry.key.cmp(key)
 }
 
 /// Puts an entry in the place of another.
-fn write_over(entries: &mut Vec<Entry>, at: usize, entry: Entry)
+fn write_over(entries: &mut Vec<RowEntry>, at: usize, entry: RowEntry)
     requires { at < vec_len entries.old }
     ensures items { entries.new.items ≡ slice_set entries.old.items at entry }
     ensures len { vec_len entries.new ≡ vec_len entries.old }
@@ -218,7 +220,7 @@ fn write_over(entries: &mut Vec<Entry>, at: usize, entry: Entry)
 }
 
 /// Puts an entry between others. Its room was taken before.
-fn put_in(entries: &mut Vec<Entry>, at: usize, entry: Entry)
+fn put_in(entries: &mut Vec<RowEntry>, at: usize, entry: RowEntry)
     requires place { at ≤ vec_len entries.old }
     requires room { vec_len entries.old < vec_capacity entries.old }
     ensures items { entries.new.items ≡ insert entries.old.items at entry }
@@ -228,4 +230,4 @@ fn put_in(entries: &mut Vec<Entry>, at: usize, entry: Entry)
     entries.insert(at, entry).unwrap();
 }
 
-fn discard(_entry: Entry) {}
+fn discard(_entry: RowEntry) {}

@@ -1,10 +1,13 @@
-use Rattle.std.proofs.Common.{[]}
+use Rattle.std.proofs.Common.{[], sym}
 use Rattle.oz_tables.proofs.FaultPlaces.{fails_within}
+use Rattle.oz_tables.proofs.EachBody.{each_builds}
+use Rattle.oz_tables.proofs.Steps.{some_apart}
 use Rattle.oz_tables.proofs.OneThing.{builds_one, not_both, fails_one}
 use Rattle.oz_tables.proofs.laws.bodies_make_one_thing.Goals as goal
 
 pub returns : goal.returns
 returns c = record {
+  each = λ bodies fit. each_builds [] 0 bodies tt (λ key base orphan. some_apart (sym orphan.stands)) fit;
   one_table = λ bodies all other index last a b. builds_one [] 0 bodies all other index last a b;
   not_both = λ bodies all index count place builds fails. not_both [] 0 bodies all index count place builds fails;
   one_fault = λ bodies count place other at a b. fails_one [] 0 bodies count place other at a b;

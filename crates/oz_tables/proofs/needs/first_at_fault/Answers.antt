@@ -1,21 +1,37 @@
-use Rattle.std.proofs.Common.{◌≡◌, suc, ◌+◌, ◌<◌, ℕ, length, take, subst, arith}
+use Rattle.std.proofs.Common.{◌≡◌, List, suc, ◌+◌, ◌<◌, ℕ, length, take, drop, sym, subst, arith}
 use Rattle.std.specs.Prelude.{MatchBool}
 use Rattle.oz_rows.specs.declared.operation.Operation.{Operation}
-use Rattle.oz_tables.specs.Build.{IsAtFault}
-use Rattle.oz_tables.specs.Steps.{operations_of, NoneAtFault}
-use Rattle.oz_tables.proofs.Lefts.{none_more, first_found}
+use Rattle.oz_tables.specs.declared.body.Step.{Step}
+use Rattle.oz_tables.specs.Build.{IsAtFault, NoneAtFault}
+use Rattle.oz_tables.specs.Steps.{operations_of}
+use Rattle.oz_tables.proofs.Lefts.{none_more, first_found, rest_whole}
 use Rattle.oz_tables.proofs.needs.first_at_fault.Goals as goal
 
 pub returns-then-branch : goal.returns-then-branch
 returns-then-branch c =
-    let fault : Type 0 = IsAtFault c.args.tables.now.rows (operations_of c.args.steps.now) c.step-item.result.operation in
-    let lt : c.loop-step.step-index < length c.args.steps.now = omega arith in
-    first_found c.args.tables.now.rows c.args.steps.now c.loop-step.step-index c.step-item.result lt c.step-item.is c.loop-step.invariant (subst (λ t. MatchBool t fault (fault → ⊥)) c.if-branch.true c.in_ok-is_at_fault.ensures)
+    let steps = c.args.steps.now in
+    let at = c.loop-at.at in
+    let step = c.index-steps-at.result in
+    let fault : ℕ → Type 0 = λ k. IsAtFault c.args.tables.now.rows (operations_of steps) (operations_of (drop k steps)) step.operation in
+    let lt : at < length steps = omega arith in
+    let next : at + 1 ≡ suc at = omega arith in
+    let seen : List Step → Type 0 = λ later. IsAtFault c.args.tables.now.rows (operations_of steps) (operations_of later) step.operation in
+    let found = subst (λ later. MatchBool c.in_ok-is_at_fault.field-0 (seen later) (seen later → ⊥)) (rest_whole steps (at + 1)) c.in_ok-is_at_fault.ensures in
+    let here = subst (λ t. MatchBool t (fault (at + 1)) (fault (at + 1) → ⊥)) c.if-branch.true found in
+    first_found c.args.tables.now.rows steps at step lt c.index-steps-at.is c.loop-at.invariant (subst fault next here)
 
-pub loop-step-preserved : goal.loop-step-preserved
-loop-step-preserved c =
-    let fault : Type 0 = IsAtFault c.args.tables.now.rows (operations_of c.args.steps.now) c.step-item.result.operation in
-    let lt : c.loop-step.step-index < length c.args.steps.now = omega arith in
-    let next : suc c.loop-step.step-index ≡ c.loop-step.step-index + 1 = omega arith in
-    subst (λ (k : ℕ). NoneAtFault c.args.tables.now.rows (operations_of c.args.steps.now) (operations_of (take k c.args.steps.now))) next
-    (none_more (λ (other : Operation). IsAtFault c.args.tables.now.rows (operations_of c.args.steps.now) other → ⊥) c.args.steps.now c.loop-step.step-index c.step-item.result lt c.step-item.is c.loop-step.invariant (subst (λ t. MatchBool t fault (fault → ⊥)) c.if-branch.false c.in_ok-is_at_fault.ensures))
+pub loop-at-preserved : goal.loop-at-preserved
+loop-at-preserved c =
+    let steps = c.args.steps.now in
+    let items = operations_of steps in
+    let rows = c.args.tables.now.rows in
+    let at = c.loop-at.at in
+    let step = c.index-steps-at.result in
+    let fault : ℕ → Type 0 = λ k. IsAtFault rows items (operations_of (drop k steps)) step.operation in
+    let lt : at < length steps = omega arith in
+    let next : at + 1 ≡ suc at = omega arith in
+    let seen : List Step → Type 0 = λ later. IsAtFault c.args.tables.now.rows (operations_of steps) (operations_of later) step.operation in
+    let found = subst (λ later. MatchBool c.in_ok-is_at_fault.field-0 (seen later) (seen later → ⊥)) (rest_whole steps (at + 1)) c.in_ok-is_at_fault.ensures in
+    let here = subst (λ t. MatchBool t (fault (at + 1)) (fault (at + 1) → ⊥)) c.if-branch.false found in
+    subst (λ (k : ℕ). NoneAtFault rows items (operations_of (take k steps)) (operations_of (drop k steps))) (sym next)
+    (none_more rows items steps at step lt c.index-steps-at.is c.loop-at.invariant (subst (λ k. fault k → ⊥) next here))

@@ -2,7 +2,7 @@
 use Rattle.std.proofs.Common.{◌≡◌, ℕ, zero, suc, ◌<◌, ◌≤◌, ◌-◌, ◌⊎◌, List, [], ◌∷◌, ◌++◌, length, Result, Ok, Err, refl, sym, ap, ◌∙◌, inl, inr, append_assoc, arith}
 use Rattle.std.proofs.lemmas.List.Concat.{flat_map-cons}
 use Rattle.oz_fields.specs.Field.{AreBytes}
-use Rattle.oz_fields.proofs.Bytes.{AreBytes-behind}
+use Rattle.oz_fields.specs.laws.Bytes.{AreBytes-behind}
 use Rattle.oz_rows.specs.declared.fault.ReadFault.TheVariants as reads
 use Rattle.oz_rows.specs.declared.fault.RowFault.TheVariants as faults
 use Rattle.oz_rows.specs.declared.operation.Operation.{Operation}
@@ -10,9 +10,9 @@ use Rattle.oz_rows.specs.declared.operation.Operations.{Operations}
 use Rattle.oz_rows.specs.Operations.{OperationFits, operation_bytes, AreOperations, batch_bytes, head_bytes, IsIndex, IsBody}
 use Rattle.oz_rows.specs.Reading.{head_at, operation_at}
 use Rattle.oz_rows.specs.Faults.{BatchEnds, OperationEnds, IsBodyFault}
-use Rattle.oz_rows.proofs.OperationReads.{operation_reads, head_reads}
-use Rattle.oz_rows.proofs.Batches.{fewer_left}
-use Rattle.oz_rows.proofs.Bodies.{body_found, no_head_fails, no_operation_fails}
+use Rattle.oz_rows.specs.laws.OperationReads.{operation_reads, head_reads}
+use Rattle.oz_rows.specs.laws.Batches.{fewer_left}
+use Rattle.oz_rows.specs.laws.Bodies.{body_found, no_head_fails, no_operation_fails}
 
 abbrev OperationRead : Type 0
 OperationRead = Result (Operation × List ℕ) ℕ

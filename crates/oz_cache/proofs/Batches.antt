@@ -7,12 +7,12 @@ use Rattle.oz_rows.specs.declared.row.Row.{Row}
 use Rattle.oz_rows.specs.declared.operation.Change.{Change}
 use Rattle.oz_tables.specs.Tables.{row_after, row_after_one}
 use Rattle.oz_cache.specs.declared.batch.Batch.{Batch}
-use Rattle.oz_cache.specs.Cache.{changes_of, epoch_after, up_to, later}
+use Rattle.oz_cache.specs.Cache.{batched_changes, epoch_after, up_to, later}
 use Rattle.oz_cache.specs.Waiting.{EpochsRise, starts_by}
 
-pub changes_of-append : (a b : List Batch) → changes_of (a ++ b) ≡ changes_of a ++ changes_of b
-changes_of-append [] b = refl
-changes_of-append (x ∷ a) b = ap (λ l. x.changes ++ l) (changes_of-append a b) ∙ sym (append_assoc x.changes (changes_of a) (changes_of b))
+pub batched_changes-append : (a b : List Batch) → batched_changes (a ++ b) ≡ batched_changes a ++ batched_changes b
+batched_changes-append [] b = refl
+batched_changes-append (x ∷ a) b = ap (λ l. x.changes ++ l) (batched_changes-append a b) ∙ sym (append_assoc x.changes (batched_changes a) (batched_changes b))
 
 pub epoch_after-append : (before : ℕ) (a b : List Batch) → epoch_after before (a ++ b) ≡ epoch_after (epoch_after before a) b
 epoch_after-append before [] b = refl
@@ -83,10 +83,10 @@ all_later epoch before (x ∷ l) rise due =
     }
 
 module _ (epoch : ℕ) (l : List Batch) (first : TakesFirst epoch l) where
-  pub first_rows : (key : RowKey) (row : Option Row) → row_after (changes_of (up_to epoch (drop 1 l))) key (row_after (changes_of (take 1 l)) key row) ≡ row_after (changes_of (up_to epoch l)) key row
+  pub first_rows : (key : RowKey) (row : Option Row) → row_after (batched_changes (up_to epoch (drop 1 l))) key (row_after (batched_changes (take 1 l)) key row) ≡ row_after (batched_changes (up_to epoch l)) key row
   first_rows key row =
-      sym (row_after-append (changes_of (take 1 l)) (changes_of (up_to epoch (drop 1 l))) key row)
-      ∙ ap (λ changes. row_after changes key row) (sym (changes_of-append (take 1 l) (up_to epoch (drop 1 l))) ∙ ap changes_of (sym first.front))
+      sym (row_after-append (batched_changes (take 1 l)) (batched_changes (up_to epoch (drop 1 l))) key row)
+      ∙ ap (λ changes. row_after changes key row) (sym (batched_changes-append (take 1 l) (up_to epoch (drop 1 l))) ∙ ap batched_changes (sym first.front))
 
   pub first_epoch : (before : ℕ) → epoch_after (epoch_after before (take 1 l)) (up_to epoch (drop 1 l)) ≡ epoch_after before (up_to epoch l)
   first_epoch before = sym (epoch_after-append before (take 1 l) (up_to epoch (drop 1 l))) ∙ ap (epoch_after before) (sym first.front)

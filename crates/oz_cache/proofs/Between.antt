@@ -9,7 +9,7 @@ use Rattle.std.specs.declared.cmp.Ordering.TheVariants.{Less, Equal, Greater}
 use Rattle.oz_rows.specs.declared.key.RowKey.{RowKey}
 use Rattle.oz_rows.specs.declared.row.Row.{Row}
 use Rattle.oz_rows.specs.Order.{key_order}
-use Rattle.oz_tables.specs.declared.entry.Entry.{Entry}
+use Rattle.oz_tables.specs.declared.entry.RowEntry.{RowEntry}
 use Rattle.oz_tables.specs.Counts.{IsCount}
 use Rattle.oz_tables.specs.Tables.{row_of, KeysRise, IsBelow, is_same}
 use Rattle.oz_tables.proofs.Order.{key_order_total, itself, above_below, below_above}
@@ -119,16 +119,16 @@ same_anew n false true = refl
 same_anew n false false = refl
 
 -- rows in order that stand for tables with cached rows above them, and how many are between two keys
-pub record Counted (tables : List Entry) (from to : RowKey) (cached : List CachedRow) (count : ℕ) : Type 0 where
-  pub rows : List Entry
+pub record Counted (tables : List RowEntry) (from to : RowKey) (cached : List CachedRow) (count : ℕ) : Type 0 where
+  pub rows : List RowEntry
   pub rise : KeysRise rows
   pub are : (q : RowKey) → row_of rows q ≡ over_rows cached (row_of tables) q
   pub sized : count ≡ size from to rows
 
-pub counts_begin : (tables : List Entry) (from to : RowKey) (count : ℕ) → KeysRise tables → IsCount (row_of tables) from to count → Counted tables from to [] count
+pub counts_begin : (tables : List RowEntry) (from to : RowKey) (count : ℕ) → KeysRise tables → IsCount (row_of tables) from to count → Counted tables from to [] count
 counts_begin tables from to count rise is = record { rows = tables; rise = rise; are = λ q. refl; sized = one_count (row_of tables) from to count _ is (size_counts from to tables rise) }
 
-pub counts_end : (tables : List Entry) (from to : RowKey) (cached : List CachedRow) (count : ℕ) → Counted tables from to cached count → IsCount (over_rows cached (row_of tables)) from to count
+pub counts_end : (tables : List RowEntry) (from to : RowKey) (cached : List CachedRow) (count : ℕ) → Counted tables from to cached count → IsCount (over_rows cached (row_of tables)) from to count
 counts_end tables from to cached count is = subst (IsCount (over_rows cached (row_of tables)) from to) (sym is.sized) (count_alike (row_of is.rows) (over_rows cached (row_of tables)) from to _ (λ q over below. is.are q) (size_counts from to is.rows is.rise))
 
 none_there : (l : List CachedRow) (q : RowKey) → AllBelow q l → found l q ≡ None
@@ -138,7 +138,7 @@ hidden : (t : Bool) (x : CachedRow) (o : Option CachedRow) (row : Option Row) �
 hidden true x o row = refl
 hidden false x o row = refl
 
-pub counts_on : (tables : List Entry) (from to : RowKey) (done : List CachedRow) (x : CachedRow) (count : ℕ) → AllBelow x.key done → IsWithin from to x.key → Counted tables from to done count → Counted tables from to (done ++ x ∷ []) (counted_anew count (is_some (row_of tables x.key)) (is_some x.row))
+pub counts_on : (tables : List RowEntry) (from to : RowKey) (done : List CachedRow) (x : CachedRow) (count : ℕ) → AllBelow x.key done → IsWithin from to x.key → Counted tables from to done count → Counted tables from to (done ++ x ∷ []) (counted_anew count (is_some (row_of tables x.key)) (is_some x.row))
 counts_on tables from to done x count below within is =
     let after = after_one from to is.rows x.key x.row (range_from from to x.key within.0 within.1) is.rise in
     let had : row_of is.rows x.key ≡ row_of tables x.key = is.are x.key ∙ ap (λ o. over_row o (row_of tables x.key)) (none_there done x.key below) in

@@ -3,5 +3,4 @@ pub mod Searches
 pub mod Batches
 pub mod Newest
 pub mod Next
-pub mod Counts
 pub mod Between

@@ -7,10 +7,10 @@ use Rattle.oz_rows.specs.declared.operation.Change.{Change}
 use Rattle.oz_tables.specs.Tables.{is_same, row_after}
 use Rattle.oz_cache.specs.declared.batch.Batch.{Batch}
 use Rattle.oz_cache.specs.declared.newer.CachedRow.{CachedRow}
-use Rattle.oz_cache.specs.Cache.{changes_of, epoch_after, up_to, later}
+use Rattle.oz_cache.specs.Cache.{batched_changes, epoch_after, up_to, later}
 use Rattle.oz_cache.specs.Places.{over_row, found, cached_row, after_changes, after_batches, if_later, AreLastOf}
 use Rattle.oz_cache.specs.Waiting.{EpochsRise}
-use Rattle.oz_cache.proofs.Batches.{changes_of-append, epoch_after-append, row_after-append, all_later, rest_later}
+use Rattle.oz_cache.proofs.Batches.{batched_changes-append, epoch_after-append, row_after-append, all_later, rest_later}
 
 one_change : (epoch : ℕ) (change : Change) (t : Bool) (o : Option CachedRow) (row : Option Row) → cond t change.row (over_row o row) ≡ over_row (cond t (Some (cached_row epoch change)) o) row
 one_change epoch change true o row = refl
@@ -22,14 +22,14 @@ changed_rows epoch (change ∷ changes) key o row =
     ap (row_after changes key) (one_change epoch change (is_same change.key key) o row)
     ∙ changed_rows epoch changes key (cond (is_same change.key key) (Some (cached_row epoch change)) o) row
 
-entered_rows : (batches : List Batch) (key : RowKey) (o : Option CachedRow) (row : Option Row) → row_after (changes_of batches) key (over_row o row) ≡ over_row (after_batches batches key o) row
+entered_rows : (batches : List Batch) (key : RowKey) (o : Option CachedRow) (row : Option Row) → row_after (batched_changes batches) key (over_row o row) ≡ over_row (after_batches batches key o) row
 entered_rows [] key o row = refl
 entered_rows (batch ∷ batches) key o row =
-    row_after-append batch.changes (changes_of batches) key (over_row o row)
-    ∙ ap (row_after (changes_of batches) key) (changed_rows batch.epoch batch.changes key o row)
+    row_after-append batch.changes (batched_changes batches) key (over_row o row)
+    ∙ ap (row_after (batched_changes batches) key) (changed_rows batch.epoch batch.changes key o row)
     ∙ entered_rows batches key (after_changes batch.epoch batch.changes key o) row
 
-pub newest_row : (batches : List Batch) (rows : List CachedRow) → AreLastOf batches rows → (key : RowKey) (row : Option Row) → row_after (changes_of batches) key row ≡ over_row (found rows key) row
+pub newest_row : (batches : List Batch) (rows : List CachedRow) → AreLastOf batches rows → (key : RowKey) (row : Option Row) → row_after (batched_changes batches) key row ≡ over_row (found rows key) row
 newest_row batches rows last key row = entered_rows batches key None row ∙ ap (λ o. over_row o row) (sym (last key))
 
 pub after_batches-append : (a b : List Batch) (key : RowKey) (o : Option CachedRow) → after_batches (a ++ b) key o ≡ after_batches b key (after_batches a key o)
@@ -50,20 +50,20 @@ parted epoch before (x ∷ l) rise = by_test (nat_le x.epoch epoch) refl (parted
         sym (ap (λ front. front ++ later epoch (x ∷ l)) all.front ∙ all.rest)
 
 -- to readers a flush changes nothing
-pub newest_stays : (epoch before : ℕ) (l : List Batch) → EpochsRise before l → (key : RowKey) (row : Option Row) → row_after (changes_of (later epoch l)) key (row_after (changes_of (up_to epoch l)) key row) ≡ row_after (changes_of l) key row
+pub newest_stays : (epoch before : ℕ) (l : List Batch) → EpochsRise before l → (key : RowKey) (row : Option Row) → row_after (batched_changes (later epoch l)) key (row_after (batched_changes (up_to epoch l)) key row) ≡ row_after (batched_changes l) key row
 newest_stays epoch before l rise key row =
-    sym (row_after-append (changes_of (up_to epoch l)) (changes_of (later epoch l)) key row)
-    ∙ ap (λ changes. row_after changes key row) (sym (changes_of-append (up_to epoch l) (later epoch l)) ∙ ap changes_of (sym (parted epoch before l rise)))
+    sym (row_after-append (batched_changes (up_to epoch l)) (batched_changes (later epoch l)) key row)
+    ∙ ap (λ changes. row_after changes key row) (sym (batched_changes-append (up_to epoch l) (later epoch l)) ∙ ap batched_changes (sym (parted epoch before l rise)))
 
 pub last_stays : (epoch before : ℕ) (l : List Batch) → EpochsRise before l → epoch_after (epoch_after before (up_to epoch l)) (later epoch l) ≡ epoch_after before l
 last_stays epoch before l rise = sym (epoch_after-append before (up_to epoch l) (later epoch l)) ∙ ap (epoch_after before) (sym (parted epoch before l rise))
 
 -- what one more batch makes of the newest rows
-pub newest_entered : (l : List Batch) (last : Batch) (key : RowKey) (row : Option Row) → row_after (changes_of (l ++ last ∷ [])) key row ≡ row_after last.changes key (row_after (changes_of l) key row)
+pub newest_entered : (l : List Batch) (last : Batch) (key : RowKey) (row : Option Row) → row_after (batched_changes (l ++ last ∷ [])) key row ≡ row_after last.changes key (row_after (batched_changes l) key row)
 newest_entered l last key row =
-    ap (λ changes. row_after changes key row) (changes_of-append l (last ∷ []))
-    ∙ row_after-append (changes_of l) (last.changes ++ []) key row
-    ∙ row_after-append last.changes [] key (row_after (changes_of l) key row)
+    ap (λ changes. row_after changes key row) (batched_changes-append l (last ∷ []))
+    ∙ row_after-append (batched_changes l) (last.changes ++ []) key row
+    ∙ row_after-append last.changes [] key (row_after (batched_changes l) key row)
 
 module _ (epoch : ℕ) (key : RowKey) where
   -- rows of an epoch that was flushed go

@@ -3,12 +3,12 @@ use Rattle.std.specs.Prelude.{ℕ, ◌+◌, Bool, false, ◌||◌, if◌then◌e
 use Rattle.oz_rows.specs.declared.key.RowKey.{RowKey}
 use Rattle.oz_rows.specs.declared.row.Row.{Row}
 use Rattle.oz_rows.specs.declared.operation.Change.{Change}
-use Rattle.oz_tables.specs.Tables.{Contents as Tables, row_of, row_after, is_same}
+use Rattle.oz_tables.specs.Tables.{TableView as Tables, row_of, row_after, is_same}
 use Rattle.oz_cache.specs.declared.batch.Batch.{Batch}
 
 -- the tables beneath; the batches that were entered and not yet flushed, in order; and for how many
 -- changes there is room
-pub record Contents : Type 0 where
+pub record CacheView : Type 0 where
   pub durable : Tables
   pub entered : List Batch
   pub spare : ℕ
@@ -17,23 +17,13 @@ abbrev pub batch_of : ℕ → List Change → Batch
 batch_of epoch changes = record { epoch = epoch; changes = changes }
 
 -- all changes of batches, in order
-abbrev pub changes_of : List Batch → List Change
-changes_of [] = []
-changes_of (batch ∷ batches) = batch.changes ++ changes_of batches
-
--- one of the changes is of the key
-abbrev pub names : List Change → RowKey → Bool
-names [] key = false
-names (change ∷ changes) key = is_same change.key key || names changes key
-
--- of how many keys the changes are, each key counted once
-abbrev pub key_count : List Change → ℕ
-key_count [] = 0
-key_count (change ∷ changes) = (if names changes change.key then 0 else 1) + key_count changes
+abbrev pub batched_changes : List Batch → List Change
+batched_changes [] = []
+batched_changes (batch ∷ batches) = batch.changes ++ batched_changes batches
 
 -- the row that a key has after all that was entered
-abbrev pub newest : Contents → RowKey → Option Row
-newest cache key = row_after (changes_of cache.entered) key (row_of cache.durable.rows key)
+abbrev pub newest : CacheView → RowKey → Option Row
+newest cache key = row_after (batched_changes cache.entered) key (row_of cache.durable.rows key)
 
 -- the epoch of the last batch, or the one before where there is none
 abbrev pub epoch_after : ℕ → List Batch → ℕ
@@ -41,7 +31,7 @@ epoch_after before [] = before
 epoch_after before (batch ∷ batches) = epoch_after batch.epoch batches
 
 -- the last epoch: of what was entered, or of the tables where nothing is
-abbrev pub last_epoch : Contents → ℕ
+abbrev pub last_epoch : CacheView → ℕ
 last_epoch cache = epoch_after cache.durable.last_index cache.entered
 
 -- the batches up to an epoch

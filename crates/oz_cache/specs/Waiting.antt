@@ -1,8 +1,8 @@
 -- Tables, and batches that wait above them.
 use Rattle.std.specs.Prelude.{◌≡◌, ℕ, ◌<◌, ◌≤◌, Bool, false, List, [], ◌∷◌, length, nat_le}
-use Rattle.oz_tables.specs.Tables.{Contents as Tables}
+use Rattle.oz_tables.specs.Tables.{TableView as Tables}
 use Rattle.oz_cache.specs.declared.batch.Batch.{Batch}
-use Rattle.oz_cache.specs.Cache.{changes_of}
+use Rattle.oz_cache.specs.Cache.{batched_changes}
 
 -- the tables, the batches in order, and for how many changes more there is room
 pub record Waiting : Type 0 where
@@ -21,8 +21,8 @@ starts_by epoch [] = false
 starts_by epoch (batch ∷ batches) = nat_le batch.epoch epoch
 
 -- the epochs rise above the tables, which have room for all changes
-pub record IsSound (tables : Tables) (batches : List Batch) (count room : ℕ) : Type 0 where
+pub record IsBacked (tables : Tables) (batches : List Batch) (count room : ℕ) : Type 0 where
   pub epochs : EpochsRise tables.last_index batches
-  pub counted : count ≡ length (changes_of batches)
+  pub counted : count ≡ length (batched_changes batches)
   pub within : count ≤ room
   pub reserved : room ≤ tables.spare

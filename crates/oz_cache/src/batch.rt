@@ -1,3 +1,5 @@
+//! Changes that were entered together.
+
 use oz_fields::List;
 use oz_rows::Change;
 

@@ -1,13 +1,16 @@
+//! Tables with newer rows above them, as one map.
+
 ghost use Rattle.std.specs.Prelude.{◌≡◌, ◌+◌, ◌^◌, ◌<◌, ◌≤◌, ◌↔◌, [], ◌∷◌, ◌++◌, length, false, option_copied, IsTrue, MatchOption, IfOk, OnOk};
 ghost use Rattle.std.specs.Ordering.{is_gt};
 ghost use Rattle.oz_rows.specs.declared.key.RowKey.{RowKey as AnyKey};
+ghost use Rattle.oz_rows.specs.declared.operation.TheConstants.{END_OF_INDEXES};
 ghost use Rattle.oz_rows.specs.Rows.{kind_of};
 ghost use Rattle.oz_rows.specs.Order.{key_order};
 ghost use Rattle.oz_tables.specs.Counts.{IsCount};
 ghost use Rattle.oz_tables.specs.Tables.{row_of, row_after, IsNext, HasNoNext};
 ghost use Rattle.oz_cache.specs.Places.{RowsRise, IsWithin, over_rows, counted_anew};
 ghost use Rattle.std.specs.List.{AllByRecursion};
-ghost use Rattle.oz_cache.specs.Cache.{batch_of, changes_of, key_count, newest, epoch_after, last_epoch, up_to, later};
+ghost use Rattle.oz_cache.specs.Cache.{batch_of, batched_changes, newest, epoch_after, last_epoch, up_to, later};
 
 use crate::newer::{CachedRow, Newer};
 use crate::pending::Pending;
@@ -29,10 +32,10 @@ pub struct Cached {
 
 impl Model for Cached {
     ghost use Rattle.std.specs.Prelude.{min};
-    ghost use Rattle.oz_cache.specs.Cache.{Contents};
+    ghost use Rattle.oz_cache.specs.Cache.{CacheView};
     ghost use Rattle.oz_cache.specs.Places.{AreLastOf};
 
-    ghost Value = { Contents };
+    ghost Value = { CacheView };
 
     ghost view = { λ c. record { durable = c.pending.durable; entered = c.pending.batches; spare = min c.pending.spare c.newer.spare } };
 
@@ -131,7 +134,7 @@ impl Cached {
     pub fn enter(&mut self, epoch: u64, prepared: Prepared)
         requires room { length prepared ≤ self.old.spare }
         requires above { last_epoch self.old < epoch }
-        requires limit { epoch < 2 ^ 63 }
+        requires limit { epoch < END_OF_INDEXES }
         ensures entered { self.new.entered ≡ self.old.entered ++ batch_of epoch prepared ∷ [] }
         ensures durable { self.new.durable ≡ self.old.durable }
         ensures newest { (key : AnyKey) → newest self.new key ≡ row_after prepared key (newest self.old key) }
@@ -147,7 +150,7 @@ impl Cached {
     /// memory. There is one cached row for each key that was entered; each of them is looked at,
     /// which is one step.
     pub fn flushed<L: Ledger>(&mut self, epoch: u64, steps: &mut Steps<L>)
-        ensures rows { (key : AnyKey) → row_of self.new.durable.rows key ≡ row_after (changes_of (up_to epoch self.old.entered)) key (row_of self.old.durable.rows key) }
+        ensures rows { (key : AnyKey) → row_of self.new.durable.rows key ≡ row_after (batched_changes (up_to epoch self.old.entered)) key (row_of self.old.durable.rows key) }
         ensures last_index { self.new.durable.last_index ≡ epoch_after self.old.durable.last_index (up_to epoch self.old.entered) }
         ensures entered { self.new.entered ≡ later epoch self.old.entered }
 
@@ -156,7 +159,6 @@ impl Cached {
         ensures last { last_epoch self.new ≡ last_epoch self.old }
 
         ensures spare { self.old.spare ≤ self.new.spare }
-        ensures steps { steps.new ≡ steps.old + key_count (changes_of self.old.entered) }
     {
         self.pending.move_down(epoch);
         self.newer.keep_after(epoch, steps);

@@ -1,3 +1,5 @@
+//! The rows that stand above the tables, in the order of their keys.
+
 ghost use Rattle.std.specs.Prelude.{◌≡◌, ◌+◌, ◌<◌, ◌≤◌, [], length, slice_set, insert, vec_len, vec_capacity, option_copied, Some, if◌then◌else◌, nat_lt, filter, IfOk, IfErr, OnOk};
 ghost use Rattle.std.specs.List.{AllByRecursion};
 ghost use Rattle.oz_rows.specs.declared.key.RowKey.{RowKey as AnyKey};

@@ -1,7 +1,10 @@
-ghost use Rattle.std.specs.Prelude.{◌≡◌, ◌+◌, ◌^◌, ◌<◌, ◌≤◌, [], ◌++◌, length, take, drop, OnOk};
+//! Tables, and the batches that wait to go down into them.
+
+ghost use Rattle.std.specs.Prelude.{◌≡◌, ◌+◌, ◌<◌, ◌≤◌, [], ◌++◌, length, take, drop, OnOk};
 ghost use Rattle.oz_rows.specs.declared.key.RowKey.{RowKey as AnyKey};
+ghost use Rattle.oz_rows.specs.declared.operation.TheConstants.{END_OF_INDEXES};
 ghost use Rattle.oz_tables.specs.Tables.{row_of, row_after};
-ghost use Rattle.oz_cache.specs.Cache.{changes_of, epoch_after, up_to, later};
+ghost use Rattle.oz_cache.specs.Cache.{batched_changes, epoch_after, up_to, later};
 ghost use Rattle.oz_cache.specs.Waiting.{EpochsRise, starts_by};
 
 use crate::batch::Batch;
@@ -23,13 +26,13 @@ pub struct Pending {
 
 impl Model for Pending {
     ghost use Rattle.std.specs.Prelude.{◌-◌};
-    ghost use Rattle.oz_cache.specs.Waiting.{Waiting, IsSound};
+    ghost use Rattle.oz_cache.specs.Waiting.{Waiting, IsBacked};
 
     ghost Value = { Waiting };
 
     ghost view = { λ p. record { durable = p.tables; batches = p.batches; spare = p.room - p.count } };
 
-    ghost invariant = { λ p. IsSound p.tables p.batches p.count p.room };
+    ghost invariant = { λ p. IsBacked p.tables p.batches p.count p.room };
 }
 
 impl Pending {
@@ -78,10 +81,10 @@ impl Pending {
 
     /// Puts a batch, which has so many changes, behind the others.
     pub fn push(&mut self, mut batch: LinkedList<Batch>, changes: usize)
-        requires changes { changes ≡ length (changes_of batch) }
+        requires changes { changes ≡ length (batched_changes batch) }
         requires room { changes ≤ self.old.spare }
         requires rise { EpochsRise (epoch_after self.old.durable.last_index self.old.batches) batch }
-        requires limit { epoch_after (epoch_after self.old.durable.last_index self.old.batches) batch < 2 ^ 63 }
+        requires limit { epoch_after (epoch_after self.old.durable.last_index self.old.batches) batch < END_OF_INDEXES }
         ensures durable { self.new.durable ≡ self.old.durable }
         ensures batches { self.new.batches ≡ self.old.batches ++ batch }
         ensures spare { self.old.spare ≡ self.new.spare + changes }
@@ -93,7 +96,7 @@ impl Pending {
 
     /// Applies the batches up to an epoch to the tables.
     pub fn move_down(&mut self, epoch: u64)
-        ensures rows { (key : AnyKey) → row_of self.new.durable.rows key ≡ row_after (changes_of (up_to epoch self.old.batches)) key (row_of self.old.durable.rows key) }
+        ensures rows { (key : AnyKey) → row_of self.new.durable.rows key ≡ row_after (batched_changes (up_to epoch self.old.batches)) key (row_of self.old.durable.rows key) }
         ensures last_index { self.new.durable.last_index ≡ epoch_after self.old.durable.last_index (up_to epoch self.old.batches) }
         ensures batches { self.new.batches ≡ later epoch self.old.batches }
         ensures spare { self.old.spare ≤ self.new.spare }
@@ -120,7 +123,7 @@ impl Pending {
     /// Applies the first batch.
     fn move_first(&mut self)
         requires { 0 < length self.old.batches }
-        ensures rows { (key : AnyKey) → row_of self.new.durable.rows key ≡ row_after (changes_of (take 1 self.old.batches)) key (row_of self.old.durable.rows key) }
+        ensures rows { (key : AnyKey) → row_of self.new.durable.rows key ≡ row_after (batched_changes (take 1 self.old.batches)) key (row_of self.old.durable.rows key) }
         ensures last_index { self.new.durable.last_index ≡ epoch_after self.old.durable.last_index (take 1 self.old.batches) }
         ensures batches { self.new.batches ≡ drop 1 self.old.batches }
         ensures spare { self.old.spare ≤ self.new.spare }

@@ -2,7 +2,7 @@
 use Rattle.std.proofs.Common.{◌≡◌, ◌≢◌, inl, inr, ℕ, ◌+◌, ◌<◌, ◌≤◌, true, false, List, [], ◌∷◌, ◌++◌, length, Option, refl, sym, ap, subst, arith}
 use Rattle.oz_world.specs.Disk.{Images, Seen, seen}
 use Rattle.oz_world.specs.Faults.{Rose}
-use Rattle.oz_cache.specs.Cache.{Contents, newest, last_epoch}
+use Rattle.oz_cache.specs.Cache.{CacheView, newest, last_epoch}
 use Rattle.oz_journal.specs.Grammar.{IsJournal, TellsBodies}
 use Rattle.oz_journal.specs.Journal.{State, IsBeforeOrAfter}
 use Rattle.oz_world.specs.Moments.{Elapses, LeavesOnly}
@@ -41,7 +41,7 @@ module _ {D : Type 0} (contents : D → Option (List ℕ)) (clock : D → ℕ) (
   untouched journal after same = subst (λ (j : State D). IsUntouched (at journal) (at j)) (sym same) (record { contents = refl; time = record { moment = refl; images = λ t left. (λ h. h, λ h. h) }; faults = refl })
 
   -- the line changes nothing
-  pub did_nothing : (line : Line) (cache cache_after : Contents) (story story_after : List Event) (journal after : State D) (reply : Reply) → journal.stopped ≡ false → cache_after ≡ cache → after ≡ journal → MeetsAll (newest cache) (request_of line.command) reply [] []
+  pub did_nothing : (line : Line) (cache cache_after : CacheView) (story story_after : List Event) (journal after : State D) (reply : Reply) → journal.stopped ≡ false → cache_after ≡ cache → after ≡ journal → MeetsAll (newest cache) (request_of line.command) reply [] []
       → story_after ≡ decided line story (last_epoch cache) reply [] ++ told_event line.client line.number (answer_of reply) ∷ []
       → Serves line (newest cache) (newest cache_after) story story_after (last_epoch cache) (last_epoch cache_after) journal.stopped after.stopped (at journal) (at after)
   did_nothing line cache cache_after story story_after journal after reply running rows same meets is = inr (inl (record {
@@ -50,7 +50,7 @@ module _ {D : Type 0} (contents : D → Option (List ℕ)) (clock : D → ℕ) (
     meets = meets;
     story_is = is;
     stays = record {
-      rows_are = λ key. ap (λ (c : Contents). newest c key) rows;
+      rows_are = λ key. ap (λ (c : CacheView). newest c key) rows;
       index_is = ap last_epoch rows;
       stopped_is = ap (λ (j : State D). j.stopped) same;
       untouched = untouched journal after same;
@@ -62,7 +62,7 @@ module _ {D : Type 0} (contents : D → Option (List ℕ)) (clock : D → ℕ) (
   did_end line rows rows_after story story_after index index_after journal after last same did = subst (λ (j : State D). Serves line rows rows_after story story_after index index_after journal.stopped j.stopped (at journal) (at j)) (sym same) did
 
   -- the line writes a body
-  module _ (line : Line) (cache cache_after : Contents) (story story_after : List Event) (journal before after : State D) (same : before ≡ journal) (reply : Reply) (batch body : List ℕ) (changes : List Change)
+  module _ (line : Line) (cache cache_after : CacheView) (story story_after : List Event) (journal before after : State D) (same : before ≡ journal) (reply : Reply) (batch body : List ℕ) (changes : List Change)
       (running : journal.stopped ≡ false) (some : batch ≢ []) (recorded : changes ≡ [] → batch ≡ []) (meets : MeetsAll (newest cache) (request_of line.command) reply batch changes)
       (rows_are : (key : _) → newest cache_after key ≡ after_changes changes (newest cache) key) (index_is : last_epoch cache_after ≡ last_epoch cache + 1) (body_is : body ≡ body_bytes (last_epoch cache + 1) batch)
       (falls : count before.disk ≤ count after.disk) (time : Elapses (clock before.disk) (clock after.disk) (image before.disk) (image after.disk))

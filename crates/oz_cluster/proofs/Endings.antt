@@ -21,7 +21,7 @@ use Rattle.oz_om_bucket.specs.Meets.{Stand}
 use Rattle.oz_rows.specs.declared.key.RowKey.{RowKey}
 use Rattle.oz_rows.specs.declared.row.Row.{Row}
 use Rattle.oz_rows.specs.Rows.{RowFits}
-use Rattle.oz_tables.specs.declared.entry.Entry.{Entry}
+use Rattle.oz_tables.specs.declared.entry.RowEntry.{RowEntry}
 use Rattle.oz_tables.specs.Build.{Builds}
 use Rattle.oz_tables.specs.Sound.{IsSound}
 use Rattle.oz_tables.specs.StandsFor.{StandsFor}
@@ -132,11 +132,11 @@ some_damage : (told : Option (List ℕ)) (offset : ℕ) → IfSome told (λ byte
 some_damage None offset h = tt
 some_damage (Some bytes) offset h = (offset, h)
 
-some_loads : (told : Option (List ℕ)) (all : List Entry) (index : ℕ) → IfSome told (λ bytes. Loads bytes all index) → IfSome told (λ bytes. (some : List Entry) × (last : ℕ) × Loads bytes some last)
+some_loads : (told : Option (List ℕ)) (all : List RowEntry) (index : ℕ) → IfSome told (λ bytes. Loads bytes all index) → IfSome told (λ bytes. (some : List RowEntry) × (last : ℕ) × Loads bytes some last)
 some_loads None all index loads = tt
 some_loads (Some bytes) all index loads = (all, index, loads)
 
-loads_and_damaged : (told : Option (List ℕ)) (all : List Entry) (index : ℕ) (bytes : List ℕ) (offset : ℕ) → told ≡ Some bytes → IfSome told (λ bytes. Loads bytes all index) → IsDamagedDisk bytes offset → ⊥
+loads_and_damaged : (told : Option (List ℕ)) (all : List RowEntry) (index : ℕ) (bytes : List ℕ) (offset : ℕ) → told ≡ Some bytes → IfSome told (λ bytes. Loads bytes all index) → IsDamagedDisk bytes offset → ⊥
 loads_and_damaged None all index bytes offset is loads damaged = absurd (cc is)
 loads_and_damaged (Some other) all index bytes offset is loads damaged =
     let same : other ≡ bytes = cc is in
@@ -225,7 +225,7 @@ module _ (words : List (List ℕ)) (left told : Option (List ℕ)) (source_rose 
   }
 
   -- the run came to its work
-  module _ (given : IsRun words) (script : Lines) (parsed : IsScriptOf left script) (all : List Entry) (index : ℕ) (loads : IfSome told (λ bytes. Loads bytes all index)) where
+  module _ (given : IsRun words) (script : Lines) (parsed : IsScriptOf left script) (all : List RowEntry) (index : ℕ) (loads : IfSome told (λ bytes. Loads bytes all index)) where
     work_causes : number ≤ 7 → (number ≡ 4 → sink_rose) → (number ≡ 5 → disk_rose) → (number ≡ 1 → ⊥) → (number ≡ 2 → ⊥) → (number ≡ 3 → ⊥) → (number ≡ 6 → ⊥) → StatusCauses words left told source_rose sink_rose disk_rose number
     work_causes known sink disk no_script no_words no_read no_damage = record {
       known = known;
@@ -288,7 +288,7 @@ loading_keeps disk bytes loaded last middle image is spans time moment left from
     (left, subst (λ (t : ℕ). disk.image t left) same ((spans.elapses.kept moment left (omega (arith, old))).0 then), inl refl))
     (cases_lt disk.clock moment)
 
-module _ (words : List (List ℕ)) (left : Option (List ℕ)) (disk_before loaded disk_after : Seen) (before after : Option (List ℕ)) (sink_rose : Type 0) (all : List Entry) (first : ℕ) (rows : Rows) (script : Lines) (lines : ℕ) (story : List Event) (rows_after : Rows) (index : ℕ) (stopped : Bool) (status : Status)
+module _ (words : List (List ℕ)) (left : Option (List ℕ)) (disk_before loaded disk_after : Seen) (before after : Option (List ℕ)) (sink_rose : Type 0) (all : List RowEntry) (first : ℕ) (rows : Rows) (script : Lines) (lines : ℕ) (story : List Event) (rows_after : Rows) (index : ℕ) (stopped : Bool) (status : Status)
     (given : IsRun words) (parsed : IsScriptOf left script) (numbered : IsNumbered script) (loads : IfSome disk_before.told (λ bytes. Loads bytes all first)) (few : lines ≤ length script.lines)
     (rows_are : row_of all ≡ rows) (fit : (key : RowKey) (row : Row) → rows key ≡ Some row → RowFits key row)
     (keeps : IfSome disk_before.told (λ bytes. Keeps loaded.told rows first)) (stable : (bytes : List ℕ) → loaded.told ≡ Some bytes → IsStable loaded.image loaded.clock bytes) (ended : IfSome disk_before.told (λ bytes. loaded.clock ≡ loaded_at disk_before.clock bytes))
@@ -374,5 +374,5 @@ all_served status (Ok value) lines all served worked = inr served
 all_served status (Err error) lines all served worked = ⊎_elim (λ none. inl none) (λ ok. absurd (false≢true ok)) worked
 
 -- the same index in other words
-pub loads_as : (told : Option (List ℕ)) (all : List Entry) (index other : ℕ) → index ≡ other → IfSome told (λ bytes. Loads bytes all index) → IfSome told (λ bytes. Loads bytes all other)
+pub loads_as : (told : Option (List ℕ)) (all : List RowEntry) (index other : ℕ) → index ≡ other → IfSome told (λ bytes. Loads bytes all index) → IfSome told (λ bytes. Loads bytes all other)
 loads_as told all index other same loads = subst (λ (i : ℕ). IfSome told (λ bytes. Loads bytes all i)) same loads

@@ -12,7 +12,7 @@ use Rattle.oz_requests.specs.declared.answer.Answer.{Answer}
 use Rattle.oz_requests.specs.declared.reply.Reply.{Reply}
 use Rattle.oz_requests.specs.declared.request.Request.{Request}
 use Rattle.oz_rows.specs.declared.operation.Change.{Change}
-use Rattle.oz_tables.specs.declared.entry.Entry.{Entry}
+use Rattle.oz_tables.specs.declared.entry.RowEntry.{RowEntry}
 use Rattle.oz_tables.specs.Batches.{AreRows, IsBatchOf, after_changes}
 use Rattle.oz_tables.specs.Build.{Builds}
 use Rattle.oz_tables.specs.Tables.{Rows, row_of}
@@ -29,11 +29,11 @@ use Rattle.oz_cluster.proofs.Lines.{Sums, Leads}
 use Rattle.oz_cluster.proofs.Stories.{last_index-push, kept_namespace-push, all-push}
 
 -- rows in order give the same rows
-are_same : (all : List Entry) (rows : Rows) → AreRows all rows → row_of all ≡ rows
+are_same : (all : List RowEntry) (rows : Rows) → AreRows all rows → row_of all ≡ rows
 are_same all rows are = λ i key. are.rows_are key i
 
 -- rows that stand for a namespace are coherent
-pub coherent : (all : List Entry) (rows : Rows) (namespace : Namespace) → AreRows all rows → Stand rows namespace → IsCoherent all namespace
+pub coherent : (all : List RowEntry) (rows : Rows) (namespace : Namespace) → AreRows all rows → Stand rows namespace → IsCoherent all namespace
 coherent all rows namespace are stand =
     let there = subst (λ (r : Rows). Stand r namespace) (sym (are_same all rows are)) stand in
     record { stands = there.stands; sound = there.sound }
@@ -92,7 +92,7 @@ module _ (opening : Opening) (at : ℕ) (left : List ℕ) where
           ∙ (ap (λ (n : Namespace). after n request answer) kept ∙ (same is ∙ sym kept))
 
   -- bytes that open as all that was decided
-  pub front_here : (story : List Event) (namespace : Namespace) (index swapped stable moment : ℕ) (halt : Option ℕ) → Sums opening story index swapped stable moment halt → Leads opening story namespace index → (bodies : List (List ℕ)) → IsJournal left bodies → (all : List Entry) → Builds bodies all index → IsCoherent all namespace → (front : IsFrontOf opening story at left) × (front.index ≡ index)
+  pub front_here : (story : List Event) (namespace : Namespace) (index swapped stable moment : ℕ) (halt : Option ℕ) → Sums opening story index swapped stable moment halt → Leads opening story namespace index → (bodies : List (List ℕ)) → IsJournal left bodies → (all : List RowEntry) → Builds bodies all index → IsCoherent all namespace → (front : IsFrontOf opening story at left) × (front.index ≡ index)
   front_here story namespace index swapped stable moment halt sums leads bodies journal all builds coherent = (
     record {
       index = index;
@@ -138,10 +138,10 @@ module _ (opening : Opening) (story : List Event) (rows : Rows) (index first : �
       there : Keeps now.told rows index
       there = held.keeps running
 
-      follows : (next : List Entry) × Builds (there.0 ++ body ∷ []) next (index + 1) × AreRows next (after_changes changes rows)
+      follows : (next : List RowEntry) × Builds (there.0 ++ body ∷ []) next (index + 1) × AreRows next (after_changes changes rows)
       follows =
           let same = are_same there.2 rows there.4 in
-          subst (λ (r : Rows). (next : List Entry) × Builds (there.0 ++ body ∷ []) next (index + 1) × AreRows next (after_changes changes r)) same
+          subst (λ (r : Rows). (next : List RowEntry) × Builds (there.0 ++ body ∷ []) next (index + 1) × AreRows next (after_changes changes r)) same
           (body_follows there.0 there.2 index (index + 1) batch changes there.3 (omega arith, below) (omega arith) (subst (λ (r : Rows). IsBatchOf r batch changes) (sym same) meets.batch))
 
       -- what a stop leaves of the old moments, and of the new ones without the body

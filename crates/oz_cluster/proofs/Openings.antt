@@ -6,7 +6,7 @@ use Rattle.oz_journal.specs.declared.load_fault.LoadFault.{LoadFault}
 use Rattle.oz_journal.specs.declared.load_fault.LoadFault.TheVariants as load
 use Rattle.oz_journal.specs.Body.{bodies_in, places_in}
 use Rattle.oz_journal.specs.Grammar.{IsDamagedAt, IsJournal, places, records, sized}
-use Rattle.oz_tables.specs.Build.{Fails}
+use Rattle.oz_tables.specs.Build.{FailsAt}
 use Rattle.oz_tables.proofs.FaultPlaces.{fails_within}
 use Rattle.oz_cluster.specs.declared.opening.OpenFault.TheVariants as open_faults
 use Rattle.oz_cluster.specs.OpenFaults.{as_open}
@@ -53,12 +53,12 @@ none_there (first ∷ bodies) zero is = absurd (cc is)
 none_there (first ∷ bodies) (suc i) is = none_there bodies i is
 
 -- a body at fault is there
-pub is_there : (bodies : List Body) (count at : ℕ) → Fails (bodies_in bodies) count at → slice_get bodies count ≡ None → ⊥
+pub is_there : (bodies : List Body) (count at : ℕ) → FailsAt (bodies_in bodies) count at → slice_get bodies count ≡ None → ⊥
 is_there bodies count at fails none =
     let within = fails_within [] 0 (bodies_in bodies) count at fails in
     absurd (cc (sym (none_there bodies count none) ∙ within.1))
 
-module _ (bodies : List Body) (count at : ℕ) (fails : Fails (bodies_in bodies) count at) (body : Body) (is : slice_get bodies count ≡ Some body) (placed : places_in bodies ≡ places 0 (bodies_in bodies)) where
+module _ (bodies : List Body) (count at : ℕ) (fails : FailsAt (bodies_in bodies) count at) (body : Body) (is : slice_get bodies count ≡ Some body) (placed : places_in bodies ≡ places 0 (bodies_in bodies)) where
   begins : slice_get (places 0 (bodies_in bodies)) count ≡ Some body.at
   begins = subst (λ (l : List ℕ). slice_get l count ≡ Some body.at) placed (place_of bodies count body is)
 

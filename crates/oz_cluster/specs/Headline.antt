@@ -5,7 +5,7 @@ use Rattle.oz_world.specs.Disk.{Images, Seen}
 use Rattle.oz_world.specs.Faults.{Rose}
 use Rattle.oz_journal.specs.Load.{IsLoadable, IsLeftAlone, loaded_at}
 use Rattle.oz_namespace.specs.declared.namespace.Namespace.{Namespace}
-use Rattle.oz_tables.specs.declared.entry.Entry.{Entry}
+use Rattle.oz_tables.specs.declared.entry.RowEntry.{RowEntry}
 use Rattle.oz_cluster.specs.declared.events.Event.{Event}
 use Rattle.oz_cluster.specs.declared.events.EventKind.TheVariants.{Ask, Decide, Told}
 use Rattle.oz_cluster.specs.declared.events.Node.TheVariants.{Manager}
@@ -92,7 +92,7 @@ pub record Headline (opening : Opening) (script : Script) (story : List Event) (
 -- stand for a namespace, the story is one history from there; and if the manager didn't halt, the disk stands afterwards for
 -- what the story led to. Where the source tells its text that said the script.
 pub record IsOneRun (words : List (List ℕ)) (left : Option (List ℕ)) (disk_before disk_after : Seen) (held_before held_after : Option (List ℕ)) (sink_rose : Type 0) (story : List Event) (status : Status) : Type 0 where
-  pub rows : List Entry
+  pub rows : List RowEntry
   pub index : ℕ
   pub script : Script
   pub given : IsRun words

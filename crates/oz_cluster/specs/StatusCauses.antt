@@ -2,7 +2,7 @@
 use Rattle.std.specs.Prelude.{◌≡◌, ◌⊎◌, ℕ, ◌≤◌, List, take, Option, Some, Err, IfSome}
 use Rattle.oz_script.specs.declared.grammar.Cause.{Cause}
 use Rattle.oz_script.specs.declared.grammar.ScriptFault.TheVariants.{At}
-use Rattle.oz_tables.specs.declared.entry.Entry.{Entry}
+use Rattle.oz_tables.specs.declared.entry.RowEntry.{RowEntry}
 use Rattle.oz_cluster.specs.Opens.{Loads, IsDamagedDisk}
 use Rattle.oz_cluster.specs.Refusals.{IsScript}
 use Rattle.oz_script.specs.Script.{script_of}
@@ -13,7 +13,7 @@ use Rattle.oz_cluster.specs.Words.{IsRun, IsFirstFault}
 pub record HasBegun (words : List (List ℕ)) (left disk : Option (List ℕ)) : Type 0 where
   pub given : IsRun words
   pub script : IsScript left
-  pub loads : IfSome disk (λ bytes. (all : List Entry) × (index : ℕ) × Loads bytes all index)
+  pub loads : IfSome disk (λ bytes. (all : List RowEntry) × (index : ℕ) × Loads bytes all index)
 
 -- the first fault of what a source has left
 abbrev pub IsFaultOf : List ℕ → ℕ → Cause → Type 0

@@ -1,7 +1,7 @@
 ghost use Rattle.std.specs.Prelude.{List as Items, ◌≡◌, ◌≤◌, ◌<◌, ◌+◌, ◌^◌, ◌++◌, [], ◌∷◌, ℕ, false, length, vec_len, vec_capacity, is_err, OnOk, OnErr, IsErr};
 ghost use Rattle.oz_world.specs.Disk.{seen};
 ghost use Rattle.oz_world.specs.Faults.{HasCause};
-ghost use Rattle.oz_cache.specs.Cache.{changes_of, epoch_after, last_epoch, later, newest, up_to};
+ghost use Rattle.oz_cache.specs.Cache.{batched_changes, epoch_after, last_epoch, later, newest, up_to};
 ghost use Rattle.oz_journal.specs.Grammar.{IsJournal, TellsBodies};
 ghost use Rattle.oz_journal.specs.Journal.{body_of, IsBeforeOrAfter};
 ghost use Rattle.oz_world.specs.Moments.{Elapses, LeavesOnly};
@@ -67,7 +67,7 @@ fn note(story: &mut Vec<Event>, seat: u16, kind: EventKind)
 /// Moves what was entered up to an index down into the tables.
 fn settle(rows: &mut Cached, index: u64)
     ensures durable { (key : _) → row_of rows.new.durable.rows key
-        ≡ row_after (changes_of (up_to index rows.old.entered)) key (row_of rows.old.durable.rows key) }
+        ≡ row_after (batched_changes (up_to index rows.old.entered)) key (row_of rows.old.durable.rows key) }
     ensures last_index { rows.new.durable.last_index
         ≡ epoch_after rows.old.durable.last_index (up_to index rows.old.entered) }
     ensures entered { rows.new.entered ≡ later index rows.old.entered }
@@ -84,7 +84,7 @@ fn settle_in<L: Ledger>(rows: &mut Cached, index: u64, blank: Blank)
     requires parts { blank.parts ≡ L.parts }
     requires some { 0 < L.parts }
     ensures durable { (key : _) → row_of rows.new.durable.rows key
-        ≡ row_after (changes_of (up_to index rows.old.entered)) key (row_of rows.old.durable.rows key) }
+        ≡ row_after (batched_changes (up_to index rows.old.entered)) key (row_of rows.old.durable.rows key) }
     ensures last_index { rows.new.durable.last_index
         ≡ epoch_after rows.old.durable.last_index (up_to index rows.old.entered) }
     ensures entered { rows.new.entered ≡ later index rows.old.entered }

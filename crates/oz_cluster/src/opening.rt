@@ -9,7 +9,7 @@ ghost use Rattle.oz_world.specs.Moments.{Elapses, Spans};
 ghost use Rattle.oz_rows.specs.declared.key.RowKey.{RowKey as AnyKey};
 ghost use Rattle.oz_rows.specs.declared.row.Row.{Row as AnyRow};
 ghost use Rattle.oz_rows.specs.Rows.{RowFits};
-ghost use Rattle.oz_tables.specs.Build.{Builds, Fails};
+ghost use Rattle.oz_tables.specs.Build.{Builds, FailsAt};
 ghost use Rattle.oz_cluster.specs.OpenFaults.{as_open};
 ghost use Rattle.oz_cluster.specs.Opens.{Loads, IsFaultIn, IsDamagedDisk, Keeps};
 

@@ -2,7 +2,7 @@ use Rattle.std.proofs.Common.{◌≡◌, inl, inr, ℕ, List, length, map, sym, 
 use Rattle.std.specs.String.{string_bytes}
 use Rattle.oz_world.specs.Disk.{seen}
 use Rattle.oz_world.specs.Faults.{Rose}
-use Rattle.oz_cache.specs.Cache.{newest, last_epoch, changes_of, epoch_after}
+use Rattle.oz_cache.specs.Cache.{newest, last_epoch, batched_changes, epoch_after}
 use Rattle.oz_tables.specs.Tables.{row_of, row_after}
 use Rattle.oz_cluster.specs.declared.events.Event.{Event}
 use Rattle.oz_cluster.specs.Headline.{IsPrinted, IsOneRun}
@@ -54,7 +54,7 @@ returns-clause-one_run g c =
     let rose = Rose (g.K.Sink.faults c.args.out.now) (g.K.Sink.faults c.finish-status.new.out) in
     let of_story = subst (λ (story : List Event). IsPrinted c.finish-status.result (report_of (length c.items.result.now) story) (g.K.Sink.held c.args.out.now) (g.K.Sink.held c.finish-status.new.out) rose) c.deref.ensures.value c.finish-status.ensures.printed in
     let printed = subst (λ (n : ℕ). IsPrinted c.finish-status.result (report_of n last.story.items) (g.K.Sink.held c.args.out.now) (g.K.Sink.held c.finish-status.new.out) rose) lines of_story in
-    let rows_are : row_of first.rows.durable.rows ≡ newest first.rows = λ i key. row_after (changes_of ((sym c.in-Ok-open.ensures.fresh) i)) key (row_of first.rows.durable.rows key) in
+    let rows_are : row_of first.rows.durable.rows ≡ newest first.rows = λ i key. row_after (batched_changes ((sym c.in-Ok-open.ensures.fresh) i)) key (row_of first.rows.durable.rows key) in
     let run = one_run (map string_bytes c.args.words.now) (g.S.Source.left c.args.source.now)
     (seen (g.D.Disk.told disk) (g.D.Disk.clock disk) (g.D.Disk.image disk) (g.D.Disk.faults disk))
     (seen (g.D.Disk.told first.journal.disk) (g.D.Disk.clock first.journal.disk) (g.D.Disk.image first.journal.disk) (g.D.Disk.faults first.journal.disk))

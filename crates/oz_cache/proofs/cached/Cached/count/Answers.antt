@@ -1,8 +1,8 @@
 use Rattle.std.proofs.Common.{sym, ◌∙◌, ap, subst}
 use Rattle.oz_tables.specs.Counts.{IsCount}
-use Rattle.oz_tables.specs.Tables.{Contents as Tables, row_of, row_after}
+use Rattle.oz_tables.specs.Tables.{TableView as Tables, row_of, row_after}
 use Rattle.oz_tables.proofs.RangeCounts.{count_alike}
-use Rattle.oz_cache.specs.Cache.{Contents, newest, changes_of}
+use Rattle.oz_cache.specs.Cache.{CacheView, newest, batched_changes}
 use Rattle.oz_cache.specs.Places.{over_row, over_rows}
 use Rattle.oz_cache.proofs.Newest.{newest_row}
 use Rattle.oz_cache.proofs.cached.Cached.count.Goals as goal
@@ -16,8 +16,8 @@ returns c =
     let between = c.between.result.now in
     let count = c.count_with.result in
     let here : IsCount (over_rows between (row_of pending.durable.rows)) from to count = subst (λ (t : Tables). IsCount (over_rows between (row_of t.rows)) from to count) c.tables.ensures c.count_with.ensures in
-    subst (λ (w : Contents). IsCount (newest w) from to count) c.self.view_is
-    (count_alike (over_rows between (row_of pending.durable.rows)) (λ key. row_after (changes_of pending.batches) key (row_of pending.durable.rows key)) from to count
+    subst (λ (w : CacheView). IsCount (newest w) from to count) c.self.view_is
+    (count_alike (over_rows between (row_of pending.durable.rows)) (λ key. row_after (batched_changes pending.batches) key (row_of pending.durable.rows key)) from to count
     (λ key over below.
     ap (λ o. over_row o (row_of pending.durable.rows key)) (sym (c.between.ensures.rows key (over, below)))
     ∙ sym (newest_row pending.batches newer c.self.invariant key (row_of pending.durable.rows key))) here)

@@ -1,6 +1,6 @@
 use Rattle.std.proofs.Common.{[], ◌∷◌, ◌++◌, None, sym, ◌∙◌, ap}
-use Rattle.oz_tables.specs.Tables.{Contents as Tables, row_of, row_after}
-use Rattle.oz_cache.specs.Cache.{Contents, batch_of, changes_of, epoch_after, newest}
+use Rattle.oz_tables.specs.Tables.{TableView as Tables, row_of, row_after}
+use Rattle.oz_cache.specs.Cache.{CacheView, batch_of, batched_changes, epoch_after, newest}
 use Rattle.oz_cache.specs.Places.{found, after_changes, after_batches}
 use Rattle.oz_cache.proofs.Newest.{after_batches-append, newest_entered}
 use Rattle.oz_cache.proofs.Batches.{epoch_after-append}
@@ -11,7 +11,7 @@ invariant_of-self c = λ key.
     let batches = c.self.inside.pending.batches in
     let rows = c.self.inside.newer.rows in
     c.enter.ensures.rows key
-    ∙ ap (λ changes. after_changes c.args.epoch changes key (found rows key)) c.under-batch.ensures.again
+    ∙ ap (λ changes. after_changes c.args.epoch changes key (found rows key)) c.under-batch.ensures.copy
     ∙ ap (after_changes c.args.epoch c.args.prepared key) (c.self.invariant key)
     ∙ sym (ap (λ l. after_batches l key None) (c.push.ensures.batches ∙ ap (λ batch. batches ++ batch) c.under-batch.ensures.batch)
     ∙ after_batches-append batches (batch_of c.args.epoch c.args.prepared ∷ []) key None)
@@ -20,10 +20,10 @@ pub returns-clause-newest : goal.returns-clause-newest
 returns-clause-newest c = λ key.
     let pending = c.self.inside.pending in
     let one = batch_of c.args.epoch c.args.prepared in
-    ap (λ l. row_after (changes_of l) key (row_of c.push.new.self.durable.rows key)) (c.push.ensures.batches ∙ ap (λ batch. pending.batches ++ batch) c.under-batch.ensures.batch)
-    ∙ ap (λ (t : Tables). row_after (changes_of (pending.batches ++ one ∷ [])) key (row_of t.rows key)) c.push.ensures.durable
+    ap (λ l. row_after (batched_changes l) key (row_of c.push.new.self.durable.rows key)) (c.push.ensures.batches ∙ ap (λ batch. pending.batches ++ batch) c.under-batch.ensures.batch)
+    ∙ ap (λ (t : Tables). row_after (batched_changes (pending.batches ++ one ∷ [])) key (row_of t.rows key)) c.push.ensures.durable
     ∙ newest_entered pending.batches one key (row_of pending.durable.rows key)
-    ∙ ap (λ (w : Contents). row_after c.args.prepared key (newest w key)) c.self.view_is
+    ∙ ap (λ (w : CacheView). row_after c.args.prepared key (newest w key)) c.self.view_is
 
 pub returns-clause-last : goal.returns-clause-last
 returns-clause-last c =

@@ -1,6 +1,6 @@
 use Rattle.std.proofs.Common.{◌≡◌, option_copied, sym, ◌∙◌, ap, subst}
-use Rattle.oz_tables.specs.Tables.{Contents as Tables, row_of}
-use Rattle.oz_cache.specs.Cache.{Contents, newest}
+use Rattle.oz_tables.specs.Tables.{TableView as Tables, row_of}
+use Rattle.oz_cache.specs.Cache.{CacheView, newest}
 use Rattle.oz_cache.specs.Places.{over_row}
 use Rattle.oz_cache.proofs.Newest.{newest_row}
 use Rattle.oz_cache.proofs.cached.Cached.get.Goals as goal
@@ -10,7 +10,7 @@ returns-in-Some c =
     let pending = c.self.inside.pending in
     let key = c.args.key.now in
     let row = row_of pending.durable.rows key in
-    subst (λ (w : Contents). option_copied c.as_ref.result ≡ newest w key) c.self.view_is
+    subst (λ (w : CacheView). option_copied c.as_ref.result ≡ newest w key) c.self.view_is
     (c.as_ref.ensures.value
     ∙ ap (λ o. over_row o row) c.in-Some.ensures
     ∙ sym (newest_row pending.batches c.self.inside.newer.rows c.self.invariant key row))
@@ -20,7 +20,7 @@ returns-in-None c =
     let pending = c.self.inside.pending in
     let key = c.args.key.now in
     let row = row_of pending.durable.rows key in
-    subst (λ (w : Contents). option_copied c.get.result ≡ newest w key) c.self.view_is
+    subst (λ (w : CacheView). option_copied c.get.result ≡ newest w key) c.self.view_is
     (c.get.ensures
     ∙ ap (λ (t : Tables). row_of t.rows key) c.tables.ensures
     ∙ ap (λ o. over_row o row) c.in-None.ensures

@@ -1,7 +1,7 @@
 use Rattle.std.proofs.Common.{◌+◌, drop, refl, sym, ◌∙◌, ap, subst, arith}
 use mathlib.Core.Bool.{false≢true}
-use Rattle.oz_tables.specs.Tables.{Contents as Tables, row_of}
-use Rattle.oz_cache.specs.Cache.{Contents, newest}
+use Rattle.oz_tables.specs.Tables.{TableView as Tables, row_of}
+use Rattle.oz_cache.specs.Cache.{CacheView, newest}
 use Rattle.oz_cache.specs.Places.{found, over_row}
 use Rattle.oz_cache.proofs.Newest.{newest_row}
 use Rattle.oz_cache.proofs.Next.{HasPassed, rest_at, tables_answer, is_first, next_is_cached, passes}
@@ -19,7 +19,7 @@ loop-cached-init c =
       rise = c.above-cached-items.ensures.rise;
       above = c.above-cached-items.ensures.above;
       rows = λ q below.
-          sym (ap (λ (w : Contents). newest w q) c.self.view_is)
+          sym (ap (λ (w : CacheView). newest w q) c.self.view_is)
           ∙ newest_row pending.batches all c.self.invariant q (row_of pending.durable.rows q)
           ∙ ap (λ o. over_row o (row_of pending.durable.rows q)) (c.above-cached-items.ensures.rows q below)
           ∙ ap (λ (t : Tables). over_row (found above q) (row_of t.rows q)) (sym c.tables-tables.ensures);

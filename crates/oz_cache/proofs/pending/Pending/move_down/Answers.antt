@@ -1,6 +1,6 @@
 use Rattle.std.proofs.Common.{drop, sym, ◌∙◌, ap, rules, arith}
 use Rattle.oz_tables.specs.Tables.{row_of, row_after}
-use Rattle.oz_cache.specs.Cache.{changes_of, epoch_after, up_to, later}
+use Rattle.oz_cache.specs.Cache.{batched_changes, epoch_after, up_to, later}
 use Rattle.oz_cache.proofs.Batches.{takes_first, all_later, first_rows, first_epoch}
 use Rattle.oz_cache.proofs.pending.Pending.move_down.Goals as goal
 
@@ -12,8 +12,8 @@ loop-self-preserved c =
     let first = takes_first c.args.epoch old.batches (sym c.starts_by.ensures.starts ∙ c.loop-self-test.true) in
     record {
       rows = λ key.
-          ap (λ batches. row_after (changes_of (up_to c.args.epoch batches)) key (row_of new.durable.rows key)) c.move_first.ensures.batches
-          ∙ ap (λ row. row_after (changes_of rest) key row) (c.move_first.ensures.rows key)
+          ap (λ batches. row_after (batched_changes (up_to c.args.epoch batches)) key (row_of new.durable.rows key)) c.move_first.ensures.batches
+          ∙ ap (λ row. row_after (batched_changes rest) key row) (c.move_first.ensures.rows key)
           ∙ first_rows c.args.epoch old.batches first key _
           ∙ c.loop-self.invariant.rows key;
       last_index =
@@ -31,7 +31,7 @@ returns c =
     let all = all_later c.args.epoch self.durable.last_index self.batches c.starts_by.ensures.rise (sym c.starts_by.ensures.starts ∙ c.loop-self-test.false) in
     record {
       rows = λ key.
-          sym (ap (λ batches. row_after (changes_of batches) key (row_of self.durable.rows key)) all.front)
+          sym (ap (λ batches. row_after (batched_changes batches) key (row_of self.durable.rows key)) all.front)
           ∙ c.loop-self.invariant.rows key;
       last_index = sym (ap (epoch_after self.durable.last_index) all.front) ∙ c.loop-self.invariant.last_index;
       batches = sym all.rest ∙ c.loop-self.invariant.later;

@@ -1,7 +1,7 @@
 use Rattle.std.proofs.Common.{◌≡◌, ◌≤◌, length}
 use Rattle.oz_rows.specs.declared.key.RowKey.{RowKey as AnyKey}
 use Rattle.oz_tables.specs.Tables.{row_of, row_after}
-use Rattle.oz_cache.specs.Cache.{changes_of, epoch_after, up_to, later}
+use Rattle.oz_cache.specs.Cache.{batched_changes, epoch_after, up_to, later}
 use Rattle.oz_cache.proofs.pending.Pending.move_down.Given as goal
 
 -- what is left to move down makes of the tables what all of it makes of the old ones
@@ -10,7 +10,7 @@ invariant-loop-self l =
     let left = up_to l.epoch l.self.batches in
     let all = up_to l.epoch l.fn.self.batches in
     record {
-      rows : (key : AnyKey) → row_after (changes_of left) key (row_of l.self.durable.rows key) ≡ row_after (changes_of all) key (row_of l.fn.self.durable.rows key);
+      rows : (key : AnyKey) → row_after (batched_changes left) key (row_of l.self.durable.rows key) ≡ row_after (batched_changes all) key (row_of l.fn.self.durable.rows key);
       last_index : epoch_after l.self.durable.last_index left ≡ epoch_after l.fn.self.durable.last_index all;
       later : later l.epoch l.self.batches ≡ later l.epoch l.fn.self.batches;
       spare : l.fn.self.spare ≤ l.self.spare;

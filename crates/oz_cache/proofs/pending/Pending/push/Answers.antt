@@ -1,7 +1,7 @@
 use Rattle.std.proofs.Common.{◌≡◌, ◌-◌, ◌^◌, ◌<◌, ◌++◌, length, sym, ap, subst, length-append, arith}
-use Rattle.oz_cache.specs.Cache.{changes_of, epoch_after}
+use Rattle.oz_cache.specs.Cache.{batched_changes, epoch_after}
 use Rattle.oz_cache.specs.Waiting.{Waiting, EpochsRise}
-use Rattle.oz_cache.proofs.Batches.{few, rise-append, epoch_after-append, changes_of-append}
+use Rattle.oz_cache.proofs.Batches.{few, rise-append, epoch_after-append, batched_changes-append}
 use Rattle.oz_cache.proofs.pending.Pending.push.Goals as goal
 
 pub unwrap-requires : goal.unwrap-requires
@@ -22,7 +22,7 @@ invariant_of-self c =
     let items : c.append.new.self ≡ batches ++ c.args.batch = rw c.unwrap.ensures at c.append.ensures.items in
     rw items (record {
       epochs = rise-append before batches c.args.batch c.self.invariant.epochs back;
-      counted = omega (arith, c.self.invariant.counted, c.requires.changes, ap length (changes_of-append batches c.args.batch), length-append (changes_of batches) (changes_of c.args.batch));
+      counted = omega (arith, c.self.invariant.counted, c.requires.changes, ap length (batched_changes-append batches c.args.batch), length-append (batched_changes batches) (batched_changes c.args.batch));
       within = omega (arith, c.self.invariant.within, c.requires.room, spare);
       reserved = c.self.invariant.reserved;
     })

@@ -1,6 +1,6 @@
 use Rattle.std.proofs.Common.{◌≡◌, ◌≢◌, ◌++◌, ◌∷◌, [], length, refl, sym, ◌∙◌, ap, arith}
 use Rattle.std.proofs.lemmas.Bool.Decides.{nat_tests}
-use Rattle.oz_cache.specs.Cache.{Contents, later, newest, last_epoch}
+use Rattle.oz_cache.specs.Cache.{CacheView, later, newest, last_epoch}
 use Rattle.oz_requests.specs.declared.answer.Answer.TheVariants as told
 use Rattle.oz_rows.specs.declared.key.RowKey.{RowKey}
 use Rattle.oz_tables.specs.Tables.{row_after}
@@ -43,7 +43,7 @@ returns-in_default-clause-serves g c =
     let taken = c.note.ensures.items ∙ ap (λ s. s ++ swap_event c.in_ok-index.field-0.index ∷ []) c.record_decision-2.ensures.story
     ∙ (λ i. (((ap (λ (v : _). v.items) c.plan.ensures.story ∙ c.reserve.ensures.items) i ++ ask_event line.client line.number (c.in_ok-request.ensures i) ∷ []) ++ decide_event line.client line.number (c.in_ok-request.ensures i) (index i) reply (batch i) ∷ []) ++ swap_event (index i) ∷ []) in
     let story = c.tell-in_default.ensures.story ∙ ap (λ s. s ++ told_event line.client line.number told.Unacknowledged ∷ []) (c.in_default.ensures.halted ∙ ap (λ s. s ++ halt_event count ∷ []) taken) in
-    let rows : ((key : RowKey) → newest c.tell-in_default.new.self.rows key ≡ row_after changes key (newest self.rows key)) = λ key. ap (λ (r : Contents). newest r key) (c.tell-in_default.ensures.rows ∙ c.flush.ensures.rows) ∙ c.enter.ensures.newest key ∙ (λ i. row_after (entered i) key ((ap (λ (r : Contents). newest r key) c.record_decision-2.ensures.rows ∙ c.plan.ensures.rows key) i)) in
+    let rows : ((key : RowKey) → newest c.tell-in_default.new.self.rows key ≡ row_after changes key (newest self.rows key)) = λ key. ap (λ (r : CacheView). newest r key) (c.tell-in_default.ensures.rows ∙ c.flush.ensures.rows) ∙ c.enter.ensures.newest key ∙ (λ i. row_after (entered i) key ((ap (λ (r : CacheView). newest r key) c.record_decision-2.ensures.rows ∙ c.plan.ensures.rows key) i)) in
     let last = ap last_epoch (c.tell-in_default.ensures.rows ∙ c.flush.ensures.rows) ∙ c.enter.ensures.last ∙ index in
     did_end g.D.Disk.told g.D.Disk.clock g.D.Disk.image g.D.Disk.faults line (newest self.rows) (newest c.tell-in_default.new.self.rows) self.story.items c.tell-in_default.new.self.story.items (last_epoch self.rows) (last_epoch c.tell-in_default.new.self.rows) self.journal c.flush.new.self.journal c.tell-in_default.new.self.journal c.tell-in_default.ensures.journal
     (did_halt g.D.Disk.told g.D.Disk.clock g.D.Disk.image g.D.Disk.faults line self.rows c.tell-in_default.new.self.rows self.story.items c.tell-in_default.new.self.story.items self.journal before c.flush.new.self.journal
@@ -69,7 +69,7 @@ returns-clause-serves g c =
     let taken = c.note.ensures.items ∙ ap (λ s. s ++ swap_event c.in_ok-index.field-0.index ∷ []) c.record_decision-2.ensures.story
     ∙ (λ i. (((ap (λ (v : _). v.items) c.plan.ensures.story ∙ c.reserve.ensures.items) i ++ ask_event line.client line.number (c.in_ok-request.ensures i) ∷ []) ++ decide_event line.client line.number (c.in_ok-request.ensures i) (index i) reply (batch i) ∷ []) ++ swap_event (index i) ∷ []) in
     let story = c.tell-2.ensures.story ∙ (λ i. ((c.in-Ok.ensures.flushed ∙ (λ i. taken i ++ flushed_event (index i) clock ∷ [])) i) ++ told_event line.client line.number (answer i) ∷ []) in
-    let rows : ((key : RowKey) → newest c.tell-2.new.self.rows key ≡ row_after changes key (newest self.rows key)) = λ key. ap (λ (r : Contents). newest r key) c.tell-2.ensures.rows ∙ c.settle.ensures.rows key ∙ ap (λ (r : Contents). newest r key) c.flush.ensures.rows ∙ c.enter.ensures.newest key ∙ (λ i. row_after (entered i) key ((ap (λ (r : Contents). newest r key) c.record_decision-2.ensures.rows ∙ c.plan.ensures.rows key) i)) in
+    let rows : ((key : RowKey) → newest c.tell-2.new.self.rows key ≡ row_after changes key (newest self.rows key)) = λ key. ap (λ (r : CacheView). newest r key) c.tell-2.ensures.rows ∙ c.settle.ensures.rows key ∙ ap (λ (r : CacheView). newest r key) c.flush.ensures.rows ∙ c.enter.ensures.newest key ∙ (λ i. row_after (entered i) key ((ap (λ (r : CacheView). newest r key) c.record_decision-2.ensures.rows ∙ c.plan.ensures.rows key) i)) in
     let last = ap last_epoch c.tell-2.ensures.rows ∙ c.settle.ensures.index ∙ ap last_epoch c.flush.ensures.rows ∙ c.enter.ensures.last ∙ index in
     did_end g.D.Disk.told g.D.Disk.clock g.D.Disk.image g.D.Disk.faults line (newest self.rows) (newest c.tell-2.new.self.rows) self.story.items c.tell-2.new.self.story.items (last_epoch self.rows) (last_epoch c.tell-2.new.self.rows) self.journal c.flush.new.self.journal c.tell-2.new.self.journal c.tell-2.ensures.journal
     (did_make g.D.Disk.told g.D.Disk.clock g.D.Disk.image g.D.Disk.faults line self.rows c.tell-2.new.self.rows self.story.items c.tell-2.new.self.story.items self.journal before c.flush.new.self.journal
@@ -80,8 +80,8 @@ returns-clause-serves g c =
 pub returns-clause-settled : goal.returns-clause-settled
 returns-clause-settled g c settled running =
     let running_before = sym c.stopped.ensures.stopped ∙ c.if-stopped.false in
-    let none = ap (λ (r : Contents). r.entered) c.record_decision-2.ensures.rows ∙ c.plan.ensures.entered ∙ settled running_before in
-    ap (λ (r : Contents). r.entered) c.tell-2.ensures.rows ∙ c.settle.ensures.entered
-    ∙ ap (λ (r : Contents). later c.in_ok-index.field-0.index r.entered) c.flush.ensures.rows
+    let none = ap (λ (r : CacheView). r.entered) c.record_decision-2.ensures.rows ∙ c.plan.ensures.entered ∙ settled running_before in
+    ap (λ (r : CacheView). r.entered) c.tell-2.ensures.rows ∙ c.settle.ensures.entered
+    ∙ ap (λ (r : CacheView). later c.in_ok-index.field-0.index r.entered) c.flush.ensures.rows
     ∙ ap (later c.in_ok-index.field-0.index) c.enter.ensures.entered
     ∙ nothing_left _ _ _ none

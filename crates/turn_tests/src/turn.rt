@@ -8,7 +8,7 @@ ghost use Rattle.oz_turn.specs.Turn.{turn_id, seats_of};
 use oz_turn::{
     Ring, Seat, Told, Turn, new_seats_are_ready, ready_seats_may_close, seats_stay_ready,
 };
-use std::alloc::{AllocError, Global};
+use std::alloc::{AllocError as OutOfMemory, Global};
 use std::marker::{Brand, Model, PhantomData};
 use std::process::Abort;
 use std::sync::{Barrier, Mutex, Wait};
@@ -44,7 +44,7 @@ impl Told for Notes {
         self.list.as_slice()
     }
 
-    fn copy(_alloc: Global, entry: &Note) -> Result<Note, AllocError> {
+    fn copy(_alloc: Global, entry: &Note) -> Result<Note, OutOfMemory> {
         Ok(*entry)
     }
 }
@@ -113,7 +113,7 @@ fn look_at<R: Wait>(
     seats: &mut Vec<Seat<Notes>>,
     n: usize,
     first: u64,
-) -> Result<Vec<Note>, AllocError>
+) -> Result<Vec<Note>, OutOfMemory>
     requires within { n < vec_len seats.old }
     requires ready { AreReady (turn_id turn.now) seats.old.items }
     ensures count { vec_len seats.new ≡ vec_len seats.old }
@@ -137,7 +137,7 @@ fn push_next(
     turn: &Turn<Notes>,
     seats: &mut Vec<Seat<Notes>>,
     seat: Seat<Notes>,
-) -> Result<(), AllocError>
+) -> Result<(), OutOfMemory>
     requires seats { AreReady (turn_id turn.now) seats.old.items }
     requires seat { IsReady (turn_id turn.now) (vec_len seats.old) seat }
     ensures seats { OnOk result (AreReady (turn_id turn.now) seats.new.items) }

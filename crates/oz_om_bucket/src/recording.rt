@@ -30,7 +30,11 @@ pub(crate) fn recorded(
         Request::CreateVolume { volume } => {
             row_put(alloc, reply, RowKey::of_volume(alloc, volume)?, Row::Volume)
         }
-        Request::DeleteVolume { volume } => row_gone(alloc, reply, RowKey::of_volume(alloc, volume)?),
+        Request::DeleteVolume { volume } => row_gone(
+            alloc,
+            reply,
+            RowKey::of_volume(alloc, volume)?,
+        ),
         Request::CreateBucket { volume, bucket } => row_put(
             alloc,
             reply,

@@ -4,4 +4,7 @@ use Rattle.oz_journal.specs.Grammar.{IsJournal}
 
 -- the bytes stand for these bodies, for these and the first, or for these and both
 abbrev pub IsNoneOneOrBoth : List (List ℕ) → List ℕ → List ℕ → List ℕ → Type 0
-IsNoneOneOrBoth bodies first second left = IsJournal left bodies ⊎ IsJournal left (bodies ++ first ∷ []) ⊎ IsJournal left (bodies ++ first ∷ [] ++ second ∷ [])
+IsNoneOneOrBoth bodies first second left =
+    IsJournal left bodies
+    ⊎ IsJournal left (bodies ++ first ∷ [])
+    ⊎ IsJournal left (bodies ++ first ∷ [] ++ second ∷ [])

@@ -1,13 +1,16 @@
 //! What a journal loads, what it adds, and what a stop leaves of it.
 
-ghost use Rattle.std.specs.Prelude.{◌≡◌, ◌≤◌, ◌++◌, [], ◌∷◌, List, ℕ, length, false, IfOk, OnOk};
+ghost use Rattle.std.specs.Prelude.{◌≡◌, ◌≤◌, ◌<◌, ◌^◌, ◌++◌, [], ◌∷◌, List, ℕ, length, false, IfOk, OnOk};
+ghost use Rattle.oz_world.specs.Disk.{seen};
+ghost use Rattle.oz_journal.specs.Appends.{Appends};
 ghost use Rattle.oz_journal.specs.Grammar.{IsJournal, TellsBodies};
 ghost use Rattle.oz_journal.specs.Journal.{body_of};
 ghost use Rattle.oz_world.specs.Moments.{LeavesOnly};
 ghost use Rattle.journal_tests.specs.Both.{IsNoneOneOrBoth};
 
-use oz_journal::Journal;
-use oz_world::{Disk, Failed};
+use oz_journal::{Frame, Journal};
+use oz_world::{Disk, Failed, OutOfMemory};
+use std::alloc::Global;
 
 /// Adds two bodies. No stop leaves the second without the first.
 pub fn append_both<D: Disk>(
@@ -33,6 +36,27 @@ pub fn append_both<D: Disk>(
     journal.append(first)?;
     let moment = journal.append(second)?;
     Ok(moment)
+}
+
+/// Puts a body together and adds it. What the journal promises of its disk is handed on whole.
+pub fn add_body<D: Disk>(
+    alloc: Global,
+    journal: &mut Journal<D>,
+    body: &[u8],
+) -> Result<Result<u64, Failed>, OutOfMemory>
+    requires running { journal.old.stopped ≡ false }
+    requires most { length body.now < 2 ^ 32 }
+    ensures appended { IfOk result (λ answer. Appends body.now
+        (seen (D.told journal.old.disk) (D.clock journal.old.disk) (D.image journal.old.disk)
+        (D.faults journal.old.disk))
+        (seen (D.told journal.new.disk) (D.clock journal.new.disk) (D.image journal.new.disk)
+        (D.faults journal.new.disk))
+        answer) }
+{
+    let mut frame = Frame::new(alloc)?;
+    frame.put(body)?;
+    let mut framed = frame.framed()?;
+    Ok(journal.append(&mut framed))
 }
 
 #[cfg(test)]

@@ -2,7 +2,8 @@
 
 ghost use Rattle.std.specs.Prelude.{◌≡◌, false, IfOk};
 
-use oz_journal::{Frame, Journal};
+use crate::journal::add_body;
+use oz_journal::Journal;
 use oz_world::MemoryDisk;
 use std::alloc::{AllocError, Global};
 use std::process::Abort;
@@ -48,21 +49,13 @@ fn opened(
     }
 }
 
-/// A long body as a journal takes it.
-fn long(alloc: Global) -> Result<Vec<u8>, AllocError> {
-    let mut frame = Frame::new(alloc)?;
-    frame.put(&vec![in alloc; 7; LONG]?)?;
-    frame.framed()
-}
-
 #[test]
 fn many_bodies_and_a_long_one_are_loaded(rt: HostRuntime) -> Result<(), Fail> {
     let alloc = rt.alloc();
     let (mut journal, lengths) = opened(&rt, alloc, many(alloc)?)?;
     holds(&rt, lengths.len() == BODIES, "many bodies");
-    let mut framed = long(alloc)?;
-    assert!(rt; framed.len() == LONG + 5);
-    holds(&rt, journal.append(&mut framed).is_ok(), "added");
+    let long = vec![in alloc; 7; LONG]?;
+    holds(&rt, add_body(alloc, &mut journal, &long)?.is_ok(), "added");
     let (_, lengths) = opened(&rt, alloc, journal.into_disk())?;
     holds(&rt, lengths.len() == BODIES + 1, "one more");
     holds(&rt, lengths.last() == Some(&LONG), "whole");

@@ -35,7 +35,8 @@ TellsBodies (Some bytes) bodies = IsJournal bytes bodies
 
 -- what follows an open gate, where its length passes the end or the body behind that does
 abbrev pub IsCutOff : List ℕ → Type 0
-IsCutOff behind = (length behind < 4) ⊎ ((size : ℕ) × (rest : List ℕ) × (u32_at behind ≡ Some (size, rest)) × (length rest < size))
+IsCutOff behind =
+    (length behind < 4) ⊎ ((size : ℕ) × (rest : List ℕ) × (u32_at behind ≡ Some (size, rest)) × (length rest < size))
 
 -- records with no gate behind them: the place is the end
 pub record LacksItsGate (bytes : List ℕ) (offset : ℕ) : Type 0 where
@@ -64,4 +65,5 @@ places at (body ∷ bodies) = (at + 5) ∷ places (at + 5 + length body) bodies
 
 -- a journal of these bodies with one more behind them, over what stood there
 abbrev pub with_body : List (List ℕ) → List ℕ → List ℕ → List ℕ
-with_body bodies body bytes = records (bodies ++ body ∷ []) ++ 0 ∷ drop (length (records (bodies ++ body ∷ [])) + 1) bytes
+with_body bodies body bytes =
+    records (bodies ++ body ∷ []) ++ 0 ∷ drop (length (records (bodies ++ body ∷ [])) + 1) bytes

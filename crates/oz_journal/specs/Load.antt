@@ -18,7 +18,7 @@ abbrev pub disk_after : {D : Type 0} → Result (State D × Vec Body Global) (D 
 disk_after (Ok loaded) = loaded.0.disk
 disk_after (Err refused) = refused.0
 
--- The moment at which loading ends, by that at which it begins and the disk's bytes: at most one byte is written over and
--- synced, which takes two moments, and more are synced, which takes one.
+-- The moment at which loading ends, by that at which it begins and the disk's bytes: at most one byte is written over
+-- and synced, which takes two moments, and more are synced, which takes one.
 abbrev pub loaded_at : ℕ → List ℕ → ℕ
 loaded_at clock bytes = clock + (if nat_le (length bytes) 1 then 2 else 1)

@@ -7,7 +7,8 @@ use oz_fields::OutOfMemory;
 use std::alloc::Global;
 use std::marker::Model;
 
-/// A body that is being put together, with room before it for its length.
+/// A body that is being put together, with room before it for its length. In contracts it is the bytes
+/// that it has so far.
 #[derive(Drop)]
 pub struct Frame {
     bytes: Vec<u8>,
@@ -32,7 +33,7 @@ impl Frame {
         Ok(Frame { bytes })
     }
 
-    /// Adds bytes at the body's end.
+    /// Adds bytes at the body's end. Without memory the body stays as it was.
     pub fn put(&mut self, bytes: &[u8]) -> Result<(), OutOfMemory>
         ensures ok { OnOk result (self.new ≡ self.old ++ bytes.now) }
         ensures err { OnErr result (self.new ≡ self.old) }

@@ -13,7 +13,8 @@ done Sync bytes = bytes
 
 -- what a stop may leave after a change, by what a read gave and what a stop might have left before it
 abbrev pub MayLeave : Change → List ℕ → (List ℕ → Type 0) → List ℕ → Type 0
-MayLeave (Write pos others) bytes might after = (before : List ℕ) × might before × Torn pos (length others.items) before after
+MayLeave (Write pos others) bytes might after =
+    (before : List ℕ) × might before × Torn pos (length others.items) before after
 MayLeave (Cut size) bytes might after = (before : List ℕ) × might before × CutShort size before after
 MayLeave Sync bytes might after = after ≡ bytes
 

@@ -32,14 +32,16 @@ ticks_span step a b i j ticks = record {
 }
 
 -- one call that lets a moment pass, or none where the clock stands
-pub call_spans : {X Y : Type 0} (step : Step) (a b : ℕ) (i j : Images) → (a < last_moment → Ticks step a b i j) → (last_moment ≤ a → X × Y × Stands a b i j) → Spans step a b i j
+pub call_spans : {X Y : Type 0} (step : Step) (a b : ℕ) (i j : Images) → (a < last_moment → Ticks step a b i j)
+    → (last_moment ≤ a → X × Y × Stands a b i j) → Spans step a b i j
 call_spans step a b i j time no_time = elim (cases_lt a last_moment) [
   | inl before ↦ ticks_span step a b i j (time before)
   | inr last ↦ stands_span step a b i j (no_time last).2
 ]
 
 -- an image of the moment where a stretch ends
-at_end : (step : Step) (a b : ℕ) (i j : Images) → Spans step a b i j → (left : List ℕ) → j b left → i a left ⊎ ((bytes : List ℕ) × i a bytes × step bytes left)
+at_end : (step : Step) (a b : ℕ) (i j : Images) → Spans step a b i j → (left : List ℕ) → j b left
+    → i a left ⊎ ((bytes : List ℕ) × i a bytes × step bytes left)
 at_end step a b i j spans left h = elim (cases_lt a b) [
   | inl later ↦ inr (spans.made b left later (omega arith) h)
   | inr none ↦
@@ -48,7 +50,8 @@ at_end step a b i j spans left h = elim (cases_lt a b) [
 ]
 
 -- two stretches whose steps come to one
-pub spans_then : (one two both : Step) (a b c : ℕ) (i j k : Images) → ((x y : List ℕ) → one x y → both x y) → ((x y : List ℕ) → two x y → both x y) → ((x y z : List ℕ) → one x y → two y z → both x z)
+pub spans_then : (one two both : Step) (a b c : ℕ) (i j k : Images) → ((x y : List ℕ) → one x y → both x y)
+    → ((x y : List ℕ) → two x y → both x y) → ((x y z : List ℕ) → one x y → two y z → both x z)
     → Spans one a b i j → Spans two b c j k → Spans both a c i k
 spans_then one two both a b c i j k from_one from_two from_both first second = record {
   elapses = elapses_then a b c i j k first.elapses second.elapses;
@@ -69,12 +72,14 @@ spans_then one two both a b c i j k from_one from_two from_both first second = r
         ]
 
 -- a stretch in which nothing changes, after one whose step may be none
-pub spans_still : (step : Step) (a b c : ℕ) (i j k : Images) → ((x : List ℕ) → step x x) → Spans step a b i j → Spans Same b c j k → Spans step a c i k
+pub spans_still : (step : Step) (a b c : ℕ) (i j k : Images) → ((x : List ℕ) → step x x) → Spans step a b i j
+    → Spans Same b c j k → Spans step a c i k
 spans_still step a b c i j k none first second =
     spans_then step Same step a b c i j k (λ x y h. h) (λ x y same. subst (λ (l : List ℕ). step x l) (sym same) (none x)) (λ x y z h same. subst (λ (l : List ℕ). step x l) (sym same) h) first second
 
 -- the images of a stretch that begins stable
-pub spans_leave : (step : Step) (a b : ℕ) (i j : Images) (bytes : List ℕ) → IsStable i a bytes → step bytes bytes → Spans step a b i j → LeavesOnly (step bytes) a b j
+pub spans_leave : (step : Step) (a b : ℕ) (i j : Images) (bytes : List ℕ) → IsStable i a bytes → step bytes bytes
+    → Spans step a b i j → LeavesOnly (step bytes) a b j
 spans_leave step a b i j bytes stable none spans t left from by h = elim (cases_lt a t) [
   | inl later ↦
       let found = spans.made t left later by h in
@@ -86,14 +91,18 @@ spans_leave step a b i j bytes stable none spans t left from by h = elim (cases_
 ]
 
 -- the images of two stretches, one after the other
-pub leave_then : (P Q R : List ℕ → Type 0) (a b c : ℕ) (j k : Images) → ((left : List ℕ) → P left → R left) → ((left : List ℕ) → Q left → R left) → Elapses b c j k → LeavesOnly P a b j → LeavesOnly Q b c k → LeavesOnly R a c k
+pub leave_then : (P Q R : List ℕ → Type 0) (a b c : ℕ) (j k : Images) → ((left : List ℕ) → P left → R left)
+    → ((left : List ℕ) → Q left → R left) → Elapses b c j k → LeavesOnly P a b j → LeavesOnly Q b c k
+    → LeavesOnly R a c k
 leave_then P Q R a b c j k from_first from_second elapses first second t left from by h = elim (cases_lt b t) [
   | inl later ↦ from_second left (second t left (omega (arith, later)) by h)
   | inr sooner ↦ from_first left (first t left from sooner ((elapses.kept t left sooner).0 h))
 ]
 
 -- a call that succeeded took a moment
-pub took_a_moment : {T E : Type 0} (result : Result T E) (value : T) (step : List ℕ → List ℕ → Type 0) (before now : ℕ) (old new : Images) → result ≡ Ok value → (before < last_moment → Ticks step before now old new) → (last_moment ≤ before → IsErr result) → now ≡ before + 1
+pub took_a_moment : {T E : Type 0} (result : Result T E) (value : T) (step : List ℕ → List ℕ → Type 0) (before now : ℕ) (old new : Images)
+    → result ≡ Ok value → (before < last_moment → Ticks step before now old new)
+    → (last_moment ≤ before → IsErr result) → now ≡ before + 1
 took_a_moment result value step before now old new is ticks ended = elim (cases_lt before last_moment) [
   | inl lt ↦ (ticks lt).later
   | inr ge ↦ absurd (false≢true (sym (ap is_err is) ∙ ended ge))

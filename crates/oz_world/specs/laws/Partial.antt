@@ -49,7 +49,8 @@ torn_whole pos others bytes =
     }
 
 -- a part of it was done
-torn_wider : (pos count more : ℕ) (before after : List ℕ) → count ≤ more → Torn pos count before after → Torn pos more before after
+torn_wider : (pos count more : ℕ) (before after : List ℕ) → count ≤ more → Torn pos count before after
+    → Torn pos more before after
 torn_wider pos count more before after le torn = record {
   front = torn.front;
   back =
@@ -60,7 +61,8 @@ torn_wider pos count more before after le torn = record {
   no_longer = omega (arith, torn.no_longer);
 }
 
-pub torn_half : (pos count : ℕ) (others bytes : List ℕ) → length others ≤ count → Torn pos count bytes (overwritten pos others (padded pos bytes))
+pub torn_half : (pos count : ℕ) (others bytes : List ℕ) → length others ≤ count
+    → Torn pos count bytes (overwritten pos others (padded pos bytes))
 torn_half pos count others bytes le = elim (cases_lt (length bytes) pos) [
   | inl past ↦
       let zeros : length (replicate {A = ℕ} (pos - length bytes) 0) ≡ pos - length bytes = length-replicate {A = ℕ} (pos - length bytes) 0 in
@@ -94,7 +96,8 @@ cut_whole size bytes =
     }
 
 -- the same prefix, and a stretch within it
-range_within : (from to least : ℕ) (before after : List ℕ) → to ≤ least → take least after ≡ take least before → slice_range after from to ≡ slice_range before from to
+range_within : (from to least : ℕ) (before after : List ℕ) → to ≤ least → take least after ≡ take least before
+    → slice_range after from to ≡ slice_range before from to
 range_within from to least before after le same = elim (cases_lt to from) [
   | inl none ↦
       let count : to - from ≡ 0 = omega arith in
@@ -106,7 +109,8 @@ range_within from to least before after le same = elim (cases_lt to from) [
 ]
 
 -- the same rest, and a stretch within it
-range_past : (from to least : ℕ) (before after : List ℕ) → least ≤ from → drop least after ≡ drop least before → slice_range after from to ≡ slice_range before from to
+range_past : (from to least : ℕ) (before after : List ℕ) → least ≤ from → drop least after ≡ drop least before
+    → slice_range after from to ≡ slice_range before from to
 range_past from to least before after le same =
     let skip : from ≡ least + (from - least) = omega arith in
     let rest : drop from after ≡ drop from before =
@@ -115,15 +119,18 @@ range_past from to least before after le same =
     ap (λ (l : List ℕ). take (to - from) l) rest
 
 -- what stands before a write that was done in part stays
-pub torn_keeps_before : (pos count from to : ℕ) (before after : List ℕ) → Torn pos count before after → to ≤ pos → to ≤ length before → slice_range after from to ≡ slice_range before from to
+pub torn_keeps_before : (pos count from to : ℕ) (before after : List ℕ) → Torn pos count before after → to ≤ pos
+    → to ≤ length before → slice_range after from to ≡ slice_range before from to
 torn_keeps_before pos count from to before after torn le within =
     range_within from to (min pos (length before)) before after (omega arith) (torn.front ∙ sym (min_front pos before))
 
 -- and so does what stands past it
-pub torn_keeps_past : (pos count from to : ℕ) (before after : List ℕ) → Torn pos count before after → pos + count ≤ from → slice_range after from to ≡ slice_range before from to
+pub torn_keeps_past : (pos count from to : ℕ) (before after : List ℕ) → Torn pos count before after
+    → pos + count ≤ from → slice_range after from to ≡ slice_range before from to
 torn_keeps_past pos count from to before after torn le = range_past from to (pos + count) before after le torn.back
 
 -- what stands before a cut that was done in part stays
-pub cut_keeps : (size from to : ℕ) (before after : List ℕ) → CutShort size before after → to ≤ size → to ≤ length before → slice_range after from to ≡ slice_range before from to
+pub cut_keeps : (size from to : ℕ) (before after : List ℕ) → CutShort size before after → to ≤ size
+    → to ≤ length before → slice_range after from to ≡ slice_range before from to
 cut_keeps size from to before after short le within =
     range_within from to (min size (length before)) before after (omega arith) (short.front ∙ sym (min_front size before))

@@ -25,7 +25,8 @@ pub struct DelLog {
 
 impl Model for DelLog {
     ghost use Rattle.std.specs.FinMap.{from_entries};
-    ghost use Rattle.oz_dellog.specs.Log.{Log, coded_log};
+    ghost use Rattle.oz_dellog.specs.Codes.{coded_log};
+    ghost use Rattle.oz_dellog.specs.Log.{Log};
     ghost use Rattle.oz_dellog.specs.Index.{IsSound};
 
     ghost Value = { Log };

@@ -1,4 +1,5 @@
 -- How the log keeps its transactions: in a map by their numbers, and in an index the numbers container by container.
+-- Only private calls speak of it.
 use Rattle.std.specs.Prelude.{◌≡◌, ℕ, ◌≤◌, ◌==◌, List, [], ◌∷◌, ◌++◌, if◌then◌else◌, filter, not, Option, Contains, IsSomeAnd}
 use Rattle.std.specs.Global.{Vec}
 use Rattle.std.specs.List.{AllByRecursion}

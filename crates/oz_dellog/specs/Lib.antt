@@ -1,3 +1,4 @@
 pub mod Logged
 pub mod Log
+pub mod Codes
 pub mod Index

@@ -15,15 +15,18 @@ new_logged container locals = record { container = container; locals = locals; a
 abbrev pub is_acknowledged_by : Logged → ℕ → Bool
 is_acknowledged_by logged dn = slice_index_or logged.acknowledged dn false
 
+-- how many datanodes acknowledged it
 abbrev pub acknowledgement_count : Logged → ℕ
 acknowledgement_count logged = count_by (λ flag. flag) logged.acknowledged
 
+-- the datanode acknowledged it
 abbrev pub with_acknowledgement : Logged → ℕ → Logged
 with_acknowledgement logged dn = record { container = logged.container; locals = logged.locals; acknowledged = slice_set logged.acknowledged dn true }
 
+-- what stands under a number, as a datanode is told it
 abbrev pub txn_of : ℕ → Logged → Txn
 txn_of number logged = record { number = number; container = logged.container; locals = logged.locals }
 
--- what a datanode is told of it, nothing where that one acknowledged it
+-- the same, nothing where the datanode acknowledged it
 abbrev pub pending_txn : ℕ → Logged → ℕ → Option Txn
 pending_txn number logged dn = if is_acknowledged_by logged dn then None else Some (txn_of number logged)

@@ -25,7 +25,8 @@ pub struct DelLog {
 
 impl Model for DelLog {
     ghost use Rattle.std.specs.FinMap.{from_entries};
-    ghost use Rattle.oz_dellog.specs.Log.{Log, coded_log};
+    ghost use Rattle.oz_dellog.specs.Codes.{coded_log};
+    ghost use Rattle.oz_dellog.specs.Log.{Log};
     ghost use Rattle.oz_dellog.specs.Index.{IsSound};
 
     ghost Value = { Log };
@@ -112,12 +113,8 @@ impl DelLog {
     pub fn pending(&self, alloc: Global, container: u64, dn: u8) -> Result<Vec<Txn>, OutOfMemory>
         ensures { IfOk result (λ txns. txns.items ≡ pending self.now container dn) }
     {
-        pending_txns(
-            alloc,
-            &self.unretired,
-            numbers_of(&self.index, container),
-            dn,
-        )
+        let numbers = numbers_of(&self.index, container);
+        pending_txns(alloc, &self.unretired, numbers, dn)
     }
 
     /// Notes that a datanode acknowledged a transaction. It takes no memory.
@@ -152,11 +149,8 @@ impl DelLog {
     pub fn logged(&self, block: Block) -> bool
         ensures { IsTrue result ↔ IsLogged self.now block }
     {
-        any_names(
-            &self.unretired,
-            numbers_of(&self.index, block.container),
-            block.local,
-        )
+        let numbers = numbers_of(&self.index, block.container);
+        any_names(&self.unretired, numbers, block.local)
     }
 }
 

@@ -16,8 +16,8 @@ use Rattle.oz_tables.specs.Batches.{after_changes}
 use Rattle.oz_tables.specs.Tables.{Rows}
 use Rattle.oz_cluster.specs.declared.events.Event.{Event}
 use Rattle.oz_cluster.specs.Fits.{request_of, answer_of}
-use Rattle.oz_cluster.specs.Refusals.{IsUntouched}
-use Rattle.oz_cluster.specs.Rows.{body_bytes}
+use Rattle.oz_cluster.specs.Stopped.{IsUntouched}
+use Rattle.oz_cluster.specs.Body.{body_bytes}
 use Rattle.oz_cluster.specs.Serves.{MeetsAll, decided, taken, Writes, Serves}
 use Rattle.oz_cluster.specs.Steps.{flushed_event, halt_event, told_event}
 

@@ -8,8 +8,8 @@ use Rattle.oz_world.specs.Moments.{Elapses, Spans}
 use Rattle.oz_cluster.specs.declared.events.Event.{Event}
 use Rattle.oz_cluster.specs.declared.opening.OpenFault.{OpenFault}
 use Rattle.oz_cluster.specs.declared.opening.OpenFault.TheVariants as fault
-use Rattle.oz_cluster.specs.declared.refusal.Refusal.{Refusal}
-use Rattle.oz_cluster.specs.declared.refusal.Refusal.TheVariants.{Words, Read, Script, Disk, Damaged, OutOfMemory}
+use Rattle.oz_cluster.specs.declared.stop.Stop.{Stop}
+use Rattle.oz_cluster.specs.declared.stop.Stop.TheVariants.{Words, Read, Script, Disk, Damaged, OutOfMemory}
 use Rattle.oz_script.specs.declared.grammar.Cause.{Cause}
 use Rattle.oz_script.specs.declared.grammar.Script.{Script as Lines}
 use Rattle.oz_script.specs.declared.grammar.ScriptFault.TheVariants.{At}
@@ -27,21 +27,22 @@ use Rattle.oz_tables.specs.Sound.{IsSound}
 use Rattle.oz_tables.specs.StandsFor.{StandsFor}
 use Rattle.oz_tables.specs.Tables.{Rows, row_of}
 use Rattle.oz_cluster.specs.Fits.{AllAreTold}
-use Rattle.oz_cluster.specs.declared.events.Node.TheVariants.{Manager}
-use Rattle.oz_cluster.specs.Headline.{IsPrinted, LoadingKeeps, Headline, IsOneRun, RunEnds}
-use Rattle.oz_cluster.specs.OpenFaults.{as_refusal}
+use Rattle.oz_cluster.specs.declared.events.Node.{Node}
+use Rattle.oz_cluster.specs.declared.events.Node.TheVariants.{Manager, Scm, Datanode}
+use Rattle.oz_cluster.specs.Headline.{IsPrinted, LoadingKeeps, HaltIsNamed, HaltsAreNamed, Headline, IsOneRun, RunEnds}
+use Rattle.oz_cluster.specs.OpenFaults.{as_stop}
 use Rattle.oz_cluster.specs.Opens.{Loads, IsCoherent, IsDamagedDisk, Keeps, StandsAs}
 use Rattle.oz_cluster.specs.Quiet.{IsServed, IsRight, IsHeld, IsLoaded}
-use Rattle.oz_cluster.specs.Refusals.{status_of, text_of, IsScript, IsScriptOf, IsSo, Says, IsUntouched, IsLeft, Spares, IsStopped}
+use Rattle.oz_cluster.specs.Stopped.{status_of, text_of, IsScript, IsScriptOf, IsSo, Reads, Says, IsUntouched, IsAtMostLoaded, Spares, IsStopped}
 use Rattle.oz_cluster.specs.Report.{report_of}
 use Rattle.oz_script.specs.Script.{script_of, IsNumbered}
 use Rattle.oz_cluster.specs.StatusCauses.{HasBegun, IsFaultOf, StatusCauses}
 use Rattle.oz_cluster.specs.Statuses.{status_number}
 use Rattle.oz_cluster.specs.Stops.{StopsHold}
 use Rattle.oz_cluster.specs.Story.{Opening, namespace_of, last_index, halt_of}
-use Rattle.oz_cluster.specs.Streams.{script_limit}
+use Rattle.oz_cluster.specs.Streams.{script_limit, TakesUpTo, IsReadThrough}
 use Rattle.oz_cluster.specs.Words.{IsRun}
-use Rattle.oz_cluster.proofs.Exact.{run_has_no_fault, loads_or_damaged}
+use Rattle.oz_cluster.proofs.Exact.{run_has_no_fault}
 use Rattle.oz_cluster.proofs.Held.{coherent as coherent_rows}
 use Rattle.oz_cluster.proofs.Headlines.{replies, asks, acknowledges}
 use Rattle.oz_cluster.proofs.Runs.{fits_so_far, tells_all}
@@ -54,7 +55,7 @@ if_all (Some bytes) P h = h bytes refl
 untouched : (disk : Seen) → IsUntouched disk disk
 untouched disk = record { contents = refl; time = record { moment = refl; images = λ t left. (λ h. h, λ h. h) }; faults = refl }
 
-left_as_is : (disk : Seen) → IsLeft disk disk
+left_as_is : (disk : Seen) → IsAtMostLoaded disk disk
 left_as_is disk = record {
   contents = if_all disk.told (λ bytes. 2 ≤ length bytes → disk.told ≡ Some bytes) (λ bytes is long. is);
   images = if_all disk.told (λ bytes. IsLoadable bytes (disk.image disk.clock) → Spans IsLeftAlone disk.clock disk.clock disk.image disk.image) (λ bytes is loadable. record {
@@ -63,7 +64,7 @@ left_as_is disk = record {
   });
 }
 
-spared_early : (refusal : Refusal) (words : List (List ℕ)) (left : Option (List ℕ)) (source_rose : Type 0) (disk : Seen) → IsSo words left disk.told source_rose ⊥ refusal → Spares refusal disk disk
+spared_early : (stop : Stop) (words : List (List ℕ)) (left : Option (List ℕ)) (source_rose : Type 0) (disk : Seen) → IsSo words left disk.told source_rose ⊥ stop → Spares stop disk disk
 spared_early (Script line cause) words left source_rose disk so = untouched disk
 spared_early (Words place) words left source_rose disk so = untouched disk
 spared_early Read words left source_rose disk so = untouched disk
@@ -72,12 +73,12 @@ spared_early (Damaged offset) words left source_rose disk so = left_as_is disk
 spared_early OutOfMemory words left source_rose disk so = left_as_is disk
 
 -- what is left of a disk that loading asked for
-spared_late : (refusal : Refusal) (fault : OpenFault) (before after : Seen) → refusal ≡ as_refusal fault → IsLeft before after → Spares refusal before after
-spared_late refusal fault.Disk before after is left = subst (λ (r : Refusal). Spares r before after) (sym is) left
-spared_late refusal (fault.Damaged offset) before after is left = subst (λ (r : Refusal). Spares r before after) (sym is) left
-spared_late refusal fault.OutOfMemory before after is left = subst (λ (r : Refusal). Spares r before after) (sym is) left
+spared_late : (stop : Stop) (fault : OpenFault) (before after : Seen) → stop ≡ as_stop fault → IsAtMostLoaded before after → Spares stop before after
+spared_late stop fault.Disk before after is left = subst (λ (r : Stop). Spares r before after) (sym is) left
+spared_late stop (fault.Damaged offset) before after is left = subst (λ (r : Stop). Spares r before after) (sym is) left
+spared_late stop fault.OutOfMemory before after is left = subst (λ (r : Stop). Spares r before after) (sym is) left
 
-so_early : (words : List (List ℕ)) (left told : Option (List ℕ)) (source_rose disk_rose : Type 0) (refusal : Refusal) → IsSo words left told source_rose ⊥ refusal → IsSo words left told source_rose disk_rose refusal
+so_early : (words : List (List ℕ)) (left told : Option (List ℕ)) (source_rose disk_rose : Type 0) (stop : Stop) → IsSo words left told source_rose ⊥ stop → IsSo words left told source_rose disk_rose stop
 so_early words left told source_rose disk_rose (Script line cause) so = so
 so_early words left told source_rose disk_rose (Words place) so = so
 so_early words left told source_rose disk_rose Read so = so
@@ -85,28 +86,29 @@ so_early words left told source_rose disk_rose Disk so = absurd so.2
 so_early words left told source_rose disk_rose (Damaged offset) so = so
 so_early words left told source_rose disk_rose OutOfMemory so = tt
 
-module _ (words : List (List ℕ)) (left : Option (List ℕ)) (source_rose : Type 0) (before after : Option (List ℕ)) (sink_rose : Type 0) (story : List Event) (refusal why : Refusal) (status : Status) (which : (why ≡ refusal) ⊎ (why ≡ OutOfMemory)) (is : status ≡ status_of why) (said : Says (text_of why) before after sink_rose) (untold : story ≡ []) where
+module _ (words : List (List ℕ)) (left left_after : Option (List ℕ)) (source_rose : Type 0) (before after : Option (List ℕ)) (sink_rose : Type 0) (story : List Event) (stop why : Stop) (status : Status) (which : (why ≡ stop) ⊎ (why ≡ OutOfMemory)) (is : status ≡ status_of why) (said : Says (text_of why) before after sink_rose) (untold : story ≡ []) (reads : Reads stop left left_after) (taken : TakesUpTo script_limit left left_after) where
   -- what stopped a run, or that there was no memory to say it
-  stopped : (disk_before disk_after : Seen) → IsSo words left disk_before.told source_rose (Rose disk_before.faults disk_after.faults) refusal → Spares refusal disk_before disk_after → IsLeft disk_before disk_after → IsStopped words left disk_before disk_after source_rose before after sink_rose story status
+  stopped : (disk_before disk_after : Seen) → IsSo words left disk_before.told source_rose (Rose disk_before.faults disk_after.faults) stop → Spares stop disk_before disk_after → IsAtMostLoaded disk_before disk_after → IsStopped words left left_after disk_before disk_after source_rose before after sink_rose story status
   stopped disk_before disk_after so spared left_so = record {
-    refusal = why;
+    stop = why;
     so = ⊎_elim (λ same. subst (IsSo words left disk_before.told source_rose (Rose disk_before.faults disk_after.faults)) (sym same) so) (λ none. subst (IsSo words left disk_before.told source_rose (Rose disk_before.faults disk_after.faults)) (sym none) tt) which;
     status_is = is;
     said = said;
     untold = untold;
-    spared = ⊎_elim (λ same. subst (λ (r : Refusal). Spares r disk_before disk_after) (sym same) spared) (λ none. subst (λ (r : Refusal). Spares r disk_before disk_after) (sym none) left_so) which;
+    reads = ⊎_elim (λ same. subst (λ (r : Stop). Reads r left left_after) (sym same) reads) (λ none. subst (λ (r : Stop). Reads r left left_after) (sym none) taken) which;
+    spared = ⊎_elim (λ same. subst (λ (r : Stop). Spares r disk_before disk_after) (sym same) spared) (λ none. subst (λ (r : Stop). Spares r disk_before disk_after) (sym none) left_so) which;
   }
 
   -- before the disk was asked
-  pub stopped_early : (disk : Seen) → IsSo words left disk.told source_rose ⊥ refusal → IsStopped words left disk disk source_rose before after sink_rose story status
-  stopped_early disk so = stopped disk disk (so_early words left disk.told source_rose (Rose disk.faults disk.faults) refusal so) (spared_early refusal words left source_rose disk so) (left_as_is disk)
+  pub stopped_early : (disk : Seen) → IsSo words left disk.told source_rose ⊥ stop → IsStopped words left left_after disk disk source_rose before after sink_rose story status
+  stopped_early disk so = stopped disk disk (so_early words left disk.told source_rose (Rose disk.faults disk.faults) stop so) (spared_early stop words left source_rose disk so) (left_as_is disk)
 
   -- while it was loaded
-  pub stopped_late : (disk_before disk_after : Seen) (fault : OpenFault) → refusal ≡ as_refusal fault → IsSo words left disk_before.told source_rose (Rose disk_before.faults disk_after.faults) (as_refusal fault) → IsLeft disk_before disk_after → IsStopped words left disk_before disk_after source_rose before after sink_rose story status
-  stopped_late disk_before disk_after fault same so left_so = stopped disk_before disk_after (subst (IsSo words left disk_before.told source_rose (Rose disk_before.faults disk_after.faults)) (sym same) so) (spared_late refusal fault disk_before disk_after same left_so) left_so
+  pub stopped_late : (disk_before disk_after : Seen) (fault : OpenFault) → stop ≡ as_stop fault → IsSo words left disk_before.told source_rose (Rose disk_before.faults disk_after.faults) (as_stop fault) → IsAtMostLoaded disk_before disk_after → IsStopped words left left_after disk_before disk_after source_rose before after sink_rose story status
+  stopped_late disk_before disk_after fault same so left_so = stopped disk_before disk_after (subst (IsSo words left disk_before.told source_rose (Rose disk_before.faults disk_after.faults)) (sym same) so) (spared_late stop fault disk_before disk_after same left_so) left_so
 
 -- a manager that wasn't opened
-pub open_so : (words : List (List ℕ)) (left told : Option (List ℕ)) (source_rose disk_rose : Type 0) (why : OpenFault) → IsRun words → IsScript left → ((offset : ℕ) → why ≡ fault.Damaged offset → IfSome told (λ bytes. IsDamagedDisk bytes offset)) → (why ≡ fault.Disk → disk_rose) → IsSo words left told source_rose disk_rose (as_refusal why)
+pub open_so : (words : List (List ℕ)) (left told : Option (List ℕ)) (source_rose disk_rose : Type 0) (why : OpenFault) → IsRun words → IsScript left → ((offset : ℕ) → why ≡ fault.Damaged offset → IfSome told (λ bytes. IsDamagedDisk bytes offset)) → (why ≡ fault.Disk → disk_rose) → IsSo words left told source_rose disk_rose (as_stop why)
 open_so words left told source_rose disk_rose fault.Disk run script damaged rose = (run, script, rose refl)
 open_so words left told source_rose disk_rose (fault.Damaged offset) run script damaged rose = (run, script, damaged offset refl)
 open_so words left told source_rose disk_rose fault.OutOfMemory run script damaged rose = tt
@@ -136,140 +138,160 @@ some_loads : (told : Option (List ℕ)) (all : List RowEntry) (index : ℕ) → 
 some_loads None all index loads = tt
 some_loads (Some bytes) all index loads = (all, index, loads)
 
-loads_and_damaged : (told : Option (List ℕ)) (all : List RowEntry) (index : ℕ) (bytes : List ℕ) (offset : ℕ) → told ≡ Some bytes → IfSome told (λ bytes. Loads bytes all index) → IsDamagedDisk bytes offset → ⊥
-loads_and_damaged None all index bytes offset is loads damaged = absurd (cc is)
-loads_and_damaged (Some other) all index bytes offset is loads damaged =
-    let same : other ≡ bytes = cc is in
-    loads_or_damaged bytes all index offset (subst (λ (b : List ℕ). Loads b all index) same loads) damaged
-
-module _ (words : List (List ℕ)) (left told : Option (List ℕ)) (source_rose sink_rose disk_rose : Type 0) (number : ℕ) where
-  -- something stopped the run before its work
-  stop_causes : (refusal : Refusal) → IsSo words left told source_rose disk_rose refusal → number ≡ status_number (status_of refusal) → StatusCauses words left told source_rose sink_rose disk_rose number
-  stop_causes (Script line cause) so n = record {
-    known = omega (arith, n);
-    done = λ is. absurd (omega (arith, n, is));
-    script = λ is. (so.0, some_fault left line cause so.1);
-    words_fault = λ is. absurd (omega (arith, n, is));
-    read = λ is. absurd (omega (arith, n, is));
-    unwritten = λ is. absurd (omega (arith, n, is));
-    disk_fault = λ is. absurd (omega (arith, n, is));
-    damaged = λ is. absurd (omega (arith, n, is));
-    wrong_words = λ place wrong. absurd (run_has_no_fault words place so.0 wrong);
-    wrong_script = λ run text where_it why is wrong. inl n;
-    wrong_disk = λ run text bytes offset is script there damaged. absurd (fault_and_script left text line cause is so.1 script);
-  }
-  stop_causes (Words place) so n = record {
-    known = omega (arith, n);
-    done = λ is. absurd (omega (arith, n, is));
-    script = λ is. absurd (omega (arith, n, is));
-    words_fault = λ is. (place, so);
-    read = λ is. absurd (omega (arith, n, is));
-    unwritten = λ is. absurd (omega (arith, n, is));
-    disk_fault = λ is. absurd (omega (arith, n, is));
-    damaged = λ is. absurd (omega (arith, n, is));
-    wrong_words = λ other wrong. inl n;
-    wrong_script = λ run text line cause is wrong. absurd (run_has_no_fault words place run so);
-    wrong_disk = λ run text bytes offset is script there damaged. absurd (run_has_no_fault words place run so);
-  }
-  stop_causes Read so n = record {
-    known = omega (arith, n);
-    done = λ is. absurd (omega (arith, n, is));
-    script = λ is. absurd (omega (arith, n, is));
-    words_fault = λ is. absurd (omega (arith, n, is));
-    read = λ is. so;
-    unwritten = λ is. absurd (omega (arith, n, is));
-    disk_fault = λ is. absurd (omega (arith, n, is));
-    damaged = λ is. absurd (omega (arith, n, is));
-    wrong_words = λ place wrong. absurd (run_has_no_fault words place so.0 wrong);
-    wrong_script = λ run text line cause is wrong. inr (inl n);
-    wrong_disk = λ run text bytes offset is script there damaged. inl n;
-  }
-  stop_causes Disk so n = record {
-    known = omega (arith, n);
-    done = λ is. absurd (omega (arith, n, is));
-    script = λ is. absurd (omega (arith, n, is));
-    words_fault = λ is. absurd (omega (arith, n, is));
-    read = λ is. absurd (omega (arith, n, is));
-    unwritten = λ is. absurd (omega (arith, n, is));
-    disk_fault = λ is. so;
-    damaged = λ is. absurd (omega (arith, n, is));
-    wrong_words = λ place wrong. absurd (run_has_no_fault words place so.0 wrong);
-    wrong_script = λ run text line cause is wrong. absurd (no_script_and_fault text line cause left is wrong so.1);
-    wrong_disk = λ run text bytes offset is script there damaged. inr (inl n);
-  }
-  stop_causes (Damaged offset) so n = record {
-    known = omega (arith, n);
-    done = λ is. absurd (omega (arith, n, is));
-    script = λ is. absurd (omega (arith, n, is));
-    words_fault = λ is. absurd (omega (arith, n, is));
-    read = λ is. absurd (omega (arith, n, is));
-    unwritten = λ is. absurd (omega (arith, n, is));
-    disk_fault = λ is. absurd (omega (arith, n, is));
-    damaged = λ is. (so.0, so.1, some_damage told offset so.2);
-    wrong_words = λ place wrong. absurd (run_has_no_fault words place so.0 wrong);
-    wrong_script = λ run text line cause is wrong. absurd (no_script_and_fault text line cause left is wrong so.1);
-    wrong_disk = λ run text bytes at is script there damaged. inr (inr (inl n));
-  }
-  stop_causes OutOfMemory so n = record {
-    known = omega (arith, n);
-    done = λ is. absurd (omega (arith, n, is));
-    script = λ is. absurd (omega (arith, n, is));
-    words_fault = λ is. absurd (omega (arith, n, is));
-    read = λ is. absurd (omega (arith, n, is));
-    unwritten = λ is. absurd (omega (arith, n, is));
-    disk_fault = λ is. absurd (omega (arith, n, is));
-    damaged = λ is. absurd (omega (arith, n, is));
-    wrong_words = λ place wrong. inr n;
-    wrong_script = λ run text line cause is wrong. inr (inr n);
-    wrong_disk = λ run text bytes offset is script there damaged. inr (inr (inr n));
-  }
-
-  -- the run came to its work
-  module _ (given : IsRun words) (script : Lines) (parsed : IsScriptOf left script) (all : List RowEntry) (index : ℕ) (loads : IfSome told (λ bytes. Loads bytes all index)) where
-    work_causes : number ≤ 7 → (number ≡ 4 → sink_rose) → (number ≡ 5 → disk_rose) → (number ≡ 1 → ⊥) → (number ≡ 2 → ⊥) → (number ≡ 3 → ⊥) → (number ≡ 6 → ⊥) → StatusCauses words left told source_rose sink_rose disk_rose number
-    work_causes known sink disk no_script no_words no_read no_damage = record {
-      known = known;
-      done = λ is. begun;
-      script = λ is. absurd (no_script is);
-      words_fault = λ is. absurd (no_words is);
-      read = λ is. absurd (no_read is);
-      unwritten = λ is. (begun, sink is);
-      disk_fault = λ is. (given, (script, parsed), disk is);
-      damaged = λ is. absurd (no_damage is);
-      wrong_words = λ place wrong. absurd (run_has_no_fault words place given wrong);
-      wrong_script = λ run text line cause is wrong. absurd (no_script_and_fault text line cause left is wrong (script, parsed));
-      wrong_disk = λ run text bytes offset is some there damaged. absurd (loads_and_damaged told all index bytes offset there loads damaged);
-    }
-      where
-        begun : HasBegun words left told
-        begun = record { given = given; script = (script, parsed); loads = some_loads told all index loads }
-
-    pub printed_causes : (status : Status) (report : List ℕ) (before after : Option (List ℕ)) → number ≡ status_number status → IsPrinted status report before after sink_rose → (status ≡ ends.Disk → disk_rose) → StatusCauses words left told source_rose sink_rose disk_rose number
-    printed_causes ends.Done report before after n printed disk = work_causes (omega (arith, n)) (λ is. absurd (omega (arith, n, is))) (λ is. absurd (omega (arith, n, is))) (λ is. omega (arith, n, is)) (λ is. omega (arith, n, is)) (λ is. omega (arith, n, is)) (λ is. omega (arith, n, is))
-    printed_causes ends.Script report before after n printed disk = absurd printed
-    printed_causes ends.Words report before after n printed disk = absurd printed
-    printed_causes ends.Read report before after n printed disk = absurd printed
-    printed_causes ends.Unwritten report before after n printed disk = work_causes (omega (arith, n)) (λ is. printed.1) (λ is. absurd (omega (arith, n, is))) (λ is. omega (arith, n, is)) (λ is. omega (arith, n, is)) (λ is. omega (arith, n, is)) (λ is. omega (arith, n, is))
-    printed_causes ends.Disk report before after n printed disk = work_causes (omega (arith, n)) (λ is. absurd (omega (arith, n, is))) (λ is. disk refl) (λ is. omega (arith, n, is)) (λ is. omega (arith, n, is)) (λ is. omega (arith, n, is)) (λ is. omega (arith, n, is))
-    printed_causes ends.Damaged report before after n printed disk = absurd printed
-    printed_causes ends.OutOfMemory report before after n printed disk = work_causes (omega (arith, n)) (λ is. absurd (omega (arith, n, is))) (λ is. absurd (omega (arith, n, is))) (λ is. omega (arith, n, is)) (λ is. omega (arith, n, is)) (λ is. omega (arith, n, is)) (λ is. omega (arith, n, is))
-
 halt_cause : (halt : Option ℕ) (before after : ℕ) → halt ≢ None → IfSome halt (λ count. (count ≡ after) × Rose before count) → Rose before after
 halt_cause None before after some cause = absurd (some refl)
 halt_cause (Some count) before after some cause = subst (Rose before) cause.0 cause.1
 
-pub causes_of : (words : List (List ℕ)) (left : Option (List ℕ)) (disk_before disk_after : Seen) (before after : Option (List ℕ)) (source_rose sink_rose : Type 0) (story : List Event) (number : ℕ) → RunEnds words left disk_before disk_after before after source_rose sink_rose story number → StatusCauses words left disk_before.told source_rose sink_rose (Rose disk_before.faults disk_after.faults) number
-causes_of words left disk_before disk_after before after source_rose sink_rose story number ending = ⊎_elim
-    (λ stop. stop_causes words left disk_before.told source_rose sink_rose (Rose disk_before.faults disk_after.faults) number stop.refusal stop.so (ending.1 ∙ ap status_number stop.status_is))
-    (λ run. printed_causes words left disk_before.told source_rose sink_rose (Rose disk_before.faults disk_after.faults) number run.given run.script run.parsed run.rows run.index run.loads ending.0 _ before after ending.1 run.printed
-    (λ is. halt_cause _ disk_before.faults disk_after.faults (run.halted.named is) run.halted.cause))
-    ending.2
+-- where the disk is named the manager's failed
+manager_rose : (status : Status) (story : List Event) (before after : Node → ℕ) → HaltsAreNamed status story before after → status ≡ ends.Disk → Rose (before Manager) (after Manager)
+manager_rose status story before after halts is = of_node (halts.named is).0 (halts.named is).1
+  where
+    of_node : (node : Node) → halt_of node story ≢ None → Rose (before Manager) (after Manager)
+    of_node Manager some = halt_cause (halt_of Manager story) (before Manager) (after Manager) some (halts.each Manager).cause
+    of_node Scm some = absurd (some (halts.others_run Scm (λ e. cc e)))
+    of_node (Datanode number) some = absurd (some (halts.others_run (Datanode number) (λ e. cc e)))
+
+-- what stopped the opening was read behind the whole script
+pub read_at_opening : (why : OpenFault) (left left_after : Option (List ℕ)) → IsReadThrough left left_after → TakesUpTo script_limit left left_after → Reads (as_stop why) left left_after
+read_at_opening fault.Disk left left_after through taken = through
+read_at_opening (fault.Damaged offset) left left_after through taken = through
+read_at_opening fault.OutOfMemory left left_after through taken = taken
+
+module _ (loads_or_damaged : (bytes : List ℕ) (all : List RowEntry) (index offset : ℕ) → Loads bytes all index → IsDamagedDisk bytes offset → ⊥) where
+  loads_and_damaged : (told : Option (List ℕ)) (all : List RowEntry) (index : ℕ) (bytes : List ℕ) (offset : ℕ) → told ≡ Some bytes → IfSome told (λ bytes. Loads bytes all index) → IsDamagedDisk bytes offset → ⊥
+  loads_and_damaged None all index bytes offset is loads damaged = absurd (cc is)
+  loads_and_damaged (Some other) all index bytes offset is loads damaged =
+      let same : other ≡ bytes = cc is in
+      loads_or_damaged bytes all index offset (subst (λ (b : List ℕ). Loads b all index) same loads) damaged
+
+  module _ (words : List (List ℕ)) (left told : Option (List ℕ)) (source_rose sink_rose disk_rose : Type 0) (number : ℕ) where
+    -- something stopped the run before its work
+    stop_causes : (stop : Stop) → IsSo words left told source_rose disk_rose stop → number ≡ status_number (status_of stop) → StatusCauses words left told source_rose sink_rose disk_rose number
+    stop_causes (Script line cause) so n = record {
+      known = omega (arith, n);
+      done = λ is. absurd (omega (arith, n, is));
+      script = λ is. (so.0, some_fault left line cause so.1);
+      words_fault = λ is. absurd (omega (arith, n, is));
+      read = λ is. absurd (omega (arith, n, is));
+      unwritten = λ is. absurd (omega (arith, n, is));
+      disk_fault = λ is. absurd (omega (arith, n, is));
+      damaged = λ is. absurd (omega (arith, n, is));
+      wrong_words = λ place wrong. absurd (run_has_no_fault words place so.0 wrong);
+      wrong_script = λ run text where_it why is wrong. inl n;
+      wrong_disk = λ run text bytes offset is script there damaged. absurd (fault_and_script left text line cause is so.1 script);
+    }
+    stop_causes (Words place) so n = record {
+      known = omega (arith, n);
+      done = λ is. absurd (omega (arith, n, is));
+      script = λ is. absurd (omega (arith, n, is));
+      words_fault = λ is. (place, so);
+      read = λ is. absurd (omega (arith, n, is));
+      unwritten = λ is. absurd (omega (arith, n, is));
+      disk_fault = λ is. absurd (omega (arith, n, is));
+      damaged = λ is. absurd (omega (arith, n, is));
+      wrong_words = λ other wrong. inl n;
+      wrong_script = λ run text line cause is wrong. absurd (run_has_no_fault words place run so);
+      wrong_disk = λ run text bytes offset is script there damaged. absurd (run_has_no_fault words place run so);
+    }
+    stop_causes Read so n = record {
+      known = omega (arith, n);
+      done = λ is. absurd (omega (arith, n, is));
+      script = λ is. absurd (omega (arith, n, is));
+      words_fault = λ is. absurd (omega (arith, n, is));
+      read = λ is. so;
+      unwritten = λ is. absurd (omega (arith, n, is));
+      disk_fault = λ is. absurd (omega (arith, n, is));
+      damaged = λ is. absurd (omega (arith, n, is));
+      wrong_words = λ place wrong. absurd (run_has_no_fault words place so.0 wrong);
+      wrong_script = λ run text line cause is wrong. inr (inl n);
+      wrong_disk = λ run text bytes offset is script there damaged. inl n;
+    }
+    stop_causes Disk so n = record {
+      known = omega (arith, n);
+      done = λ is. absurd (omega (arith, n, is));
+      script = λ is. absurd (omega (arith, n, is));
+      words_fault = λ is. absurd (omega (arith, n, is));
+      read = λ is. absurd (omega (arith, n, is));
+      unwritten = λ is. absurd (omega (arith, n, is));
+      disk_fault = λ is. so;
+      damaged = λ is. absurd (omega (arith, n, is));
+      wrong_words = λ place wrong. absurd (run_has_no_fault words place so.0 wrong);
+      wrong_script = λ run text line cause is wrong. absurd (no_script_and_fault text line cause left is wrong so.1);
+      wrong_disk = λ run text bytes offset is script there damaged. inr (inl n);
+    }
+    stop_causes (Damaged offset) so n = record {
+      known = omega (arith, n);
+      done = λ is. absurd (omega (arith, n, is));
+      script = λ is. absurd (omega (arith, n, is));
+      words_fault = λ is. absurd (omega (arith, n, is));
+      read = λ is. absurd (omega (arith, n, is));
+      unwritten = λ is. absurd (omega (arith, n, is));
+      disk_fault = λ is. absurd (omega (arith, n, is));
+      damaged = λ is. (so.0, so.1, some_damage told offset so.2);
+      wrong_words = λ place wrong. absurd (run_has_no_fault words place so.0 wrong);
+      wrong_script = λ run text line cause is wrong. absurd (no_script_and_fault text line cause left is wrong so.1);
+      wrong_disk = λ run text bytes at is script there damaged. inr (inr (inl n));
+    }
+    stop_causes OutOfMemory so n = record {
+      known = omega (arith, n);
+      done = λ is. absurd (omega (arith, n, is));
+      script = λ is. absurd (omega (arith, n, is));
+      words_fault = λ is. absurd (omega (arith, n, is));
+      read = λ is. absurd (omega (arith, n, is));
+      unwritten = λ is. absurd (omega (arith, n, is));
+      disk_fault = λ is. absurd (omega (arith, n, is));
+      damaged = λ is. absurd (omega (arith, n, is));
+      wrong_words = λ place wrong. inr n;
+      wrong_script = λ run text line cause is wrong. inr (inr n);
+      wrong_disk = λ run text bytes offset is script there damaged. inr (inr (inr n));
+    }
+
+    -- the run came to its work
+    module _ (given : IsRun words) (script : Lines) (parsed : IsScriptOf left script) (all : List RowEntry) (index : ℕ) (loads : IfSome told (λ bytes. Loads bytes all index)) where
+      work_causes : number ≤ 7 → (number ≡ 4 → sink_rose) → (number ≡ 5 → disk_rose) → (number ≡ 1 → ⊥) → (number ≡ 2 → ⊥) → (number ≡ 3 → ⊥) → (number ≡ 6 → ⊥) → StatusCauses words left told source_rose sink_rose disk_rose number
+      work_causes known sink disk no_script no_words no_read no_damage = record {
+        known = known;
+        done = λ is. begun;
+        script = λ is. absurd (no_script is);
+        words_fault = λ is. absurd (no_words is);
+        read = λ is. absurd (no_read is);
+        unwritten = λ is. (begun, sink is);
+        disk_fault = λ is. (given, (script, parsed), disk is);
+        damaged = λ is. absurd (no_damage is);
+        wrong_words = λ place wrong. absurd (run_has_no_fault words place given wrong);
+        wrong_script = λ run text line cause is wrong. absurd (no_script_and_fault text line cause left is wrong (script, parsed));
+        wrong_disk = λ run text bytes offset is some there damaged. absurd (loads_and_damaged told all index bytes offset there loads damaged);
+      }
+        where
+          begun : HasBegun words left told
+          begun = record { given = given; script = (script, parsed); loads = some_loads told all index loads }
+
+      pub printed_causes : (status : Status) (report : List ℕ) (before after : Option (List ℕ)) → number ≡ status_number status → IsPrinted status report before after sink_rose → (status ≡ ends.Disk → disk_rose) → StatusCauses words left told source_rose sink_rose disk_rose number
+      printed_causes ends.Done report before after n printed disk = work_causes (omega (arith, n)) (λ is. absurd (omega (arith, n, is))) (λ is. absurd (omega (arith, n, is))) (λ is. omega (arith, n, is)) (λ is. omega (arith, n, is)) (λ is. omega (arith, n, is)) (λ is. omega (arith, n, is))
+      printed_causes ends.Script report before after n printed disk = absurd printed
+      printed_causes ends.Words report before after n printed disk = absurd printed
+      printed_causes ends.Read report before after n printed disk = absurd printed
+      printed_causes ends.Unwritten report before after n printed disk = work_causes (omega (arith, n)) (λ is. printed.1) (λ is. absurd (omega (arith, n, is))) (λ is. omega (arith, n, is)) (λ is. omega (arith, n, is)) (λ is. omega (arith, n, is)) (λ is. omega (arith, n, is))
+      printed_causes ends.Disk report before after n printed disk = work_causes (omega (arith, n)) (λ is. absurd (omega (arith, n, is))) (λ is. disk refl) (λ is. omega (arith, n, is)) (λ is. omega (arith, n, is)) (λ is. omega (arith, n, is)) (λ is. omega (arith, n, is))
+      printed_causes ends.Damaged report before after n printed disk = absurd printed
+      printed_causes ends.OutOfMemory report before after n printed disk = work_causes (omega (arith, n)) (λ is. absurd (omega (arith, n, is))) (λ is. absurd (omega (arith, n, is))) (λ is. omega (arith, n, is)) (λ is. omega (arith, n, is)) (λ is. omega (arith, n, is)) (λ is. omega (arith, n, is))
+
+  pub causes_of : (words : List (List ℕ)) (left left_after : Option (List ℕ)) (disk_before disk_after : Seen) (faults_before faults_after : Node → ℕ) (before after : Option (List ℕ)) (source_rose sink_rose : Type 0) (story : List Event) (number : ℕ) → (Rose (faults_before Manager) (faults_after Manager) → Rose disk_before.faults disk_after.faults) → RunEnds words left left_after disk_before disk_after faults_before faults_after before after source_rose sink_rose story number → StatusCauses words left disk_before.told source_rose sink_rose (Rose disk_before.faults disk_after.faults) number
+  causes_of words left left_after disk_before disk_after faults_before faults_after before after source_rose sink_rose story number same ending = ⊎_elim
+      (λ ended. stop_causes words left disk_before.told source_rose sink_rose (Rose disk_before.faults disk_after.faults) number ended.stop ended.so (ending.1 ∙ ap status_number ended.status_is))
+      (λ run. printed_causes words left disk_before.told source_rose sink_rose (Rose disk_before.faults disk_after.faults) number run.given run.script run.parsed run.rows run.index run.loads ending.0 _ before after ending.1 run.printed
+      (λ is. same (manager_rose ending.0 story faults_before faults_after run.halted is)))
+      ending.2
 
 -- A run that worked.
 
 rises : (before loaded now : ℕ) (halt : Option ℕ) → before ≤ loaded → IfSome halt (λ count. (count ≡ now) × Rose loaded count) → IfSome halt (λ count. (count ≡ now) × Rose before count)
 rises before loaded now None le cause = tt
 rises before loaded now (Some count) le cause = (cause.0, omega (arith, le, cause.1))
+
+no_halt : (status : Status) (halt : Option ℕ) (before after : ℕ) → halt ≡ None → HaltIsNamed status halt before after
+no_halt status None before after none = record { done = λ is. refl; cause = tt }
+no_halt status (Some count) before after none = absurd (cc none)
 
 if_some : (told : Option (List ℕ)) (P : List ℕ → Type 0) (bytes : List ℕ) → told ≡ Some bytes → IfSome told P → P bytes
 if_some None P bytes is h = absurd (cc is)
@@ -288,8 +310,8 @@ loading_keeps disk bytes loaded last middle image is spans time moment left from
     (left, subst (λ (t : ℕ). disk.image t left) same ((spans.elapses.kept moment left (omega (arith, old))).0 then), inl refl))
     (cases_lt disk.clock moment)
 
-module _ (words : List (List ℕ)) (left : Option (List ℕ)) (disk_before loaded disk_after : Seen) (before after : Option (List ℕ)) (sink_rose : Type 0) (all : List RowEntry) (first : ℕ) (rows : Rows) (script : Lines) (lines : ℕ) (story : List Event) (rows_after : Rows) (index : ℕ) (stopped : Bool) (status : Status)
-    (given : IsRun words) (parsed : IsScriptOf left script) (numbered : IsNumbered script) (loads : IfSome disk_before.told (λ bytes. Loads bytes all first)) (few : lines ≤ length script.lines)
+module _ (words : List (List ℕ)) (left left_after : Option (List ℕ)) (disk_before loaded disk_after : Seen) (faults_before faults_after : Node → ℕ) (first_faults : disk_before.faults ≡ faults_before Manager) (last_faults : disk_after.faults ≡ faults_after Manager) (before after : Option (List ℕ)) (sink_rose : Type 0) (all : List RowEntry) (first : ℕ) (rows : Rows) (script : Lines) (lines : ℕ) (story : List Event) (rows_after : Rows) (index : ℕ) (stopped : Bool) (status : Status)
+    (given : IsRun words) (parsed : IsScriptOf left script) (read : IsReadThrough left left_after) (numbered : IsNumbered script) (loads : IfSome disk_before.told (λ bytes. Loads bytes all first)) (few : lines ≤ length script.lines)
     (rows_are : row_of all ≡ rows) (fit : (key : RowKey) (row : Row) → rows key ≡ Some row → RowFits key row)
     (keeps : IfSome disk_before.told (λ bytes. Keeps loaded.told rows first)) (stable : (bytes : List ℕ) → loaded.told ≡ Some bytes → IsStable loaded.image loaded.clock bytes) (ended : IfSome disk_before.told (λ bytes. loaded.clock ≡ loaded_at disk_before.clock bytes))
     (spans : IfSome disk_before.told (λ bytes. IsLoadable bytes (disk_before.image disk_before.clock) → Spans IsLeftAlone disk_before.clock loaded.clock disk_before.image loaded.image)) (falls : disk_before.faults ≤ loaded.faults)
@@ -345,21 +367,32 @@ module _ (words : List (List ℕ)) (left : Option (List ℕ)) (disk_before loade
           subst (IsCoherent kept.2) (sym is.stands_for) (coherent_rows kept.2 rows_after is.namespace kept.4 is.stand),
         )
 
-  pub one_run : IsOneRun words left disk_before disk_after before after sink_rose story status
+  halt_named : (node : Node) → HaltIsNamed status (halt_of node story) (faults_before node) (faults_after node)
+  halt_named Manager = record {
+    done = λ is. none_there _ (plain.halted ∙ done is);
+    cause = subst (λ (n : ℕ). IfSome (halt_of Manager story) (λ count. (count ≡ n) × Rose (faults_before Manager) count)) last_faults
+        (subst (λ (n : ℕ). IfSome (halt_of Manager story) (λ count. (count ≡ disk_after.faults) × Rose n count)) first_faults
+        (rises disk_before.faults loaded.faults disk_after.faults _ falls plain.cause));
+  }
+  halt_named Scm = no_halt status (halt_of Scm story) (faults_before Scm) (faults_after Scm) (plain.quiet.others_run Scm (λ e. cc e))
+  halt_named (Datanode number) = no_halt status (halt_of (Datanode number) story) (faults_before (Datanode number)) (faults_after (Datanode number)) (plain.quiet.others_run (Datanode number) (λ e. cc e))
+
+  pub one_run : IsOneRun words left left_after disk_before disk_after faults_before faults_after before after sink_rose story status
   one_run = record {
     rows = all;
     index = first;
     script = script;
     given = given;
     parsed = parsed;
+    read = read;
     loads = loads;
     printed = printed;
     all_told = told_all;
     headline = headline;
     halted = record {
-      done = λ is. none_there _ (plain.halted ∙ done is);
-      named = λ is. some_there _ (plain.halted ∙ named is);
-      cause = rises disk_before.faults loaded.faults disk_after.faults _ falls plain.cause;
+      each = halt_named;
+      named = λ is. (Manager, some_there _ (plain.halted ∙ named is));
+      others_run = plain.quiet.others_run;
     };
     loading = if_all disk_before.told _ (λ bytes tells loadable.
         loading_keeps disk_before bytes loaded.clock disk_after.clock loaded.image disk_after.image

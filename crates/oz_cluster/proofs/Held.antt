@@ -21,9 +21,9 @@ use Rattle.oz_cluster.specs.declared.events.Event.{Event}
 use Rattle.oz_cluster.specs.declared.events.Node.TheVariants.{Manager}
 use Rattle.oz_cluster.specs.Opens.{IsCoherent, Opens, Keeps}
 use Rattle.oz_cluster.specs.Quiet.{IsHeld, IsLoaded}
-use Rattle.oz_cluster.specs.Rows.{body_bytes}
+use Rattle.oz_cluster.specs.Body.{body_bytes}
 use Rattle.oz_cluster.specs.Steps.{first_ask, ask_event, decide_event, swap_event, flushed_event, halt_event, told_event}
-use Rattle.oz_cluster.specs.Stops.{IsWithin, IsFrontOf}
+use Rattle.oz_cluster.specs.Stops.{IsWithin, IsPrefixOf}
 use Rattle.oz_cluster.specs.Story.{Opening, last_index, pending, namespace_after, kept_namespace, halt_of}
 use Rattle.oz_cluster.proofs.Lines.{Sums, Leads}
 use Rattle.oz_cluster.proofs.Stories.{last_index-push, kept_namespace-push, all-push}
@@ -39,61 +39,61 @@ coherent all rows namespace are stand =
     record { stands = there.stands; sound = there.sound }
 
 module _ (opening : Opening) (at : ℕ) (left : List ℕ) where
-  -- an event that changes nothing of a front
-  abbrev front_on : (story : List Event) (event : Event) (front : IsFrontOf opening story at left) → kept_namespace opening front.index (story ++ event ∷ []) ≡ kept_namespace opening front.index story → last_index opening story ≤ last_index opening (story ++ event ∷ []) → IsWithin front.index at event.kind → IsFrontOf opening (story ++ event ∷ []) at left
-  front_on story event front same grows within = record {
-    index = front.index;
-    opens = subst (λ (n : Namespace). Opens left (record { namespace = n; index = front.index })) (sym same) front.opens;
-    earlier = front.earlier;
-    decided = omega (arith, front.decided, grows);
-    flushed = all-push _ story event front.flushed within;
+  -- an event that changes nothing of a prefix
+  abbrev prefix_on : (story : List Event) (event : Event) (prefix : IsPrefixOf opening story at left) → kept_namespace opening prefix.index (story ++ event ∷ []) ≡ kept_namespace opening prefix.index story → last_index opening story ≤ last_index opening (story ++ event ∷ []) → IsWithin prefix.index at event.kind → IsPrefixOf opening (story ++ event ∷ []) at left
+  prefix_on story event prefix same grows within = record {
+    index = prefix.index;
+    opens = subst (λ (n : Namespace). Opens left (record { namespace = n; index = prefix.index })) (sym same) prefix.opens;
+    earlier = prefix.earlier;
+    decided = omega (arith, prefix.decided, grows);
+    flushed = all-push _ story event prefix.flushed within;
   }
 
-  pub front_ask : (client number : ℕ) (request : Request) (story : List Event) → IsFrontOf opening story at left → IsFrontOf opening (story ++ ask_event client number request ∷ []) at left
-  front_ask client number request story front =
+  pub prefix_ask : (client number : ℕ) (request : Request) (story : List Event) → IsPrefixOf opening story at left → IsPrefixOf opening (story ++ ask_event client number request ∷ []) at left
+  prefix_ask client number request story prefix =
       let event = ask_event client number request in
-      front_on story event front (kept_namespace-push opening front.index story event) (omega (arith, last_index-push opening story event)) tt
+      prefix_on story event prefix (kept_namespace-push opening prefix.index story event) (omega (arith, last_index-push opening story event)) tt
 
-  abbrev pub front_swap : (index : ℕ) (story : List Event) → IsFrontOf opening story at left → IsFrontOf opening (story ++ swap_event index ∷ []) at left
-  front_swap index story front =
+  abbrev pub prefix_swap : (index : ℕ) (story : List Event) → IsPrefixOf opening story at left → IsPrefixOf opening (story ++ swap_event index ∷ []) at left
+  prefix_swap index story prefix =
       let event = swap_event index in
-      front_on story event front (kept_namespace-push opening front.index story event) (omega (arith, last_index-push opening story event)) tt
+      prefix_on story event prefix (kept_namespace-push opening prefix.index story event) (omega (arith, last_index-push opening story event)) tt
 
-  pub front_halt : (count : ℕ) (story : List Event) → IsFrontOf opening story at left → IsFrontOf opening (story ++ halt_event count ∷ []) at left
-  front_halt count story front =
+  pub prefix_halt : (count : ℕ) (story : List Event) → IsPrefixOf opening story at left → IsPrefixOf opening (story ++ halt_event count ∷ []) at left
+  prefix_halt count story prefix =
       let event = halt_event count in
-      front_on story event front (kept_namespace-push opening front.index story event) (omega (arith, last_index-push opening story event)) tt
+      prefix_on story event prefix (kept_namespace-push opening prefix.index story event) (omega (arith, last_index-push opening story event)) tt
 
-  pub front_told : (client number : ℕ) (answer : Answer) (story : List Event) → IsFrontOf opening story at left → IsFrontOf opening (story ++ told_event client number answer ∷ []) at left
-  front_told client number answer story front =
+  pub prefix_told : (client number : ℕ) (answer : Answer) (story : List Event) → IsPrefixOf opening story at left → IsPrefixOf opening (story ++ told_event client number answer ∷ []) at left
+  prefix_told client number answer story prefix =
       let event = told_event client number answer in
-      front_on story event front (kept_namespace-push opening front.index story event) (omega (arith, last_index-push opening story event)) tt
+      prefix_on story event prefix (kept_namespace-push opening prefix.index story event) (omega (arith, last_index-push opening story event)) tt
 
   -- what was flushed later, or is there
-  pub front_flushed : (index now : ℕ) (story : List Event) (front : IsFrontOf opening story at left) → (now ≤ at → index ≤ front.index) → IsFrontOf opening (story ++ flushed_event index now ∷ []) at left
-  front_flushed index now story front there =
+  pub prefix_flushed : (index now : ℕ) (story : List Event) (prefix : IsPrefixOf opening story at left) → (now ≤ at → index ≤ prefix.index) → IsPrefixOf opening (story ++ flushed_event index now ∷ []) at left
+  prefix_flushed index now story prefix there =
       let event = flushed_event index now in
-      front_on story event front (kept_namespace-push opening front.index story event) (omega (arith, last_index-push opening story event)) there
+      prefix_on story event prefix (kept_namespace-push opening prefix.index story event) (omega (arith, last_index-push opening story event)) there
 
   -- what was decided above all that is there, or changed nothing
-  pub front_decide : (client number : ℕ) (request : Request) (new : ℕ) (answer : Reply) (batch : List ℕ) (story : List Event) (namespace : Namespace) (index swapped stable moment : ℕ) → Sums opening story index swapped stable moment None → Leads opening story namespace index → pending (first_ask client number) story ≡ Some request
-      → index ≤ new → (new ≡ index → after namespace request answer ≡ namespace) → IsFrontOf opening story at left → IsFrontOf opening (story ++ decide_event client number request new answer batch ∷ []) at left
-  front_decide client number request new answer batch story namespace index swapped stable moment sums leads waiting grows same front =
+  pub prefix_decide : (client number : ℕ) (request : Request) (new : ℕ) (answer : Reply) (batch : List ℕ) (story : List Event) (namespace : Namespace) (index swapped stable moment : ℕ) → Sums opening story index swapped stable moment None → Leads opening story namespace index → pending (first_ask client number) story ≡ Some request
+      → index ≤ new → (new ≡ index → after namespace request answer ≡ namespace) → IsPrefixOf opening story at left → IsPrefixOf opening (story ++ decide_event client number request new answer batch ∷ []) at left
+  prefix_decide client number request new answer batch story namespace index swapped stable moment sums leads waiting grows same prefix =
       let event = decide_event client number request new answer batch in
-      let step = kept_namespace-push opening front.index story event in
+      let step = kept_namespace-push opening prefix.index story event in
       let last = last_index-push opening story event in
-      front_on story event front (⊎_elim (λ le. step ∙ (cond-true (nat_le new front.index) _ _ le ∙ unchanged (leb-true new front.index le))) (λ above. step ∙ cond-false (nat_le new front.index) _ _ above) (cases_Bool (nat_le new front.index))) (omega (arith, last, sums.decided)) tt
+      prefix_on story event prefix (⊎_elim (λ le. step ∙ (cond-true (nat_le new prefix.index) _ _ le ∙ unchanged (leb-true new prefix.index le))) (λ above. step ∙ cond-false (nat_le new prefix.index) _ _ above) (cases_Bool (nat_le new prefix.index))) (omega (arith, last, sums.decided)) tt
     where
-      unchanged : new ≤ front.index → namespace_after (pending (first_ask client number) story) (kept_namespace opening front.index story) answer ≡ kept_namespace opening front.index story
+      unchanged : new ≤ prefix.index → namespace_after (pending (first_ask client number) story) (kept_namespace opening prefix.index story) answer ≡ kept_namespace opening prefix.index story
       unchanged le =
-          let kept = leads.kept front.index (omega (arith, le, grows)) in
-          let is : new ≡ index = omega (arith, le, grows, front.decided, sums.decided) in
-          ap (λ (r : Option Request). namespace_after r (kept_namespace opening front.index story) answer) waiting
+          let kept = leads.kept prefix.index (omega (arith, le, grows)) in
+          let is : new ≡ index = omega (arith, le, grows, prefix.decided, sums.decided) in
+          ap (λ (r : Option Request). namespace_after r (kept_namespace opening prefix.index story) answer) waiting
           ∙ (ap (λ (n : Namespace). after n request answer) kept ∙ (same is ∙ sym kept))
 
   -- bytes that open as all that was decided
-  pub front_here : (story : List Event) (namespace : Namespace) (index swapped stable moment : ℕ) (halt : Option ℕ) → Sums opening story index swapped stable moment halt → Leads opening story namespace index → (bodies : List (List ℕ)) → IsJournal left bodies → (all : List RowEntry) → Builds bodies all index → IsCoherent all namespace → (front : IsFrontOf opening story at left) × (front.index ≡ index)
-  front_here story namespace index swapped stable moment halt sums leads bodies journal all builds coherent = (
+  pub prefix_here : (story : List Event) (namespace : Namespace) (index swapped stable moment : ℕ) (halt : Option ℕ) → Sums opening story index swapped stable moment halt → Leads opening story namespace index → (bodies : List (List ℕ)) → IsJournal left bodies → (all : List RowEntry) → Builds bodies all index → IsCoherent all namespace → (prefix : IsPrefixOf opening story at left) × (prefix.index ≡ index)
+  prefix_here story namespace index swapped stable moment halt sums leads bodies journal all builds coherent = (
     record {
       index = index;
       opens = (all, (bodies, journal, builds), subst (IsCoherent all) (sym (leads.kept index (omega arith))) coherent);
@@ -112,7 +112,7 @@ module _ (opening : Opening) (story : List Event) (rows : Rows) (index first : �
   pub held_away : (answer : Answer) → halt_of Manager (asked ++ told_event client number answer ∷ []) ≢ None → IsHeld opening (asked ++ told_event client number answer ∷ []) rows index first now
   held_away answer halted = record {
     keeps = λ none. absurd (halted none);
-    stops = λ at left from to image. front_told opening at left client number answer asked (front_ask opening at left client number request story (held.stops at left from to image));
+    stops = λ at left from to image. prefix_told opening at left client number answer asked (prefix_ask opening at left client number request story (held.stops at left from to image));
   }
 
   module _ (namespace : Namespace) (swapped stable moment : ℕ) (sums : Sums opening asked index swapped stable moment None) (leads : Leads opening asked namespace index) (waiting : pending (first_ask client number) asked ≡ Some request) (running : halt_of Manager story ≡ None) (answer : Reply) (batch : List ℕ) where
@@ -121,7 +121,7 @@ module _ (opening : Opening) (story : List Event) (rows : Rows) (index first : �
     held_kept said same = record {
       keeps = λ _. held.keeps running;
       stops = λ at left from to image.
-          front_told opening at left client number said _ (front_decide opening at left client number request index answer batch asked namespace index swapped stable moment sums leads waiting (omega arith) (λ _. same) (front_ask opening at left client number request story (held.stops at left from to image)));
+          prefix_told opening at left client number said _ (prefix_decide opening at left client number request index answer batch asked namespace index swapped stable moment sums leads waiting (omega arith) (λ _. same) (prefix_ask opening at left client number request story (held.stops at left from to image)));
     }
 
     -- a batch was written
@@ -145,14 +145,14 @@ module _ (opening : Opening) (story : List Event) (rows : Rows) (index first : �
           (body_follows there.0 there.2 index (index + 1) batch changes there.3 (omega arith, below) (omega arith) (subst (λ (r : Rows). IsBatchOf r batch changes) (sym same) meets.batch))
 
       -- what a stop leaves of the old moments, and of the new ones without the body
-      old_front : (at : ℕ) (left : List ℕ) → IsFrontOf opening asked at left → IsFrontOf opening decided at left
-      old_front at left front = front_decide opening at left client number request (index + 1) answer batch asked namespace index swapped stable moment sums leads waiting (omega arith) (λ e. absurd (omega (arith, e))) front
+      old_front : (at : ℕ) (left : List ℕ) → IsPrefixOf opening asked at left → IsPrefixOf opening decided at left
+      old_front at left prefix = prefix_decide opening at left client number request (index + 1) answer batch asked namespace index swapped stable moment sums leads waiting (omega arith) (λ e. absurd (omega (arith, e))) prefix
 
-      before_front : (at : ℕ) (left : List ℕ) → IsJournal left there.0 → IsFrontOf opening decided at left
-      before_front at left journal = old_front at left (front_here opening at left asked namespace index swapped stable moment None sums leads there.0 journal there.2 there.3 (coherent there.2 rows namespace there.4 stand)).0
+      before_front : (at : ℕ) (left : List ℕ) → IsJournal left there.0 → IsPrefixOf opening decided at left
+      before_front at left journal = old_front at left (prefix_here opening at left asked namespace index swapped stable moment None sums leads there.0 journal there.2 there.3 (coherent there.2 rows namespace there.4 stand)).0
 
-      after_front : (at : ℕ) (left : List ℕ) → IsJournal left (there.0 ++ body ∷ []) → (front : IsFrontOf opening decided at left) × (front.index ≡ index + 1)
-      after_front at left journal = front_here opening at left decided (after namespace request answer) (index + 1) swapped stable moment None decided_sums decided_leads (there.0 ++ body ∷ []) journal follows.0 follows.1 (coherent follows.0 (after_changes changes rows) (after namespace request answer) follows.2 meets.leads)
+      after_front : (at : ℕ) (left : List ℕ) → IsJournal left (there.0 ++ body ∷ []) → (prefix : IsPrefixOf opening decided at left) × (prefix.index ≡ index + 1)
+      after_front at left journal = prefix_here opening at left decided (after namespace request answer) (index + 1) swapped stable moment None decided_sums decided_leads (there.0 ++ body ∷ []) journal follows.0 follows.1 (coherent follows.0 (after_changes changes rows) (after namespace request answer) follows.2 meets.leads)
 
       -- it was made stable
       pub held_made : (said : Answer) → ((bodies : List (List ℕ)) → TellsBodies now.told bodies → TellsBodies later.told (bodies ++ body ∷ [])) → ((bodies : List (List ℕ)) → TellsBodies now.told bodies → (left : List ℕ) → later.image later.clock left → IsJournal left (bodies ++ body ∷ [])) → now.clock < later.clock
@@ -162,18 +162,18 @@ module _ (opening : Opening) (story : List Event) (rows : Rows) (index first : �
         stops = λ at left from to image. ⊎_elim (λ old. behind at left (earlier at left old from image)) (λ new. newer at left (omega (arith, new)) to image) (cases_lt at (now.clock + 1));
       }
         where
-          behind : (at : ℕ) (left : List ℕ) → (front : IsFrontOf opening decided at left) × (later.clock ≤ at → index + 1 ≤ front.index) → IsFrontOf opening (((decided ++ swap_event (index + 1) ∷ []) ++ flushed_event (index + 1) later.clock ∷ []) ++ told_event client number said ∷ []) at left
-          behind at left front = front_told opening at left client number said _ (front_flushed opening at left (index + 1) later.clock (decided ++ swap_event (index + 1) ∷ []) (front_swap opening at left (index + 1) decided front.0) front.1)
+          behind : (at : ℕ) (left : List ℕ) → (prefix : IsPrefixOf opening decided at left) × (later.clock ≤ at → index + 1 ≤ prefix.index) → IsPrefixOf opening (((decided ++ swap_event (index + 1) ∷ []) ++ flushed_event (index + 1) later.clock ∷ []) ++ told_event client number said ∷ []) at left
+          behind at left prefix = prefix_told opening at left client number said _ (prefix_flushed opening at left (index + 1) later.clock (decided ++ swap_event (index + 1) ∷ []) (prefix_swap opening at left (index + 1) decided prefix.0) prefix.1)
 
-          earlier : (at : ℕ) (left : List ℕ) → at < now.clock + 1 → first ≤ at → later.image at left → (front : IsFrontOf opening decided at left) × (later.clock ≤ at → index + 1 ≤ front.index)
-          earlier at left old from image = (old_front at left (front_ask opening at left client number request story (held.stops at left from (omega (arith, old)) ((time.kept at left (omega (arith, old))).0 image))), λ le. absurd (omega (arith, old, goes, le)))
+          earlier : (at : ℕ) (left : List ℕ) → at < now.clock + 1 → first ≤ at → later.image at left → (prefix : IsPrefixOf opening decided at left) × (later.clock ≤ at → index + 1 ≤ prefix.index)
+          earlier at left old from image = (old_front at left (prefix_ask opening at left client number request story (held.stops at left from (omega (arith, old)) ((time.kept at left (omega (arith, old))).0 image))), λ le. absurd (omega (arith, old, goes, le)))
 
-          newest : (at : ℕ) (left : List ℕ) → IsJournal left (there.0 ++ body ∷ []) → (front : IsFrontOf opening decided at left) × (later.clock ≤ at → index + 1 ≤ front.index)
+          newest : (at : ℕ) (left : List ℕ) → IsJournal left (there.0 ++ body ∷ []) → (prefix : IsPrefixOf opening decided at left) × (later.clock ≤ at → index + 1 ≤ prefix.index)
           newest at left journal =
               let found = after_front at left journal in
               (found.0, λ _. omega (arith, found.1))
 
-          newer : (at : ℕ) (left : List ℕ) → now.clock ≤ at → at ≤ later.clock → later.image at left → IsFrontOf opening (((decided ++ swap_event (index + 1) ∷ []) ++ flushed_event (index + 1) later.clock ∷ []) ++ told_event client number said ∷ []) at left
+          newer : (at : ℕ) (left : List ℕ) → now.clock ≤ at → at ≤ later.clock → later.image at left → IsPrefixOf opening (((decided ++ swap_event (index + 1) ∷ []) ++ flushed_event (index + 1) later.clock ∷ []) ++ told_event client number said ∷ []) at left
           newer at left from to image = behind at left (⊎_elim
               (λ before. ⊎_elim (λ old. (before_front at left old, λ le. absurd (omega (arith, before, le)))) (λ new. newest at left new) (moments there.0 there.1 at left from to image))
               (λ last.
@@ -189,13 +189,13 @@ module _ (opening : Opening) (story : List Event) (rows : Rows) (index first : �
         stops = λ at left from to image. behind at left (⊎_elim (λ old. earlier at left old from image) (λ new. newer at left (omega (arith, new)) to image) (cases_lt at (now.clock + 1)));
       }
         where
-          behind : (at : ℕ) (left : List ℕ) → IsFrontOf opening decided at left → IsFrontOf opening (((decided ++ swap_event (index + 1) ∷ []) ++ halt_event count ∷ []) ++ told_event client number said ∷ []) at left
-          behind at left front = front_told opening at left client number said _ (front_halt opening at left count (decided ++ swap_event (index + 1) ∷ []) (front_swap opening at left (index + 1) decided front))
+          behind : (at : ℕ) (left : List ℕ) → IsPrefixOf opening decided at left → IsPrefixOf opening (((decided ++ swap_event (index + 1) ∷ []) ++ halt_event count ∷ []) ++ told_event client number said ∷ []) at left
+          behind at left prefix = prefix_told opening at left client number said _ (prefix_halt opening at left count (decided ++ swap_event (index + 1) ∷ []) (prefix_swap opening at left (index + 1) decided prefix))
 
-          earlier : (at : ℕ) (left : List ℕ) → at < now.clock + 1 → first ≤ at → later.image at left → IsFrontOf opening decided at left
-          earlier at left old from image = old_front at left (front_ask opening at left client number request story (held.stops at left from (omega (arith, old)) ((time.kept at left (omega (arith, old))).0 image)))
+          earlier : (at : ℕ) (left : List ℕ) → at < now.clock + 1 → first ≤ at → later.image at left → IsPrefixOf opening decided at left
+          earlier at left old from image = old_front at left (prefix_ask opening at left client number request story (held.stops at left from (omega (arith, old)) ((time.kept at left (omega (arith, old))).0 image)))
 
-          newer : (at : ℕ) (left : List ℕ) → now.clock ≤ at → at ≤ later.clock → later.image at left → IsFrontOf opening decided at left
+          newer : (at : ℕ) (left : List ℕ) → now.clock ≤ at → at ≤ later.clock → later.image at left → IsPrefixOf opening decided at left
           newer at left from to image = ⊎_elim (λ old. before_front at left old) (λ new. (after_front at left new).0) (moments there.0 there.1 at left from to image)
 
 -- nothing was asked yet
@@ -206,7 +206,7 @@ held_first namespace rows index disk stand loaded sums leads = record {
       let there = loaded.keeps in
       let same : at ≡ disk.clock = omega (arith, from, to) in
       let journal = journal_left disk.told there.0 left refl there.1 (subst (λ (t : ℕ). disk.image t left) same image) in
-      (front_here (record { namespace = namespace; index = index }) at left [] namespace index index index 0 None sums leads there.0 journal there.2 there.3 (coherent there.2 rows namespace there.4 stand)).0;
+      (prefix_here (record { namespace = namespace; index = index }) at left [] namespace index index index 0 None sums leads there.0 journal there.2 there.3 (coherent there.2 rows namespace there.4 stand)).0;
 }
   where
     journal_left : (told : Option (List ℕ)) (bodies : List (List ℕ)) (left : List ℕ) → disk.told ≡ told → TellsBodies told bodies → disk.image disk.clock left → IsJournal left bodies

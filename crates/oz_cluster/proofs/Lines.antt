@@ -6,7 +6,8 @@ use Rattle.std.proofs.lemmas.Bool.Decides.{nat_tests}
 use Rattle.std.specs.List.{AllByRecursion, cons_option}
 use Rattle.oz_cluster.specs.declared.events.Event.{Event}
 use Rattle.oz_cluster.specs.declared.events.EventKind.TheVariants.{Ask, Decide, Swap, Flushed, Halt, Told}
-use Rattle.oz_cluster.specs.declared.events.Node.TheVariants.{Manager}
+use Rattle.oz_cluster.specs.declared.events.Node.{Node}
+use Rattle.oz_cluster.specs.declared.events.Node.TheVariants.{Manager, Scm, Datanode}
 use Rattle.oz_requests.specs.declared.answer.Answer.{Answer}
 use Rattle.oz_requests.specs.declared.request.AskId.{AskId}
 use Rattle.oz_requests.specs.declared.reply.Reply.{Reply}
@@ -20,7 +21,7 @@ use Rattle.oz_namespace.specs.declared.namespace.Namespace.{Namespace}
 use Rattle.oz_cluster.specs.Quiet.{IsQuiet, counted}
 use Rattle.oz_cluster.specs.Steps.{first_ask, ask_event, decide_event, swap_event, flushed_event, halt_event, told_event}
 use Rattle.oz_cluster.specs.Stops.{IsWithin}
-use Rattle.oz_cluster.specs.Story.{Opening, asks, tells, is_asked, is_id, is_of_line, is_told, pending, pending_after, last_index, swapped_index, durable_index, flushed_moment, last_reply, replied_after, line_index, line_index_after, late_step, asked_late, halt_of, namespace_after, namespace_of, kept_namespace}
+use Rattle.oz_cluster.specs.Story.{Opening, asks, tells, is_asked, is_id, is_of_line, is_told, pending, pending_after, last_index, swapped_index, durable_index, flushed_moment, last_reply, replied_after, line_index, line_index_after, late_step, asked_late, halt_after, halt_of, namespace_after, namespace_of, kept_namespace}
 use Rattle.oz_cluster.proofs.Stories.{is_asked-push, is_told-push, pending-push, last_index-push, swapped_index-push, durable_index-push, flushed_moment-push, last_reply-push, line_index-push, told_lines-push, namespace_of-push, kept_namespace-push, halt_of-push, asked_late-push, all-push, legal-push, fits-push}
 
 pub same_id : (id : AskId) → is_id id id ≡ true
@@ -60,6 +61,7 @@ pub record Sums (opening : Opening) (story : List Event) (index swapped stable m
   pub durable : durable_index opening story ≡ stable
   pub latest : flushed_moment story ≡ moment
   pub halted : halt_of Manager story ≡ halt
+  pub others_run : (node : Node) → node ≢ Manager → halt_of node story ≡ None
   pub within : (at : ℕ) → AllByRecursion (λ event. IsWithin index at event.kind) story
 
 -- The story is legal, and this is what it makes of the namespace.
@@ -88,6 +90,12 @@ pub record Course (story : List Event) (lines : ℕ) (line : Line) (open_request
   pub untold : (number : ℕ) → lines < number → is_told 1 number story ≡ false
   pub all_told : told_lines 1 story ≡ counted lines
   pub others : (client : ℕ) → client ≢ 1 → told_lines client story ≡ []
+
+-- a Halt of the manager is none of another node
+still_runs : (node : Node) → node ≢ Manager → (before : Option ℕ) (count : ℕ) → halt_after node before (Halt Manager count) ≡ before
+still_runs Manager other before count = absurd (other refl)
+still_runs Scm other before count = refl
+still_runs (Datanode number) other before count = refl
 
 -- an event that asks nothing, decides nothing and tells nothing
 record IsSilent (event : Event) : Type 0 where
@@ -214,6 +222,7 @@ module _ (opening : Opening) (script : Script) (lines : ℕ) (line : Line) (ther
       durable = durable_index-push opening story ask;
       latest = flushed_moment-push story ask;
       halted = halt_of-push Manager story ask ∙ quiet.halted;
+      others_run = λ node other. halt_of-push node story ask ∙ quiet.others_run node other;
       within = λ at. all-push _ story ask (quiet.within at) tt;
     }
 
@@ -275,10 +284,10 @@ module _ (opening : Opening) (script : Script) (lines : ℕ) (line : Line) (ther
     still_within at (event ∷ events) all = (further event.kind all.0, still_within at events all.1)
       where
         further : (kind : _) → IsWithin index at kind → IsWithin new at kind
-        further (Ask id request) h = tt
+        further (Flushed other when) h = λ le. omega (arith, h le)
+        further (Ask _ _) h = tt
         further (Decide id other reply batch) h = tt
         further (Swap other) h = tt
-        further (Flushed other when) h = λ le. omega (arith, h le)
         further (Halt node count) h = tt
         further (Told client number answer) h = tt
 
@@ -290,6 +299,7 @@ module _ (opening : Opening) (script : Script) (lines : ℕ) (line : Line) (ther
       durable = durable_index-push opening story decide ∙ sums.durable;
       latest = flushed_moment-push story decide ∙ sums.latest;
       halted = halt_of-push Manager story decide ∙ sums.halted;
+      others_run = λ node other. halt_of-push node story decide ∙ sums.others_run node other;
       within = λ at. all-push _ story decide (still_within at story (sums.within at)) tt;
     }
 
@@ -319,6 +329,7 @@ module _ (opening : Opening) (script : Script) (lines : ℕ) (line : Line) (ther
       durable = durable_index-push opening story (swap_event index) ∙ sums.durable;
       latest = flushed_moment-push story (swap_event index) ∙ sums.latest;
       halted = halt_of-push Manager story (swap_event index) ∙ sums.halted;
+      others_run = λ node other. halt_of-push node story (swap_event index) ∙ sums.others_run node other;
       within = λ at. all-push _ story (swap_event index) (sums.within at) tt;
     }
 
@@ -347,6 +358,7 @@ module _ (opening : Opening) (script : Script) (lines : ℕ) (line : Line) (ther
       durable = durable_index-push opening story (flushed_event index now);
       latest = flushed_moment-push story (flushed_event index now);
       halted = halt_of-push Manager story (flushed_event index now) ∙ sums.halted;
+      others_run = λ node other. halt_of-push node story (flushed_event index now) ∙ sums.others_run node other;
       within = λ at. all-push _ story (flushed_event index now) (sums.within at) (λ le. omega arith);
     }
 
@@ -373,6 +385,7 @@ module _ (opening : Opening) (script : Script) (lines : ℕ) (line : Line) (ther
       durable = durable_index-push opening story (halt_event count) ∙ sums.durable;
       latest = flushed_moment-push story (halt_event count) ∙ sums.latest;
       halted = halt_of-push Manager story (halt_event count);
+      others_run = λ node other. halt_of-push node story (halt_event count) ∙ (still_runs node other (halt_of node story) count ∙ sums.others_run node other);
       within = λ at. all-push _ story (halt_event count) (sums.within at) tt;
     }
 
@@ -398,6 +411,7 @@ module _ (opening : Opening) (script : Script) (lines : ℕ) (line : Line) (ther
       decided = last_index-push opening story tell ∙ sums.decided;
       grown = sums.grown;
       halted = halt_of-push Manager story tell ∙ sums.halted;
+      others_run = λ node other. halt_of-push node story tell ∙ sums.others_run node other;
       swapped = λ none. swapped_index-push opening story tell ∙ (sums.taken ∙ all_taken none);
       durable = λ none. durable_index-push opening story tell ∙ (sums.durable ∙ all_stable none);
       settled = λ other lt. pending-push other story tell ∙ course.settled other lt;

@@ -33,12 +33,12 @@ body_ends at (first ∷ bodies) (suc count) begin body begins is =
     omega (arith, rest, length-sized first, length-append (sized first) (records bodies))
 
 -- the place of one of the bodies that loading gives
-pub place_of : (bodies : List Body) (i : ℕ) (body : Body) → slice_get bodies i ≡ Some body → slice_get (places_in bodies) i ≡ Some body.at
-place_of [] i body is = absurd (cc is)
-place_of (first ∷ bodies) zero body is =
+pub place_of_body : (bodies : List Body) (i : ℕ) (body : Body) → slice_get bodies i ≡ Some body → slice_get (places_in bodies) i ≡ Some body.at
+place_of_body [] i body is = absurd (cc is)
+place_of_body (first ∷ bodies) zero body is =
     let same : first ≡ body = cc is in
     ap (λ (b : Body). Some b.at) same
-place_of (first ∷ bodies) (suc i) body is = place_of bodies i body is
+place_of_body (first ∷ bodies) (suc i) body is = place_of_body bodies i body is
 
 pub bytes_of : (bodies : List Body) (i : ℕ) (body : Body) → slice_get bodies i ≡ Some body → slice_get (bodies_in bodies) i ≡ Some body.bytes
 bytes_of [] i body is = absurd (cc is)
@@ -60,7 +60,7 @@ is_there bodies count at fails none =
 
 module _ (bodies : List Body) (count at : ℕ) (fails : FailsAt (bodies_in bodies) count at) (body : Body) (is : slice_get bodies count ≡ Some body) (placed : places_in bodies ≡ places 0 (bodies_in bodies)) where
   begins : slice_get (places 0 (bodies_in bodies)) count ≡ Some body.at
-  begins = subst (λ (l : List ℕ). slice_get l count ≡ Some body.at) placed (place_of bodies count body is)
+  begins = subst (λ (l : List ℕ). slice_get l count ≡ Some body.at) placed (place_of_body bodies count body is)
 
   pub fault_ends : body.at + at ≤ length (records (bodies_in bodies))
   fault_ends =

@@ -21,6 +21,7 @@ begins opening script now = record {
     decided = refl;
     grown = omega arith;
     halted = refl;
+    others_run = λ node other. refl;
     swapped = λ none. refl;
     durable = λ none. refl;
     settled = λ id lt. refl;
@@ -51,6 +52,7 @@ sums_first opening = record {
   durable = refl;
   latest = refl;
   halted = refl;
+  others_run = λ node other. refl;
   within = λ at. tt;
 }
 
@@ -120,15 +122,15 @@ none_of (first ∷ lines) from client ne numbered =
 not_one : (client : ℕ) → (client == 1) ≡ false → client ≢ 1
 not_one client other same = absurd (false≢true (sym other ∙ eq-eqb client 1 same))
 
-counted-front : (n k : ℕ) → (rest : List ℕ) × (counted (n + k) ≡ counted n ++ rest)
+counted-prefix : (n k : ℕ) → (rest : List ℕ) × (counted (n + k) ≡ counted n ++ rest)
 unfolding counted
-counted-front n zero =
+counted-prefix n zero =
     let same : n + 0 ≡ n = omega arith in
     ([], ap counted same ∙ sym (append-nil (counted n)))
-counted-front n (suc k) =
+counted-prefix n (suc k) =
     let step : n + suc k ≡ suc (n + k) = omega arith in
-    let front = counted-front n k in
-    (front.0 ++ (n + k + 1) ∷ [], ap counted step ∙ (ap (λ (l : List ℕ). l ++ (n + k + 1) ∷ []) front.1 ∙ append_assoc (counted n) front.0 ((n + k + 1) ∷ [])))
+    let prefix = counted-prefix n k in
+    (prefix.0 ++ (n + k + 1) ∷ [], ap counted step ∙ (ap (λ (l : List ℕ). l ++ (n + k + 1) ∷ []) prefix.1 ∙ append_assoc (counted n) prefix.0 ((n + k + 1) ∷ [])))
 
 lines_of_one : (script : Script) → AreNumberedFrom 1 script.lines → lines_of script 1 ≡ counted (length script.lines)
 unfolding counted
@@ -151,9 +153,9 @@ fits_so_far opening script lines faults story index stopped now numbered le serv
   where
     first : (rest : List ℕ) × (lines_of script 1 ≡ told_lines 1 story ++ rest)
     first =
-        let front = counted-front lines (length script.lines - lines) in
+        let prefix = counted-prefix lines (length script.lines - lines) in
         let all : length script.lines ≡ lines + (length script.lines - lines) = omega (arith, le) in
-        (front.0, lines_of_one script numbered ∙ (ap counted all ∙ (front.1 ∙ ap (λ (l : List ℕ). l ++ front.0) (sym served.quiet.all_told))))
+        (prefix.0, lines_of_one script numbered ∙ (ap counted all ∙ (prefix.1 ∙ ap (λ (l : List ℕ). l ++ prefix.0) (sym served.quiet.all_told))))
 
 pub tells_all : (opening : Opening) (script : Script) (lines faults : ℕ) (story : List Event) (index : ℕ) (stopped : Bool) (now : Seen) → AreNumberedFrom 1 script.lines → lines ≡ length script.lines → IsServed opening script lines faults story index stopped now → AllAreTold script story
 tells_all opening script lines faults story index stopped now numbered all served client = ⊎_elim

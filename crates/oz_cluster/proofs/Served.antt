@@ -19,7 +19,7 @@ use Rattle.oz_cluster.specs.declared.events.Node.TheVariants.{Manager}
 use Rattle.oz_cluster.specs.Fits.{IsLineOf, request_of, answer_of}
 use Rattle.oz_cluster.specs.Opens.{Keeps}
 use Rattle.oz_cluster.specs.Quiet.{IsServed, IsRight, IsHeld}
-use Rattle.oz_cluster.specs.Refusals.{IsUntouched}
+use Rattle.oz_cluster.specs.Stopped.{IsUntouched}
 use Rattle.oz_cluster.specs.Serves.{taken, TurnsAway, ChangesNothing, Writes, IsMade, Halts, Serves}
 use Rattle.oz_cluster.specs.Steps.{ask_event, decide_event, swap_event, flushed_event, halt_event, told_event}
 use Rattle.oz_cluster.specs.Story.{Opening, halt_of}

@@ -38,14 +38,14 @@ begins : (words : List (List ℕ)) → words ≡ [] → BeginsRun words
 begins words none = (run ∷ dot ∷ [], rw none (refl, omega arith))
 
 pub at_none : {S : Type 0} (bytes : S → List ℕ) (words : List S) → length words < 1 → IsFirstFault (map bytes words) 1
-at_none bytes [] h = record { counted = omega arith; front = begins [] refl; fault = inr (refl, λ is. is) }
+at_none bytes [] h = record { counted = omega arith; prefix = begins [] refl; fault = inr (refl, λ is. is) }
 at_none bytes (first ∷ rest) h = absurd (omega arith)
 
 pub at_verb : {S : Type 0} (bytes : S → List ℕ) (words : List S) (verb : S) (text : List ℕ) → 1 ≤ length words → verb ≡ get_or words 0 verb → text ≡ bytes verb → not (bytes_eq text (codes "run")) ≡ true → IsFirstFault (map bytes words) 1
 at_verb bytes [] verb text some is spelt e = absurd (omega arith)
 at_verb bytes (first ∷ rest) verb text some is spelt e =
     let other : bytes first ≢ run = λ h. unlike text run e (spelt ∙ ap bytes is ∙ h) in
-    record { counted = omega arith; front = begins [] refl; fault = inl (omega arith, λ b. no_run (bytes first) b.0 other b.1) }
+    record { counted = omega arith; prefix = begins [] refl; fault = inl (omega arith, λ b. no_run (bytes first) b.0 other b.1) }
 
 -- the words' first is `run`
 pub is_run : {S : Type 0} (bytes : S → List ℕ) (verb : S) (text : List ℕ) → text ≡ bytes verb → not (bytes_eq text (codes "run")) ≡ false → bytes verb ≡ codes "run"
@@ -54,7 +54,7 @@ is_run bytes verb text spelt e = sym spelt ∙ spelled text run e
 pub at_end : {S : Type 0} (bytes : S → List ℕ) (words : List S) (verb : S) → 1 ≤ length words → length words < 2 → verb ≡ get_or words 0 verb → bytes verb ≡ codes "run" → IsFirstFault (map bytes words) 2
 at_end bytes [] verb some one is e = absurd (omega arith)
 at_end bytes (first ∷ []) verb some one is e =
-    record { counted = omega arith; front = (dot ∷ [], (sym (ap bytes is) ∙ e, omega arith)); fault = inr (refl, λ is. is) }
+    record { counted = omega arith; prefix = (dot ∷ [], (sym (ap bytes is) ∙ e, omega arith)); fault = inr (refl, λ is. is) }
 at_end bytes (first ∷ second ∷ rest) verb some one is e = absurd (omega arith)
 
 pub at_dir : {S : Type 0} (bytes : S → List ℕ) (words : List S) (verb dir : S) → 2 ≤ length words → verb ≡ get_or words 0 verb → bytes verb ≡ codes "run" → dir ≡ get_or words 1 dir → length (bytes dir) ≡ 0 → IsFirstFault (map bytes words) 2
@@ -62,14 +62,14 @@ at_dir bytes [] verb dir two is e at none = absurd (omega arith)
 at_dir bytes (first ∷ []) verb dir two is e at none = absurd (omega arith)
 at_dir bytes (first ∷ second ∷ rest) verb dir two is e at none =
     let empty : length (bytes second) ≡ 0 = ap (λ s. length (bytes s)) (sym at) ∙ none in
-    record { counted = omega arith; front = (dot ∷ [], (sym (ap bytes is) ∙ e, omega arith)); fault = inl (omega arith, λ b. no_folder (bytes first) (bytes second) b.0 empty b.1) }
+    record { counted = omega arith; prefix = (dot ∷ [], (sym (ap bytes is) ∙ e, omega arith)); fault = inl (omega arith, λ b. no_folder (bytes first) (bytes second) b.0 empty b.1) }
 
 pub at_more : {S : Type 0} (bytes : S → List ℕ) (words : List S) (verb dir : S) → 3 ≤ length words → verb ≡ get_or words 0 verb → bytes verb ≡ codes "run" → dir ≡ get_or words 1 dir → 0 < length (bytes dir) → IsFirstFault (map bytes words) 3
 at_more bytes [] verb dir three is e at some = absurd (omega arith)
 at_more bytes (first ∷ []) verb dir three is e at some = absurd (omega arith)
 at_more bytes (first ∷ second ∷ []) verb dir three is e at some = absurd (omega arith)
 at_more bytes (first ∷ second ∷ third ∷ rest) verb dir three is e at some =
-    record { counted = omega arith; front = ([], (sym (ap bytes is) ∙ e, rw (← at) some)); fault = inl (omega arith, λ b. b.1) }
+    record { counted = omega arith; prefix = ([], (sym (ap bytes is) ∙ e, rw (← at) some)); fault = inl (omega arith, λ b. b.1) }
 
 pub whole : {S : Type 0} (bytes : S → List ℕ) (words : List S) (verb dir : S) → 2 ≤ length words → length words < 3 → verb ≡ get_or words 0 verb → bytes verb ≡ codes "run" → dir ≡ get_or words 1 dir → 0 < length (bytes dir) → IsRun (map bytes words)
 whole bytes [] verb dir two less is e at some = absurd (omega arith)

@@ -81,12 +81,8 @@ FitsFrom opening script before (event ∷ story) = EventFits opening script befo
 
 -- the numbers of a client's lines that were told, in order
 abbrev pub told_line : ℕ → EventKind → Option ℕ
-told_line client (Ask id request) = None
-told_line client (Decide id index answer batch) = None
-told_line client (Swap index) = None
-told_line client (Flushed index moment) = None
-told_line client (Halt node count) = None
 told_line client (Told other number answer) = if other == client then Some number else None
+told_line client _ = None
 
 abbrev pub told_lines : ℕ → List Event → List ℕ
 told_lines client story = filter_map (λ event. told_line client event.kind) story

@@ -1,3 +1,5 @@
+pub mod Body
+pub mod Disks
 pub mod Fits
 pub mod Headline
 pub mod Law
@@ -5,9 +7,8 @@ pub mod Manager
 pub mod OpenFaults
 pub mod Opens
 pub mod Quiet
-pub mod Refusals
+pub mod Stopped
 pub mod Report
-pub mod Rows
 pub mod Serves
 pub mod StatusCauses
 pub mod Statuses

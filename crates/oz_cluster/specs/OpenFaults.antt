@@ -5,8 +5,8 @@ use Rattle.oz_journal.specs.declared.load_fault.LoadFault.TheVariants as load
 use Rattle.oz_cluster.specs.declared.manager.Manager.{Manager}
 use Rattle.oz_cluster.specs.declared.opening.OpenFault.{OpenFault}
 use Rattle.oz_cluster.specs.declared.opening.OpenFault.TheVariants as fault
-use Rattle.oz_cluster.specs.declared.refusal.Refusal.{Refusal}
-use Rattle.oz_cluster.specs.declared.refusal.Refusal.TheVariants as refusal
+use Rattle.oz_cluster.specs.declared.stop.Stop.{Stop}
+use Rattle.oz_cluster.specs.declared.stop.Stop.TheVariants as stops
 
 abbrev pub as_open : LoadFault → OpenFault
 as_open load.Disk = fault.Disk
@@ -14,10 +14,10 @@ as_open (load.Damaged offset) = fault.Damaged offset
 as_open load.OutOfMemory = fault.OutOfMemory
 
 -- what stops the run
-abbrev pub as_refusal : OpenFault → Refusal
-as_refusal fault.Disk = refusal.Disk
-as_refusal (fault.Damaged offset) = refusal.Damaged offset
-as_refusal fault.OutOfMemory = refusal.OutOfMemory
+abbrev pub as_stop : OpenFault → Stop
+as_stop fault.Disk = stops.Disk
+as_stop (fault.Damaged offset) = stops.Damaged offset
+as_stop fault.OutOfMemory = stops.OutOfMemory
 
 -- the disk behind an opening: the manager's, or the one that comes back
 abbrev pub disk_behind : {D : Type 0} → Result (Manager D) (D × OpenFault) → D

@@ -4,6 +4,7 @@ use Rattle.std.specs.List.{AllByRecursion}
 use Rattle.oz_world.specs.Disk.{Seen, IsStable}
 use Rattle.oz_world.specs.Faults.{Rose}
 use Rattle.oz_cluster.specs.declared.events.Event.{Event}
+use Rattle.oz_cluster.specs.declared.events.Node.{Node}
 use Rattle.oz_cluster.specs.declared.events.Node.TheVariants.{Manager}
 use Rattle.oz_requests.specs.declared.request.AskId.{AskId}
 use Rattle.oz_script.specs.declared.grammar.Script.{Script}
@@ -22,11 +23,12 @@ counted zero = []
 counted (suc n) = counted n ++ (n + 1) ∷ []
 
 -- The first lines of client 1 are told, so many, and nothing of a later line has happened. While the manager hasn't
--- halted all that was decided is stable.
+-- halted all that was decided is stable. No other node halts.
 pub record IsQuiet (opening : Opening) (story : List Event) (lines index : ℕ) (halt : Option ℕ) : Type 0 where
   pub decided : last_index opening story ≡ index
   pub grown : opening.index ≤ index
   pub halted : halt_of Manager story ≡ halt
+  pub others_run : (node : Node) → node ≢ Manager → halt_of node story ≡ None
   pub swapped : halt ≡ None → swapped_index opening story ≡ index
   pub durable : halt ≡ None → durable_index opening story ≡ index
   pub settled : (id : AskId) → lines < id.line → pending id story ≡ None
@@ -61,7 +63,7 @@ pub record IsLoaded (rows : Rows) (index : ℕ) (disk : Seen) : Type 0 where
   pub keeps : Keeps disk.told rows index
   pub stable : (bytes : List ℕ) → disk.told ≡ Some bytes → IsStable disk.image disk.clock bytes
 
--- While the manager hasn't halted, the disk keeps its rows; and a stop leaves a front of the history.
+-- While the manager hasn't halted, the disk keeps its rows; and a stop leaves a prefix of the history.
 pub record IsHeld (opening : Opening) (story : List Event) (rows : Rows) (index first : ℕ) (now : Seen) : Type 0 where
   pub keeps : halt_of Manager story ≡ None → Keeps now.told rows index
   pub stops : StopsHold opening story first now.clock now.image

@@ -98,12 +98,8 @@ lines_from before (event ∷ story) = event_text before event.kind ++ lines_from
 
 -- a Told
 abbrev pub is_told_kind : EventKind → Bool
-is_told_kind (Ask id request) = false
-is_told_kind (Decide id index answer batch) = false
-is_told_kind (Swap index) = false
-is_told_kind (Flushed index moment) = false
-is_told_kind (Halt node count) = false
 is_told_kind (Told client line answer) = true
+is_told_kind _ = false
 
 -- how many Tolds a story has
 abbrev pub told_count : List Event → ℕ

@@ -4,7 +4,7 @@ use Rattle.oz_script.specs.declared.grammar.Cause.{Cause}
 use Rattle.oz_script.specs.declared.grammar.ScriptFault.TheVariants.{At}
 use Rattle.oz_tables.specs.declared.entry.RowEntry.{RowEntry}
 use Rattle.oz_cluster.specs.Opens.{Loads, IsDamagedDisk}
-use Rattle.oz_cluster.specs.Refusals.{IsScript}
+use Rattle.oz_cluster.specs.Stopped.{IsScript}
 use Rattle.oz_script.specs.Script.{script_of}
 use Rattle.oz_cluster.specs.Streams.{script_limit}
 use Rattle.oz_cluster.specs.Words.{IsRun, IsFirstFault}

@@ -23,26 +23,20 @@ is_of_line client line id = id.client == client && id.line == line
 abbrev pub is_id : AskId → AskId → Bool
 is_id id other = other.client == id.client && other.line == id.line && other.step == id.step
 
+-- What a kind of event says nothing of stays as it was, whatever kind it is.
+
 -- an Ask of this id
 abbrev pub asks : AskId → EventKind → Bool
 asks id (Ask other request) = is_id id other
-asks id (Decide other index reply batch) = false
-asks id (Swap index) = false
-asks id (Flushed index moment) = false
-asks id (Halt node count) = false
-asks id (Told client line answer) = false
+asks id _ = false
 
 abbrev pub is_asked : AskId → List Event → Bool
 is_asked id story = list_any (λ event. asks id event.kind) story
 
 -- a Told of this line
 abbrev pub tells : ℕ → ℕ → EventKind → Bool
-tells client line (Ask id request) = false
-tells client line (Decide id index reply batch) = false
-tells client line (Swap index) = false
-tells client line (Flushed index moment) = false
-tells client line (Halt node count) = false
 tells client line (Told other number answer) = other == client && number == line
+tells client line _ = false
 
 abbrev pub is_told : ℕ → ℕ → List Event → Bool
 is_told client line story = list_any (λ event. tells client line event.kind) story
@@ -51,38 +45,23 @@ is_told client line story = list_any (λ event. tells client line event.kind) st
 abbrev pub pending_after : AskId → Option Request → EventKind → Option Request
 pending_after id before (Ask other request) = if is_id id other then Some request else before
 pending_after id before (Decide other index reply batch) = if is_id id other then None else before
-pending_after id before (Swap index) = before
-pending_after id before (Flushed index moment) = before
-pending_after id before (Halt node count) = before
-pending_after id before (Told client line answer) = before
+pending_after id before _ = before
 
 abbrev pub pending : AskId → List Event → Option Request
 pending id story = fold (λ before event. pending_after id before event.kind) None story
 
 -- the last transaction index that was decided, and the last that was swapped, and the last that is stable
 abbrev pub decided_after : ℕ → EventKind → ℕ
-decided_after before (Ask id request) = before
 decided_after before (Decide id index reply batch) = index
-decided_after before (Swap index) = before
-decided_after before (Flushed index moment) = before
-decided_after before (Halt node count) = before
-decided_after before (Told client line answer) = before
+decided_after before _ = before
 
 abbrev pub swapped_after : ℕ → EventKind → ℕ
-swapped_after before (Ask id request) = before
-swapped_after before (Decide id index reply batch) = before
 swapped_after before (Swap index) = index
-swapped_after before (Flushed index moment) = before
-swapped_after before (Halt node count) = before
-swapped_after before (Told client line answer) = before
+swapped_after before _ = before
 
 abbrev pub flushed_after : ℕ → EventKind → ℕ
-flushed_after before (Ask id request) = before
-flushed_after before (Decide id index reply batch) = before
-flushed_after before (Swap index) = before
 flushed_after before (Flushed index moment) = index
-flushed_after before (Halt node count) = before
-flushed_after before (Told client line answer) = before
+flushed_after before _ = before
 
 abbrev pub last_index : Opening → List Event → ℕ
 last_index opening story = fold (λ before event. decided_after before event.kind) opening.index story
@@ -95,36 +74,24 @@ durable_index opening story = fold (λ before event. flushed_after before event.
 
 -- the moment of the last Flushed, 0 for none
 abbrev pub moment_after : ℕ → EventKind → ℕ
-moment_after before (Ask id request) = before
-moment_after before (Decide id index reply batch) = before
-moment_after before (Swap index) = before
 moment_after before (Flushed index moment) = moment
-moment_after before (Halt node count) = before
-moment_after before (Told client line answer) = before
+moment_after before _ = before
 
 abbrev pub flushed_moment : List Event → ℕ
 flushed_moment story = fold (λ before event. moment_after before event.kind) 0 story
 
 -- the reply to a line's last Decide
 abbrev pub replied_after : ℕ → ℕ → Option Reply → EventKind → Option Reply
-replied_after client line before (Ask id request) = before
 replied_after client line before (Decide id index reply batch) = if is_of_line client line id then Some reply else before
-replied_after client line before (Swap index) = before
-replied_after client line before (Flushed index moment) = before
-replied_after client line before (Halt node count) = before
-replied_after client line before (Told other number answer) = before
+replied_after client line before _ = before
 
 abbrev pub last_reply : ℕ → ℕ → List Event → Option Reply
 last_reply client line story = fold (λ before event. replied_after client line before event.kind) None story
 
 -- the greatest index that a Decide of this line has, 0 for none
 abbrev pub line_index_after : ℕ → ℕ → ℕ → EventKind → ℕ
-line_index_after client line before (Ask id request) = before
 line_index_after client line before (Decide id index reply batch) = if is_of_line client line id then max before index else before
-line_index_after client line before (Swap index) = before
-line_index_after client line before (Flushed index moment) = before
-line_index_after client line before (Halt node count) = before
-line_index_after client line before (Told other number answer) = before
+line_index_after client line before _ = before
 
 abbrev pub line_index : ℕ → ℕ → List Event → ℕ
 line_index client line story = fold (λ before event. line_index_after client line before event.kind) 0 story
@@ -135,12 +102,8 @@ namespace_after None namespace answer = namespace
 namespace_after (Some request) namespace answer = after namespace request answer
 
 abbrev pub namespace_step : List Event → Namespace → EventKind → Namespace
-namespace_step before namespace (Ask id request) = namespace
 namespace_step before namespace (Decide id index answer batch) = namespace_after (pending id before) namespace answer
-namespace_step before namespace (Swap index) = namespace
-namespace_step before namespace (Flushed index moment) = namespace
-namespace_step before namespace (Halt node count) = namespace
-namespace_step before namespace (Told client line answer) = namespace
+namespace_step before namespace _ = namespace
 
 unfoldable pub namespace_from : List Event → Namespace → List Event → Namespace
 namespace_from before namespace [] = namespace
@@ -164,12 +127,8 @@ is_node (Datanode number) (Datanode other) = number == other
 
 -- a node's count of faults as it halted, given that before
 abbrev pub halt_after : Node → Option ℕ → EventKind → Option ℕ
-halt_after node before (Ask id request) = before
-halt_after node before (Decide id index answer batch) = before
-halt_after node before (Swap index) = before
-halt_after node before (Flushed index moment) = before
 halt_after node before (Halt other count) = if is_node node other then Some count else before
-halt_after node before (Told client line answer) = before
+halt_after node before _ = before
 
 -- a node's count of faults as it halted, None where it didn't
 abbrev pub halt_of : Node → List Event → Option ℕ
@@ -178,11 +137,7 @@ halt_of node story = fold (λ before event. halt_after node before event.kind) N
 -- whether the manager had halted when an id of this kind was last asked, given that so far
 abbrev pub late_step : (AskId → Bool) → List Event → Bool → EventKind → Bool
 late_step names before late (Ask id request) = if names id then is_some (halt_of Manager before) else late
-late_step names before late (Decide id index answer batch) = late
-late_step names before late (Swap index) = late
-late_step names before late (Flushed index moment) = late
-late_step names before late (Halt node count) = late
-late_step names before late (Told client line answer) = late
+late_step names before late _ = late
 
 unfoldable pub late_from : (AskId → Bool) → List Event → Bool → List Event → Bool
 late_from names before late [] = late
@@ -194,12 +149,8 @@ asked_late names story = late_from names [] false story
 
 -- what one more event leaves of a namespace, where Decides above an index are passed over
 abbrev pub kept_step : ℕ → List Event → Namespace → EventKind → Namespace
-kept_step most before namespace (Ask id request) = namespace
 kept_step most before namespace (Decide id index answer batch) = if nat_le index most then namespace_after (pending id before) namespace answer else namespace
-kept_step most before namespace (Swap index) = namespace
-kept_step most before namespace (Flushed index moment) = namespace
-kept_step most before namespace (Halt node count) = namespace
-kept_step most before namespace (Told client line answer) = namespace
+kept_step most before namespace _ = namespace
 
 unfoldable pub kept_from : ℕ → List Event → Namespace → List Event → Namespace
 kept_from most before namespace [] = namespace

@@ -1,19 +1,24 @@
 -- What reading a script takes, and what writing the text leaves.
-use Rattle.std.specs.Prelude.{◌≡◌, ℕ, ◌≤◌, List, ◌++◌, length, take, drop, Option}
+use Rattle.std.specs.Prelude.{◌≡◌, ℕ, ◌+◌, ◌≤◌, List, ◌++◌, length, take, drop, Option}
 use Rattle.std.specs.Option.{option_map}
+use Rattle.oz_script.specs.declared.grammar.TheConstants.{MOST_BYTES}
 
 -- one byte more than a script may have
 abbrev pub script_limit : ℕ
-script_limit = 1048577
+script_limit = MOST_BYTES + 1
 
--- at most so many bytes were taken from the front of what was left
+-- at most so many bytes were taken from the beginning of what was left
 pub record TakesUpTo (most : ℕ) (before after : Option (List ℕ)) : Type 0 where
   pub count : ℕ
   pub within : count ≤ most
   pub rest : after ≡ option_map (drop count) before
 
--- a front of the bytes was written, perhaps none or all of them
-pub record HoldsFront (bytes : List ℕ) (before after : Option (List ℕ)) : Type 0 where
+-- what was left was read to its end, or to the limit
+abbrev pub IsReadThrough : Option (List ℕ) → Option (List ℕ) → Type 0
+IsReadThrough before after = after ≡ option_map (drop script_limit) before
+
+-- a prefix of the bytes was written, perhaps none or all of them
+pub record HoldsPrefix (bytes : List ℕ) (before after : Option (List ℕ)) : Type 0 where
   pub count : ℕ
   pub within : count ≤ length bytes
   pub held : after ≡ option_map (λ held. held ++ take count bytes) before

@@ -15,5 +15,5 @@ BeginsRun words = (rest : List (List ℕ)) × IsRun (words ++ rest)
 -- The words before this place, from 1, begin a run. With the word there they don't, or there is none and they are no run.
 pub record IsFirstFault (words : List (List ℕ)) (place : ℕ) : Type 0 where
   pub counted : 1 ≤ place
-  pub front : BeginsRun (take (place - 1) words)
+  pub prefix : BeginsRun (take (place - 1) words)
   pub fault : ((place ≤ length words) × ¬ BeginsRun (take place words)) ⊎ ((place ≡ length words + 1) × ¬ IsRun words)

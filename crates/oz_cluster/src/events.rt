@@ -1,3 +1,5 @@
+//! What happens in a run, one event after another.
+
 use oz_fields::List;
 use oz_requests::{Answer, AskId, Reply, Request};
 

@@ -1,4 +1,6 @@
-ghost use Rattle.std.specs.Prelude.{List as Items, ◌≡◌, ◌≤◌, ◌<◌, ◌+◌, ◌^◌, ◌++◌, [], ◌∷◌, ℕ, false, length, vec_len, vec_capacity, is_err, OnOk, OnErr, IsErr};
+//! The manager: it decides what a line asks, makes it stable, and tells the line.
+
+ghost use Rattle.std.specs.Prelude.{List as Items, ◌≡◌, ◌≤◌, ◌<◌, ◌+◌, ◌^◌, ◌++◌, [], ◌∷◌, ℕ, false, length, vec_len, vec_capacity, is_err, IfOk, OnOk, OnErr, IsErr};
 ghost use Rattle.oz_world.specs.Disk.{seen};
 ghost use Rattle.oz_world.specs.Faults.{HasCause};
 ghost use Rattle.oz_cache.specs.Cache.{batched_changes, epoch_after, last_epoch, later, newest, up_to};
@@ -8,21 +10,22 @@ ghost use Rattle.oz_world.specs.Moments.{Elapses, LeavesOnly};
 ghost use Rattle.oz_names.specs.Names.{stripe_of};
 ghost use Rattle.oz_requests.specs.Names.{volume_in};
 ghost use Rattle.oz_tables.specs.Tables.{row_after, row_of};
+ghost use Rattle.oz_rows.specs.Operations.{IsIndex};
+ghost use Rattle.oz_cluster.specs.Body.{body_bytes};
 ghost use Rattle.oz_cluster.specs.Law.{stripe_seat};
 ghost use Rattle.oz_cluster.specs.Serves.{Serves};
 ghost use Rattle.oz_cluster.specs.Steps.{ask_event, decide_event, swap_event, flushed_event, halt_event, told_event};
 
 use crate::asking::{answer_of, request_of};
 use crate::events::{Event, EventKind, Node};
-use crate::rows::framed;
 use oz_cache::{Cached, Prepared};
 use oz_epochs::Steps;
 use oz_fields::{List, OutOfMemory, TryClone};
-use oz_journal::Journal;
+use oz_journal::{Frame, Journal};
 use oz_names::stripe_of as stripe_number;
 use oz_om_bucket::{Decision, decide};
 use oz_requests::{Answer, AskId, Reply, Request};
-use oz_rows::Change;
+use oz_rows::{Change, END_OF_INDEXES, put_head};
 use oz_script::Line;
 use oz_world::{Disk, Failed, Gate, Point};
 use std::alloc::{AllocError, Global};
@@ -36,8 +39,11 @@ const CALLER_SEAT: u16 = 2;
 
 const FIRST_STRIPE_SEAT: u16 = 20;
 
-/// All transaction indexes are below this one, which a journal couldn't hold.
-const END_OF_INDEXES: u64 = 1 << 63;
+/// The most bytes that a decision's operations have.
+const LONGEST_BATCH: usize = 6_304;
+
+/// The most bytes that the journal takes of a body and its frame.
+const LONGEST_FRAME: usize = 4_294_967_300;
 
 /// The manager on one thread: its rows, its journal, and the story so far.
 #[derive(Drop)]
@@ -97,6 +103,20 @@ fn settle_in<L: Ledger>(rows: &mut Cached, index: u64, blank: Blank)
     rows.flushed(index, &mut steps);
 }
 
+/// The body of a batch, framed for the journal.
+fn framed(alloc: Global, index: u64, batch: &[u8]) -> Result<Vec<u8>, OutOfMemory>
+    requires { IsIndex index }
+    ensures body { IfOk result (λ framed. body_of framed.items ≡ body_bytes index batch.now) }
+    ensures size { IfOk result (λ framed. length framed.items ≡ length batch.now + 14) }
+{
+    let mut head = Vec::new(alloc);
+    put_head(alloc, &mut head, index)?;
+    let mut frame = Frame::new(alloc)?;
+    frame.put(&head)?;
+    frame.put(batch)?;
+    frame.framed()
+}
+
 /// A decided write: the index that it has, its body framed for the journal, and its rows.
 #[derive(Drop)]
 struct Planned {
@@ -107,9 +127,7 @@ struct Planned {
 }
 
 impl<D: Disk> Manager<D> {
-    ghost use Rattle.std.specs.Prelude.{IfOk};
     ghost use Rattle.oz_cluster.specs.Manager.{IsSettled, IsUnchanged};
-    ghost use Rattle.oz_cluster.specs.Rows.{body_bytes};
 
     /// Asks for a line, and tells it that the manager has stopped. The room for two events was taken before.
     fn turn_away(&mut self, client: u16, number: u16, request: Request)
@@ -175,13 +193,13 @@ impl<D: Disk> Manager<D> {
         changes: List<Change>,
     ) -> Result<Planned, OutOfMemory>
         requires index { last_epoch self.old.rows < 2 ^ 63 }
-        requires size { length batch ≤ 6304 }
+        requires size { length batch ≤ LONGEST_BATCH }
         ensures index { IfOk result (λ planned. planned.index ≡ last_epoch self.old.rows + 1) }
         ensures limit { IfOk result (λ planned. planned.index < 2 ^ 63) }
         ensures batch { IfOk result (λ planned. planned.batch ≡ batch) }
         ensures body { IfOk result (λ planned. body_of planned.frame.items ≡ body_bytes planned.index batch) }
         ensures least { IfOk result (λ planned. 5 ≤ length planned.frame.items) }
-        ensures most { IfOk result (λ planned. length planned.frame.items ≤ 4_294_967_300) }
+        ensures most { IfOk result (λ planned. length planned.frame.items ≤ LONGEST_FRAME) }
         ensures changes { IfOk result (λ planned. planned.rows ≡ changes) }
         ensures room { IfOk result (λ planned. length planned.rows ≤ self.new.rows.spare) }
         ensures rows { (key : _) → newest self.new.rows key ≡ newest self.old.rows key }
@@ -216,7 +234,7 @@ impl<D: Disk> Manager<D> {
         requires room { vec_len self.old.story < vec_capacity self.old.story }
         requires running { self.old.journal.stopped ≡ false }
         requires least { 5 ≤ length frame.items }
-        requires most { length frame.items ≤ 4_294_967_300 }
+        requires most { length frame.items ≤ LONGEST_FRAME }
         ensures flushed { OnOk result (self.new.story.items ≡ self.old.story.items
             ++ flushed_event index (D.clock self.new.journal.disk) ∷ []) }
         ensures halted { OnErr result (self.new.story.items ≡ self.old.story.items

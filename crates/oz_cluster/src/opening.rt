@@ -1,3 +1,5 @@
+//! Opening the manager over its disk.
+
 ghost use Rattle.std.specs.Prelude.{◌≡◌, ◌≤◌, ◌<◌, ◌+◌, ◌^◌, [], ℕ, List, length, false, Some, IfOk, IfErr, IfSome};
 ghost use Rattle.oz_world.specs.Disk.{IsStable};
 ghost use Rattle.oz_world.specs.Faults.{Rose};

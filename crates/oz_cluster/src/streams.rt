@@ -1,15 +1,19 @@
+//! Reading the script, and writing the report.
+
 ghost use Rattle.std.specs.Prelude.{◌≡◌, ◌≤◌, ◌<◌, ◌+◌, ◌↔◌, ◌++◌, [], ℕ, List, length, take, drop, OnOk, OnErr, IfOk, IfSome, IsErrOf};
 ghost use Rattle.std.specs.Option.{option_map};
 ghost use Rattle.oz_world.specs.Faults.{Rose, HasCause};
-ghost use Rattle.oz_cluster.specs.Streams.{script_limit, TakesUpTo, HoldsFront};
+ghost use Rattle.oz_cluster.specs.Streams.{script_limit, TakesUpTo, IsReadThrough, HoldsPrefix};
 
 use oz_fields::OutOfMemory;
+use oz_script::MOST_BYTES;
 use oz_world::{Failed, Sink, Source};
 use std::alloc::Global;
 
 /// One byte more than a script may have.
-const SCRIPT_LIMIT: usize = 1_048_577;
+const SCRIPT_LIMIT: usize = MOST_BYTES + 1;
 
+/// How much is read at once.
 const PIECE: usize = 65_536;
 
 /// Why a script wasn't read.
@@ -62,6 +66,7 @@ fn read_through<S: Source>(
     ensures bytes { IfOk result (λ text.
         IfSome (S.left source.old) (λ rest. text.items ≡ take script_limit rest)) }
     ensures size { IfOk result (λ text. length text.items ≤ script_limit) }
+    ensures through { IfOk result (λ _. IsReadThrough (S.left source.old) (S.left source.new)) }
     ensures taken { TakesUpTo script_limit (S.left source.old) (S.left source.new) }
     ensures cause { IsErrOf result ReadFault.Failed → Rose (S.faults source.old) (S.faults source.new) }
     ensures never_falls { S.faults source.old ≤ S.faults source.new }
@@ -85,6 +90,7 @@ pub fn read_script<S: Source>(alloc: Global, source: &mut S) -> Result<Vec<u8>, 
     ensures bytes { IfOk result (λ text.
         IfSome (S.left source.old) (λ rest. text.items ≡ take script_limit rest)) }
     ensures size { IfOk result (λ text. length text.items ≤ script_limit) }
+    ensures through { IfOk result (λ _. IsReadThrough (S.left source.old) (S.left source.new)) }
     ensures taken { TakesUpTo script_limit (S.left source.old) (S.left source.new) }
     ensures cause { IsErrOf result ReadFault.Failed → Rose (S.faults source.old) (S.faults source.new) }
     ensures never_falls { S.faults source.old ≤ S.faults source.new }
@@ -98,7 +104,7 @@ pub fn read_script<S: Source>(alloc: Global, source: &mut S) -> Result<Vec<u8>, 
 /// Writes all the bytes.
 pub fn write_all<K: Sink>(out: &mut K, bytes: &[u8]) -> Result<(), Failed>
     ensures ok { OnOk result (K.held out.new ≡ option_map (λ before. before ++ bytes.now) (K.held out.old)) }
-    ensures err { OnErr result (HoldsFront bytes.now (K.held out.old) (K.held out.new)) }
+    ensures err { OnErr result (HoldsPrefix bytes.now (K.held out.old) (K.held out.new)) }
     ensures cause { HasCause (K.faults out.old) (K.faults out.new) result }
 {
     let mut at = 0;

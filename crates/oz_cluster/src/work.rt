@@ -1,3 +1,5 @@
+//! Serving all lines of a script.
+
 ghost use Rattle.std.specs.Prelude.{◌≡◌, ◌≤◌, ◌<◌, ◌^◌, [], ℕ, false, length, OnOk};
 ghost use Rattle.oz_world.specs.Disk.{seen};
 ghost use Rattle.oz_cache.specs.Cache.{newest, last_epoch};

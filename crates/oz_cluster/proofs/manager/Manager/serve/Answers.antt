@@ -5,7 +5,7 @@ use Rattle.oz_requests.specs.declared.answer.Answer.TheVariants as told
 use Rattle.oz_rows.specs.declared.key.RowKey.{RowKey}
 use Rattle.oz_tables.specs.Tables.{row_after}
 use Rattle.oz_cluster.specs.Fits.{request_of, answer_of}
-use Rattle.oz_cluster.specs.Rows.{body_bytes}
+use Rattle.oz_cluster.specs.Body.{body_bytes}
 use Rattle.oz_cluster.specs.Steps.{ask_event, decide_event, swap_event, flushed_event, halt_event, told_event}
 use Rattle.oz_cluster.proofs.Settled.{nothing_left}
 use Rattle.oz_cluster.proofs.Did.{no_bytes, meets_as, did_nothing, did_end, did_make, did_halt}
@@ -20,7 +20,7 @@ returns-then-is_empty-clause-serves g c =
     let size : length c.in_ok-reply.bytes ≡ 0 = grind (arith, nat_tests, c.is_empty.ensures, c.if-is_empty.true, ap length c.items.ensures) in
     let empty : bytes ≡ [] = c.in_ok-reply.bytes-is ∙ no_bytes c.in_ok-reply.bytes size in
     let meets = meets_as (newest self.rows) c.in_ok-request.request (request_of line.command) reply reply bytes [] c.in_ok-reply.field-0.changes [] c.in_ok-request.ensures refl empty (c.in_ok-reply.ensures.recorded.0 empty) c.in_ok-reply.ensures.meets in
-    let answer = c.answer_of-answer.ensures ∙ ap answer_of c.in_ok-copy.ensures in
+    let answer = c.answer_of-answer.ensures ∙ ap answer_of c.in_ok-try_clone.ensures in
     let story = c.tell.ensures.story ∙ ap (λ s. s ++ told_event line.client line.number c.answer_of-answer.result ∷ []) c.record_decision.ensures.story
     ∙ (λ i. ((c.reserve.ensures.items i ++ ask_event line.client line.number (c.in_ok-request.ensures i) ∷ []) ++ decide_event line.client line.number (c.in_ok-request.ensures i) (c.last_epoch-index.ensures i) reply (empty i) ∷ []) ++ told_event line.client line.number (answer i) ∷ []) in
     did_nothing g.D.Disk.told g.D.Disk.clock g.D.Disk.image g.D.Disk.faults line self.rows c.tell.new.self.rows self.story.items c.tell.new.self.story.items self.journal c.tell.new.self.journal reply
@@ -60,7 +60,7 @@ returns-clause-serves g c =
     let changes = c.in_ok-reply.field-0.changes in
     let before = c.record_decision-2.new.self.journal in
     let clock = g.D.Disk.clock c.flush.new.self.journal.disk in
-    let answer = c.answer_of-answer.ensures ∙ ap answer_of c.in_ok-copy.ensures in
+    let answer = c.answer_of-answer.ensures ∙ ap answer_of c.in_ok-try_clone.ensures in
     let some : bytes ≢ [] = λ none. let size : length c.in_ok-reply.bytes ≡ 0 = ap length (sym c.in_ok-reply.bytes-is ∙ none) in grind (arith, nat_tests, c.is_empty.ensures, c.if-is_empty.false, ap length c.items.ensures, size) in
     let meets = meets_as (newest self.rows) c.in_ok-request.request (request_of line.command) reply reply bytes bytes changes changes c.in_ok-request.ensures refl refl refl c.in_ok-reply.ensures.meets in
     let index = c.in_ok-index.ensures.index in

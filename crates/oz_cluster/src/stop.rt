@@ -1,10 +1,12 @@
-ghost use Rattle.std.specs.Prelude.{◌≡◌, ◌⊎◌, ◌≤◌, ◌++◌, [], ℕ, List as Items, Option, map, IfOk, IfErr};
+//! What stops a run before its work, and how the run says so.
+
+ghost use Rattle.std.specs.Prelude.{◌≡◌, ◌⊎◌, ◌≤◌, ℕ, List as Items, Option, map, IfOk, IfErr};
 ghost use Rattle.std.specs.String.{string_bytes};
 ghost use Rattle.oz_world.specs.Faults.{Rose};
-ghost use Rattle.oz_cluster.specs.declared.refusal.Refusal.{Refusal};
-ghost use Rattle.oz_cluster.specs.Refusals.{status_of, text_of, IsScriptOf, IsSo, Says};
+ghost use Rattle.oz_cluster.specs.declared.stop.Stop.{Stop};
+ghost use Rattle.oz_cluster.specs.Stopped.{status_of, text_of, IsScriptOf, IsSo, Reads, Says};
 ghost use Rattle.oz_script.specs.Script.{IsNumbered};
-ghost use Rattle.oz_cluster.specs.Streams.{script_limit, TakesUpTo};
+ghost use Rattle.oz_cluster.specs.Streams.{script_limit, TakesUpTo, IsReadThrough};
 ghost use Rattle.oz_cluster.specs.Words.{IsRun};
 
 use crate::report;
@@ -18,7 +20,7 @@ use std::alloc::Global;
 
 /// What stops a run before its work.
 #[derive(Clone, Copy, Debug, PartialEq, Eq)]
-pub enum Refusal {
+pub enum Stop {
     /// The place, from 1, of the first word of the command line that is wrong.
     Words { place: usize },
     Read,
@@ -30,18 +32,18 @@ pub enum Refusal {
     OutOfMemory,
 }
 
-impl Refusal {
+impl Stop {
     /// How the run ends.
     pub fn status(self) -> Status
         ensures { result ≡ status_of self }
     {
         match self {
-            Refusal::Script { .. } => Status::Script,
-            Refusal::Words { .. } => Status::Words,
-            Refusal::Read => Status::Read,
-            Refusal::Disk => Status::Disk,
-            Refusal::Damaged { .. } => Status::Damaged,
-            Refusal::OutOfMemory => Status::OutOfMemory,
+            Stop::Script { .. } => Status::Script,
+            Stop::Words { .. } => Status::Words,
+            Stop::Read => Status::Read,
+            Stop::Disk => Status::Disk,
+            Stop::Damaged { .. } => Status::Damaged,
+            Stop::OutOfMemory => Status::OutOfMemory,
         }
     }
 
@@ -50,22 +52,14 @@ impl Refusal {
         ensures { IfOk result (λ text. text.items ≡ text_of self) }
     {
         match self {
-            Refusal::Script { line, cause } => report::script_text(alloc, line, cause.text()),
-            Refusal::Words { place } => report::words_text(alloc, place),
-            Refusal::Read => copied(alloc, report::read_fault_text()),
-            Refusal::Disk => copied(alloc, report::disk_fault_text()),
-            Refusal::Damaged { offset } => report::damaged_text(alloc, offset),
-            Refusal::OutOfMemory => copied(alloc, report::out_of_memory_text()),
+            Stop::Script { line, cause } => report::script_text(alloc, line, cause.text()),
+            Stop::Words { place } => report::words_text(alloc, place),
+            Stop::Read => Vec::from_slice(alloc, report::read_fault_text().as_bytes()),
+            Stop::Disk => Vec::from_slice(alloc, report::disk_fault_text().as_bytes()),
+            Stop::Damaged { offset } => report::damaged_text(alloc, offset),
+            Stop::OutOfMemory => Vec::from_slice(alloc, report::out_of_memory_text().as_bytes()),
         }
     }
-}
-
-fn copied(alloc: Global, text: &str) -> Result<Vec<u8>, OutOfMemory>
-    ensures { IfOk result (λ copy. copy.items ≡ text.now) }
-{
-    let mut copy = Vec::new(alloc);
-    copy.extend_from_slice(text.as_bytes())?;
-    Ok(copy)
 }
 
 /// Writes a text, or as much of it as the sink takes.
@@ -80,41 +74,46 @@ pub fn say<K: Sink>(out: &mut K, text: &[u8])
 }
 
 /// Writes why a run was stopped, and answers how it ends.
-pub fn refuse<K: Sink>(alloc: Global, out: &mut K, refusal: Refusal) -> Status
-    ensures said { (why : Refusal) × ((why ≡ refusal) ⊎ (why ≡ Refusal.OutOfMemory)) × (result ≡ status_of why)
+pub fn say_stop<K: Sink>(alloc: Global, out: &mut K, stop: Stop) -> Status
+    ensures said { (why : Stop) × ((why ≡ stop) ⊎ (why ≡ Stop.OutOfMemory)) × (result ≡ status_of why)
         × Says (text_of why) (K.held out.old) (K.held out.new) (Rose (K.faults out.old) (K.faults out.new)) }
     ensures never_falls { K.faults out.old ≤ K.faults out.new }
 {
-    let Ok(text) = refusal.text(alloc) else {
+    let Ok(text) = stop.text(alloc) else {
         say(out, report::out_of_memory_text().as_bytes());
         return Status::OutOfMemory;
     };
     say(out, &text);
-    refusal.status()
+    stop.status()
 }
 
 /// Reads the words, and then the script to its end.
-pub fn begin<S: Source>(alloc: Global, words: &[String], source: &mut S) -> Result<Script, Refusal>
+pub fn begin<S: Source>(alloc: Global, words: &[String], source: &mut S) -> Result<Script, Stop>
     ensures words { IfOk result (λ _. IsRun (map string_bytes words.now)) }
     ensures script { IfOk result (IsScriptOf (S.left source.old)) }
     ensures numbered { IfOk result IsNumbered }
-    ensures so { IfErr result (λ refusal. (disk : Option (Items ℕ)) →
+    ensures so { IfErr result (λ stop. (disk : Option (Items ℕ)) →
         IsSo (map string_bytes words.now) (S.left source.old) disk (Rose (S.faults source.old) (S.faults source.new))
-        ⊥ refusal) }
+        ⊥ stop) }
+    ensures through { IfOk result (λ _. IsReadThrough (S.left source.old) (S.left source.new)) }
+    ensures reads { IfErr result (λ stop. Reads stop (S.left source.old) (S.left source.new)) }
     ensures taken { TakesUpTo script_limit (S.left source.old) (S.left source.new) }
+
+    // Wrong words leave the source as it is.
+    ensures unread { (IsRun (map string_bytes words.now) → ⊥) → source.new ≡ source.old }
     ensures never_falls { S.faults source.old ≤ S.faults source.new }
 {
     if let Err(place) = read_words(words) {
-        return Err(Refusal::Words { place });
+        return Err(Stop::Words { place });
     }
     let text = match read_script(alloc, source) {
         Ok(text) => text,
-        Err(ReadFault::Failed) => return Err(Refusal::Read),
-        Err(ReadFault::OutOfMemory) => return Err(Refusal::OutOfMemory),
+        Err(ReadFault::Failed) => return Err(Stop::Read),
+        Err(ReadFault::OutOfMemory) => return Err(Stop::OutOfMemory),
     };
     match parse(alloc, &text) {
         Ok(script) => Ok(script),
-        Err(ScriptFault::At { line, cause }) => Err(Refusal::Script { line, cause }),
-        Err(ScriptFault::OutOfMemory) => Err(Refusal::OutOfMemory),
+        Err(ScriptFault::At { line, cause }) => Err(Stop::Script { line, cause }),
+        Err(ScriptFault::OutOfMemory) => Err(Stop::OutOfMemory),
     }
 }

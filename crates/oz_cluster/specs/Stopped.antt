@@ -1,8 +1,8 @@
 -- What stops a run before its work: its status, its text, and what is then so.
 use Rattle.std.specs.Prelude.{◌≡◌, ◌⊎◌, ℕ, ◌≤◌, List, [], ◌++◌, length, take, Option, Some, IfSome, Ok, Err}
 use Rattle.std.specs.Option.{option_map}
-use Rattle.oz_cluster.specs.declared.refusal.Refusal.{Refusal}
-use Rattle.oz_cluster.specs.declared.refusal.Refusal.TheVariants.{Words, Read, Script, Disk, Damaged, OutOfMemory}
+use Rattle.oz_cluster.specs.declared.stop.Stop.{Stop}
+use Rattle.oz_cluster.specs.declared.stop.Stop.TheVariants.{Words, Read, Script, Disk, Damaged, OutOfMemory}
 use Rattle.oz_world.specs.Disk.{Seen, Stands}
 use Rattle.oz_world.specs.Faults.{Rose}
 use Rattle.oz_journal.specs.Load.{IsLoadable, IsLeftAlone}
@@ -16,11 +16,11 @@ use Rattle.oz_script.specs.Causes.{cause_text}
 use Rattle.oz_cluster.specs.Opens.{IsDamagedDisk}
 use Rattle.oz_cluster.specs.Report.{words_fault, script_fault, damaged_manager, disk_fault, read_fault, memory_fault}
 use Rattle.oz_script.specs.Script.{script_of}
-use Rattle.oz_cluster.specs.Streams.{script_limit, HoldsFront}
+use Rattle.oz_cluster.specs.Streams.{script_limit, TakesUpTo, IsReadThrough, HoldsPrefix}
 use Rattle.oz_cluster.specs.Words.{IsRun, IsFirstFault}
 
 -- the status that the program ends with
-abbrev pub status_of : Refusal → Status
+abbrev pub status_of : Stop → Status
 status_of (Script line cause) = status.Script
 status_of (Words place) = status.Words
 status_of Read = status.Read
@@ -29,7 +29,7 @@ status_of (Damaged offset) = status.Damaged
 status_of OutOfMemory = status.OutOfMemory
 
 -- the text that is written
-abbrev pub text_of : Refusal → List ℕ
+abbrev pub text_of : Stop → List ℕ
 text_of (Script line cause) = script_fault line (cause_text cause)
 text_of (Words place) = words_fault place
 text_of Read = read_fault
@@ -46,7 +46,7 @@ abbrev pub IsScript : Option (List ℕ) → Type 0
 IsScript left = (script : Lines) × IsScriptOf left script
 
 -- what the words, the script and the manager's disk were where this stopped the run, and whose count of faults rose
-abbrev pub IsSo : List (List ℕ) → Option (List ℕ) → Option (List ℕ) → Type 0 → Type 0 → Refusal → Type 0
+abbrev pub IsSo : List (List ℕ) → Option (List ℕ) → Option (List ℕ) → Type 0 → Type 0 → Stop → Type 0
 IsSo words left disk source_rose disk_rose (Script line cause) = IsRun words × IfSome left (λ text. script_of (take script_limit text) ≡ Err (At line cause))
 IsSo words left disk source_rose disk_rose (Words place) = IsFirstFault words place
 IsSo words left disk source_rose disk_rose Read = IsRun words × source_rose
@@ -54,9 +54,9 @@ IsSo words left disk source_rose disk_rose Disk = IsRun words × IsScript left �
 IsSo words left disk source_rose disk_rose (Damaged offset) = IsRun words × IsScript left × IfSome disk (λ bytes. IsDamagedDisk bytes offset)
 IsSo words left disk source_rose disk_rose OutOfMemory = Unit {0}
 
--- the text was written, or a front of it where the sink failed
+-- the text was written, or a prefix of it where the sink failed
 abbrev pub Says : List ℕ → Option (List ℕ) → Option (List ℕ) → Type 0 → Type 0
-Says text before after rose = (after ≡ option_map (λ held. held ++ text) before) ⊎ (HoldsFront text before after × rose)
+Says text before after rose = (after ≡ option_map (λ held. held ++ text) before) ⊎ (HoldsPrefix text before after × rose)
 
 -- the disk wasn't touched
 pub record IsUntouched (before after : Seen) : Type 0 where
@@ -66,24 +66,34 @@ pub record IsUntouched (before after : Seen) : Type 0 where
 
 -- The disk was loaded or not, and has what it had: more than one byte are as they were, and a stop leaves what it would
 -- have left before, or at most one byte in the place of at most one.
-pub record IsLeft (before after : Seen) : Type 0 where
+pub record IsAtMostLoaded (before after : Seen) : Type 0 where
   pub contents : IfSome before.told (λ bytes. 2 ≤ length bytes → after.told ≡ Some bytes)
   pub images : IfSome before.told (λ bytes. IsLoadable bytes (before.image before.clock) → Spans IsLeftAlone before.clock after.clock before.image after.image)
 
 -- what becomes of the manager's disk where this stops a run
-abbrev pub Spares : Refusal → Seen → Seen → Type 0
+abbrev pub Spares : Stop → Seen → Seen → Type 0
 Spares (Script line cause) before after = IsUntouched before after
 Spares (Words place) before after = IsUntouched before after
 Spares Read before after = IsUntouched before after
-Spares Disk before after = IsLeft before after
-Spares (Damaged offset) before after = IsLeft before after
-Spares OutOfMemory before after = IsLeft before after
+Spares Disk before after = IsAtMostLoaded before after
+Spares (Damaged offset) before after = IsAtMostLoaded before after
+Spares OutOfMemory before after = IsAtMostLoaded before after
+
+-- how much of the source was read where this stops a run
+abbrev pub Reads : Stop → Option (List ℕ) → Option (List ℕ) → Type 0
+Reads (Script line cause) before after = IsReadThrough before after
+Reads (Words place) before after = after ≡ before
+Reads Read before after = TakesUpTo script_limit before after
+Reads Disk before after = IsReadThrough before after
+Reads (Damaged offset) before after = IsReadThrough before after
+Reads OutOfMemory before after = TakesUpTo script_limit before after
 
 -- Something stopped a run before its work. It wrote what that was, no story was told, and the disk lost nothing.
-pub record IsStopped (words : List (List ℕ)) (left : Option (List ℕ)) (disk_before disk_after : Seen) (source_rose : Type 0) (before after : Option (List ℕ)) (sink_rose : Type 0) (story : List Event) (status : Status) : Type 0 where
-  pub refusal : Refusal
-  pub so : IsSo words left disk_before.told source_rose (Rose disk_before.faults disk_after.faults) refusal
-  pub status_is : status ≡ status_of refusal
-  pub said : Says (text_of refusal) before after sink_rose
+pub record IsStopped (words : List (List ℕ)) (left left_after : Option (List ℕ)) (disk_before disk_after : Seen) (source_rose : Type 0) (before after : Option (List ℕ)) (sink_rose : Type 0) (story : List Event) (status : Status) : Type 0 where
+  pub stop : Stop
+  pub so : IsSo words left disk_before.told source_rose (Rose disk_before.faults disk_after.faults) stop
+  pub status_is : status ≡ status_of stop
+  pub said : Says (text_of stop) before after sink_rose
   pub untold : story ≡ []
-  pub spared : Spares refusal disk_before disk_after
+  pub reads : Reads stop left left_after
+  pub spared : Spares stop disk_before disk_after

@@ -1,4 +1,4 @@
--- No rows are sound.
+-- The rows of an empty store are sound.
 use Rattle.std.proofs.Common.{◌≡◌, ℕ, List, [], ◌∷◌, Option, Some, None, arith}
 use Rattle.std.proofs.lemmas.Bool.{false≢true}
 use Rattle.oz_tables.specs.Sound.{AtMost, IsUsing, IsSound}
@@ -19,6 +19,7 @@ none_sound = record {
     key_together = λ volume bucket key block other here there. absurd (cc here.there);
   };
   names = record {
+    one_snapshot = λ volume bucket name number previous other before here there. absurd (cc here);
     one_name = λ volume bucket name another number block has other. absurd (cc has.stands.there);
     open_name = λ volume bucket key name session number block here has. absurd (cc here.there);
     renamed = λ volume bucket name another number owner block has is. absurd (cc has.stands.there);

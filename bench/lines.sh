@@ -1,20 +1,21 @@
 #!/usr/bin/env bash
-# What a line costs that makes a volume, over a folder on a disk: beside the two writes and two syncs that it makes, done
-# bare, and beside a row that SQLite commits by itself.
+# What a line costs that makes a volume, over a folder on a disk: beside the two writes and two syncs that it makes,
+# done bare, and beside a row that SQLite commits by itself.
 #
 # usage: bench/lines.sh [LINES] [ROUNDS] [FOLDER]
 #
-# LINES volumes (200) are made in one run, ROUNDS times (9), each over a fresh folder in FOLDER (data). The four are measured
-# in turn within each round, and the median of each is taken. Printed are the file system, how busy the machine was (load
-# over the last minute, and processors), and in microseconds
+# LINES volumes (100) are made in one run, ROUNDS times (21), each over a fresh folder in FOLDER (data). The four are
+# measured in turn within each round, and the median of each is taken. Printed are the file system, how busy the machine
+# was (load over the last minute, and processors), and in microseconds
 #     line      a line of the program, by a run of LINES lines less a run of none
 #     syncs     two writes and two syncs of a file, as a line makes them
 #     rollback  a row in SQLite, committed by itself, with its own settings (a rollback journal, synchronous full)
 #     wal       the same with its write-ahead log and synchronous full
-# It needs Python 3 with its sqlite3.
+# and then each as a part of the bare syncs of its round, by the median of the rounds. It needs Python 3 with its
+# sqlite3.
 set -euo pipefail
 top=$(dirname "$(dirname "$(readlink -f "${BASH_SOURCE[0]}")")")
-lines=${1:-200} rounds=${2:-9}
+lines=${1:-100} rounds=${2:-21}
 work=$(mktemp -d "${3:-$top/data}/lines.XXXXXX")
 trap 'rm -rf "$work"' EXIT
 if [[ -z ${OZONE_PROGRAM-} ]]; then "$top/ozone" --version >"$work/version"; fi
@@ -78,9 +79,12 @@ for _ in range(rounds):
     for name, measure in measured.items():
         times[name].append(measure() / lines * 1e6)
         shutil.rmtree("disks")
-for name, all_of_it in times.items():
-    print(f"{name} {statistics.median(all_of_it):.0f} (from {min(all_of_it):.0f} to {max(all_of_it):.0f})")
+for name, each in times.items():
+    print(f"{name} {statistics.median(each):.0f} (from {min(each):.0f} to {max(each):.0f})")
+for name, each in times.items():
+    print(f"{name} is {statistics.median(one / bare for one, bare in zip(each, times['syncs'])):.2f} of syncs")
 PYTHON
 
-echo "file system $(stat -f -c %T "$work"), load $(cut -d ' ' -f 1 /proc/loadavg) over $(nproc) processors, $lines lines, $rounds rounds"
+load=$(cut -d ' ' -f 1 /proc/loadavg)
+echo "file system $(stat -f -c %T "$work"), load $load over $(nproc) processors, $lines lines, $rounds rounds"
 python3 "$work/measure.py" "$program" "$work" "$lines" "$rounds"

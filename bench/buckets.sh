@@ -17,7 +17,7 @@ work=$(mktemp -d "${2:-/dev/shm}/buckets.XXXXXX")
 trap 'rm -rf "$work"' EXIT
 
 "$top/ozone" --version >"$work/version"    # proves and builds the program where that is to be done
-program=$top/crates/oz_main/out/oz_main
+program=${OZONE_PROGRAM:-$top/crates/oz_main/out/oz_main}
 counts=(10 20 100 200 900 1000 1010 1024)
 
 script() {

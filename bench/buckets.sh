@@ -1,10 +1,12 @@
 #!/usr/bin/env bash
-# How long a line that makes a bucket takes, where its volume has few buckets and where it has almost all that it may have.
+# How long a line that makes a bucket takes, where its volume has few buckets and where it has almost all that it may
+# have.
 #
 # usage: bench/buckets.sh [ROUNDS] [FOLDER]
 #
-# Each measured run has a fresh folder in FOLDER (/dev/shm, so that no disk is waited for) and a script that makes a volume
-# and so many buckets. The runs are made ROUNDS times (31) in turn, and the median of each is taken. Printed are
+# Each measured run has a fresh folder in FOLDER (/dev/shm, so that no disk is waited for) and a script that makes a
+# volume and so many buckets. The runs are made ROUNDS times (31) in turn, and the median of each is taken. Printed
+# are
 #     run N MICROSECONDS          the whole run that makes N buckets, the program's start included
 #     line FROM TO MICROSECONDS   the difference of two such runs for each of the lines between them
 #     rate N LINES                lines a second over the run that makes N buckets
@@ -15,7 +17,7 @@ work=$(mktemp -d "${2:-/dev/shm}/buckets.XXXXXX")
 trap 'rm -rf "$work"' EXIT
 
 "$top/ozone" --version >"$work/version"    # proves and builds the program where that is to be done
-program=$top/crates/oz_main/out/oz_main
+program=${OZONE_PROGRAM:-$top/crates/oz_main/out/oz_main}
 counts=(10 20 100 200 900 1000 1010 1024)
 
 script() {

@@ -1,0 +1,2 @@
+# A script without a command: the story is empty.
+

@@ -71,7 +71,7 @@ mod tests {
     use std::test::Fail;
 
     /// Bodies, with the body and the place at which they are damaged.
-    const REFUSED: [(&str, &[&str], usize, usize); 22] = [
+    const REFUSED: [(&str, &[&str], usize, usize); 25] = [
         ("a layout of 2", &["020000000000000001"], 0, 0),
         ("no bytes", &[""], 0, 0),
         ("an index of 0", &["01 0000000000000000"], 0, 1),
@@ -218,7 +218,34 @@ mod tests {
             1,
             23,
         ),
+        (
+            "a volume that has a bucket goes, comes and goes",
+            &[
+                "01 0000000000000001 01010004766f6c31 01020004766f6c31000462756331",
+                "01 0000000000000002 02010004766f6c31 01010004766f6c31 02010004766f6c31 01010004766f6c32",
+            ],
+            1,
+            25,
+        ),
+        (
+            "a bucket that has a key goes three times",
+            &[
+                "01 0000000000000001 01010004766f6c31 01020004766f6c31000462756331 01030004766f6c3100046275633100016b00000000000000010000",
+                "01 0000000000000002 02020004766f6c31000462756331 01020004766f6c31000462756331 02020004766f6c31000462756331 01020004766f6c31000462756331 02020004766f6c31000462756331",
+            ],
+            1,
+            65,
+        ),
+        (
+            "a bucket put by the body whose volume goes twice",
+            &[
+                "01 0000000000000001 01010004766f6c31 01020004766f6c31000462756331 02010004766f6c31 01010004766f6c31 02010004766f6c31",
+            ],
+            0,
+            17,
+        ),
     ];
+
     /// Bodies, with the last index and the rows that they make.
     const BUILT: [(&str, &[&str], u64, &[&str]); 12] = [
         ("none", &[], 0, &[]),

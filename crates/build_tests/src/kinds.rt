@@ -1,52 +1,21 @@
 //! The lowest key of each kind.
 
-use oz_fields::Name;
+use oz_fields::{Name, OutOfMemory};
 use oz_rows::RowKey;
-use std::alloc::{AllocError, Global};
+use std::alloc::Global;
 
 /// The lowest key of a kind: names are empty, and numbers 0.
-pub fn lowest(alloc: Global, kind: u8) -> Result<RowKey, AllocError> {
-    let volume = Name::copy(alloc, b"")?;
-    let bucket = Name::copy(alloc, b"")?;
-    let key = Name::copy(alloc, b"")?;
-    Ok(match kind {
-        1 => RowKey::Volume { volume },
-        2 => RowKey::Bucket { volume, bucket },
-        3 => RowKey::Key {
-            volume,
-            bucket,
-            key,
-        },
-        4 => RowKey::Open {
-            volume,
-            bucket,
-            key,
-            number: 0,
-        },
-        5 => RowKey::Deleted {
-            volume,
-            bucket,
-            owner: 0,
-            key,
-            local: 0,
-        },
-        6 => RowKey::Snapshot {
-            volume,
-            bucket,
-            number: 0,
-        },
-        7 => RowKey::SnapshotKey {
-            volume,
-            bucket,
-            snapshot: 0,
-            key,
-        },
-        8 => RowKey::Renamed {
-            volume,
-            bucket,
-            owner: 0,
-            local: 0,
-        },
-        _ => RowKey::Stripe { stripe: 0 },
-    })
+pub fn lowest(alloc: Global, kind: u8) -> Result<RowKey, OutOfMemory> {
+    let none = Name::copy(alloc, b"")?;
+    match kind {
+        1 => RowKey::of_volume(alloc, &none),
+        2 => RowKey::of_bucket(alloc, &none, &none),
+        3 => RowKey::of_key(alloc, &none, &none, &none),
+        4 => RowKey::of_session(alloc, &none, &none, &none, 0),
+        5 => RowKey::of_deleted(alloc, &none, &none, 0, &none, 0),
+        6 => RowKey::of_snapshot(alloc, &none, &none, 0),
+        7 => RowKey::of_snapshot_key(alloc, &none, &none, 0, &none),
+        8 => RowKey::of_renamed(alloc, &none, &none, 0, 0),
+        _ => Ok(RowKey::Stripe { stripe: 0 }),
+    }
 }

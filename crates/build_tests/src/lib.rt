@@ -4,3 +4,4 @@
 mod bodies;
 mod hex;
 mod kinds;
+mod load;

@@ -3,6 +3,7 @@
 
 mod again;
 mod hex;
+mod load;
 mod names;
 mod order;
 mod plain;

@@ -1,3 +1,5 @@
+//! The order of keys.
+
 #[cfg(test)]
 mod tests {
     use crate::hex::bytes_of;

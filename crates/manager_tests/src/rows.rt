@@ -1,3 +1,5 @@
+//! Rows and bodies, read and written.
+
 #[cfg(test)]
 mod tests {
     use crate::again::{body_again, row_again};
@@ -32,6 +34,8 @@ mod tests {
 
     const BUCKET: &[u8] = b"bk1";
 
+    const KEY: &[u8] = b"k";
+
     fn block(container: u64, local: u64) -> Block {
         Block { container, local }
     }
@@ -54,18 +58,32 @@ mod tests {
                 volume,
                 bucket,
                 key,
-            } => kind == 3 && is_path(volume, bucket) && key.bytes() == b"k".as_slice(),
+            } => { kind == 3 && is_path(volume, bucket) && key.bytes() == KEY }
+            RowKey::Snapshot {
+                volume,
+                bucket,
+                number,
+            } => { kind == 6 && is_path(volume, bucket) && *number == 9 }
+            RowKey::Renamed {
+                volume,
+                bucket,
+                owner,
+                local,
+            } => { kind == 8 && is_path(volume, bucket) && *owner == 9 && *local == 5 }
+            RowKey::Stripe { stripe } => kind == 9 && *stripe == 2,
+            _ => is_numbered_key_of(kind, key),
+        }
+    }
+
+    /// The same of the kinds whose keys have a key name and a number.
+    fn is_numbered_key_of(kind: u8, key: &RowKey) -> bool {
+        match key {
             RowKey::Open {
                 volume,
                 bucket,
                 key,
                 number,
-            } => {
-                kind == 4
-                    && is_path(volume, bucket)
-                    && key.bytes() == b"k".as_slice()
-                    && *number == 8
-            }
+            } => { kind == 4 && is_path(volume, bucket) && key.bytes() == KEY && *number == 8 }
             RowKey::Deleted {
                 volume,
                 bucket,
@@ -74,31 +92,15 @@ mod tests {
                 local,
             } => {
                 let numbers = *owner == 0x1_0000_0002 && *local == 5;
-                kind == 5 && is_path(volume, bucket) && numbers && key.bytes() == b"k".as_slice()
+                kind == 5 && is_path(volume, bucket) && numbers && key.bytes() == KEY
             }
-            RowKey::Snapshot {
-                volume,
-                bucket,
-                number,
-            } => kind == 6 && is_path(volume, bucket) && *number == 9,
             RowKey::SnapshotKey {
                 volume,
                 bucket,
                 snapshot,
                 key,
-            } => {
-                kind == 7
-                    && is_path(volume, bucket)
-                    && *snapshot == 9
-                    && key.bytes() == b"k".as_slice()
-            }
-            RowKey::Renamed {
-                volume,
-                bucket,
-                owner,
-                local,
-            } => kind == 8 && is_path(volume, bucket) && *owner == 9 && *local == 5,
-            RowKey::Stripe { stripe } => kind == 9 && *stripe == 2,
+            } => { kind == 7 && is_path(volume, bucket) && *snapshot == 9 && key.bytes() == KEY }
+            _ => false,
         }
     }
 
@@ -308,49 +310,52 @@ mod tests {
         Ok(())
     }
 
+    /// Rows, and the places of their first faults.
+    const FAULTS: [(&str, usize); 17] = [
+        ("", 0),
+        ("00", 0),
+        ("0a", 0),
+        ("01 0002 6162", 1),
+        ("01 0004 766f6c31 00", 7),
+        ("02 0004 766f6c31 0004 612e2e62", 7),
+        ("03 0004 766f6c31 0003 626b31 0009 2e736e617073686f74", 12),
+        ("03 0004 766f6c31 0003 626b31 0001 6b 0000000000000000", 15),
+        (
+            "04 0004 766f6c31 0003 626b31 0001 6b 0000000000000008 0101",
+            23,
+        ),
+        (
+            "04 0004 766f6c31 0003 626b31 0001 6b 0000000000000008 0001 0000000000000000",
+            25,
+        ),
+        (
+            "04 0004 766f6c31 0003 626b31 0001 6b 0000000000000008 0001 4000000000000001",
+            25,
+        ),
+        (
+            "05 0004 766f6c31 0003 626b31 0000000000000000 0001 6b 0000000000000000",
+            23,
+        ),
+        (
+            "05 0004 766f6c31 0003 626b31 0000000000000000 0001 6b 0000000000000005 0000",
+            31,
+        ),
+        (
+            "05 0004 766f6c31 0003 626b31 0000000000000000 0001 6b 0000000000000005 0002 0000000000000001 0000000000000006",
+            41,
+        ),
+        (
+            "06 0004 766f6c31 0003 626b31 0000000000000009 0003 733031 0000000000000000 03",
+            33,
+        ),
+        ("09 10 0000000000000000", 1),
+        ("09 02 0001000000000001", 2),
+    ];
+
     #[test]
     fn the_first_fault_of_a_row(rt: HostRuntime) -> Result<(), Fail> {
         let alloc = rt.alloc();
-        for (text, place) in [
-            ("", 0),
-            ("00", 0),
-            ("0a", 0),
-            ("01 0002 6162", 1),
-            ("01 0004 766f6c31 00", 7),
-            ("02 0004 766f6c31 0004 612e2e62", 7),
-            ("03 0004 766f6c31 0003 626b31 0009 2e736e617073686f74", 12),
-            ("03 0004 766f6c31 0003 626b31 0001 6b 0000000000000000", 15),
-            (
-                "04 0004 766f6c31 0003 626b31 0001 6b 0000000000000008 0101",
-                23,
-            ),
-            (
-                "04 0004 766f6c31 0003 626b31 0001 6b 0000000000000008 0001 0000000000000000",
-                25,
-            ),
-            (
-                "04 0004 766f6c31 0003 626b31 0001 6b 0000000000000008 0001 4000000000000001",
-                25,
-            ),
-            (
-                "05 0004 766f6c31 0003 626b31 0000000000000000 0001 6b 0000000000000000",
-                23,
-            ),
-            (
-                "05 0004 766f6c31 0003 626b31 0000000000000000 0001 6b 0000000000000005 0000",
-                31,
-            ),
-            (
-                "05 0004 766f6c31 0003 626b31 0000000000000000 0001 6b 0000000000000005 0002 0000000000000001 0000000000000006",
-                41,
-            ),
-            (
-                "06 0004 766f6c31 0003 626b31 0000000000000009 0003 733031 0000000000000000 03",
-                33,
-            ),
-            ("09 10 0000000000000000", 1),
-            ("09 02 0001000000000001", 2),
-        ] {
+        for (text, place) in FAULTS {
             let bytes = bytes_of(alloc, text)?;
             assert_eq!(rt; decode_fault(alloc, &bytes)?, Some(place), "{text}");
             assert_eq!(rt; row_fault(&bytes), Some(place), "{text}");

@@ -15,7 +15,7 @@ fn apply_next(alloc: Global, tables: &mut Tables, changes: Vec<Change>) -> Resul
     Ok(())
 }
 
-fn changes_of(alloc: Global, steps: &[(u8, Option<u64>)]) -> Result<Vec<Change>, AllocError> {
+fn stripe_changes(alloc: Global, steps: &[(u8, Option<u64>)]) -> Result<Vec<Change>, AllocError> {
     let mut changes = Vec::new(alloc);
     for (stripe, number) in steps {
         let row = match number {
@@ -44,7 +44,7 @@ fn stripe_of(next: Option<(&RowKey, &Row)>) -> Option<u8> {
 
 #[cfg(test)]
 mod tests {
-    use super::{apply_next, changes_of, number_of, stripe_of};
+    use super::{apply_next, number_of, stripe_changes, stripe_of};
     use oz_fields::Name;
     use oz_rows::{Change, Row, RowKey};
     use oz_tables::Tables;
@@ -65,7 +65,7 @@ mod tests {
         let mut tables = Tables::new(rt.alloc());
         let mut plain = [None; 16];
         for batch in &BATCHES {
-            apply_next(rt.alloc(), &mut tables, changes_of(rt.alloc(), batch)?)?;
+            apply_next(rt.alloc(), &mut tables, stripe_changes(rt.alloc(), batch)?)?;
             for (stripe, number) in batch {
                 plain[(*stripe % 16) as usize] = *number;
             }
@@ -87,7 +87,7 @@ mod tests {
     #[test]
     fn a_kind_ends_where_the_next_begins(rt: HostRuntime) -> Result<(), Fail> {
         let mut tables = Tables::new(rt.alloc());
-        let mut changes = changes_of(rt.alloc(), &[(3, Some(1))])?;
+        let mut changes = stripe_changes(rt.alloc(), &[(3, Some(1))])?;
         changes.push(Change {
             key: RowKey::Volume {
                 volume: Name::copy(rt.alloc(), b"vol1")?,

@@ -1,4 +1,4 @@
--- Cached rows in order, and where keys stand among them.
+-- For private calls: cached rows in order, and where keys stand among them.
 use Rattle.std.specs.Prelude.{◌≡◌, ℕ, ◌<◌, ◌≤◌, List, [], ◌∷◌, Option, None, Some, if◌then◌else◌, nat_lt, length, take, drop, ◌+◌, ◌-◌, Bool, true, false}
 use Rattle.std.specs.List.{AllByRecursion, HoldsAt}
 use Rattle.std.specs.declared.cmp.Ordering.TheVariants.{Less, Equal, Greater}
@@ -56,7 +56,8 @@ after_changes epoch (change ∷ changes) key before =
 -- the same after batches
 abbrev pub after_batches : List Batch → RowKey → Option CachedRow → Option CachedRow
 after_batches [] key before = before
-after_batches (batch ∷ batches) key before = after_batches batches key (after_changes batch.epoch batch.changes key before)
+after_batches (batch ∷ batches) key before =
+    after_batches batches key (after_changes batch.epoch batch.changes key before)
 
 -- a cached row that an epoch after this one wrote
 abbrev pub if_later : ℕ → Option CachedRow → Option CachedRow

@@ -1,4 +1,4 @@
--- Tables, and batches that wait above them.
+-- For private calls: tables, and batches that wait above them.
 use Rattle.std.specs.Prelude.{◌≡◌, ℕ, ◌<◌, ◌≤◌, Bool, false, List, [], ◌∷◌, length, nat_le}
 use Rattle.oz_tables.specs.Tables.{TableView as Tables}
 use Rattle.oz_cache.specs.declared.batch.Batch.{Batch}

@@ -37,7 +37,8 @@ impl Model for Cached {
 
     ghost Value = { CacheView };
 
-    ghost view = { λ c. record { durable = c.pending.durable; entered = c.pending.batches; spare = min c.pending.spare c.newer.spare } };
+    ghost view = { λ c. record { durable = c.pending.durable; entered = c.pending.batches;
+        spare = min c.pending.spare c.newer.spare } };
 
     ghost invariant = { λ c. AreLastOf c.pending.batches c.newer.rows };
 }
@@ -150,8 +151,10 @@ impl Cached {
     /// memory. There is one cached row for each key that was entered; each of them is looked at,
     /// which is one step.
     pub fn flushed<L: Ledger>(&mut self, epoch: u64, steps: &mut Steps<L>)
-        ensures rows { (key : AnyKey) → row_of self.new.durable.rows key ≡ row_after (batched_changes (up_to epoch self.old.entered)) key (row_of self.old.durable.rows key) }
-        ensures last_index { self.new.durable.last_index ≡ epoch_after self.old.durable.last_index (up_to epoch self.old.entered) }
+        ensures rows { (key : AnyKey) → row_of self.new.durable.rows key
+            ≡ row_after (batched_changes (up_to epoch self.old.entered)) key (row_of self.old.durable.rows key) }
+        ensures last_index { self.new.durable.last_index
+            ≡ epoch_after self.old.durable.last_index (up_to epoch self.old.entered) }
         ensures entered { self.new.entered ≡ later epoch self.old.entered }
 
         // To readers nothing changes.

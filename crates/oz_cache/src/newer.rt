@@ -96,7 +96,8 @@ impl Newer {
     /// Enters changes of one epoch in their order.
     pub fn enter(&mut self, epoch: u64, changes: List<Change>)
         requires { length changes ≤ self.old.spare }
-        ensures rows { (key : AnyKey) → found self.new.rows key ≡ after_changes epoch changes key (found self.old.rows key) }
+        ensures rows { (key : AnyKey) → found self.new.rows key
+            ≡ after_changes epoch changes key (found self.old.rows key) }
         ensures spare { self.old.spare ≤ self.new.spare + length changes }
     {
         for change in changes {
@@ -117,7 +118,8 @@ impl Newer {
 
     fn put(&mut self, row: CachedRow)
         requires { 0 < self.old.spare }
-        ensures rows { (key : AnyKey) → found self.new.rows key ≡ (if is_same row.key key then Some row else found self.old.rows key) }
+        ensures rows { (key : AnyKey) → found self.new.rows key
+            ≡ (if is_same row.key key then Some row else found self.old.rows key) }
         ensures spare { self.old.spare ≤ self.new.spare + 1 }
     {
         match self.position(&row.key) {

@@ -96,8 +96,10 @@ impl Pending {
 
     /// Applies the batches up to an epoch to the tables.
     pub fn move_down(&mut self, epoch: u64)
-        ensures rows { (key : AnyKey) → row_of self.new.durable.rows key ≡ row_after (batched_changes (up_to epoch self.old.batches)) key (row_of self.old.durable.rows key) }
-        ensures last_index { self.new.durable.last_index ≡ epoch_after self.old.durable.last_index (up_to epoch self.old.batches) }
+        ensures rows { (key : AnyKey) → row_of self.new.durable.rows key
+            ≡ row_after (batched_changes (up_to epoch self.old.batches)) key (row_of self.old.durable.rows key) }
+        ensures last_index { self.new.durable.last_index
+            ≡ epoch_after self.old.durable.last_index (up_to epoch self.old.batches) }
         ensures batches { self.new.batches ≡ later epoch self.old.batches }
         ensures spare { self.old.spare ≤ self.new.spare }
         ensures rise { EpochsRise self.old.durable.last_index self.old.batches }
@@ -123,8 +125,10 @@ impl Pending {
     /// Applies the first batch.
     fn move_first(&mut self)
         requires { 0 < length self.old.batches }
-        ensures rows { (key : AnyKey) → row_of self.new.durable.rows key ≡ row_after (batched_changes (take 1 self.old.batches)) key (row_of self.old.durable.rows key) }
-        ensures last_index { self.new.durable.last_index ≡ epoch_after self.old.durable.last_index (take 1 self.old.batches) }
+        ensures rows { (key : AnyKey) → row_of self.new.durable.rows key
+            ≡ row_after (batched_changes (take 1 self.old.batches)) key (row_of self.old.durable.rows key) }
+        ensures last_index { self.new.durable.last_index
+            ≡ epoch_after self.old.durable.last_index (take 1 self.old.batches) }
         ensures batches { self.new.batches ≡ drop 1 self.old.batches }
         ensures spare { self.old.spare ≤ self.new.spare }
     {

@@ -18,7 +18,8 @@ pub record AreRows (all : List RowEntry) (rows : Rows) : Type 0 where
 abbrev pub after_changes : List Change → Rows → Rows
 after_changes changes rows key = row_after changes key (rows key)
 
--- Operations may follow these rows, each row has afterwards the one that it needs, and all come to what the changes lead to.
+-- Operations may follow these rows, each row has afterwards the one that it needs, and all come to what the changes
+-- lead to.
 pub record ComesTo (all : List RowEntry) (items : List Operation) (changes : List Change) : Type 0 where
   pub after : List RowEntry
   pub leads : Leads all items after

@@ -59,11 +59,13 @@ IsAtFault after items later operation = ⊥
 -- none of some operations of a body is at fault, where these others stand behind them
 abbrev pub NoneAtFault : List RowEntry → List Operation → List Operation → List Operation → Type 0
 NoneAtFault after items [] behind = Unit {0}
-NoneAtFault after items (operation ∷ operations) behind = (IsAtFault after items (operations ++ behind) operation → ⊥) × NoneAtFault after items operations behind
+NoneAtFault after items (operation ∷ operations) behind =
+    (IsAtFault after items (operations ++ behind) operation → ⊥) × NoneAtFault after items operations behind
 
--- A body may follow these rows: it is in the grammar, its index is above the last, each row that it removes is there, and
--- after it each row has the one that it needs.
-pub record IsNextBody (last : ℕ) (before : List RowEntry) (bytes : List ℕ) (body : Operations) (after : List RowEntry) : Type 0 where
+-- A body may follow these rows: it is in the grammar, its index is above the last, each row that it removes is there,
+-- and after it each row has the one that it needs.
+pub record IsNextBody (last : ℕ) (before : List RowEntry) (bytes : List ℕ) (body : Operations)
+    (after : List RowEntry) : Type 0 where
   pub body_is : IsBody bytes body
   pub rises : last < body.index
   pub leads : Leads before body.items after
@@ -73,7 +75,8 @@ pub record IsNextBody (last : ℕ) (before : List RowEntry) (bytes : List ℕ) (
 unfoldable pub BuildsFrom : List RowEntry → ℕ → List (List ℕ) → List RowEntry → ℕ → Type 0
 BuildsFrom before last [] after index = (after ≡ before) × (index ≡ last)
 BuildsFrom before last (bytes ∷ bodies) after index =
-    (body : Operations) × (between : List RowEntry) × IsNextBody last before bytes body between × BuildsFrom between body.index bodies after index
+    (body : Operations) × (between : List RowEntry) × IsNextBody last before bytes body between
+    × BuildsFrom between body.index bodies after index
 
 -- what the bodies of a journal make
 abbrev pub Builds : List (List ℕ) → List RowEntry → ℕ → Type 0
@@ -89,7 +92,8 @@ HeadFails last bytes place =
 abbrev pub OperationFails : List RowEntry → List ℕ → List ℕ → ℕ → Type 0
 OperationFails all bytes rest place =
     ((left : ℕ) × (operation_at rest ≡ Err left) × (place ≡ length bytes - left))
-    ⊎ ((key : RowKey) × (behind : List ℕ) × (operation_at rest ≡ Ok (Remove key, behind)) × (row_of all key ≡ None) × (place ≡ length bytes - length rest))
+    ⊎ ((key : RowKey) × (behind : List ℕ) × (operation_at rest ≡ Ok (Remove key, behind)) × (row_of all key ≡ None)
+    × (place ≡ length bytes - length rest))
 
 -- behind a good head and operations that may follow each other stands one that fails
 pub record BatchFails (last : ℕ) (before : List RowEntry) (bytes : List ℕ) (place : ℕ) : Type 0 where
@@ -104,7 +108,8 @@ pub record BatchFails (last : ℕ) (before : List RowEntry) (bytes : List ℕ) (
   pub not_over : 1 ≤ length rest
   pub fails : OperationFails between bytes rest place
 
--- all operations may follow each other, and behind some that aren't at fault stands one that is, which begins at the place
+-- all operations may follow each other, and behind some that aren't at fault stands one that is, which begins at the
+-- place
 pub record LeavesOrphan (last : ℕ) (before : List RowEntry) (bytes : List ℕ) (place : ℕ) : Type 0 where
   pub body : Operations
   pub after : List RowEntry
@@ -121,14 +126,16 @@ pub record LeavesOrphan (last : ℕ) (before : List RowEntry) (bytes : List ℕ)
 
 -- a body that may not follow these rows is damaged at this place of its bytes
 abbrev pub IsDamagedBody : ℕ → List RowEntry → List ℕ → ℕ → Type 0
-IsDamagedBody last before bytes place = HeadFails last bytes place ⊎ (BatchFails last before bytes place ⊎ LeavesOrphan last before bytes place)
+IsDamagedBody last before bytes place =
+    HeadFails last bytes place ⊎ (BatchFails last before bytes place ⊎ LeavesOrphan last before bytes place)
 
 -- behind so many good bodies stands one that is damaged at this place of its bytes
 unfoldable pub FailsFrom : List RowEntry → ℕ → List (List ℕ) → ℕ → ℕ → Type 0
 FailsFrom before last [] count place = ⊥
 FailsFrom before last (bytes ∷ bodies) zero place = IsDamagedBody last before bytes place
 FailsFrom before last (bytes ∷ bodies) (suc count) place =
-    (body : Operations) × (between : List RowEntry) × IsNextBody last before bytes body between × FailsFrom between body.index bodies count place
+    (body : Operations) × (between : List RowEntry) × IsNextBody last before bytes body between
+    × FailsFrom between body.index bodies count place
 
 -- the bodies of a journal are damaged at this place of the bytes of this body, counted from 0
 abbrev pub FailsAt : List (List ℕ) → ℕ → ℕ → Type 0

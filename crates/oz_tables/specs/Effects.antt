@@ -22,16 +22,18 @@ gone key = record { key = key; row = None }
 
 -- the same bucket of the same volume
 abbrev pub is_bucket : List ℕ → List ℕ → List ℕ → List ℕ → Bool
-is_bucket volume bucket other_volume other_bucket = is_same (keys.Bucket volume bucket) (keys.Bucket other_volume other_bucket)
+is_bucket volume bucket other_volume other_bucket =
+    is_same (keys.Bucket volume bucket) (keys.Bucket other_volume other_bucket)
 
 -- a key row of the bucket, as the snapshot of this number keeps it
 abbrev pub copied : List ℕ → List ℕ → ℕ → RowKey → Row → List Change
 copied volume bucket number (keys.Key of_volume of_bucket key) (rows.Key made pieces) =
-    if is_bucket volume bucket of_volume of_bucket then put (keys.SnapshotKey volume bucket number key) (rows.SnapshotKey made pieces) ∷ [] else []
+    if is_bucket volume bucket of_volume of_bucket
+    then put (keys.SnapshotKey volume bucket number key) (rows.SnapshotKey made pieces) ∷ [] else []
 copied volume bucket number key row = []
 
--- A deleted or renamed row of one owner goes to another. Of two renamed rows for one block that of the first owner stays,
--- or that of the second where the first is 0.
+-- A deleted or renamed row of one owner goes to another. Of two renamed rows for one block that of the first owner
+-- stays, or that of the second where the first is 0.
 abbrev pub moved : List RowEntry → List ℕ → List ℕ → ℕ → ℕ → RowKey → Row → List Change
 moved all volume bucket from to (keys.Deleted of_volume of_bucket owner key local) row =
     if is_bucket volume bucket of_volume of_bucket && owner == from
@@ -39,14 +41,17 @@ moved all volume bucket from to (keys.Deleted of_volume of_bucket owner key loca
     else []
 moved all volume bucket from to (keys.Renamed of_volume of_bucket owner local) row =
     if is_bucket volume bucket of_volume of_bucket && owner == from
-    then gone (keys.Renamed volume bucket from local) ∷ (if from == 0 && is_some (row_of all (keys.Renamed volume bucket to local)) then [] else put (keys.Renamed volume bucket to local) row ∷ [])
+    then gone (keys.Renamed volume bucket from local)
+    ∷ (if from == 0 && is_some (row_of all (keys.Renamed volume bucket to local)) then []
+    else put (keys.Renamed volume bucket to local) row ∷ [])
     else []
 moved all volume bucket from to key row = []
 
 -- a snapshot key row of this number goes
 abbrev pub dropped : List ℕ → List ℕ → ℕ → RowKey → List Change
 dropped volume bucket number (keys.SnapshotKey of_volume of_bucket snapshot key) =
-    if is_bucket volume bucket of_volume of_bucket && snapshot == number then gone (keys.SnapshotKey volume bucket number key) ∷ [] else []
+    if is_bucket volume bucket of_volume of_bucket && snapshot == number
+    then gone (keys.SnapshotKey volume bucket number key) ∷ [] else []
 dropped volume bucket number key = []
 
 -- an open row of the bucket goes
@@ -70,7 +75,8 @@ is_in_a_key all block = list_any (λ (entry : RowEntry). has_block block entry.r
 abbrev pub freed : List RowEntry → List ℕ → List ℕ → RowKey → Row → List Change
 freed all volume bucket (keys.Open of_volume of_bucket key number) (rows.Open blocks) =
     if is_bucket volume bucket of_volume of_bucket
-    then map (λ (block : Block). put (keys.Deleted volume bucket 0 key block.local) (rows.Deleted (block ∷ []))) (filter (λ block. not (is_in_a_key all block)) blocks)
+    then map (λ (block : Block). put (keys.Deleted volume bucket 0 key block.local) (rows.Deleted (block ∷ [])))
+    (filter (λ block. not (is_in_a_key all block)) blocks)
     else []
 freed all volume bucket key row = []
 
@@ -78,10 +84,15 @@ freed all volume bucket key row = []
 abbrev pub operation_changes : List RowEntry → Operation → List Change
 operation_changes all (Put key row) = put key row ∷ []
 operation_changes all (Remove key) = gone key ∷ []
-operation_changes all (CopyKeys volume bucket number) = flat_map (λ (entry : RowEntry). copied volume bucket number entry.key entry.row) all
-operation_changes all (MoveDeleted volume bucket from to) = if from == to then [] else flat_map (λ (entry : RowEntry). moved all volume bucket from to entry.key entry.row) all
-operation_changes all (DropKeys volume bucket number) = flat_map (λ (entry : RowEntry). dropped volume bucket number entry.key) all
-operation_changes all (DropOpen volume bucket) = flat_map (λ (entry : RowEntry). closed volume bucket entry.key) all ++ flat_map (λ (entry : RowEntry). freed all volume bucket entry.key entry.row) all
+operation_changes all (CopyKeys volume bucket number) =
+    flat_map (λ (entry : RowEntry). copied volume bucket number entry.key entry.row) all
+operation_changes all (MoveDeleted volume bucket from to) =
+    if from == to then [] else flat_map (λ (entry : RowEntry). moved all volume bucket from to entry.key entry.row) all
+operation_changes all (DropKeys volume bucket number) =
+    flat_map (λ (entry : RowEntry). dropped volume bucket number entry.key) all
+operation_changes all (DropOpen volume bucket) =
+    flat_map (λ (entry : RowEntry). closed volume bucket entry.key) all
+    ++ flat_map (λ (entry : RowEntry). freed all volume bucket entry.key entry.row) all
 
 -- the rows after changes: in order, and each key has the row that the changes lead to
 pub record Becomes (before : List RowEntry) (changes : List Change) (after : List RowEntry) : Type 0 where
@@ -97,4 +108,5 @@ IsPossible all operation = Unit {0}
 unfoldable pub Leads : List RowEntry → List Operation → List RowEntry → Type 0
 Leads before [] after = after ≡ before
 Leads before (operation ∷ operations) after =
-    (between : List RowEntry) × IsPossible before operation × Becomes before (operation_changes before operation) between × Leads between operations after
+    (between : List RowEntry) × IsPossible before operation
+    × Becomes before (operation_changes before operation) between × Leads between operations after

@@ -1,4 +1,5 @@
--- The rows whose keys begin with the same fields, which stand together: those of a kind in one volume, or in one bucket.
+-- For private calls: the rows whose keys begin with the same fields, which stand together, as those of a kind in one
+-- volume, or in one bucket.
 use Rattle.std.specs.Prelude.{◌≡◌, ℕ, List, [], ◌∷◌, ◌++◌, length, take}
 use Rattle.std.specs.List.{AllByRecursion}
 use Rattle.std.specs.Ordering.{nat_cmp}

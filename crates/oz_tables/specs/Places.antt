@@ -1,4 +1,4 @@
--- Places of keys among rows in order.
+-- For private calls: places of keys among rows in order.
 use Rattle.std.specs.Prelude.{◌≡◌, ℕ, ◌<◌, ◌≤◌, List, length, take, drop, true, slice_index_or}
 use Rattle.std.specs.List.{AllByRecursion, HoldsAt}
 use Rattle.std.specs.Ordering.{is_le}

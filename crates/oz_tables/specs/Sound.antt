@@ -61,7 +61,8 @@ pub record SnapshotHas (all : Rows) (volume bucket : List ℕ) (number : ℕ) (b
 -- two blocks stand in the same live snapshots of a bucket
 abbrev pub AreTogether : Rows → List ℕ → List ℕ → Block → Block → Type 0
 AreTogether all volume bucket block other =
-    (number : ℕ) (name : List ℕ) → SnapshotHas all volume bucket number block name → (another : List ℕ) × SnapshotHas all volume bucket number other another
+    (number : ℕ) (name : List ℕ) → SnapshotHas all volume bucket number block name
+    → (another : List ℕ) × SnapshotHas all volume bucket number other another
 
 -- An owner that comes behind a snapshot in the chain: a later snapshot, or the bucket itself, which is 0.
 abbrev pub ComesBehind : ℕ → ℕ → Type 0
@@ -71,12 +72,14 @@ ComesBehind number owner = (owner ≡ 0) ⊎ (number < owner)
 pub record IsRename (all : Rows) (volume bucket : List ℕ) (number local owner : ℕ) (name : List ℕ) : Type 0 where
   pub row : all (keys.Renamed volume bucket owner local) ≡ Some (rows.Renamed name)
   pub behind : ComesBehind number owner
-  pub first : (other : ℕ) → ComesBehind number other → IsSome (all (keys.Renamed volume bucket other local)) → other ≢ owner → (owner ≢ 0) × ComesBehind owner other
+  pub first : (other : ℕ) → ComesBehind number other → IsSome (all (keys.Renamed volume bucket other local))
+      → other ≢ owner → (owner ≢ 0) × ComesBehind owner other
 
 -- the block has another name later on: in a later live snapshot, or in the bucket
 abbrev pub IsNamedAnew : Rows → List ℕ → List ℕ → ℕ → Block → List ℕ → Type 0
 IsNamedAnew all volume bucket number block name =
-    ((later : ℕ) × (another : List ℕ) × (number < later) × SnapshotHas all volume bucket later block another × (another ≢ name))
+    ((later : ℕ) × (another : List ℕ) × (number < later) × SnapshotHas all volume bucket later block another
+    × (another ≢ name))
     ⊎ ((another : List ℕ) × StandsIn all block (keys.Key volume bucket another) × (another ≢ name))
 
 -- no two of a list are the same
@@ -93,42 +96,87 @@ abbrev pub IsUsing : Rows → List ℕ → List ℕ → (List ℕ × Option ℕ)
 IsUsing all volume bucket (key, None) = IsSome (all (keys.Key volume bucket key))
 IsUsing all volume bucket (key, Some number) = IsSome (all (keys.Open volume bucket key number))
 
--- Where blocks stand: in the rows of one bucket, and in one row of a key, an open key or a deleted one. A live snapshot's
--- block is kept by a row of a key or of a deleted one. What one row has is in the same live snapshots.
+-- Where blocks stand.
 pub record BlocksAreSound (all : Rows) : Type 0 where
-  pub one_bucket : (block : Block) (key other : RowKey) → StandsIn all block key → StandsIn all block other → bucket_of_row key ≡ bucket_of_row other
-  pub one_home : (block : Block) (key other : RowKey) → IsHome key → IsHome other → StandsIn all block key → StandsIn all block other → key ≡ other
-  pub one_local : (block twin : Block) (key other : RowKey) → StandsIn all block key → StandsIn all twin other → block.local ≡ twin.local → block ≡ twin
-  pub kept : (volume bucket name : List ℕ) (number : ℕ) (block : Block) → SnapshotHas all volume bucket number block name → (key : RowKey) × IsKeeper key × StandsIn all block key
-  pub deleted_together : (volume bucket key : List ℕ) (owner local : ℕ) (block other : Block) → StandsIn all block (keys.Deleted volume bucket owner key local) → StandsIn all other (keys.Deleted volume bucket owner key local) → AreTogether all volume bucket block other
-  pub key_together : (volume bucket key : List ℕ) (block other : Block) → StandsIn all block (keys.Key volume bucket key) → StandsIn all other (keys.Key volume bucket key) → AreTogether all volume bucket block other
+  -- A block stands in the rows of one bucket alone.
+  pub one_bucket : (block : Block) (key other : RowKey)
+      → StandsIn all block key → StandsIn all block other → bucket_of_row key ≡ bucket_of_row other
+  -- Of the rows of keys, of open keys and of deleted keys it stands in one.
+  pub one_home : (block : Block) (key other : RowKey)
+      → IsHome key → IsHome other → StandsIn all block key → StandsIn all block other → key ≡ other
+  -- No two blocks have one local id.
+  pub one_local : (block twin : Block) (key other : RowKey)
+      → StandsIn all block key → StandsIn all twin other → block.local ≡ twin.local → block ≡ twin
+  -- A block of a live snapshot stands in the row of a key or of a deleted key, which keeps it.
+  pub kept : (volume bucket name : List ℕ) (number : ℕ) (block : Block)
+      → SnapshotHas all volume bucket number block name → (key : RowKey) × IsKeeper key × StandsIn all block key
+  -- All blocks of one deleted row stand in the same live snapshots.
+  pub deleted_together : (volume bucket key : List ℕ) (owner local : ℕ) (block other : Block)
+      → StandsIn all block (keys.Deleted volume bucket owner key local)
+      → StandsIn all other (keys.Deleted volume bucket owner key local)
+      → AreTogether all volume bucket block other
+  -- All blocks of one key stand in the same live snapshots.
+  pub key_together : (volume bucket key : List ℕ) (block other : Block)
+      → StandsIn all block (keys.Key volume bucket key) → StandsIn all other (keys.Key volume bucket key)
+      → AreTogether all volume bucket block other
 
--- Under which names blocks stand: in a live snapshot under one, and a block of an open key only under that key. The first
--- rename behind a snapshot has the snapshot's name, and there is one where the block is named anew. Live snapshots of one
--- bucket have different names.
+-- Under which names snapshots and blocks stand.
 pub record NamesAreSound (all : Rows) : Type 0 where
-  pub one_snapshot : (volume bucket name : List ℕ) (number previous other before : ℕ) → all (keys.Snapshot volume bucket number) ≡ Some (rows.Snapshot name previous Live) → all (keys.Snapshot volume bucket other) ≡ Some (rows.Snapshot name before Live) → number ≡ other
-  pub one_name : (volume bucket name another : List ℕ) (number : ℕ) (block : Block) → SnapshotHas all volume bucket number block name → SnapshotHas all volume bucket number block another → name ≡ another
-  pub open_name : (volume bucket key name : List ℕ) (session number : ℕ) (block : Block) → StandsIn all block (keys.Open volume bucket key session) → SnapshotHas all volume bucket number block name → name ≡ key
-  pub renamed : (volume bucket name another : List ℕ) (number owner : ℕ) (block : Block) → SnapshotHas all volume bucket number block name → IsRename all volume bucket number block.local owner another → another ≡ name
-  pub noted : (volume bucket name : List ℕ) (number : ℕ) (block : Block) → SnapshotHas all volume bucket number block name → IsNamedAnew all volume bucket number block name → (owner : ℕ) × (another : List ℕ) × IsRename all volume bucket number block.local owner another
+  -- Live snapshots of one bucket have different names.
+  pub one_snapshot : (volume bucket name : List ℕ) (number previous other before : ℕ)
+      → all (keys.Snapshot volume bucket number) ≡ Some (rows.Snapshot name previous Live)
+      → all (keys.Snapshot volume bucket other) ≡ Some (rows.Snapshot name before Live) → number ≡ other
+  -- A block stands under one name in a live snapshot.
+  pub one_name : (volume bucket name another : List ℕ) (number : ℕ) (block : Block)
+      → SnapshotHas all volume bucket number block name → SnapshotHas all volume bucket number block another
+      → name ≡ another
+  -- A block of an open key stands in live snapshots under that key alone.
+  pub open_name : (volume bucket key name : List ℕ) (session number : ℕ) (block : Block)
+      → StandsIn all block (keys.Open volume bucket key session) → SnapshotHas all volume bucket number block name
+      → name ≡ key
+  -- The first rename of a block behind a live snapshot gives the name that it has there.
+  pub renamed : (volume bucket name another : List ℕ) (number owner : ℕ) (block : Block)
+      → SnapshotHas all volume bucket number block name
+      → IsRename all volume bucket number block.local owner another → another ≡ name
+  -- Where a block of a live snapshot has another name later on, there is a rename behind the snapshot.
+  pub noted : (volume bucket name : List ℕ) (number : ℕ) (block : Block)
+      → SnapshotHas all volume bucket number block name → IsNamedAnew all volume bucket number block name
+      → (owner : ℕ) × (another : List ℕ) × IsRename all volume bucket number block.local owner another
 
--- Numbers were drawn in the stripe of their volume. An owner is a snapshot of the bucket, and a snapshot key has its
--- snapshot.
+-- Which numbers sessions, snapshots and owners have.
 pub record NumbersAreSound (all : Rows) : Type 0 where
-  pub sessions : (volume bucket key : List ℕ) (number : ℕ) → IsSome (all (keys.Open volume bucket key number)) → number ≤ drawn_in (all (keys.Stripe (stripe_of volume)))
-  pub snapshots : (volume bucket : List ℕ) (number : ℕ) → IsSome (all (keys.Snapshot volume bucket number)) → number ≤ drawn_in (all (keys.Stripe (stripe_of volume)))
-  pub deleted : (volume bucket key : List ℕ) (owner local : ℕ) → IsSome (all (keys.Deleted volume bucket owner key local)) → owner ≢ 0 → IsSome (all (keys.Snapshot volume bucket owner))
-  pub renamed : (volume bucket : List ℕ) (owner local : ℕ) → IsSome (all (keys.Renamed volume bucket owner local)) → owner ≢ 0 → IsSome (all (keys.Snapshot volume bucket owner))
-  pub snapshot_keys : (volume bucket key : List ℕ) (number : ℕ) → IsSome (all (keys.SnapshotKey volume bucket number key)) → IsSome (all (keys.Snapshot volume bucket number))
+  -- The number of a session was drawn in the stripe of its volume.
+  pub sessions : (volume bucket key : List ℕ) (number : ℕ)
+      → IsSome (all (keys.Open volume bucket key number)) → number ≤ drawn_in (all (keys.Stripe (stripe_of volume)))
+  -- The number of a snapshot was drawn there too.
+  pub snapshots : (volume bucket : List ℕ) (number : ℕ)
+      → IsSome (all (keys.Snapshot volume bucket number)) → number ≤ drawn_in (all (keys.Stripe (stripe_of volume)))
+  -- The owner of a deleted row is 0 or a snapshot of the bucket.
+  pub deleted : (volume bucket key : List ℕ) (owner local : ℕ)
+      → IsSome (all (keys.Deleted volume bucket owner key local)) → owner ≢ 0
+      → IsSome (all (keys.Snapshot volume bucket owner))
+  -- The owner of a renamed row is 0 or a snapshot of the bucket.
+  pub renamed : (volume bucket : List ℕ) (owner local : ℕ)
+      → IsSome (all (keys.Renamed volume bucket owner local)) → owner ≢ 0
+      → IsSome (all (keys.Snapshot volume bucket owner))
+  -- A snapshot key has its snapshot.
+  pub snapshot_keys : (volume bucket key : List ℕ) (number : ℕ)
+      → IsSome (all (keys.SnapshotKey volume bucket number key)) → IsSome (all (keys.Snapshot volume bucket number))
 
--- How many there are: buckets of a volume, keys and sessions of a bucket, live snapshots of a bucket, keys of each.
+-- How many there may be.
 pub record CountsAreSound (all : Rows) : Type 0 where
+  -- The buckets of a volume keep to their limit.
   pub buckets : (volume : List ℕ) → AtMost MOST_BUCKETS (λ bucket. IsSome (all (keys.Bucket volume bucket)))
+  -- The keys and the sessions of a bucket keep to theirs together.
   pub keys_and_sessions : (volume bucket : List ℕ) → AtMost MOST_KEYS (IsUsing all volume bucket)
+  -- The live snapshots of a bucket keep to theirs.
   pub snapshots : (volume bucket : List ℕ) → AtMost MOST_SNAPSHOTS (IsLive all volume bucket)
-  pub snapshot_keys : (volume bucket : List ℕ) (number : ℕ) → IsLive all volume bucket number → AtMost MOST_KEYS (λ key. IsSome (all (keys.SnapshotKey volume bucket number key)))
+  -- A live snapshot has no more keys than a bucket may have.
+  pub snapshot_keys : (volume bucket : List ℕ) (number : ℕ)
+      → IsLive all volume bucket number
+      → AtMost MOST_KEYS (λ key. IsSome (all (keys.SnapshotKey volume bucket number key)))
 
+-- all of these
 pub record IsSound (all : Rows) : Type 0 where
   pub blocks : BlocksAreSound all
   pub names : NamesAreSound all

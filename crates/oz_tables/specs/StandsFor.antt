@@ -26,7 +26,9 @@ drawn_in row = 0
 
 -- a snapshot of the bucket that isn't marked has this number
 abbrev pub IsLive : Rows → List ℕ → List ℕ → ℕ → Type 0
-IsLive all volume bucket number = (name : List ℕ) × (previous : ℕ) × (all (keys.Snapshot volume bucket number) ≡ Some (rows.Snapshot name previous Live))
+IsLive all volume bucket number =
+    (name : List ℕ) × (previous : ℕ)
+    × (all (keys.Snapshot volume bucket number) ≡ Some (rows.Snapshot name previous Live))
 
 -- the snapshot of a number: its name, and its copy of the keys
 pub record IsSnapshot (all : Rows) (volume bucket : List ℕ) (number : ℕ) (snapshot : Snapshot) : Type 0 where
@@ -37,7 +39,8 @@ pub record IsSnapshot (all : Rows) (volume bucket : List ℕ) (number : ℕ) (sn
 -- one after another, the snapshots of these numbers
 abbrev pub AreSnapshots : Rows → List ℕ → List ℕ → List ℕ → List Snapshot → Type 0
 AreSnapshots all volume bucket [] [] = Unit {0}
-AreSnapshots all volume bucket (number ∷ numbers) (snapshot ∷ snapshots) = IsSnapshot all volume bucket number snapshot × AreSnapshots all volume bucket numbers snapshots
+AreSnapshots all volume bucket (number ∷ numbers) (snapshot ∷ snapshots) =
+    IsSnapshot all volume bucket number snapshot × AreSnapshots all volume bucket numbers snapshots
 AreSnapshots all volume bucket [] (snapshot ∷ snapshots) = ⊥
 AreSnapshots all volume bucket (number ∷ numbers) [] = ⊥
 
@@ -60,13 +63,18 @@ pub record SnapshotsStand (all : Rows) (volume bucket : List ℕ) (snapshots : L
 -- A session is an open row of its number, under its key.
 abbrev pub SessionStands : Rows → Namespace → List ℕ → List ℕ → ℕ → Session → Type 0
 SessionStands all namespace volume bucket number session =
-    (session_of namespace volume bucket number ≡ Some session) ↔ (all (keys.Open volume bucket session.key number) ≡ Some (rows.Open session.blocks))
+    (session_of namespace volume bucket number ≡ Some session)
+    ↔ (all (keys.Open volume bucket session.key number) ≡ Some (rows.Open session.blocks))
 
--- The rows stand for the namespace. Deleted rows, renamed rows, marked snapshots and what these keep are in no namespace.
+-- The rows stand for the namespace. Deleted rows, renamed rows, marked snapshots and what these keep are in no
+-- namespace.
 pub record StandsFor (all : Rows) (namespace : Namespace) : Type 0 where
   pub volumes : (volume : List ℕ) → has_volume namespace volume ≡ is_some (all (keys.Volume volume))
-  pub buckets : (volume bucket : List ℕ) → has_bucket namespace volume bucket ≡ is_some (all (keys.Bucket volume bucket))
-  pub pieces : (volume bucket key : List ℕ) → pieces_of namespace volume bucket key ≡ pieces_in (all (keys.Key volume bucket key))
-  pub sessions : (volume bucket : List ℕ) (number : ℕ) (session : Session) → SessionStands all namespace volume bucket number session
+  pub buckets : (volume bucket : List ℕ)
+      → has_bucket namespace volume bucket ≡ is_some (all (keys.Bucket volume bucket))
+  pub pieces : (volume bucket key : List ℕ)
+      → pieces_of namespace volume bucket key ≡ pieces_in (all (keys.Key volume bucket key))
+  pub sessions : (volume bucket : List ℕ) (number : ℕ) (session : Session)
+      → SessionStands all namespace volume bucket number session
   pub snapshots : (volume bucket : List ℕ) → SnapshotsStand all volume bucket (snapshots_of namespace volume bucket)
   pub stripes : namespace.stripes ≡ map (λ stripe. drawn_in (all (keys.Stripe stripe))) sixteen

@@ -1,4 +1,4 @@
--- What the single steps of building make and find.
+-- For private calls: what the single steps of building make and find.
 use Rattle.std.specs.Prelude.{◌≡◌, ℕ, Bool, true, false, not, ◌&&◌, ◌==◌, ◌+◌, ◌-◌, ◌<◌, ◌≤◌, ◌⊎◌, List, [], ◌∷◌, ◌++◌, length, map, Option, None, Some, is_some, Ok, Err, if◌then◌else◌}
 use Rattle.std.specs.List.{flat_map, list_any}
 use Rattle.std.specs.Ordering.{nat_cmp, ordering_then}
@@ -55,10 +55,12 @@ pub record RemovesNothing (all : List RowEntry) (operation : Operation) : Type 0
 -- each step knows how many bytes were left from its operation on, where so many are left behind all
 abbrev pub AreLeft : ℕ → List Step → Type 0
 AreLeft behind [] = Unit {0}
-AreLeft behind (step ∷ steps) = (step.left ≡ length (batch_bytes (operations_of (step ∷ steps))) + behind) × AreLeft behind steps
+AreLeft behind (step ∷ steps) =
+    (step.left ≡ length (batch_bytes (operations_of (step ∷ steps))) + behind) × AreLeft behind steps
 
 -- operations that were read from the front of the bytes and applied
-pub record StepsLead (before : List RowEntry) (bytes : List ℕ) (steps : List Step) (rest : List ℕ) (after : List RowEntry) : Type 0 where
+pub record StepsLead (before : List RowEntry) (bytes : List ℕ) (steps : List Step) (rest : List ℕ)
+    (after : List RowEntry) : Type 0 where
   pub fit : AreOperations (operations_of steps)
   pub parts : bytes ≡ batch_bytes (operations_of steps) ++ rest
   pub leads : Leads before (operations_of steps) after
@@ -76,7 +78,9 @@ pub record BatchStops (before : List RowEntry) (bytes : List ℕ) (between : Lis
   pub parts : bytes ≡ batch_bytes items ++ rest
   pub leads : Leads before items between
   pub not_over : 1 ≤ length rest
-  pub fails : (operation_at rest ≡ Err left) ⊎ ((key : RowKey) × (behind : List ℕ) × (operation_at rest ≡ Ok (Remove key, behind)) × (row_of between key ≡ None) × (left ≡ length rest))
+  pub fails : (operation_at rest ≡ Err left)
+      ⊎ ((key : RowKey) × (behind : List ℕ) × (operation_at rest ≡ Ok (Remove key, behind)) × (row_of between key ≡ None)
+      × (left ≡ length rest))
 
 -- what a body makes of tables, and their index
 pub record Follows (before : TableView) (bytes : List ℕ) (after : TableView) : Type 0 where
@@ -113,11 +117,14 @@ is_left items base entry = stands_on base entry && not (list_any (puts entry.key
 -- a renamed row of one owner goes to another, unless that one's stays
 abbrev pub renamed_moved : List RowEntry → List ℕ → List ℕ → ℕ → ℕ → ℕ → Row → List Change
 renamed_moved all volume bucket from to local row =
-    gone (keys.Renamed volume bucket from local) ∷ (if from == 0 && is_some (row_of all (keys.Renamed volume bucket to local)) then [] else put (keys.Renamed volume bucket to local) row ∷ [])
+    gone (keys.Renamed volume bucket from local)
+    ∷ (if from == 0 && is_some (row_of all (keys.Renamed volume bucket to local)) then []
+    else put (keys.Renamed volume bucket to local) row ∷ [])
 
 -- a block that does not pass a test gets a deleted row of its own
 abbrev pub freed_block : (Block → Bool) → List ℕ → List ℕ → List ℕ → Block → List Change
-freed_block is_kept volume bucket key block = if is_kept block then [] else put (keys.Deleted volume bucket 0 key block.local) (rows.Deleted (block ∷ [])) ∷ []
+freed_block is_kept volume bucket key block =
+    if is_kept block then [] else put (keys.Deleted volume bucket 0 key block.local) (rows.Deleted (block ∷ [])) ∷ []
 
 -- so does each such block of an open row of the bucket
 abbrev pub freed_but : (Block → Bool) → List ℕ → List ℕ → RowKey → Row → List Change

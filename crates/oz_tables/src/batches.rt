@@ -34,11 +34,13 @@ pub fn a_removal_is_a_batch()
 /// A body of a greater index, with a batch of the rows so far, leads to the rows after its changes. The rows of bodies
 /// have what they need, and keep the rules of the grammar.
 pub fn a_batch_makes_a_body()
-    ensures follows { (bodies : List (List ℕ)) (all : List AnyEntry) (last index : ℕ) (batch : List ℕ) (changes : List AnyChange) →
+    ensures follows { (bodies : List (List ℕ)) (all : List AnyEntry) (last index : ℕ) (batch : List ℕ)
+        (changes : List AnyChange) →
         Builds bodies all last → IsIndex index → last < index → IsBatchOf (row_of all) batch changes →
         (after : List AnyEntry) × Builds (bodies ++ (head_bytes index ++ batch) ∷ []) after index
         × AreRows after (after_changes changes (row_of all)) }
-    ensures based { (bodies : List (List ℕ)) (all : List AnyEntry) (last : ℕ) → Builds bodies all last → AllAreBased all }
+    ensures based { (bodies : List (List ℕ)) (all : List AnyEntry) (last : ℕ) → Builds bodies all last
+        → AllAreBased all }
     ensures fit { (bodies : List (List ℕ)) (all : List AnyEntry) (last : ℕ) → Builds bodies all last →
         (key : AnyKey) (row : AnyRow) → row_of all key ≡ Some row → RowFits key row }
 {}

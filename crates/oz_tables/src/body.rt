@@ -24,7 +24,8 @@ pub(crate) struct Step {
 pub(crate) fn follow(alloc: Global, tables: &mut Tables, bytes: &[u8]) -> Result<(), ReadFault>
     requires { AllAreBased tables.old.rows }
     ensures follows { OnOk result (Follows tables.old bytes.now tables.new) }
-    ensures damaged { IfErr result (IfLeft (λ left. IsDamagedBody tables.old.last_index tables.old.rows bytes.now (length bytes.now - left))) }
+    ensures damaged { IfErr result
+        (IfLeft (λ left. IsDamagedBody tables.old.last_index tables.old.rows bytes.now (length bytes.now - left))) }
 {
     let (index, rest) = rising_head(bytes, tables.last_index())?;
     let steps = batch(alloc, tables, rest)?;

@@ -17,7 +17,8 @@ use std::alloc::Global;
 pub fn build(alloc: Global, bodies: &[Body]) -> Result<Tables, BuildFault>
     ensures built { IfOk result (λ tables. Builds (bodies_in bodies.now) tables.rows tables.last_index) }
     ensures index { IfOk result (λ tables. tables.last_index < END_OF_INDEXES) }
-    ensures damaged { IfErr result (λ fault. (body at : ℕ) → fault ≡ BuildFault.Damaged body at → FailsAt (bodies_in bodies.now) body at) }
+    ensures damaged { IfErr result (λ fault. (body at : ℕ) → fault ≡ BuildFault.Damaged body at
+        → FailsAt (bodies_in bodies.now) body at) }
 {
     let mut tables = Tables::new(alloc);
     for (count, body) in bodies.iter().enumerate() {

@@ -73,7 +73,8 @@ fn copies(
     bucket: &Name,
     number: u64,
 ) -> Result<Vec<Change>, OutOfMemory>
-    ensures { IfOk result (λ changes. changes.items ≡ flat_map (λ entry. copied volume.now bucket.now number entry.key entry.row) rows.now) }
+    ensures { IfOk result (λ changes. changes.items
+        ≡ flat_map (λ entry. copied volume.now bucket.now number entry.key entry.row) rows.now) }
 {
     let mut changes = Vec::new(alloc);
     for entry in rows {
@@ -90,7 +91,8 @@ fn add_copy(
     bucket: &Name,
     number: u64,
 ) -> Result<(), OutOfMemory>
-    ensures { OnOk result (changes.new.items ≡ changes.old.items ++ copied volume.now bucket.now number entry.now.key entry.now.row) }
+    ensures { OnOk result (changes.new.items ≡ changes.old.items
+        ++ copied volume.now bucket.now number entry.now.key entry.now.row) }
 {
     let RowKey::Key {
         volume: of_volume,
@@ -131,7 +133,8 @@ fn moves(
     from: u64,
     to: u64,
 ) -> Result<Vec<Change>, OutOfMemory>
-    ensures { IfOk result (λ changes. changes.items ≡ changed_by tables.now.rows (AnyOperation.MoveDeleted volume.now bucket.now from to)) }
+    ensures { IfOk result (λ changes. changes.items
+        ≡ changed_by tables.now.rows (AnyOperation.MoveDeleted volume.now bucket.now from to)) }
 {
     let mut changes = Vec::new(alloc);
     if from == to {
@@ -172,7 +175,8 @@ fn add_moves(
     from: u64,
     to: u64,
 ) -> Result<(), OutOfMemory>
-    ensures { OnOk result (changes.new.items ≡ changes.old.items ++ flat_map (λ entry. moved tables.now.rows volume.now bucket.now from to entry.key entry.row) rows.now) }
+    ensures { OnOk result (changes.new.items ≡ changes.old.items
+        ++ flat_map (λ entry. moved tables.now.rows volume.now bucket.now from to entry.key entry.row) rows.now) }
 {
     for entry in rows {
         add_moved(alloc, changes, tables, entry, volume, bucket, from, to)?;
@@ -190,7 +194,8 @@ fn add_moved(
     from: u64,
     to: u64,
 ) -> Result<(), OutOfMemory>
-    ensures { OnOk result (changes.new.items ≡ changes.old.items ++ moved tables.now.rows volume.now bucket.now from to entry.now.key entry.now.row) }
+    ensures { OnOk result (changes.new.items ≡ changes.old.items
+        ++ moved tables.now.rows volume.now bucket.now from to entry.now.key entry.now.row) }
 {
     match &entry.key {
         RowKey::Deleted {
@@ -228,7 +233,8 @@ fn add_renamed(
     from: u64,
     to: u64,
 ) -> Result<(), OutOfMemory>
-    ensures { OnOk result (changes.new.items ≡ changes.old.items ++ renamed_moved tables.now.rows volume.now bucket.now from to local row.now) }
+    ensures { OnOk result (changes.new.items ≡ changes.old.items
+        ++ renamed_moved tables.now.rows volume.now bucket.now from to local row.now) }
 {
     let old = RowKey::of_renamed(alloc, volume, bucket, from, local)?;
     let new = RowKey::of_renamed(alloc, volume, bucket, to, local)?;
@@ -271,7 +277,8 @@ fn drops(
     bucket: &Name,
     number: u64,
 ) -> Result<Vec<Change>, OutOfMemory>
-    ensures { IfOk result (λ changes. changes.items ≡ flat_map (λ entry. dropped volume.now bucket.now number entry.key) rows.now) }
+    ensures { IfOk result (λ changes. changes.items
+        ≡ flat_map (λ entry. dropped volume.now bucket.now number entry.key) rows.now) }
 {
     let mut changes = Vec::new(alloc);
     for entry in rows {
@@ -317,7 +324,8 @@ fn closings(
     volume: &Name,
     bucket: &Name,
 ) -> Result<Vec<Change>, OutOfMemory>
-    ensures { IfOk result (λ changes. changes.items ≡ changed_by tables.now.rows (AnyOperation.DropOpen volume.now bucket.now)) }
+    ensures { IfOk result (λ changes. changes.items
+        ≡ changed_by tables.now.rows (AnyOperation.DropOpen volume.now bucket.now)) }
 {
     let sessions = bucket_rows(tables.rows(), 4, volume, bucket);
     let mut changes = Vec::new(alloc);
@@ -366,7 +374,8 @@ fn add_freed(
     volume: &Name,
     bucket: &Name,
 ) -> Result<(), OutOfMemory>
-    ensures { OnOk result (changes.new.items ≡ changes.old.items ++ flat_map (λ entry. freed_but (does_hold kept.now) volume.now bucket.now entry.key entry.row) sessions.now) }
+    ensures { OnOk result (changes.new.items ≡ changes.old.items
+        ++ flat_map (λ entry. freed_but (does_hold kept.now) volume.now bucket.now entry.key entry.row) sessions.now) }
 {
     for entry in sessions {
         add_freed_of(alloc, changes, kept, entry, volume, bucket)?;
@@ -382,7 +391,8 @@ fn add_freed_of(
     volume: &Name,
     bucket: &Name,
 ) -> Result<(), OutOfMemory>
-    ensures { OnOk result (changes.new.items ≡ changes.old.items ++ freed_but (does_hold kept.now) volume.now bucket.now entry.now.key entry.now.row) }
+    ensures { OnOk result (changes.new.items ≡ changes.old.items
+        ++ freed_but (does_hold kept.now) volume.now bucket.now entry.now.key entry.now.row) }
 {
     let RowKey::Open {
         volume: of_volume,
@@ -411,7 +421,8 @@ fn add_blocks(
     bucket: &Name,
     key: &Name,
 ) -> Result<(), OutOfMemory>
-    ensures { OnOk result (changes.new.items ≡ changes.old.items ++ flat_map (freed_block (does_hold kept.now) volume.now bucket.now key.now) blocks.now) }
+    ensures { OnOk result (changes.new.items ≡ changes.old.items
+        ++ flat_map (freed_block (does_hold kept.now) volume.now bucket.now key.now) blocks.now) }
 {
     for block in blocks {
         add_block(alloc, changes, kept, block, volume, bucket, key)?;
@@ -428,7 +439,8 @@ fn add_block(
     bucket: &Name,
     key: &Name,
 ) -> Result<(), OutOfMemory>
-    ensures { OnOk result (changes.new.items ≡ changes.old.items ++ freed_block (does_hold kept.now) volume.now bucket.now key.now block.now) }
+    ensures { OnOk result (changes.new.items ≡ changes.old.items
+        ++ freed_block (does_hold kept.now) volume.now bucket.now key.now block.now) }
 {
     if is_held(kept, block) {
         return Ok(());
@@ -462,7 +474,8 @@ fn blocks_in_keys(alloc: Global, rows: &[RowEntry]) -> Result<BTreeSet<Block>, O
 }
 
 fn keep_blocks(kept: &mut BTreeSet<Block>, row: &Row) -> Result<(), OutOfMemory>
-    ensures { OnOk result ((block : AnyBlock) → does_hold kept.new block ≡ (does_hold kept.old block || does_have block row.now)) }
+    ensures { OnOk result ((block : AnyBlock) → does_hold kept.new block
+        ≡ (does_hold kept.old block || does_have block row.now)) }
 {
     match row {
         Row::Key { pieces, .. } => keep_pieces(kept, pieces.items()),
@@ -471,7 +484,8 @@ fn keep_blocks(kept: &mut BTreeSet<Block>, row: &Row) -> Result<(), OutOfMemory>
 }
 
 fn keep_pieces(kept: &mut BTreeSet<Block>, pieces: &[Piece]) -> Result<(), OutOfMemory>
-    ensures { OnOk result ((block : AnyBlock) → does_hold kept.new block ≡ (does_hold kept.old block || list_any (λ piece. is_same_block block piece.block) pieces.now)) }
+    ensures { OnOk result ((block : AnyBlock) → does_hold kept.new block
+        ≡ (does_hold kept.old block || list_any (λ piece. is_same_block block piece.block) pieces.now)) }
 {
     for piece in pieces {
         keep_block(kept, piece.block)?;
@@ -480,7 +494,8 @@ fn keep_pieces(kept: &mut BTreeSet<Block>, pieces: &[Piece]) -> Result<(), OutOf
 }
 
 fn keep_block(kept: &mut BTreeSet<Block>, block: Block) -> Result<(), OutOfMemory>
-    ensures { OnOk result ((other : AnyBlock) → does_hold kept.new other ≡ (does_hold kept.old other || is_same_block other block)) }
+    ensures { OnOk result ((other : AnyBlock) → does_hold kept.new other
+        ≡ (does_hold kept.old other || is_same_block other block)) }
 {
     kept.insert(block)?;
     Ok(())

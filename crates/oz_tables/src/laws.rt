@@ -16,7 +16,8 @@ pub fn same_keys_are_one()
 /// The bodies of a journal make one thing, or are damaged at one place.
 pub fn bodies_make_one_thing()
     ensures each { (bodies : List (List ℕ)) → AllByRecursion AreBytes bodies
-        → ((all : List AnyEntry) × (index : ℕ) × Builds bodies all index) ⊎ ((count : ℕ) × (place : ℕ) × FailsAt bodies count place) }
+        → ((all : List AnyEntry) × (index : ℕ) × Builds bodies all index)
+        ⊎ ((count : ℕ) × (place : ℕ) × FailsAt bodies count place) }
     ensures one_table { (bodies : List (List ℕ)) (all other : List AnyEntry) (index last : ℕ)
         → Builds bodies all index → Builds bodies other last → (all ≡ other) × (index ≡ last) }
     ensures not_both { (bodies : List (List ℕ)) (all : List AnyEntry) (index count place : ℕ)

@@ -86,7 +86,8 @@ fn base_of(alloc: Global, key: &RowKey, row: &Row) -> Result<Option<RowKey>, Out
 
 /// Whether no later operation removes this row, and a row needs it that none of them all put.
 fn is_last_to_leave(tables: &Tables, steps: &[Step], later: &[Step], base: &RowKey) -> bool
-    ensures { let leaves = LeavesOne tables.now.rows (operations_of steps.now) base.now × (list_any (is_removed_by base.now) (operations_of later.now) ≡ false) in
+    ensures { let leaves = LeavesOne tables.now.rows (operations_of steps.now) base.now
+        × (list_any (is_removed_by base.now) (operations_of later.now) ≡ false) in
         MatchBool result leaves (leaves → ⊥) }
 {
     if !leaves_orphan(tables, steps, base) {

@@ -74,7 +74,9 @@ fn names_order(
     bucket: &Name,
     other_bucket: &Name,
 ) -> Ordering
-    ensures { result ≡ slice_cmp (slice_cmp nat_cmp) ((kind ∷ []) ∷ volume.now ∷ bucket.now ∷ []) ((other_kind ∷ []) ∷ other_volume.now ∷ other_bucket.now ∷ []) }
+    ensures { result
+        ≡ slice_cmp (slice_cmp nat_cmp) ((kind ∷ []) ∷ volume.now ∷ bucket.now ∷ [])
+        ((other_kind ∷ []) ∷ other_volume.now ∷ other_bucket.now ∷ []) }
 {
     let kinds = kind.cmp(&other_kind);
     let volumes = volume.cmp(other_volume);

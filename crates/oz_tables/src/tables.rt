@@ -28,7 +28,11 @@ impl Model for Tables {
 
     ghost Value = { TableView };
 
-    ghost view = { λ t. record { rows = t.entries.items; last_index = t.last_index; spare = vec_capacity t.entries - vec_len t.entries } };
+    ghost view = { λ t. record {
+      rows = t.entries.items;
+      last_index = t.last_index;
+      spare = vec_capacity t.entries - vec_len t.entries;
+    } };
 
     ghost invariant = { λ t. KeysRise t.entries.items };
 }
@@ -96,7 +100,8 @@ impl Tables {
     pub fn apply(&mut self, index: u64, changes: Vec<Change>)
         requires room { length changes.items ≤ self.old.spare }
         requires above { self.old.last_index < index }
-        ensures rows { (key : AnyKey) → row_of self.new.rows key ≡ row_after changes.items key (row_of self.old.rows key) }
+        ensures rows { (key : AnyKey) → row_of self.new.rows key
+            ≡ row_after changes.items key (row_of self.old.rows key) }
         ensures last_index { self.new.last_index ≡ index }
         ensures spare { self.old.spare ≤ self.new.spare + length changes.items }
     {
@@ -122,7 +127,8 @@ impl Tables {
     /// Applies changes in their order, the index left as it is.
     pub(crate) fn enter_all(&mut self, changes: Vec<Change>)
         requires { length changes.items ≤ self.old.spare }
-        ensures rows { (key : AnyKey) → row_of self.new.rows key ≡ row_after changes.items key (row_of self.old.rows key) }
+        ensures rows { (key : AnyKey) → row_of self.new.rows key
+            ≡ row_after changes.items key (row_of self.old.rows key) }
         ensures last_index { self.new.last_index ≡ self.old.last_index }
         ensures spare { self.old.spare ≤ self.new.spare + length changes.items }
     {
@@ -155,7 +161,8 @@ impl Tables {
 
     fn put(&mut self, key: RowKey, row: Row)
         requires { 0 < self.old.spare }
-        ensures rows { (other : AnyKey) → row_of self.new.rows other ≡ (if is_same key other then Some row else row_of self.old.rows other) }
+        ensures rows { (other : AnyKey) → row_of self.new.rows other
+            ≡ (if is_same key other then Some row else row_of self.old.rows other) }
         ensures last_index { self.new.last_index ≡ self.old.last_index }
         ensures spare { self.old.spare ≤ self.new.spare + 1 }
     {
@@ -166,7 +173,8 @@ impl Tables {
     }
 
     fn take_away(&mut self, key: &RowKey)
-        ensures rows { (other : AnyKey) → row_of self.new.rows other ≡ (if is_same key.now other then None else row_of self.old.rows other) }
+        ensures rows { (other : AnyKey) → row_of self.new.rows other
+            ≡ (if is_same key.now other then None else row_of self.old.rows other) }
         ensures last_index { self.new.last_index ≡ self.old.last_index }
         ensures spare { self.old.spare ≤ self.new.spare }
     {

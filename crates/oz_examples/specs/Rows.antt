@@ -113,8 +113,14 @@ first_bucket = record {
 abbrev pub second_bucket : Bucket
 second_bucket = record { keys = from_sorted ((key_a, []) ∷ []); sessions = empty; snapshots = [] }
 
+abbrev pub first_volume : ByName Bucket
+first_volume = from_sorted ((bk1, first_bucket) ∷ (bk2, second_bucket) ∷ [])
+
+abbrev pub second_volume : ByName Bucket
+second_volume = from_sorted ((bk1, new_bucket) ∷ [])
+
 abbrev pub some_namespace : Namespace
 some_namespace = record {
-  volumes = from_sorted ((vol1, from_sorted ((bk1, first_bucket) ∷ (bk2, second_bucket) ∷ [])) ∷ (vol2, from_sorted ((bk1, new_bucket) ∷ [])) ∷ []);
+  volumes = from_sorted ((vol1, first_volume) ∷ (vol2, second_volume) ∷ []);
   stripes = 0 ∷ 0 ∷ 9 ∷ 4 ∷ 0 ∷ 0 ∷ 0 ∷ 0 ∷ 0 ∷ 0 ∷ 0 ∷ 0 ∷ 0 ∷ 0 ∷ 0 ∷ 0 ∷ [];
 }

@@ -20,6 +20,9 @@ is_node_up nodes dn = slice_index_or nodes dn false
 abbrev pub IsUp : List Bool → ℕ → Type 0
 IsUp nodes pipeline = 2 ≤ count_by (is_node_up nodes) (members_of (length nodes) pipeline)
 
+abbrev pub IsAnyUp : List Bool → Type 0
+IsAnyUp nodes = (pipeline : ℕ) × (pipeline < pipelines_of (length nodes)) × IsUp nodes pipeline
+
 -- a pipeline that is there, isn't excluded and is up
 pub record IsFree (nodes : List Bool) (exclude : List ℕ) (pipeline : ℕ) : Type 0 where
   pub known : pipeline < pipelines_of (length nodes)

@@ -1,11 +1,11 @@
 //! The datanodes by their numbers, and the pipelines of three.
 ghost use Rattle.std.specs.Prelude.{◌≡◌, ◌<◌, ◌≤◌, ◌↔◌, length, replicate, slice_set, true, false, IsTrue, IfSome, IfNone, All, ℕ};
-ghost use Rattle.oz_nodes.specs.Pipelines.{pipelines_of, members_of, is_node_up, IsUp, IsFree, IsFirstFree, AreApart};
+ghost use Rattle.oz_nodes.specs.Pipelines.{pipelines_of, members_of, is_node_up, IsUp, IsAnyUp, IsFree, IsFirstFree, AreApart};
 
 use std::marker::Model;
 
-/// Three to sixteen datanodes, numbered from 0, each up or down. To a contract it is the list that tells of each whether
-/// it is up.
+/// Three to sixteen datanodes, numbered from 0, each up or down. To a contract it is the list that tells of each
+/// whether it is up.
 #[derive(Drop)]
 pub struct Nodes {
     up: [bool; MOST],
@@ -95,7 +95,7 @@ impl Nodes {
 
     /// Whether any pipeline is up.
     pub fn any_up(&self) -> bool
-        ensures { IsTrue result ↔ ((pipeline : ℕ) × (pipeline < pipelines_of (length self.now)) × IsUp self.now pipeline) }
+        ensures { IsTrue result ↔ IsAnyUp self.now }
     {
         self.pick(0, &[]).is_some()
     }

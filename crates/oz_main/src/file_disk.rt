@@ -1,3 +1,5 @@
+//! A disk that is a file of the system.
+
 ghost use Rattle.std.specs.Prelude.{◌≡◌, ◌≤◌, ◌<ℤ◌, pos, None, IfOk, IsSomeAnd};
 ghost use Rattle.std.specs.Option.{ForSome};
 ghost use Rattle.std.specs.Fd.{file_raw_fd};
@@ -14,7 +16,7 @@ use std::rt::Files;
 
 /// Where a file lies.
 #[derive(Drop)]
-struct Place<'a, R> {
+struct FilePlace<'a, R> {
     rt: &'a R,
     folder: &'a str,
     path: String,
@@ -25,7 +27,7 @@ struct Place<'a, R> {
 #[derive(Drop)]
 pub struct FileDisk<'a, R> {
     /// None where there is no such file, and once it was opened.
-    place: Option<Place<'a, R>>,
+    place: Option<FilePlace<'a, R>>,
     /// None before the file is opened, and where it can't be. Then each call fails.
     file: Option<File>,
     clock: u64,
@@ -58,7 +60,7 @@ impl<'a, R: Files<File = File>> FileDisk<'a, R> {
         ensures faults { result.faults ≡ 0 }
     {
         FileDisk {
-            place: Some(Place { rt, folder, path }),
+            place: Some(FilePlace { rt, folder, path }),
             file: None,
             clock: 0,
             faults: 0,
@@ -233,6 +235,34 @@ mod tests {
         drop(first);
         assert!(rt; matches!(third.len(), Ok(3)));
         remove_file(&rt, "manager")?;
+        Ok(())
+    }
+
+    /// Bytes stand where they were written, also once the file was closed, and a cut leaves those before it.
+    #[test]
+    fn bytes_stand_where_they_were_written(rt: HostRuntime) -> Result<(), Fail> {
+        let alloc = rt.alloc();
+        let mut disk = disk_at(&rt, String::from_str(alloc, "places")?);
+        assert!(rt; disk.cut(0).is_ok());
+        assert!(rt; disk.write_at(0, b"abcdef").is_ok());
+        assert!(rt; disk.write_at(4, b"XYZ").is_ok());
+        assert!(rt; matches!(disk.len(), Ok(7)));
+        assert!(rt; disk.cut(6).is_ok());
+        assert!(rt; disk.sync().is_ok());
+        assert_eq!(rt; disk.clock(), 5);
+        drop(disk);
+        let mut again = disk_at(&rt, String::from_str(alloc, "places")?);
+        assert!(rt; matches!(again.len(), Ok(6)));
+        let mut bytes = [0u8; 4];
+        assert!(rt; again.read_at(2, &mut bytes).is_ok());
+        assert_eq!(rt; bytes, *b"cdXY");
+        assert!(rt; again.read_at(0, &mut bytes).is_ok());
+        assert_eq!(rt; bytes, *b"abcd");
+        assert_eq!(rt; again.faults(), 0);
+        assert!(rt; again.read_at(3, &mut bytes).is_err());
+        assert_eq!(rt; again.faults(), 1);
+        drop(again);
+        remove_file(&rt, "places")?;
         Ok(())
     }
 }

@@ -1,8 +1,11 @@
+//! The disks of a folder.
+
 ghost use Rattle.std.specs.Prelude.{List, ℕ, ◌≡◌, ◌<◌, [], ◌∷◌, ◌++◌, None, map, length, codes, vec_len, IfOk, IsSomeAnd};
 ghost use Rattle.std.specs.String.{string_bytes};
 ghost use Rattle.oz_cluster.specs.Words.{IsRun};
 
 use crate::FileDisk;
+use oz_cluster::laws::words_of_a_run_have_no_fault;
 use oz_cluster::run::{Disks, NodeDisks};
 use oz_cluster::words::{Words, read_words};
 use oz_world::OutOfMemory;
@@ -45,6 +48,7 @@ fn manager_for<'a, R: Files<File = File>>(
         (place.folder.now ≡ dir) × (string_bytes place.path ≡ dir ++ codes "/manager"))) }
     ensures unopened { IfOk result (λ disk. disk.file ≡ None) }
 {
+    words_of_a_run_have_no_fault();
     match read_words(words) {
         Ok(Words::Run { dir }) => manager_in(rt, alloc, &words[dir]),
         Err(_) => Ok(FileDisk::without_file()),

@@ -1,7 +1,7 @@
 //! `ozone`, the program: its words, real files for disks, and the standard streams.
 #![tactic(auto)]
 
-ghost use Rattle.std.specs.Prelude.{◌≡◌, ◌≤◌, map, IfOk};
+ghost use Rattle.std.specs.Prelude.{◌≡◌, ◌≤◌, map, IfOk, OnErr};
 ghost use Rattle.std.specs.String.{string_bytes};
 ghost use Rattle.oz_cluster.specs.Words.{IsRun};
 
@@ -12,7 +12,9 @@ mod streams;
 
 use file_disk::FileDisk;
 use folder::{disks_for, let_go};
+use oz_cluster::laws::words_of_a_run_have_no_fault;
 use oz_cluster::run::{Ended, run};
+use oz_cluster::status::Status;
 use oz_world::{OpenGate, OutOfMemory};
 use std::alloc::AllocGlobal;
 use std::fs::File;
@@ -20,7 +22,7 @@ use std::io::{Stdin, Stdout};
 use std::process::ExitCode;
 use std::rt::{Env, Files};
 use std::sync::Wait;
-use streams::{StdinSource, StdoutSink, take_places};
+use streams::{StdinSource, StdoutSink, take_closed_streams};
 
 const HELP: &str = "usage: ozone run DIR
 Runs the script on standard input over the disks in the folder DIR, and prints the report.
@@ -29,8 +31,6 @@ DIR must be there.
 
 const VERSION: &str = "ozone 0.1.0
 ";
-
-const OUT_OF_MEMORY: u8 = 7;
 
 /// Runs the script over the disks in the folder that the words name, and answers the program's status.
 fn serve<R: Wait + AllocGlobal + Files<File = File>>(
@@ -43,7 +43,8 @@ fn serve<R: Wait + AllocGlobal + Files<File = File>>(
     ensures refused { IfOk result (λ status. status ≡ 2 → IsRun (map string_bytes words.now) → ⊥) }
     ensures served { IfOk result (λ status. status ≡ 0 → IsRun (map string_bytes words.now)) }
 {
-    let _places = take_places(rt);
+    words_of_a_run_have_no_fault();
+    let _closed = take_closed_streams(rt);
     let disks = disks_for(rt, rt.alloc(), words)?;
     let mut source = StdinSource::new(stdin);
     let mut out = StdoutSink::new(stdout);
@@ -80,9 +81,17 @@ fn start<R: Wait + AllocGlobal + Env + Files<File = File>>(
     }
 }
 
-fn main(rt: HostRuntime) -> ExitCode {
-    match start(&rt, rt.stdin(), rt.stdout()) {
-        Ok(status) => ExitCode::from(status),
-        Err(_) => ExitCode::from(OUT_OF_MEMORY),
+/// The status that the program ends with.
+fn exit_status(started: Result<u8, OutOfMemory>) -> u8
+    ensures started { IfOk started (λ status. result ≡ status) }
+    ensures no_memory { OnErr started (result ≡ 7) }
+{
+    match started {
+        Ok(status) => status,
+        Err(_) => Status::OutOfMemory.number(),
     }
+}
+
+fn main(rt: HostRuntime) -> ExitCode {
+    ExitCode::from(exit_status(start(&rt, rt.stdin(), rt.stdout())))
 }

@@ -1,3 +1,5 @@
+//! Standard input and standard output.
+
 ghost use Rattle.std.specs.Prelude.{◌≡◌, ◌≤◌, ◌⊎◌, None};
 ghost use Rattle.oz_world.specs.Calls.{raised};
 
@@ -88,7 +90,7 @@ impl Sink for StdoutSink {
 
 /// What stands in the place of standard streams that are closed.
 #[derive(Drop)]
-pub struct Places {
+pub struct ClosedStreams {
     input: Option<File>,
     output: Option<File>,
     errors: Option<File>,
@@ -96,8 +98,8 @@ pub struct Places {
 
 /// Takes the places of the standard streams that are closed, so that no file that is opened later is
 /// taken for one. A folder can be neither read nor written, so those streams fail.
-pub fn take_places<R: Files<File = File>>(rt: &R) -> Places {
-    Places {
+pub fn take_closed_streams<R: Files<File = File>>(rt: &R) -> ClosedStreams {
+    ClosedStreams {
         input: File::open(rt, "/").ok(),
         output: File::open(rt, "/").ok(),
         errors: File::open(rt, "/").ok(),

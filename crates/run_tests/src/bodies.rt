@@ -1,3 +1,5 @@
+//! Bodies that a run finds on its disk, good and damaged.
+
 #[cfg(test)]
 mod tests {
     use crate::hex::disk_with;

@@ -1,3 +1,5 @@
+//! Buckets in whole runs.
+
 #[cfg(test)]
 mod tests {
     use crate::hex::disk_with;

@@ -3,8 +3,11 @@
 
 mod bodies;
 mod buckets;
+mod gates;
 #[cfg(test)]
 mod hex;
+#[cfg(test)]
+mod limits;
 #[cfg(test)]
 mod memory_run;
 mod report;

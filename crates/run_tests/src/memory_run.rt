@@ -1,12 +1,13 @@
 //! Runs over streams and disks in memory.
 
 use oz_cluster::run::{Disks, run};
-use oz_world::{MemoryDisk, MemorySink, MemorySource, OpenGate, OutOfMemory};
+use oz_world::{Gate, MemoryDisk, MemorySink, MemorySource, OpenGate, OutOfMemory};
 use std::alloc::Global;
 use std::process::Abort;
 use std::sync::Wait;
 
-const ROOM: u64 = 65_536;
+/// The most bytes that a disk holds.
+const ROOM: u64 = 1_048_576;
 
 /// A disk with the volume `vol1`, of index 1.
 pub const ONE: [u8; 23] = [
@@ -15,13 +16,13 @@ pub const ONE: [u8; 23] = [
 
 /// The numbers, from 1, of the calls that fail, and 0 where none does.
 #[derive(Clone, Copy)]
-pub struct Fails {
+pub struct FailingCalls {
     pub source: u64,
     pub sink: u64,
     pub disk: u64,
 }
 
-pub const NEVER: Fails = Fails {
+pub const NEVER: FailingCalls = FailingCalls {
     source: 0,
     sink: 0,
     disk: 0,
@@ -56,7 +57,19 @@ pub fn runs<R: Wait + AllocGlobal>(
     words: &str,
     script: &[u8],
     disk: &[u8],
-    fails: Fails,
+    fails: FailingCalls,
+) -> Result<Left, OutOfMemory> {
+    runs_past(rt, &OpenGate, words, script, disk, fails)
+}
+
+/// The same, where the run passes this gate.
+pub fn runs_past<R: Wait + AllocGlobal, G: Gate>(
+    rt: &R,
+    gate: &G,
+    words: &str,
+    script: &[u8],
+    disk: &[u8],
+    fails: FailingCalls,
 ) -> Result<Left, OutOfMemory> {
     let alloc = rt.alloc();
     let words = words_of(alloc, words)?;
@@ -67,7 +80,7 @@ pub fn runs<R: Wait + AllocGlobal>(
         scm: disk_of(alloc, &[], 0)?,
         nodes: Vec::new(alloc),
     };
-    let ended = run(rt, alloc, &words, &mut source, &mut out, disks, &OpenGate);
+    let ended = run(rt, alloc, &words, &mut source, &mut out, disks, gate);
     Ok(Left {
         status: ended.status,
         text: String::from_utf8_lossy(alloc, out.held())?,
@@ -94,7 +107,7 @@ pub fn leaves<R: Wait + Abort + AllocGlobal>(
     words: &str,
     script: &[u8],
     disk: &[u8],
-    fails: Fails,
+    fails: FailingCalls,
     wanted: (u8, &str, &[u8]),
 ) -> Result<(), OutOfMemory> {
     let alloc = rt.alloc();

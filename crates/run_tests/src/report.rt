@@ -1,3 +1,5 @@
+//! The texts that a run writes.
+
 #[cfg(test)]
 mod tests {
     use oz_cluster::events::{Event, EventKind};

@@ -1,6 +1,8 @@
+//! Volumes in whole runs, wrong words and scripts, damaged disks, and calls that fail.
+
 #[cfg(test)]
 mod tests {
-    use crate::memory_run::{Fails, NEVER, ONE, leaves, runs, writes};
+    use crate::memory_run::{FailingCalls, NEVER, ONE, leaves, runs, writes};
     use oz_world::OutOfMemory;
     use std::process::Abort;
     use std::sync::Wait;
@@ -196,7 +198,7 @@ mod tests {
     #[test]
     fn a_source_that_fails(rt: HostRuntime) -> Result<(), Fail> {
         for call in [1, 2] {
-            let fails = Fails {
+            let fails = FailingCalls {
                 source: call,
                 ..NEVER
             };
@@ -217,7 +219,7 @@ mod tests {
 
     #[test]
     fn a_sink_that_fails(rt: HostRuntime) -> Result<(), Fail> {
-        let fails = Fails { sink: 1, ..NEVER };
+        let fails = FailingCalls { sink: 1, ..NEVER };
         let script = b"a volume create /vol1\n";
         for (words, script, disk, status, kept) in [
             ("run,.", script.as_slice(), [].as_slice(), 4, ONE.as_slice()),
@@ -228,7 +230,7 @@ mod tests {
         ] {
             leaves(&rt, words, script, disk, fails, (status, "", kept))?;
         }
-        let both = Fails { disk: 7, ..fails };
+        let both = FailingCalls { disk: 7, ..fails };
         leaves(&rt, "run,.", script, &[], both, (4, "", &ONE))?;
         Ok(())
     }
@@ -244,7 +246,7 @@ mod tests {
             (2, &ONE, &ONE),
             (3, &ONE, &ONE),
         ] {
-            let fails = Fails {
+            let fails = FailingCalls {
                 disk: call,
                 ..NEVER
             };
@@ -281,7 +283,7 @@ mod tests {
             (6, "VOLUME_NOT_FOUND"),
             (7, "OK"),
         ] {
-            let fails = Fails {
+            let fails = FailingCalls {
                 disk: call,
                 ..NEVER
             };

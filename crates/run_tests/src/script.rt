@@ -1,3 +1,5 @@
+//! Names, codes and words.
+
 #[cfg(test)]
 mod tests {
     use oz_cluster::words::{Words, read_words};

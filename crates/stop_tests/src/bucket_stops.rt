@@ -1,7 +1,9 @@
+//! Disks that fail while volumes and buckets are made.
+
 #[cfg(test)]
 mod tests {
     use crate::memory_run::{
-        Fails, LAST_CALL, NEVER, WRITES, holds, runs, told_before, told_or_decided,
+        FailingCalls, LAST_CALL, NEVER, WRITES, holds, runs, told_before, told_or_decided,
     };
     use oz_world::{MemoryDisk, OutOfMemory};
     use std::alloc::Global;
@@ -122,7 +124,7 @@ mod tests {
         disk: &[u64],
     ) -> Result<(), OutOfMemory> {
         let script = script_of(rt.alloc(), WRITES)?;
-        let left = runs(rt, &script, &[], Fails { disk, ..NEVER })?;
+        let left = runs(rt, &script, &[], FailingCalls { disk, ..NEVER })?;
         let told = told_before(call);
         let status = if call <= LAST_CALL { 5 } else { 0 };
         holds(rt, left.status == status, "status", call);

@@ -1,3 +1,5 @@
+//! Disks whose bytes are damaged.
+
 #[cfg(test)]
 mod tests {
     use oz_cluster::run::{Disks, run};

@@ -1,8 +1,10 @@
+//! Sources, sinks and disks that fail.
+
 ghost use Rattle.std.specs.Prelude.{◌<◌};
 
 #[cfg(test)]
 mod tests {
-    use crate::memory_run::{Fails, Left, NEVER, holds, keeps, runs};
+    use crate::memory_run::{FailingCalls, Left, NEVER, holds, keeps, runs};
     use oz_world::OutOfMemory;
     use std::process::Abort;
     use std::sync::Wait;
@@ -94,7 +96,7 @@ mod tests {
     /// The script over an empty disk whose call number `call` fails. The answer is what it left.
     fn fails_at<R: Wait + AllocGlobal>(rt: &R, call: u64) -> Result<Left, OutOfMemory> {
         let disk = &[call];
-        runs(rt, SCRIPT, &[], Fails { disk, ..NEVER })
+        runs(rt, SCRIPT, &[], FailingCalls { disk, ..NEVER })
     }
 
     #[test]
@@ -133,12 +135,12 @@ mod tests {
         script.extend_from_slice(b"\na volume create /va1\n")?;
         for call in 1..=5 {
             let source = &[call];
-            let left = runs(&rt, &script, &[], Fails { source, ..NEVER })?;
+            let left = runs(&rt, &script, &[], FailingCalls { source, ..NEVER })?;
             ended(&rt, &left, (3, "read fault\n", &[]), call);
             holds(&rt, left.disk.bytes().is_empty(), "disk", call);
         }
         let source = &[6];
-        let left = runs(&rt, &script, &[], Fails { source, ..NEVER })?;
+        let left = runs(&rt, &script, &[], FailingCalls { source, ..NEVER })?;
         let text = "story 1\nd 1 1 1 CreateVolume OK\nt 1 1 OK\nend 1 of 1\n";
         ended(&rt, &left, (0, text, &[0]), 6);
         Ok(())
@@ -149,7 +151,7 @@ mod tests {
     fn the_story_is_whole_where_the_sink_fails(rt: HostRuntime) -> Result<(), Fail> {
         for (call, status, text) in [(1, 4, ""), (2, 0, REPORTS[3])] {
             let sink = &[call];
-            let left = runs(&rt, SCRIPT, &[], Fails { sink, ..NEVER })?;
+            let left = runs(&rt, SCRIPT, &[], FailingCalls { sink, ..NEVER })?;
             ended(&rt, &left, (status, text, &ANSWERS[3]), call);
             keeps(&rt, &left.disk, (3, 3), 3, call)?;
         }
@@ -159,7 +161,7 @@ mod tests {
     #[test]
     fn the_source_and_the_sink_failing(rt: HostRuntime) -> Result<(), Fail> {
         for call in [1, 2] {
-            let fails = Fails {
+            let fails = FailingCalls {
                 source: &[call],
                 sink: &[1],
                 ..NEVER
@@ -175,7 +177,7 @@ mod tests {
     #[test]
     fn the_disk_and_the_sink_failing(rt: HostRuntime) -> Result<(), Fail> {
         for call in 1..=15 {
-            let fails = Fails {
+            let fails = FailingCalls {
                 sink: &[1],
                 disk: &[call],
                 ..NEVER

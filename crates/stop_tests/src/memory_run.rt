@@ -1,3 +1,5 @@
+//! Runs over streams and disks in memory, and what a stop leaves of them.
+
 use oz_cluster::events::{Event, EventKind};
 use oz_cluster::run::{Disks, Ended, run};
 use oz_world::{MemoryDisk, MemorySink, MemorySource, OpenGate, OutOfMemory};
@@ -9,13 +11,13 @@ const ROOM: u64 = 4096;
 
 /// The numbers, from 1, of the calls that fail.
 #[derive(Clone, Copy)]
-pub struct Fails<'a> {
+pub struct FailingCalls<'a> {
     pub source: &'a [u64],
     pub sink: &'a [u64],
     pub disk: &'a [u64],
 }
 
-pub const NEVER: Fails<'static> = Fails {
+pub const NEVER: FailingCalls<'static> = FailingCalls {
     source: &[],
     sink: &[],
     disk: &[],
@@ -46,7 +48,7 @@ pub fn runs<R: Wait + AllocGlobal>(
     rt: &R,
     script: &[u8],
     disk: &[u8],
-    fails: Fails,
+    fails: FailingCalls,
 ) -> Result<Left, OutOfMemory> {
     let alloc = rt.alloc();
     let words = vec![in alloc;

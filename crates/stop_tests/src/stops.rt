@@ -1,7 +1,9 @@
+//! Disks that fail at a call, or from a call on, and what they leave.
+
 #[cfg(test)]
 mod tests {
     use crate::memory_run::{
-        Fails, LAST_CALL, NEVER, WRITES, finds, holds, keeps, lines, runs, told_before,
+        FailingCalls, LAST_CALL, NEVER, WRITES, finds, holds, keeps, lines, runs, told_before,
         told_or_decided,
     };
     use oz_world::OutOfMemory;
@@ -34,7 +36,7 @@ mod tests {
     ) -> Result<(), OutOfMemory> {
         let alloc = rt.alloc();
         let script = lines(alloc, "create", WRITES)?;
-        let left = runs(rt, &script, &[], Fails { disk, ..NEVER })?;
+        let left = runs(rt, &script, &[], FailingCalls { disk, ..NEVER })?;
         let told = told_before(call);
         let wanted = if call < 4 {
             Vec::new(alloc)
@@ -83,7 +85,7 @@ mod tests {
             (7, 2, 0),
         ] {
             let disk = &[call];
-            let left = runs(&rt, &script, &[], Fails { disk, ..NEVER })?;
+            let left = runs(&rt, &script, &[], FailingCalls { disk, ..NEVER })?;
             let bytes = left.disk.image(alloc, choice)?;
             holds(&rt, finds(&rt, &bytes, found, 1)?, "what is found", call);
         }
@@ -151,7 +153,7 @@ mod tests {
     ) -> Result<(), OutOfMemory> {
         let disk = &[call];
         let script = b"a volume create /va1\n";
-        let left = runs(rt, script, old, Fails { disk, ..NEVER })?;
+        let left = runs(rt, script, old, FailingCalls { disk, ..NEVER })?;
         let is_told = left.told.as_slice() == [0].as_slice();
         holds(rt, is_told == (7 < call), "told", call);
         for choice in 0..3 {

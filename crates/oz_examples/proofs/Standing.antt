@@ -21,8 +21,8 @@ use Rattle.oz_rows.specs.declared.row.Row.TheVariants as rows
 use Rattle.oz_rows.specs.declared.row.SnapshotState.TheVariants.{Live, Marked}
 use Rattle.oz_tables.specs.Tables.{row_of, is_same}
 use Rattle.oz_tables.specs.StandsFor.{StandsFor, SnapshotsStand, SessionStands, IsSnapshot, IsLive, is_among, pieces_in}
-use Rattle.oz_tables.proofs.Order.{equal_from_test}
-use Rattle.oz_tables.proofs.BucketChanges.{is_name, one_name, same_volume, same_bucket}
+use Rattle.oz_tables.specs.laws.Order.{equal_from_test}
+use Rattle.oz_tables.specs.laws.BucketChanges.{is_name, one_name, same_volume, same_bucket}
 use Rattle.oz_examples.specs.Rows.{vol1, vol2, bk1, bk2, s01, s02, s03, key_a, key_b, key_c, key_d, key_e, block, piece, some_rows, first_snapshot, third_snapshot, first_session, second_session, first_bucket, second_bucket, some_namespace}
 use Rattle.oz_examples.proofs.Entries.{split_and}
 

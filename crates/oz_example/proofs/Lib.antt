@@ -10,5 +10,6 @@ pub mod NumberFacts
 pub mod CountFacts
 pub mod SoundRows
 pub mod Grammar
+pub mod Based
 pub mod Found
 pub mod Standing

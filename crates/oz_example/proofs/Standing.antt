@@ -22,7 +22,7 @@ use Rattle.oz_rows.specs.Rows.{kind_of}
 use Rattle.oz_tables.specs.declared.entry.RowEntry.{RowEntry}
 use Rattle.oz_tables.specs.StandsFor.{StandsFor, SnapshotsStand, pieces_in}
 use Rattle.oz_tables.specs.Tables.{row_of}
-use Rattle.oz_example.specs.Example.{rows, namespace, home, shop, drafts, photos, orders, cat, fox, pond, one, two, block, volumes, buckets_of_home, buckets_of_shop, bucket_photos, bucket_orders, keys_of_photos, keys_of_monday, keys_of_tuesday, keys_of_orders, sessions_of_photos, dog, sea, lake}
+use Rattle.oz_example.specs.Example.{rows, namespace, home, shop, drafts, photos, orders, cat, fox, pond, one, two, block, volumes, buckets_of_home, buckets_of_shop, bucket_photos, bucket_orders, keys_of_photos, keys_of_monday, keys_of_tuesday, keys_of_orders, sessions_of_photos, dog, sea, lake, session}
 use Rattle.oz_example.proofs.Entries.{each_row, row_passes}
 use Rattle.oz_example.proofs.Found.{each_found, not_none, same_option, same_test, came_of}
 use Rattle.oz_example.proofs.Tests.{has_number, is_of_snapshot, is_snapshot_of}
@@ -140,9 +140,6 @@ pieces_stand volume bucket key = same_option _ _
     (λ pieces e. let found = of_row (row_of rows (keys.Key volume bucket key)) pieces e in key_stands volume bucket key found.0 found.1 ∙ sym (ap pieces_in found.1) ∙ e)
 
 -- ---- sessions
-
-abbrev session : List ℕ → List Block → Session
-session key blocks = record { key = key; blocks = blocks }
 
 OpenStands : RowKey → Row → Type 0
 OpenStands (keys.Open volume bucket key number) row = (blocks : List Block) → row ≡ values.Open blocks → session_of namespace volume bucket number ≡ Some (session key blocks)

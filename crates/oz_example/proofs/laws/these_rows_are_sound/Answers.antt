@@ -1,3 +1,4 @@
+use Rattle.oz_example.proofs.Based.{rows_are_based}
 use Rattle.oz_example.proofs.Grammar.{rows_fit}
 use Rattle.oz_example.proofs.Standing.{rows_stand}
 use Rattle.oz_example.proofs.SoundRows.{rows_rise, rows_are_sound}
@@ -14,3 +15,6 @@ returns-clause-stands c = rows_stand
 
 pub returns-clause-sound : goal.returns-clause-sound
 returns-clause-sound c = rows_are_sound
+
+pub returns-clause-based : goal.returns-clause-based
+returns-clause-based c = rows_are_based

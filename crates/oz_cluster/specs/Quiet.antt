@@ -1,3 +1,5 @@
+-- For calls inside this crate alone.
+
 -- A story of one client between two of its lines: what was asked is decided, stable and told, or the manager has
 -- halted.
 use Rattle.std.specs.Prelude.{◌≡◌, ◌≢◌, ℕ, ◌+◌, ◌≤◌, ◌<◌, zero, suc, Bool, true, false, List, [], ◌∷◌, ◌++◌, Option, Some, None, is_some, IfSome}

@@ -3,11 +3,9 @@
 ghost use Rattle.std.specs.Prelude.{List as Items, ◌≡◌, ◌≤◌, ◌<◌, ◌+◌, ◌^◌, ◌++◌, [], ◌∷◌, ℕ, false, length, vec_len};
 ghost use Rattle.std.specs.Prelude.{vec_capacity, is_err, IfOk, OnOk, OnErr, IsErr};
 ghost use Rattle.oz_world.specs.Disk.{seen};
-ghost use Rattle.oz_world.specs.Faults.{HasCause};
 ghost use Rattle.oz_cache.specs.Cache.{batched_changes, epoch_after, last_epoch, later, newest, up_to};
-ghost use Rattle.oz_journal.specs.Grammar.{IsJournal, TellsBodies};
-ghost use Rattle.oz_journal.specs.Journal.{body_of, IsBeforeOrAfter};
-ghost use Rattle.oz_world.specs.Moments.{Elapses, LeavesOnly};
+ghost use Rattle.oz_journal.specs.Appends.{Appends};
+ghost use Rattle.oz_journal.specs.Journal.{body_of};
 ghost use Rattle.oz_names.specs.Names.{stripe_of};
 ghost use Rattle.oz_requests.specs.Names.{volume_in};
 ghost use Rattle.oz_tables.specs.Tables.{row_after, row_of};
@@ -244,18 +242,12 @@ impl<D: Disk> Manager<D> {
         ensures capacity { vec_capacity self.old.story ≤ vec_capacity self.new.story }
         ensures stopped { self.new.journal.stopped ≡ is_err result }
         ensures rows { self.new.rows ≡ self.old.rows }
-        ensures stands { (bodies : Items (Items ℕ)) → TellsBodies (D.told self.old.journal.disk) bodies →
-            OnOk result (TellsBodies (D.told self.new.journal.disk) (bodies ++ body_of frame.items ∷ [])) }
-        ensures moments { (bodies : Items (Items ℕ)) → TellsBodies (D.told self.old.journal.disk) bodies →
-            LeavesOnly (IsBeforeOrAfter bodies (body_of frame.items))
-            (D.clock self.old.journal.disk) (D.clock self.new.journal.disk) (D.image self.new.journal.disk) }
-        ensures acknowledged { (bodies : Items (Items ℕ)) → TellsBodies (D.told self.old.journal.disk) bodies →
-            OnOk result ((left : Items ℕ) → D.image self.new.journal.disk (D.clock self.new.journal.disk) left →
-            IsJournal left (bodies ++ body_of frame.items ∷ [])) }
-        ensures later { OnOk result (D.clock self.old.journal.disk < D.clock self.new.journal.disk) }
-        ensures time { Elapses (D.clock self.old.journal.disk) (D.clock self.new.journal.disk)
-            (D.image self.old.journal.disk) (D.image self.new.journal.disk) }
-        ensures cause { HasCause (D.faults self.old.journal.disk) (D.faults self.new.journal.disk) result }
+        ensures appended { Appends (body_of frame.items)
+            (seen (D.told self.old.journal.disk) (D.clock self.old.journal.disk) (D.image self.old.journal.disk)
+            (D.faults self.old.journal.disk))
+            (seen (D.told self.new.journal.disk) (D.clock self.new.journal.disk) (D.image self.new.journal.disk)
+            (D.faults self.new.journal.disk))
+            result }
     {
         let mut frame = frame;
         gate.pass(rt, Point::ManagerWrite, FLUSHER_SEAT);

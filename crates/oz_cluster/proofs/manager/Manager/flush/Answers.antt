@@ -1,9 +1,9 @@
-use Rattle.std.proofs.Common.{List as Items, ℕ, subst}
-use Rattle.oz_journal.specs.Journal.{body_of, IsBeforeOrAfter}
+use Rattle.std.proofs.Common.{refl}
+use Rattle.oz_cluster.proofs.Adding.{handed_on}
 use Rattle.oz_cluster.proofs.manager.Manager.flush.Goals as goal
 
-pub returns-in_default-clause-moments : goal.returns-in_default-clause-moments
-returns-in_default-clause-moments g c bodies stands t left from to image = subst (λ (l : Items ℕ). IsBeforeOrAfter bodies (body_of l) left) c.deref_mut.ensures.value (c.append.ensures.appended.leaves bodies stands t left from to image)
+pub returns-in_default-clause-appended : goal.returns-in_default-clause-appended
+returns-in_default-clause-appended g c = handed_on _ _ _ _ _ _ c.deref_mut.ensures.value refl c.in_default.ensures.appended
 
-pub returns-clause-moments : goal.returns-clause-moments
-returns-clause-moments g c bodies stands t left from to image = subst (λ (l : Items ℕ). IsBeforeOrAfter bodies (body_of l) left) c.deref_mut.ensures.value (c.append.ensures.appended.leaves bodies stands t left from to image)
+pub returns-clause-appended : goal.returns-clause-appended
+returns-clause-appended g c = handed_on _ _ _ _ _ _ c.deref_mut.ensures.value refl c.in-Ok.ensures.appended

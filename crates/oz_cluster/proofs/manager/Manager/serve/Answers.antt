@@ -49,7 +49,7 @@ returns-in_default-clause-serves g c =
     (did_halt g.D.Disk.told g.D.Disk.clock g.D.Disk.image g.D.Disk.faults line self.rows c.tell-in_default.new.self.rows self.story.items c.tell-in_default.new.self.story.items self.journal before c.flush.new.self.journal
     (c.record_decision-2.ensures.journal ∙ c.plan.ensures.journal) reply bytes _ changes
     (sym c.stopped.ensures.stopped ∙ c.if-stopped.false) some c.in_ok-reply.ensures.recorded.1 meets rows last
-    (c.in_ok-index.ensures.body ∙ (λ i. body_bytes (c.in_ok-index.ensures.index i) bytes)) c.flush.ensures.cause.never_falls c.flush.ensures.time c.flush.ensures.moments story c.in_default.ensures.stopped c.in_default.ensures.cause.failed)
+    (c.in_ok-index.ensures.body ∙ (λ i. body_bytes (c.in_ok-index.ensures.index i) bytes)) c.flush.ensures.appended.settled.cause.never_falls c.flush.ensures.appended.settled.time c.flush.ensures.appended.leaves story c.in_default.ensures.stopped c.in_default.ensures.appended.settled.cause.failed)
 
 pub returns-clause-serves : goal.returns-clause-serves
 returns-clause-serves g c =
@@ -75,7 +75,7 @@ returns-clause-serves g c =
     (did_make g.D.Disk.told g.D.Disk.clock g.D.Disk.image g.D.Disk.faults line self.rows c.tell-2.new.self.rows self.story.items c.tell-2.new.self.story.items self.journal before c.flush.new.self.journal
     (c.record_decision-2.ensures.journal ∙ c.plan.ensures.journal) reply bytes _ changes
     (sym c.stopped.ensures.stopped ∙ c.if-stopped.false) some c.in_ok-reply.ensures.recorded.1 meets rows last
-    (c.in_ok-index.ensures.body ∙ (λ i. body_bytes (c.in_ok-index.ensures.index i) bytes)) c.flush.ensures.cause.never_falls c.flush.ensures.time c.flush.ensures.moments story c.in-Ok.ensures.stopped c.in-Ok.ensures.later c.in-Ok.ensures.stands c.in-Ok.ensures.acknowledged)
+    (c.in_ok-index.ensures.body ∙ (λ i. body_bytes (c.in_ok-index.ensures.index i) bytes)) c.flush.ensures.appended.settled.cause.never_falls c.flush.ensures.appended.settled.time c.flush.ensures.appended.leaves story c.in-Ok.ensures.stopped (omega (arith, c.in-Ok.ensures.appended.settled.moments)) c.in-Ok.ensures.appended.tells c.in-Ok.ensures.appended.acknowledged)
 
 pub returns-clause-settled : goal.returns-clause-settled
 returns-clause-settled g c settled running =

@@ -1,7 +1,9 @@
+//! Calls of the cache beside a plain history of them.
+
 ghost use Rattle.std.specs.Prelude.{◌≡◌, ◌<◌};
 
 use crate::draws::Draws;
-use crate::history::{Mark, changes_of, key_of, number_after, number_in, stripe_in};
+use crate::history::{Mark, changes_at, key_of, number_after, number_in, stripe_in};
 use oz_cache::Cached;
 use oz_epochs::Steps;
 use oz_fields::{Name, OutOfMemory};
@@ -50,7 +52,7 @@ fn enter_some(
     for _ in 0..draws.below(4) {
         marks.push(mark(draws, epoch))?;
     }
-    enter_next(alloc, cached, changes_of(alloc, marks, epoch)?)
+    enter_next(alloc, cached, changes_at(alloc, marks, epoch)?)
 }
 
 /// Each stripe has the number that the marks say, and the next one up is found.
@@ -150,7 +152,7 @@ fn number(alloc: Global, number: u64) -> Result<Vec<Change>, OutOfMemory> {
         stripe: 3,
         number: Some(number),
     };
-    changes_of(alloc, &[one], 1)
+    changes_at(alloc, &[one], 1)
 }
 
 fn assert_numbers<R: Abort>(rt: &R, cached: &Cached, newest: u64, durable: u64) {

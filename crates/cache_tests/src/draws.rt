@@ -1,3 +1,5 @@
+//! Numbers that look drawn by lot.
+
 ghost use Rattle.std.specs.Prelude.{◌<◌};
 
 /// Numbers of a linear congruence, the same in each run.

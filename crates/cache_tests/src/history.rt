@@ -1,3 +1,5 @@
+//! A plain history of what each stripe had.
+
 use oz_fields::OutOfMemory;
 use oz_rows::{Change, Row, RowKey};
 use std::alloc::Global;
@@ -22,7 +24,7 @@ pub fn number_after(marks: &[Mark], stripe: u8, epoch: u64) -> Option<u64> {
 }
 
 /// The changes that one epoch's marks stand for.
-pub fn changes_of(alloc: Global, marks: &[Mark], epoch: u64) -> Result<Vec<Change>, OutOfMemory> {
+pub fn changes_at(alloc: Global, marks: &[Mark], epoch: u64) -> Result<Vec<Change>, OutOfMemory> {
     let mut changes = Vec::new(alloc);
     for mark in marks {
         if mark.epoch == epoch {

@@ -7,3 +7,5 @@ mod calls;
 mod draws;
 #[cfg(test)]
 mod history;
+#[cfg(test)]
+mod load;

@@ -16,7 +16,7 @@ use Rattle.oz_tables.specs.declared.entry.RowEntry.{RowEntry}
 use Rattle.oz_tables.specs.Batches.{AreRows, IsBatchOf, after_changes}
 use Rattle.oz_tables.specs.Build.{Builds}
 use Rattle.oz_tables.specs.Tables.{Rows, row_of}
-use Rattle.oz_tables.proofs.Steps.{body_follows}
+use Rattle.oz_tables.specs.laws.Steps.{body_follows}
 use Rattle.oz_cluster.specs.declared.events.Event.{Event}
 use Rattle.oz_cluster.specs.declared.events.Node.TheVariants.{Manager}
 use Rattle.oz_cluster.specs.Opens.{IsCoherent, Opens, Keeps}

@@ -7,7 +7,6 @@ use Rattle.oz_journal.specs.declared.load_fault.LoadFault.TheVariants as load
 use Rattle.oz_journal.specs.Body.{bodies_in, places_in}
 use Rattle.oz_journal.specs.Grammar.{IsDamagedAt, IsJournal, places, records, sized}
 use Rattle.oz_tables.specs.Build.{FailsAt}
-use Rattle.oz_tables.proofs.FaultPlaces.{fails_within}
 use Rattle.oz_cluster.specs.declared.opening.OpenFault.TheVariants as open_faults
 use Rattle.oz_cluster.specs.OpenFaults.{as_open}
 use Rattle.oz_cluster.specs.Opens.{IsDamagedDisk, IsFaultIn}
@@ -52,19 +51,23 @@ none_there [] i is = refl
 none_there (first ∷ bodies) zero is = absurd (cc is)
 none_there (first ∷ bodies) (suc i) is = none_there bodies i is
 
+-- a fault lies within one of the bodies
+abbrev pub LieWithin : Type 0
+LieWithin = (bodies : List (List ℕ)) (count place : ℕ) → FailsAt bodies count place → (body : List ℕ) × (slice_get bodies count ≡ Some body) × (place ≤ length body)
+
 -- a body at fault is there
-pub is_there : (bodies : List Body) (count at : ℕ) → FailsAt (bodies_in bodies) count at → slice_get bodies count ≡ None → ⊥
-is_there bodies count at fails none =
-    let within = fails_within [] 0 (bodies_in bodies) count at fails in
+pub is_there : LieWithin → (bodies : List Body) (count at : ℕ) → FailsAt (bodies_in bodies) count at → slice_get bodies count ≡ None → ⊥
+is_there lie bodies count at fails none =
+    let within = lie (bodies_in bodies) count at fails in
     absurd (cc (sym (none_there bodies count none) ∙ within.1))
 
 module _ (bodies : List Body) (count at : ℕ) (fails : FailsAt (bodies_in bodies) count at) (body : Body) (is : slice_get bodies count ≡ Some body) (placed : places_in bodies ≡ places 0 (bodies_in bodies)) where
   begins : slice_get (places 0 (bodies_in bodies)) count ≡ Some body.at
   begins = subst (λ (l : List ℕ). slice_get l count ≡ Some body.at) placed (place_of_body bodies count body is)
 
-  pub fault_ends : body.at + at ≤ length (records (bodies_in bodies))
-  fault_ends =
-      let within = fails_within [] 0 (bodies_in bodies) count at fails in
+  pub fault_ends : LieWithin → body.at + at ≤ length (records (bodies_in bodies))
+  fault_ends lie =
+      let within = lie (bodies_in bodies) count at fails in
       let ends = body_ends 0 (bodies_in bodies) count body.at within.0 begins within.1 in
       omega (arith, within.2, ends)
 

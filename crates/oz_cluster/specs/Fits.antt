@@ -37,12 +37,15 @@ answer_of (reply.Names names) = told.Ok (values.Names names)
 answer_of (reply.Code code) = told.Code code
 
 -- The answer is what the line is to be told after this story: what its last Decide said; that this isn't acknowledged,
--- where the manager halted before it was stable; that the manager had stopped, where the line asked only then. That there
--- is no memory it may always be told.
+-- where the manager halted before it was stable; that the manager had stopped, where the line asked only then. That
+-- there is no memory it may always be told.
 abbrev pub IsDue : Opening → List Event → ℕ → ℕ → Answer → Type 0
-IsDue opening story client line (told.Ok values) = (given : Reply) × (last_reply client line story ≡ Some given) × (told.Ok values ≡ answer_of given)
-IsDue opening story client line (told.Code code) = (given : Reply) × (last_reply client line story ≡ Some given) × (told.Code code ≡ answer_of given)
-IsDue opening story client line told.Unacknowledged = (halt_of Manager story ≢ None) × (durable_index opening story < line_index client line story)
+IsDue opening story client line (told.Ok values) =
+    (given : Reply) × (last_reply client line story ≡ Some given) × (told.Ok values ≡ answer_of given)
+IsDue opening story client line (told.Code code) =
+    (given : Reply) × (last_reply client line story ≡ Some given) × (told.Code code ≡ answer_of given)
+IsDue opening story client line told.Unacknowledged =
+    (halt_of Manager story ≢ None) × (durable_index opening story < line_index client line story)
 IsDue opening story client line told.ManagerStopped = asked_late (is_of_line client line) story ≡ true
 IsDue opening story client line told.OutOfMemory = Unit {0}
 
@@ -67,17 +70,20 @@ pub record IsLineOf (script : Script) (client number : ℕ) (line : Line) : Type
 -- what a line asks is its next step, after its start; what it is told is due, after its start
 abbrev pub EventFits : Opening → Script → List Event → EventKind → Type 0
 EventFits opening script story (Ask id request) =
-    (line : Line) × IsLineOf script id.client id.line line × HasStarted story line × (id.step ≡ 1) × (request ≡ request_of line.command)
+    (line : Line) × IsLineOf script id.client id.line line × HasStarted story line × (id.step ≡ 1)
+    × (request ≡ request_of line.command)
 EventFits opening script story (Decide id index answer batch) = Unit {0}
 EventFits opening script story (Swap index) = Unit {0}
 EventFits opening script story (Flushed index moment) = Unit {0}
 EventFits opening script story (Halt node count) = Unit {0}
 EventFits opening script story (Told client number answer) =
-    (line : Line) × IsLineOf script client number line × HasStarted story line × IsDue opening story client number answer
+    (line : Line) × IsLineOf script client number line × HasStarted story line
+    × IsDue opening story client number answer
 
 unfoldable pub FitsFrom : Opening → Script → List Event → List Event → Type 0
 FitsFrom opening script before [] = Unit {0}
-FitsFrom opening script before (event ∷ story) = EventFits opening script before event.kind × FitsFrom opening script (before ++ event ∷ []) story
+FitsFrom opening script before (event ∷ story) =
+    EventFits opening script before event.kind × FitsFrom opening script (before ++ event ∷ []) story
 
 -- the numbers of a client's lines that were told, in order
 abbrev pub told_line : ℕ → EventKind → Option ℕ

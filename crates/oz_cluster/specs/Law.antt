@@ -43,16 +43,20 @@ pub record AskIsEnabled (opening : Opening) (story : List Event) (seat : ℕ) (i
   pub decided : (earlier : AskId) → IsTrue (is_of_line id.client id.line earlier) → pending earlier story ≡ None
   pub stable : line_index id.client id.line story ≤ durable_index opening story
 
--- What was asked before the manager halted is decided once, by the stripe of its volume, with the reply of one thread at
--- this place. The index goes on by one where the namespace changes, and the batch is empty exactly where the index stays.
-pub record DecideIsEnabled (opening : Opening) (story : List Event) (seat : ℕ) (id : AskId) (index : ℕ) (answer : Reply) (batch : List ℕ) : Type 0 where
+-- What was asked before the manager halted is decided once, by the stripe of its volume, with the reply of one thread
+-- at this place. The index goes on by one where the namespace changes, and the batch is empty exactly where the index
+-- stays.
+pub record DecideIsEnabled (opening : Opening) (story : List Event) (seat : ℕ) (id : AskId) (index : ℕ)
+    (answer : Reply) (batch : List ℕ) : Type 0 where
   pub request : Request
   pub asked : pending id story ≡ Some request
   pub in_time : asked_late (is_id id) story ≡ false
   pub seat_of_stripe : seat ≡ stripe_seat (stripe_of (volume_in request))
   pub one_thread : Answers (namespace_of opening story) request answer
-  pub changes : after (namespace_of opening story) request answer ≢ namespace_of opening story → index ≡ last_index opening story + 1
-  pub keeps : after (namespace_of opening story) request answer ≡ namespace_of opening story → index ≡ last_index opening story
+  pub changes : after (namespace_of opening story) request answer ≢ namespace_of opening story
+      → index ≡ last_index opening story + 1
+  pub keeps : after (namespace_of opening story) request answer ≡ namespace_of opening story
+      → index ≡ last_index opening story
   pub recorded : (batch ≡ []) ↔ (index ≡ last_index opening story)
 
 -- What was decided since the last Swap is taken, once that is stable.
@@ -82,12 +86,14 @@ pub record HaltIsEnabled (story : List Event) (seat : ℕ) (node : Node) (count 
 abbrev pub IsInTime : Opening → List Event → ℕ → ℕ → Answer → Type 0
 IsInTime opening story client line (told.Ok values) = line_index client line story ≤ durable_index opening story
 IsInTime opening story client line (told.Code code) = line_index client line story ≤ durable_index opening story
-IsInTime opening story client line told.Unacknowledged = (line_index client line story ≤ durable_index opening story) ⊎ (halt_of Manager story ≢ None)
+IsInTime opening story client line told.Unacknowledged =
+    (line_index client line story ≤ durable_index opening story) ⊎ (halt_of Manager story ≢ None)
 IsInTime opening story client line told.ManagerStopped = line_index client line story ≤ durable_index opening story
 IsInTime opening story client line told.OutOfMemory = Unit {0}
 
 -- A line is told once, in time.
-pub record ToldIsEnabled (opening : Opening) (story : List Event) (seat client line : ℕ) (answer : Answer) : Type 0 where
+pub record ToldIsEnabled (opening : Opening) (story : List Event) (seat client line : ℕ)
+    (answer : Answer) : Type 0 where
   pub line_seat : IsLineSeat seat
   pub untold : is_told client line story ≡ false
   pub in_time : IsInTime opening story client line answer
@@ -95,7 +101,8 @@ pub record ToldIsEnabled (opening : Opening) (story : List Event) (seat client l
 -- the event may follow the story
 abbrev pub KindIsEnabled : Opening → List Event → ℕ → EventKind → Type 0
 KindIsEnabled opening story seat (Ask id request) = AskIsEnabled opening story seat id
-KindIsEnabled opening story seat (Decide id index answer batch) = DecideIsEnabled opening story seat id index answer batch
+KindIsEnabled opening story seat (Decide id index answer batch) =
+    DecideIsEnabled opening story seat id index answer batch
 KindIsEnabled opening story seat (Swap index) = SwapIsEnabled opening story seat index
 KindIsEnabled opening story seat (Flushed index moment) = FlushedIsEnabled opening story seat index moment
 KindIsEnabled opening story seat (Halt node count) = HaltIsEnabled story seat node count
@@ -107,7 +114,8 @@ IsEnabled opening story event = KindIsEnabled opening story event.seat event.kin
 -- each of these events may follow those before it
 unfoldable pub IsLegalFrom : Opening → List Event → List Event → Type 0
 IsLegalFrom opening before [] = Unit {0}
-IsLegalFrom opening before (event ∷ story) = IsEnabled opening before event × IsLegalFrom opening (before ++ event ∷ []) story
+IsLegalFrom opening before (event ∷ story) =
+    IsEnabled opening before event × IsLegalFrom opening (before ++ event ∷ []) story
 
 -- each event of the story may follow those before it
 abbrev pub IsLegal : Opening → List Event → Type 0

@@ -34,12 +34,17 @@ pub record IsFaultIn (bodies : List (List ℕ)) (offset : ℕ) : Type 0 where
 
 -- the manager's disk is no journal, or one of its bodies is damaged
 abbrev pub IsDamagedDisk : List ℕ → ℕ → Type 0
-IsDamagedDisk bytes offset = IsDamagedAt bytes offset ⊎ ((bodies : List (List ℕ)) × IsJournal bytes bodies × IsFaultIn bodies offset)
+IsDamagedDisk bytes offset =
+    IsDamagedAt bytes offset ⊎ ((bodies : List (List ℕ)) × IsJournal bytes bodies × IsFaultIn bodies offset)
 
 -- A disk that tells its bytes keeps these rows, with this last index.
 abbrev pub Keeps : Option (List ℕ) → Rows → ℕ → Type 0
-Keeps told rows index = (bodies : List (List ℕ)) × TellsBodies told bodies × (all : List RowEntry) × Builds bodies all index × AreRows all rows
+Keeps told rows index =
+    (bodies : List (List ℕ)) × TellsBodies told bodies × (all : List RowEntry) × Builds bodies all index
+    × AreRows all rows
 
 -- What a disk tells stands for this namespace and this last index.
 abbrev pub StandsAs : Option (List ℕ) → Namespace → ℕ → Type 0
-StandsAs told namespace index = (bodies : List (List ℕ)) × TellsBodies told bodies × (all : List RowEntry) × Builds bodies all index × IsCoherent all namespace
+StandsAs told namespace index =
+    (bodies : List (List ℕ)) × TellsBodies told bodies × (all : List RowEntry) × Builds bodies all index
+    × IsCoherent all namespace

@@ -1,4 +1,5 @@
--- A story of one client between two of its lines: what was asked is decided, stable and told, or the manager has halted.
+-- A story of one client between two of its lines: what was asked is decided, stable and told, or the manager has
+-- halted.
 use Rattle.std.specs.Prelude.{◌≡◌, ◌≢◌, ℕ, ◌+◌, ◌≤◌, ◌<◌, zero, suc, Bool, true, false, List, [], ◌∷◌, ◌++◌, Option, Some, None, is_some, IfSome}
 use Rattle.std.specs.List.{AllByRecursion}
 use Rattle.oz_world.specs.Disk.{Seen, IsStable}
@@ -40,9 +41,10 @@ pub record IsQuiet (opening : Opening) (story : List Event) (lines index : ℕ) 
   pub others : (client : ℕ) → client ≢ 1 → told_lines client story ≡ []
   pub within : (moment : ℕ) → AllByRecursion (λ event. IsWithin index moment event.kind) story
 
--- So far the story fits the script, and what it says of the disk is so. The disk's faults are counted from those that it
--- had at first.
-pub record IsServed (opening : Opening) (script : Script) (lines faults : ℕ) (story : List Event) (index : ℕ) (stopped : Bool) (now : Seen) : Type 0 where
+-- So far the story fits the script, and what it says of the disk is so. The disk's faults are counted from those that
+-- it had at first.
+pub record IsServed (opening : Opening) (script : Script) (lines faults : ℕ) (story : List Event) (index : ℕ)
+    (stopped : Bool) (now : Seen) : Type 0 where
   pub quiet : IsQuiet opening story lines index (halt_of Manager story)
   pub fits : FitsFrom opening script [] story
   pub past : flushed_moment story ≤ now.clock

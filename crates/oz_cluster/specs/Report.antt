@@ -43,7 +43,9 @@ reply_text (reply.Code code) = code_text code
 
 -- how many keys, sessions and snapshots a bucket has
 abbrev pub counts_text : Counts → List ℕ
-counts_text counts = codes "OK keys " ++ decimal counts.keys ++ codes " sessions " ++ decimal counts.sessions ++ codes " snapshots " ++ decimal counts.snapshots
+counts_text counts =
+    codes "OK keys " ++ decimal counts.keys ++ codes " sessions " ++ decimal counts.sessions ++ codes " snapshots "
+    ++ decimal counts.snapshots
 
 -- how many names, and a blank before each
 abbrev pub list_text : List (List ℕ) → List ℕ

@@ -26,7 +26,8 @@ asked line story = story ++ ask_event line.client line.number (request_of line.c
 
 -- what it asked is decided
 abbrev pub decided : Line → List Event → ℕ → Reply → List ℕ → List Event
-decided line story index reply batch = asked line story ++ decide_event line.client line.number (request_of line.command) index reply batch ∷ []
+decided line story index reply batch =
+    asked line story ++ decide_event line.client line.number (request_of line.command) index reply batch ∷ []
 
 -- and is taken to be written
 abbrev pub taken : Line → List Event → ℕ → Reply → List ℕ → List Event
@@ -34,31 +35,37 @@ taken line story index reply batch = decided line story index reply batch ++ swa
 
 -- a decision over rows meets what one thread does
 abbrev pub MeetsAll : Rows → Request → Reply → List ℕ → List Change → Type 0
-MeetsAll rows request reply batch changes = (namespace : Namespace) → Stand rows namespace → Meets rows namespace request reply batch changes
+MeetsAll rows request reply batch changes =
+    (namespace : Namespace) → Stand rows namespace → Meets rows namespace request reply batch changes
 
 -- the rows, the index, the journal and the disk are as they were
-pub record StaysAsItWas (rows rows_after : Rows) (index index_after : ℕ) (stopped stopped_after : Bool) (now later : Seen) : Type 0 where
+pub record StaysAsItWas (rows rows_after : Rows) (index index_after : ℕ) (stopped stopped_after : Bool)
+    (now later : Seen) : Type 0 where
   pub rows_are : (key : _) → rows_after key ≡ rows key
   pub index_is : index_after ≡ index
   pub stopped_is : stopped_after ≡ stopped
   pub untouched : IsUntouched now later
 
 -- the manager had halted, and the line is told so
-pub record TurnsAway (line : Line) (rows rows_after : Rows) (story story_after : List Event) (index index_after : ℕ) (stopped stopped_after : Bool) (now later : Seen) : Type 0 where
+pub record TurnsAway (line : Line) (rows rows_after : Rows) (story story_after : List Event) (index index_after : ℕ)
+    (stopped stopped_after : Bool) (now later : Seen) : Type 0 where
   pub was_stopped : stopped ≡ true
   pub story_is : story_after ≡ asked line story ++ told_event line.client line.number told.ManagerStopped ∷ []
   pub stays : StaysAsItWas rows rows_after index index_after stopped stopped_after now later
 
 -- the line is decided and told, and nothing changes
-pub record ChangesNothing (line : Line) (rows rows_after : Rows) (story story_after : List Event) (index index_after : ℕ) (stopped stopped_after : Bool) (now later : Seen) : Type 0 where
+pub record ChangesNothing (line : Line) (rows rows_after : Rows) (story story_after : List Event)
+    (index index_after : ℕ) (stopped stopped_after : Bool) (now later : Seen) : Type 0 where
   pub running : stopped ≡ false
   pub reply : Reply
   pub meets : MeetsAll rows (request_of line.command) reply [] []
-  pub story_is : story_after ≡ decided line story index reply [] ++ told_event line.client line.number (answer_of reply) ∷ []
+  pub story_is : story_after ≡ decided line story index reply []
+      ++ told_event line.client line.number (answer_of reply) ∷ []
   pub stays : StaysAsItWas rows rows_after index index_after stopped stopped_after now later
 
 -- the line is decided, and the batch of its changes is written as the next body
-pub record Writes (line : Line) (rows rows_after : Rows) (index index_after : ℕ) (stopped : Bool) (now later : Seen) (reply : Reply) (batch : List ℕ) : Type 0 where
+pub record Writes (line : Line) (rows rows_after : Rows) (index index_after : ℕ) (stopped : Bool) (now later : Seen)
+    (reply : Reply) (batch : List ℕ) : Type 0 where
   pub running : stopped ≡ false
   pub changes : List Change
   pub some : changes ≢ []
@@ -68,25 +75,32 @@ pub record Writes (line : Line) (rows rows_after : Rows) (index index_after : �
   pub index_is : index_after ≡ index + 1
   pub never_falls : now.faults ≤ later.faults
   pub time : Elapses now.clock later.clock now.image later.image
-  pub moments : (bodies : List (List ℕ)) → TellsBodies now.told bodies → LeavesOnly (IsBeforeOrAfter bodies (body_bytes (index + 1) batch)) now.clock later.clock later.image
+  pub moments : (bodies : List (List ℕ)) → TellsBodies now.told bodies
+      → LeavesOnly (IsBeforeOrAfter bodies (body_bytes (index + 1) batch)) now.clock later.clock later.image
 
 -- it is stable, and the line is told its reply
-pub record IsMade (line : Line) (rows rows_after : Rows) (story story_after : List Event) (index index_after : ℕ) (stopped stopped_after : Bool) (now later : Seen) : Type 0 where
+pub record IsMade (line : Line) (rows rows_after : Rows) (story story_after : List Event) (index index_after : ℕ)
+    (stopped stopped_after : Bool) (now later : Seen) : Type 0 where
   pub reply : Reply
   pub batch : List ℕ
   pub writes : Writes line rows rows_after index index_after stopped now later reply batch
-  pub story_is : story_after ≡ (taken line story (index + 1) reply batch ++ flushed_event (index + 1) later.clock ∷ []) ++ told_event line.client line.number (answer_of reply) ∷ []
+  pub story_is : story_after ≡ (taken line story (index + 1) reply batch ++ flushed_event (index + 1) later.clock ∷ [])
+      ++ told_event line.client line.number (answer_of reply) ∷ []
   pub stopped_is : stopped_after ≡ false
   pub goes : now.clock < later.clock
-  pub appended : (bodies : List (List ℕ)) → TellsBodies now.told bodies → TellsBodies later.told (bodies ++ body_bytes (index + 1) batch ∷ [])
-  pub acknowledged : (bodies : List (List ℕ)) → TellsBodies now.told bodies → (left : List ℕ) → later.image later.clock left → IsJournal left (bodies ++ body_bytes (index + 1) batch ∷ [])
+  pub appended : (bodies : List (List ℕ)) → TellsBodies now.told bodies
+      → TellsBodies later.told (bodies ++ body_bytes (index + 1) batch ∷ [])
+  pub acknowledged : (bodies : List (List ℕ)) → TellsBodies now.told bodies → (left : List ℕ)
+      → later.image later.clock left → IsJournal left (bodies ++ body_bytes (index + 1) batch ∷ [])
 
 -- the disk failed, the manager halts, and the line is told that this isn't acknowledged
-pub record Halts (line : Line) (rows rows_after : Rows) (story story_after : List Event) (index index_after : ℕ) (stopped stopped_after : Bool) (now later : Seen) : Type 0 where
+pub record Halts (line : Line) (rows rows_after : Rows) (story story_after : List Event) (index index_after : ℕ)
+    (stopped stopped_after : Bool) (now later : Seen) : Type 0 where
   pub reply : Reply
   pub batch : List ℕ
   pub writes : Writes line rows rows_after index index_after stopped now later reply batch
-  pub story_is : story_after ≡ (taken line story (index + 1) reply batch ++ halt_event later.faults ∷ []) ++ told_event line.client line.number told.Unacknowledged ∷ []
+  pub story_is : story_after ≡ (taken line story (index + 1) reply batch ++ halt_event later.faults ∷ [])
+      ++ told_event line.client line.number told.Unacknowledged ∷ []
   pub stopped_is : stopped_after ≡ true
   pub rose : Rose now.faults later.faults
 

@@ -22,7 +22,8 @@ IsFaultOf text line cause = script_of (take script_limit text) ≡ Err (At line 
 -- With 1, 2 and 6 the script, the words or the disk were wrong. 3, 4 and 5 come only where the source, the sink or the
 -- disk counted a fault. Wrong words end with 2, a wrong script with 1 where it could be read, and a wrong disk with 6
 -- where it could be read; each of them, and a run that came to its work, may end with 7, that memory ran out.
-pub record StatusCauses (words : List (List ℕ)) (left disk : Option (List ℕ)) (source_rose sink_rose disk_rose : Type 0) (status : ℕ) : Type 0 where
+pub record StatusCauses (words : List (List ℕ)) (left disk : Option (List ℕ))
+    (source_rose sink_rose disk_rose : Type 0) (status : ℕ) : Type 0 where
   pub known : status ≤ 7
   pub done : status ≡ 0 → HasBegun words left disk
   pub script : status ≡ 1 → IsRun words × IfSome left (λ text. (line : ℕ) × (cause : Cause) × IsFaultOf text line cause)
@@ -30,7 +31,10 @@ pub record StatusCauses (words : List (List ℕ)) (left disk : Option (List ℕ)
   pub read : status ≡ 3 → IsRun words × source_rose
   pub unwritten : status ≡ 4 → HasBegun words left disk × sink_rose
   pub disk_fault : status ≡ 5 → IsRun words × IsScript left × disk_rose
-  pub damaged : status ≡ 6 → IsRun words × IsScript left × IfSome disk (λ bytes. (offset : ℕ) × IsDamagedDisk bytes offset)
+  pub damaged : status ≡ 6
+      → IsRun words × IsScript left × IfSome disk (λ bytes. (offset : ℕ) × IsDamagedDisk bytes offset)
   pub wrong_words : (place : ℕ) → IsFirstFault words place → (status ≡ 2) ⊎ (status ≡ 7)
-  pub wrong_script : IsRun words → (text : List ℕ) (line : ℕ) (cause : Cause) → left ≡ Some text → IsFaultOf text line cause → (status ≡ 1) ⊎ ((status ≡ 3) ⊎ (status ≡ 7))
-  pub wrong_disk : IsRun words → (text bytes : List ℕ) (offset : ℕ) → left ≡ Some text → IsScript left → disk ≡ Some bytes → IsDamagedDisk bytes offset → (status ≡ 3) ⊎ ((status ≡ 5) ⊎ ((status ≡ 6) ⊎ (status ≡ 7)))
+  pub wrong_script : IsRun words → (text : List ℕ) (line : ℕ) (cause : Cause) → left ≡ Some text
+      → IsFaultOf text line cause → (status ≡ 1) ⊎ ((status ≡ 3) ⊎ (status ≡ 7))
+  pub wrong_disk : IsRun words → (text bytes : List ℕ) (offset : ℕ) → left ≡ Some text → IsScript left
+      → disk ≡ Some bytes → IsDamagedDisk bytes offset → (status ≡ 3) ⊎ ((status ≡ 5) ⊎ ((status ≡ 6) ⊎ (status ≡ 7)))

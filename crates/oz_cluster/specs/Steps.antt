@@ -18,7 +18,11 @@ abbrev pub ask_event : ℕ → ℕ → Request → Event
 ask_event client number request = record { seat = caller_seat; kind = Ask (first_ask client number) request }
 
 abbrev pub decide_event : ℕ → ℕ → Request → ℕ → Reply → List ℕ → Event
-decide_event client number request index reply batch = record { seat = stripe_seat (stripe_of (volume_in request)); kind = Decide (first_ask client number) index reply batch }
+decide_event client number request index reply batch =
+    record {
+      seat = stripe_seat (stripe_of (volume_in request));
+      kind = Decide (first_ask client number) index reply batch;
+    }
 
 abbrev pub swap_event : ℕ → Event
 swap_event index = record { seat = flusher_seat; kind = Swap index }

@@ -47,16 +47,19 @@ IsScript left = (script : Lines) × IsScriptOf left script
 
 -- what the words, the script and the manager's disk were where this stopped the run, and whose count of faults rose
 abbrev pub IsSo : List (List ℕ) → Option (List ℕ) → Option (List ℕ) → Type 0 → Type 0 → Stop → Type 0
-IsSo words left disk source_rose disk_rose (Script line cause) = IsRun words × IfSome left (λ text. script_of (take script_limit text) ≡ Err (At line cause))
+IsSo words left disk source_rose disk_rose (Script line cause) =
+    IsRun words × IfSome left (λ text. script_of (take script_limit text) ≡ Err (At line cause))
 IsSo words left disk source_rose disk_rose (Words place) = IsFirstFault words place
 IsSo words left disk source_rose disk_rose Read = IsRun words × source_rose
 IsSo words left disk source_rose disk_rose Disk = IsRun words × IsScript left × disk_rose
-IsSo words left disk source_rose disk_rose (Damaged offset) = IsRun words × IsScript left × IfSome disk (λ bytes. IsDamagedDisk bytes offset)
+IsSo words left disk source_rose disk_rose (Damaged offset) =
+    IsRun words × IsScript left × IfSome disk (λ bytes. IsDamagedDisk bytes offset)
 IsSo words left disk source_rose disk_rose OutOfMemory = Unit {0}
 
 -- the text was written, or a prefix of it where the sink failed
 abbrev pub Says : List ℕ → Option (List ℕ) → Option (List ℕ) → Type 0 → Type 0
-Says text before after rose = (after ≡ option_map (λ held. held ++ text) before) ⊎ (HoldsPrefix text before after × rose)
+Says text before after rose =
+    (after ≡ option_map (λ held. held ++ text) before) ⊎ (HoldsPrefix text before after × rose)
 
 -- the disk wasn't touched
 pub record IsUntouched (before after : Seen) : Type 0 where
@@ -68,7 +71,8 @@ pub record IsUntouched (before after : Seen) : Type 0 where
 -- have left before, or at most one byte in the place of at most one.
 pub record IsAtMostLoaded (before after : Seen) : Type 0 where
   pub contents : IfSome before.told (λ bytes. 2 ≤ length bytes → after.told ≡ Some bytes)
-  pub images : IfSome before.told (λ bytes. IsLoadable bytes (before.image before.clock) → Spans IsLeftAlone before.clock after.clock before.image after.image)
+  pub images : IfSome before.told (λ bytes. IsLoadable bytes (before.image before.clock)
+      → Spans IsLeftAlone before.clock after.clock before.image after.image)
 
 -- what becomes of the manager's disk where this stops a run
 abbrev pub Spares : Stop → Seen → Seen → Type 0
@@ -89,7 +93,9 @@ Reads (Damaged offset) before after = IsReadThrough before after
 Reads OutOfMemory before after = TakesUpTo script_limit before after
 
 -- Something stopped a run before its work. It wrote what that was, no story was told, and the disk lost nothing.
-pub record IsStopped (words : List (List ℕ)) (left left_after : Option (List ℕ)) (disk_before disk_after : Seen) (source_rose : Type 0) (before after : Option (List ℕ)) (sink_rose : Type 0) (story : List Event) (status : Status) : Type 0 where
+pub record IsStopped (words : List (List ℕ)) (left left_after : Option (List ℕ)) (disk_before disk_after : Seen)
+    (source_rose : Type 0) (before after : Option (List ℕ)) (sink_rose : Type 0) (story : List Event)
+    (status : Status) : Type 0 where
   pub stop : Stop
   pub so : IsSo words left disk_before.told source_rose (Rose disk_before.faults disk_after.faults) stop
   pub status_is : status ≡ status_of stop

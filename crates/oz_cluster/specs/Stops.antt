@@ -24,4 +24,6 @@ pub record IsPrefixOf (opening : Opening) (story : List Event) (moment : ℕ) (l
 
 -- at each moment from the first to the last, a stop leaves a prefix of the history
 abbrev pub StopsHold : Opening → List Event → ℕ → ℕ → Images → Type 0
-StopsHold opening story first last image = (moment : ℕ) (left : List ℕ) → first ≤ moment → moment ≤ last → image moment left → IsPrefixOf opening story moment left
+StopsHold opening story first last image =
+    (moment : ℕ) (left : List ℕ) → first ≤ moment → moment ≤ last → image moment left
+    → IsPrefixOf opening story moment left

@@ -82,7 +82,8 @@ flushed_moment story = fold (λ before event. moment_after before event.kind) 0 
 
 -- the reply to a line's last Decide
 abbrev pub replied_after : ℕ → ℕ → Option Reply → EventKind → Option Reply
-replied_after client line before (Decide id index reply batch) = if is_of_line client line id then Some reply else before
+replied_after client line before (Decide id index reply batch) =
+    if is_of_line client line id then Some reply else before
 replied_after client line before _ = before
 
 abbrev pub last_reply : ℕ → ℕ → List Event → Option Reply
@@ -90,7 +91,8 @@ last_reply client line story = fold (λ before event. replied_after client line 
 
 -- the greatest index that a Decide of this line has, 0 for none
 abbrev pub line_index_after : ℕ → ℕ → ℕ → EventKind → ℕ
-line_index_after client line before (Decide id index reply batch) = if is_of_line client line id then max before index else before
+line_index_after client line before (Decide id index reply batch) =
+    if is_of_line client line id then max before index else before
 line_index_after client line before _ = before
 
 abbrev pub line_index : ℕ → ℕ → List Event → ℕ
@@ -107,7 +109,8 @@ namespace_step before namespace _ = namespace
 
 unfoldable pub namespace_from : List Event → Namespace → List Event → Namespace
 namespace_from before namespace [] = namespace
-namespace_from before namespace (event ∷ story) = namespace_from (before ++ event ∷ []) (namespace_step before namespace event.kind) story
+namespace_from before namespace (event ∷ story) =
+    namespace_from (before ++ event ∷ []) (namespace_step before namespace event.kind) story
 
 -- the namespace after all Decides of a story, one after another
 abbrev pub namespace_of : Opening → List Event → Namespace
@@ -141,7 +144,8 @@ late_step names before late _ = late
 
 unfoldable pub late_from : (AskId → Bool) → List Event → Bool → List Event → Bool
 late_from names before late [] = late
-late_from names before late (event ∷ story) = late_from names (before ++ event ∷ []) (late_step names before late event.kind) story
+late_from names before late (event ∷ story) =
+    late_from names (before ++ event ∷ []) (late_step names before late event.kind) story
 
 -- whether the manager had halted when an id of this kind was last asked
 abbrev pub asked_late : (AskId → Bool) → List Event → Bool
@@ -149,12 +153,14 @@ asked_late names story = late_from names [] false story
 
 -- what one more event leaves of a namespace, where Decides above an index are passed over
 abbrev pub kept_step : ℕ → List Event → Namespace → EventKind → Namespace
-kept_step most before namespace (Decide id index answer batch) = if nat_le index most then namespace_after (pending id before) namespace answer else namespace
+kept_step most before namespace (Decide id index answer batch) =
+    if nat_le index most then namespace_after (pending id before) namespace answer else namespace
 kept_step most before namespace _ = namespace
 
 unfoldable pub kept_from : ℕ → List Event → Namespace → List Event → Namespace
 kept_from most before namespace [] = namespace
-kept_from most before namespace (event ∷ story) = kept_from most (before ++ event ∷ []) (kept_step most before namespace event.kind) story
+kept_from most before namespace (event ∷ story) =
+    kept_from most (before ++ event ∷ []) (kept_step most before namespace event.kind) story
 
 -- the namespace after the Decides of a story up to an index
 abbrev pub kept_namespace : Opening → ℕ → List Event → Namespace

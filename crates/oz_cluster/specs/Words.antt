@@ -12,7 +12,8 @@ IsRun (verb ∷ dir ∷ more ∷ rest) = ⊥
 abbrev pub BeginsRun : List (List ℕ) → Type 0
 BeginsRun words = (rest : List (List ℕ)) × IsRun (words ++ rest)
 
--- The words before this place, from 1, begin a run. With the word there they don't, or there is none and they are no run.
+-- The words before this place, from 1, begin a run. With the word there they don't, or there is none and they are no
+-- run.
 pub record IsFirstFault (words : List (List ℕ)) (place : ℕ) : Type 0 where
   pub counted : 1 ≤ place
   pub prefix : BeginsRun (take (place - 1) words)

@@ -29,7 +29,8 @@ pub fn a_disk_opens_as_one_thing()
 /// A disk of at most one byte opens as the namespace of nothing, with index 0. Whatever rows it is read as stand for
 /// nothing, and are sound.
 pub fn an_empty_disk_opens_as_nothing()
-    ensures opens { (bytes : List ℕ) → length bytes ≤ 1 → Opens bytes (record { namespace = nothing; index = 0 }) }
+    ensures opens { (bytes : List ℕ) → length bytes ≤ 1 →
+        Opens bytes (record { namespace = nothing; index = 0 }) }
     ensures coherent { (bytes : List ℕ) (all : List AnyEntry) (index : ℕ) → length bytes ≤ 1 →
         Loads bytes all index → IsCoherent all nothing × (index ≡ 0) }
 {

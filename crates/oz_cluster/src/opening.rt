@@ -19,7 +19,7 @@ use crate::manager::Manager;
 use oz_cache::Cached;
 use oz_fields::OutOfMemory;
 use oz_journal::{Body, Journal, LoadFault};
-use oz_tables::{BuildFault, Tables, build};
+use oz_tables::{BuildFault, Tables, a_batch_makes_a_body, bodies_make_one_thing, build};
 use oz_world::Disk;
 use std::alloc::Global;
 
@@ -63,6 +63,7 @@ fn tables_of(alloc: Global, bodies: &[Body]) -> Result<Tables, OpenFault>
         IsFaultIn (bodies_in bodies.now) offset) }
     ensures disk { IfErr result (λ fault. fault ≡ OpenFault.Disk → ⊥) }
 {
+    bodies_make_one_thing();
     match build(alloc, bodies) {
         Ok(tables) => Ok(tables),
         Err(BuildFault::Damaged { body, at }) => {
@@ -113,6 +114,7 @@ impl<D: Disk> Manager<D> {
             Spans IsLeftAlone (D.clock disk) (D.clock (disk_behind result)) (D.image disk)
             (D.image (disk_behind result))) }
     {
+        a_batch_makes_a_body();
         let (journal, bodies) = match Journal::load(alloc, disk) {
             Ok(loaded) => loaded,
             Err((disk, fault)) => return Err((disk, open_fault(fault))),

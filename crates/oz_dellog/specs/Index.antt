@@ -16,19 +16,22 @@ listed index container = option_map_or (λ numbers. numbers.items) (get nat_cmp 
 
 -- a number is put behind those of a container
 abbrev pub Lists : BTreeMap ℕ (Vec ℕ) → BTreeMap ℕ (Vec ℕ) → ℕ → ℕ → Type 0
-Lists old new container number = (c : ℕ) → listed new c ≡ (if c == container then listed old c ++ number ∷ [] else listed old c)
+Lists old new container number =
+    (c : ℕ) → listed new c ≡ (if c == container then listed old c ++ number ∷ [] else listed old c)
 
 abbrev pub without : ℕ → List ℕ → List ℕ
 without number numbers = filter (λ n. not (n == number)) numbers
 
 -- a number is taken away from those of a container
 abbrev pub Unlists : BTreeMap ℕ (Vec ℕ) → BTreeMap ℕ (Vec ℕ) → ℕ → ℕ → Type 0
-Unlists old new container number = (c : ℕ) → listed new c ≡ (if c == container then without number (listed old c) else listed old c)
+Unlists old new container number =
+    (c : ℕ) → listed new c ≡ (if c == container then without number (listed old c) else listed old c)
 
 -- the numbers of the transactions of a container
 abbrev pub numbers_in : List (ℕ × Logged) → ℕ → List ℕ
 numbers_in [] container = []
-numbers_in (entry ∷ entries) container = if container == entry.1.container then entry.0 ∷ numbers_in entries container else numbers_in entries container
+numbers_in (entry ∷ entries) container =
+    if container == entry.1.container then entry.0 ∷ numbers_in entries container else numbers_in entries container
 
 -- no number is above the last, and the index has the numbers of each container
 pub record IsSound (last : ℕ) (unretired : BTreeMap ℕ Logged) (index : BTreeMap ℕ (Vec ℕ)) : Type 0 where

@@ -15,7 +15,10 @@ pub record Log : Type 0 where
 
 -- the next number has a transaction
 abbrev pub with_txn : Log → ℕ → List ℕ → Log
-with_txn log container locals = record { last = log.last + 1; unretired = insert log.unretired (log.last + 1) (new_logged container locals) }
+with_txn log container locals = record {
+  last = log.last + 1;
+  unretired = insert log.unretired (log.last + 1) (new_logged container locals);
+}
 
 -- a transaction of a container that a datanode hasn't acknowledged
 abbrev pub is_pending : ℕ → ℕ → ℕ × Logged → Bool
@@ -23,7 +26,8 @@ is_pending container dn entry = (container == entry.1.container) && not (is_ackn
 
 -- what a datanode is told of a container: all such transactions, in the order of their numbers
 abbrev pub pending : Log → ℕ → ℕ → List Txn
-pending log container dn = map (λ entry. txn_of entry.0 entry.1) (filter (is_pending container dn) (entries log.unretired))
+pending log container dn =
+    map (λ entry. txn_of entry.0 entry.1) (filter (is_pending container dn) (entries log.unretired))
 
 -- a transaction is there that the datanode hasn't acknowledged
 abbrev pub awaits : Log → ℕ → ℕ → Bool
@@ -31,7 +35,9 @@ awaits log number dn = option_map_or (λ logged. not (is_acknowledged_by logged 
 
 -- the datanode acknowledged the transaction
 abbrev pub acknowledged : Log → ℕ → ℕ → Log
-acknowledged log number dn = option_map_or (λ logged. record { last = log.last; unretired = insert log.unretired number (with_acknowledgement logged dn) }) (get log.unretired number) log
+acknowledged log number dn =
+    option_map_or (λ logged. record { last = log.last; unretired = insert log.unretired number (with_acknowledgement logged dn) })
+    (get log.unretired number) log
 
 -- a transaction is there that three datanodes acknowledged
 abbrev pub is_done : Log → ℕ → Bool

@@ -21,7 +21,11 @@ acknowledgement_count logged = count_by (λ flag. flag) logged.acknowledged
 
 -- the datanode acknowledged it
 abbrev pub with_acknowledgement : Logged → ℕ → Logged
-with_acknowledgement logged dn = record { container = logged.container; locals = logged.locals; acknowledged = slice_set logged.acknowledged dn true }
+with_acknowledgement logged dn = record {
+  container = logged.container;
+  locals = logged.locals;
+  acknowledged = slice_set logged.acknowledged dn true;
+}
 
 -- what stands under a number, as a datanode is told it
 abbrev pub txn_of : ℕ → Logged → Txn

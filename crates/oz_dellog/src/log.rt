@@ -14,8 +14,8 @@ use std::collections::BTreeMap;
 use std::collections::btree_map::Iter;
 use std::marker::Model;
 
-/// The log of deleted blocks. A transaction has a number of its own, one above the last, from 1, and is kept until it is
-/// retired.
+/// The log of deleted blocks. A transaction has a number of its own, one above the last, from 1, and is kept until
+/// it is retired.
 #[derive(Drop)]
 pub struct DelLog {
     last: u64,

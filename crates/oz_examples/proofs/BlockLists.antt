@@ -11,7 +11,7 @@ use Rattle.oz_rows.specs.declared.row.Row.{Row}
 use Rattle.oz_rows.specs.declared.row.Row.TheVariants as rows
 use Rattle.oz_tables.specs.Effects.{is_block}
 use Rattle.oz_tables.specs.Sound.{blocks_of}
-use Rattle.oz_tables.proofs.Lefts.{any_map}
+use Rattle.oz_tables.specs.laws.Lefts.{any_map}
 use Rattle.oz_examples.proofs.Blocks.{holds, share}
 use Rattle.oz_examples.proofs.Entries.{split_and, join_and}
 use Rattle.oz_examples.proofs.Numbering.{eq_from}

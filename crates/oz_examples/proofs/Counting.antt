@@ -9,8 +9,8 @@ use Rattle.oz_rows.specs.declared.row.Row.{Row}
 use Rattle.oz_tables.specs.declared.entry.RowEntry.{RowEntry}
 use Rattle.oz_tables.specs.Sound.{AllDiffer, AtMost}
 use Rattle.oz_tables.specs.Tables.{row_of, is_same, KeysRise, IsBelow}
-use Rattle.oz_tables.proofs.Same.{same_is_one}
-use Rattle.oz_tables.proofs.Following.{found_over}
+use Rattle.oz_tables.specs.laws.Same.{same_is_one}
+use Rattle.oz_tables.specs.laws.Following.{found_over}
 use Rattle.oz_examples.proofs.Counts.{number_of}
 use Rattle.oz_examples.proofs.Entries.{same_self}
 use Rattle.oz_examples.proofs.Pigeons.{IsAmong, no_more}

@@ -7,8 +7,8 @@ use Rattle.std.specs.List.{list_all, list_any, find}
 use Rattle.oz_rows.specs.declared.key.RowKey.{RowKey}
 use Rattle.oz_tables.specs.declared.entry.RowEntry.{RowEntry}
 use Rattle.oz_tables.specs.Tables.{row_of, is_same}
-use Rattle.oz_tables.proofs.Order.{itself}
-use Rattle.oz_tables.proofs.Same.{same_is_one}
+use Rattle.oz_tables.specs.laws.Order.{itself}
+use Rattle.oz_tables.specs.laws.Same.{same_is_one}
 
 pub split_and : (a b : Bool) → (a && b) ≡ true → (a ≡ true) × (b ≡ true)
 split_and true b e = (refl, e)

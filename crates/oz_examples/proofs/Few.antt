@@ -14,7 +14,7 @@ use Rattle.oz_tables.specs.Effects.{is_bucket}
 use Rattle.oz_tables.specs.Sound.{AtMost, IsUsing}
 use Rattle.oz_tables.specs.StandsFor.{IsLive}
 use Rattle.oz_tables.specs.Tables.{row_of, is_same, KeysRise}
-use Rattle.oz_tables.proofs.Same.{same_is_one}
+use Rattle.oz_tables.specs.laws.Same.{same_is_one}
 use Rattle.oz_examples.proofs.Clauses.{BucketsAreFew, KeysAndSessionsAreFew, SnapshotsAreFew, SnapshotKeysAreFew}
 use Rattle.oz_examples.proofs.Counts.{number_of, bucket_in, use_in, is_live_row, live_in, snapshot_key_in, is_live_there, buckets_fit, uses_fit, snapshots_fit, snapshot_keys_fit}
 use Rattle.oz_examples.proofs.Entries.{same_self, split_and}

@@ -14,7 +14,7 @@ use Rattle.oz_tables.specs.declared.entry.RowEntry.{RowEntry}
 use Rattle.oz_tables.specs.Effects.{is_bucket}
 use Rattle.oz_tables.specs.Sound.{blocks_of, ComesBehind, IsRename, IsNamedAnew}
 use Rattle.oz_tables.specs.Tables.{row_of, is_same, KeysRise}
-use Rattle.oz_tables.proofs.Same.{same_is_one}
+use Rattle.oz_tables.specs.laws.Same.{same_is_one}
 use Rattle.oz_examples.proofs.Clauses.{BlocksHaveOneName, OpenBlocksKeepTheirKey, RenamesHaveTheName, RenamesAreNoted}
 use Rattle.oz_examples.proofs.Counts.{is_live_there, snapshot_key_in}
 use Rattle.oz_examples.proofs.Blocks.{holds, share}

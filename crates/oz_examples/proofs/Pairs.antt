@@ -6,7 +6,7 @@ use Rattle.oz_rows.specs.declared.key.RowKey.{RowKey}
 use Rattle.oz_rows.specs.declared.row.Row.{Row}
 use Rattle.oz_tables.specs.declared.entry.RowEntry.{RowEntry}
 use Rattle.oz_tables.specs.Tables.{row_of, is_same, KeysRise}
-use Rattle.oz_tables.proofs.Same.{same_is_one}
+use Rattle.oz_tables.specs.laws.Same.{same_is_one}
 use Rattle.oz_examples.proofs.Entries.{split_and, join_and}
 use Rattle.oz_examples.proofs.Counting.{row_later, row_here, some_row}
 use Rattle.oz_examples.proofs.BlockLists.{split_or, join_or_left, join_or_right}

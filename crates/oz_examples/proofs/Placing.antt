@@ -11,7 +11,7 @@ use Rattle.oz_tables.specs.declared.entry.RowEntry.{RowEntry}
 use Rattle.oz_tables.specs.Effects.{is_block}
 use Rattle.oz_tables.specs.Sound.{blocks_of, bucket_of_row, StandsIn, IsHome, IsKeeper}
 use Rattle.oz_tables.specs.Tables.{row_of, is_same, KeysRise}
-use Rattle.oz_tables.proofs.Same.{same_is_one}
+use Rattle.oz_tables.specs.laws.Same.{same_is_one}
 use Rattle.oz_examples.proofs.Clauses.{BlocksHaveOneBucket, BlocksHaveOneHome, LocalsDiffer, SnapshotBlocksAreKept}
 use Rattle.oz_examples.proofs.Counts.{is_live_there}
 use Rattle.oz_examples.proofs.Blocks.{holds, is_same_place, keep_one_bucket, is_home, keep_one_home, has_no_twin, keep_one_local, is_keeper, is_kept, keeps_all}

@@ -21,9 +21,9 @@ use Rattle.oz_rows.specs.declared.row.Row.TheVariants as rows
 use Rattle.oz_rows.specs.declared.row.SnapshotState.TheVariants.{Live, Marked}
 use Rattle.oz_tables.specs.Tables.{row_of, is_same}
 use Rattle.oz_tables.specs.StandsFor.{StandsFor, SnapshotsStand, SessionStands, IsSnapshot, IsLive, is_among, pieces_in}
-use Rattle.oz_tables.proofs.Order.{equal_from_test}
-use Rattle.oz_tables.proofs.BucketChanges.{is_name, one_name, same_volume, same_bucket}
-use Rattle.oz_examples.specs.Rows.{vol1, vol2, bk1, bk2, s01, s02, s03, a, b, c, d, e, block, piece, some_rows, first_snapshot, third_snapshot, first_session, second_session, first_bucket, second_bucket, some_namespace}
+use Rattle.oz_tables.specs.laws.Order.{equal_from_test}
+use Rattle.oz_tables.specs.laws.BucketChanges.{is_name, one_name, same_volume, same_bucket}
+use Rattle.oz_examples.specs.Rows.{vol1, vol2, bk1, bk2, s01, s02, s03, key_a, key_b, key_c, key_d, key_e, block, piece, some_rows, first_snapshot, third_snapshot, first_session, second_session, first_bucket, second_bucket, some_namespace}
 use Rattle.oz_examples.proofs.Entries.{split_and}
 
 turned : (x y : List ℕ) → is_name x y ≡ is_name y x
@@ -155,15 +155,15 @@ pieces : (v u k : List ℕ) → pieces_of some_namespace v u k ≡ pieces_in (ro
 pieces v u k =
     ap (option_and_then (λ (bucket : Bucket). get bucket.keys k)) (bucket_is v u)
     ∙ there (is_name v vol1) (is_name v vol2) (is_name u bk1) (is_name u bk2)
-    ∙ by (is_name v vol1) (is_name u bk1) (is_name u bk2) (is_name k a) (is_name k b)
-    ∙ (λ i. pieces_in (cond (sym (same_key vol1 bk1 a v u k) i) (Some row1) (cond (sym (same_key vol1 bk1 b v u k) i) (Some row2) (cond (sym (same_key vol1 bk2 a v u k) i) (Some row3) None))))
+    ∙ by (is_name v vol1) (is_name u bk1) (is_name u bk2) (is_name k key_a) (is_name k key_b)
+    ∙ (λ i. pieces_in (cond (sym (same_key vol1 bk1 key_a v u k) i) (Some row1) (cond (sym (same_key vol1 bk1 key_b v u k) i) (Some row2) (cond (sym (same_key vol1 bk2 key_a v u k) i) (Some row3) None))))
   where
     found : Bool → Bool → Bool → Bool → Bool → Option (List Piece)
     found s x y p q = cond s (cond x (cond p (Some (piece 1 ∷ piece 2 ∷ [])) (cond q (Some (piece 3 ∷ [])) None)) (cond y (cond p (Some []) None) None)) None
 
-    there : (s t x y : Bool) → option_and_then (λ (bucket : Bucket). get bucket.keys k) (bucket_by s t x y) ≡ found s x y (is_name k a) (is_name k b)
-    there true t true y = get-from_sorted (slice_cmp nat_cmp) ((a, piece 1 ∷ piece 2 ∷ []) ∷ (b, piece 3 ∷ []) ∷ []) k tt
-    there true t false true = get-from_sorted (slice_cmp nat_cmp) ((a, []) ∷ []) k tt
+    there : (s t x y : Bool) → option_and_then (λ (bucket : Bucket). get bucket.keys k) (bucket_by s t x y) ≡ found s x y (is_name k key_a) (is_name k key_b)
+    there true t true y = get-from_sorted (slice_cmp nat_cmp) ((key_a, piece 1 ∷ piece 2 ∷ []) ∷ (key_b, piece 3 ∷ []) ∷ []) k tt
+    there true t false true = get-from_sorted (slice_cmp nat_cmp) ((key_a, []) ∷ []) k tt
     there true t false false = refl
     there false true true y = get-empty (slice_cmp nat_cmp) k
     there false true false y = refl
@@ -194,8 +194,8 @@ session_is v u n = ap (option_and_then (λ (bucket : Bucket). get bucket.session
     there false false x y = refl
 
 open_is : (v u k : List ℕ) (n : ℕ) → row_of some_rows (keys.Open v u k n)
-    ≡ cond (is_name v vol1 && (is_name u bk1 && (is_name k a && is_number n 4))) (Some (rows.Open (block 4 ∷ []))) (cond (is_name v vol1 && (is_name u bk1 && (is_name k c && is_number n 5))) (Some (rows.Open [])) None)
-open_is v u k n = λ i. cond (same_open vol1 bk1 a 4 v u k n i) (Some (rows.Open (block 4 ∷ []))) (cond (same_open vol1 bk1 c 5 v u k n i) (Some (rows.Open [])) None)
+    ≡ cond (is_name v vol1 && (is_name u bk1 && (is_name k key_a && is_number n 4))) (Some (rows.Open (block 4 ∷ []))) (cond (is_name v vol1 && (is_name u bk1 && (is_name k key_c && is_number n 5))) (Some (rows.Open [])) None)
+open_is v u k n = λ i. cond (same_open vol1 bk1 key_a 4 v u k n i) (Some (rows.Open (block 4 ∷ []))) (cond (same_open vol1 bk1 key_c 5 v u k n i) (Some (rows.Open [])) None)
 
 session : List ℕ → List Block → Session
 session key blocks = record { key = key; blocks = blocks }
@@ -205,17 +205,17 @@ module _ (v u : List ℕ) (n : ℕ) (one : Session) where
   Told s x p q four five = (cond (s && x) (cond four (Some first_session) (cond five (Some second_session) None)) None ≡ Some one)
       → cond (s && (x && (p && four))) (Some (rows.Open (block 4 ∷ []))) (cond (s && (x && (q && five))) (Some (rows.Open [])) None) ≡ Some (rows.Open one.blocks)
 
-  told : (s x p q four five : Bool) → is_name one.key a ≡ p → is_name one.key c ≡ q → (four ≡ true → n ≡ 4) → (five ≡ true → n ≡ 5) → Told s x p q four five
+  told : (s x p q four five : Bool) → is_name one.key key_a ≡ p → is_name one.key key_c ≡ q → (four ≡ true → n ≡ 4) → (five ≡ true → n ≡ 5) → Told s x p q four five
   told false x p q four five is_a is_c n4 n5 is = absurd (cc)
   told true false p q four five is_a is_c n4 n5 is = absurd (cc)
   told true true p q true five is_a is_c n4 n5 is =
       let same : first_session ≡ one = cc in
-      let yes : true ≡ p = ap (λ (s : Session). is_name s.key a) same ∙ is_a in
+      let yes : true ≡ p = ap (λ (s : Session). is_name s.key key_a) same ∙ is_a in
       subst (λ (p : Bool). cond (true && (true && (p && true))) (Some (rows.Open (block 4 ∷ []))) (cond (true && (true && (q && five))) (Some (rows.Open [])) None) ≡ Some (rows.Open one.blocks)) yes (ap (λ (s : Session). Some (rows.Open s.blocks)) same)
   told true true p q false true is_a is_c n4 n5 is =
       let same : second_session ≡ one = cc in
-      let no : false ≡ p = ap (λ (s : Session). is_name s.key a) same ∙ is_a in
-      let yes : true ≡ q = ap (λ (s : Session). is_name s.key c) same ∙ is_c in
+      let no : false ≡ p = ap (λ (s : Session). is_name s.key key_a) same ∙ is_a in
+      let yes : true ≡ q = ap (λ (s : Session). is_name s.key key_c) same ∙ is_c in
       subst (λ (q : Bool). cond (true && (true && (p && false))) (Some (rows.Open (block 4 ∷ []))) (cond (true && (true && (q && true))) (Some (rows.Open [])) None) ≡ Some (rows.Open one.blocks)) yes
       (subst (λ (p : Bool). cond (true && (true && (p && false))) (Some (rows.Open (block 4 ∷ []))) (cond (true && (true && (true && true))) (Some (rows.Open [])) None) ≡ Some (rows.Open one.blocks)) no (ap (λ (s : Session). Some (rows.Open s.blocks)) same))
   told true true p q false false is_a is_c n4 n5 is = absurd (cc)
@@ -224,17 +224,17 @@ module _ (v u : List ℕ) (n : ℕ) (one : Session) where
   unfolding session
   made key blocks e f = let same : blocks ≡ one.blocks = cc in (λ i. session (sym e i) (same i))
 
-  back : (s x p q four five : Bool) → is_name one.key a ≡ p → is_name one.key c ≡ q → (four ≡ true → five ≡ false)
+  back : (s x p q four five : Bool) → is_name one.key key_a ≡ p → is_name one.key key_c ≡ q → (four ≡ true → five ≡ false)
       → cond (s && (x && (p && four))) (Some (rows.Open (block 4 ∷ []))) (cond (s && (x && (q && five))) (Some (rows.Open [])) None) ≡ Some (rows.Open one.blocks)
       → cond (s && x) (cond four (Some first_session) (cond five (Some second_session) None)) None ≡ Some one
   unfolding session
   back false x p q four five is_a is_c apart is = absurd (cc)
   back true false p q four five is_a is_c apart is = absurd (cc)
-  back true true true q true five is_a is_c apart is = let same : rows.Open (block 4 ∷ []) ≡ rows.Open one.blocks = cc in ap (λ (s : Session). Some s) (made a (block 4 ∷ []) (one_name one.key a is_a) same)
+  back true true true q true five is_a is_c apart is = let same : rows.Open (block 4 ∷ []) ≡ rows.Open one.blocks = cc in ap (λ (s : Session). Some s) (made key_a (block 4 ∷ []) (one_name one.key key_a is_a) same)
   back true true false true true five is_a is_c apart is = absurd (let no = apart refl in cc)
   back true true false false true five is_a is_c apart is = absurd (cc)
-  back true true true true false true is_a is_c apart is = let same : rows.Open [] ≡ rows.Open one.blocks = cc in ap (λ (s : Session). Some s) (made c [] (one_name one.key c is_c) same)
-  back true true false true false true is_a is_c apart is = let same : rows.Open [] ≡ rows.Open one.blocks = cc in ap (λ (s : Session). Some s) (made c [] (one_name one.key c is_c) same)
+  back true true true true false true is_a is_c apart is = let same : rows.Open [] ≡ rows.Open one.blocks = cc in ap (λ (s : Session). Some s) (made key_c [] (one_name one.key key_c is_c) same)
+  back true true false true false true is_a is_c apart is = let same : rows.Open [] ≡ rows.Open one.blocks = cc in ap (λ (s : Session). Some s) (made key_c [] (one_name one.key key_c is_c) same)
   back true true true false false true is_a is_c apart is = absurd (cc)
   back true true false false false true is_a is_c apart is = absurd (cc)
   back true true true true false false is_a is_c apart is = absurd (cc)
@@ -248,8 +248,8 @@ apart_numbers n e = ap (λ (m : ℕ). is_number m 5) (one_number n 4 e)
 
 sessions : (v u : List ℕ) (n : ℕ) (one : Session) → SessionStands (row_of some_rows) some_namespace v u n one
 sessions v u n one = (
-  (λ is. open_is v u one.key n ∙ told v u n one (is_name v vol1) (is_name u bk1) (is_name one.key a) (is_name one.key c) (is_number n 4) (is_number n 5) refl refl (one_number n 4) (one_number n 5) (sym (session_is v u n) ∙ is)),
-  (λ is. session_is v u n ∙ back v u n one (is_name v vol1) (is_name u bk1) (is_name one.key a) (is_name one.key c) (is_number n 4) (is_number n 5) refl refl (apart_numbers n) (sym (open_is v u one.key n) ∙ is)),
+  (λ is. open_is v u one.key n ∙ told v u n one (is_name v vol1) (is_name u bk1) (is_name one.key key_a) (is_name one.key key_c) (is_number n 4) (is_number n 5) refl refl (one_number n 4) (one_number n 5) (sym (session_is v u n) ∙ is)),
+  (λ is. session_is v u n ∙ back v u n one (is_name v vol1) (is_name u bk1) (is_name one.key key_a) (is_name one.key key_c) (is_number n 4) (is_number n 5) refl refl (apart_numbers n) (sym (open_is v u one.key n) ∙ is)),
 )
 
 -- ---- snapshots
@@ -288,8 +288,8 @@ is_first : IsSnapshot (row_of some_rows) vol1 bk1 6 first_snapshot
 is_first = record {
   previous = 0;
   row = refl;
-  pieces = λ key. get-from_sorted (slice_cmp nat_cmp) ((d, piece 6 ∷ piece 7 ∷ []) ∷ (e, piece 3 ∷ []) ∷ []) key tt ∙ by (is_name key d) (is_name key e)
-      ∙ (λ i. pieces_in (cond (sym (same_name d key) i) (Some (rows.SnapshotKey 2 (piece 6 ∷ piece 7 ∷ []))) (cond (sym (same_name e key) i) (Some (rows.SnapshotKey 2 (piece 3 ∷ []))) None)));
+  pieces = λ key. get-from_sorted (slice_cmp nat_cmp) ((key_d, piece 6 ∷ piece 7 ∷ []) ∷ (key_e, piece 3 ∷ []) ∷ []) key tt ∙ by (is_name key key_d) (is_name key key_e)
+      ∙ (λ i. pieces_in (cond (sym (same_name key_d key) i) (Some (rows.SnapshotKey 2 (piece 6 ∷ piece 7 ∷ []))) (cond (sym (same_name key_e key) i) (Some (rows.SnapshotKey 2 (piece 3 ∷ []))) None)));
 }
   where
     by : (p q : Bool) → cond p (Some (piece 6 ∷ piece 7 ∷ [])) (cond q (Some (piece 3 ∷ [])) None) ≡ pieces_in (cond p (Some (rows.SnapshotKey 2 (piece 6 ∷ piece 7 ∷ []))) (cond q (Some (rows.SnapshotKey 2 (piece 3 ∷ []))) None))
@@ -301,8 +301,8 @@ is_third : IsSnapshot (row_of some_rows) vol1 bk1 8 third_snapshot
 is_third = record {
   previous = 7;
   row = refl;
-  pieces = λ key. get-from_sorted (slice_cmp nat_cmp) ((a, piece 1 ∷ piece 2 ∷ []) ∷ (b, piece 3 ∷ []) ∷ []) key tt ∙ by (is_name key a) (is_name key b)
-      ∙ (λ i. pieces_in (cond (sym (same_name a key) i) (Some (rows.SnapshotKey 1 (piece 1 ∷ piece 2 ∷ []))) (cond (sym (same_name b key) i) (Some (rows.SnapshotKey 2 (piece 3 ∷ []))) None)));
+  pieces = λ key. get-from_sorted (slice_cmp nat_cmp) ((key_a, piece 1 ∷ piece 2 ∷ []) ∷ (key_b, piece 3 ∷ []) ∷ []) key tt ∙ by (is_name key key_a) (is_name key key_b)
+      ∙ (λ i. pieces_in (cond (sym (same_name key_a key) i) (Some (rows.SnapshotKey 1 (piece 1 ∷ piece 2 ∷ []))) (cond (sym (same_name key_b key) i) (Some (rows.SnapshotKey 2 (piece 3 ∷ []))) None)));
 }
   where
     by : (p q : Bool) → cond p (Some (piece 1 ∷ piece 2 ∷ [])) (cond q (Some (piece 3 ∷ [])) None) ≡ pieces_in (cond p (Some (rows.SnapshotKey 1 (piece 1 ∷ piece 2 ∷ []))) (cond q (Some (rows.SnapshotKey 2 (piece 3 ∷ []))) None))

@@ -38,20 +38,20 @@ abbrev pub s03 : List ℕ
 s03 = 115 ∷ 48 ∷ 51 ∷ []
 
 -- key names of one letter
-abbrev pub a : List ℕ
-a = 97 ∷ []
+abbrev pub key_a : List ℕ
+key_a = 97 ∷ []
 
-abbrev pub b : List ℕ
-b = 98 ∷ []
+abbrev pub key_b : List ℕ
+key_b = 98 ∷ []
 
-abbrev pub c : List ℕ
-c = 99 ∷ []
+abbrev pub key_c : List ℕ
+key_c = 99 ∷ []
 
-abbrev pub d : List ℕ
-d = 100 ∷ []
+abbrev pub key_d : List ℕ
+key_d = 100 ∷ []
 
-abbrev pub e : List ℕ
-e = 101 ∷ []
+abbrev pub key_e : List ℕ
+key_e = 101 ∷ []
 
 abbrev pub block : ℕ → Block
 block local = record { container = 1; local = local }
@@ -71,50 +71,56 @@ some_rows =
     ∷ entry (keys.Bucket vol1 bk1) rows.Bucket
     ∷ entry (keys.Bucket vol1 bk2) rows.Bucket
     ∷ entry (keys.Bucket vol2 bk1) rows.Bucket
-    ∷ entry (keys.Key vol1 bk1 a) (rows.Key 1 (piece 1 ∷ piece 2 ∷ []))
-    ∷ entry (keys.Key vol1 bk1 b) (rows.Key 2 (piece 3 ∷ []))
-    ∷ entry (keys.Key vol1 bk2 a) (rows.Key 3 [])
-    ∷ entry (keys.Open vol1 bk1 a 4) (rows.Open (block 4 ∷ []))
-    ∷ entry (keys.Open vol1 bk1 c 5) (rows.Open [])
-    ∷ entry (keys.Deleted vol1 bk1 0 c 5) (rows.Deleted (block 5 ∷ []))
-    ∷ entry (keys.Deleted vol1 bk1 8 d 6) (rows.Deleted (block 6 ∷ block 7 ∷ []))
+    ∷ entry (keys.Key vol1 bk1 key_a) (rows.Key 1 (piece 1 ∷ piece 2 ∷ []))
+    ∷ entry (keys.Key vol1 bk1 key_b) (rows.Key 2 (piece 3 ∷ []))
+    ∷ entry (keys.Key vol1 bk2 key_a) (rows.Key 3 [])
+    ∷ entry (keys.Open vol1 bk1 key_a 4) (rows.Open (block 4 ∷ []))
+    ∷ entry (keys.Open vol1 bk1 key_c 5) (rows.Open [])
+    ∷ entry (keys.Deleted vol1 bk1 0 key_c 5) (rows.Deleted (block 5 ∷ []))
+    ∷ entry (keys.Deleted vol1 bk1 8 key_d 6) (rows.Deleted (block 6 ∷ block 7 ∷ []))
     ∷ entry (keys.Snapshot vol1 bk1 6) (rows.Snapshot s01 0 Live)
     ∷ entry (keys.Snapshot vol1 bk1 7) (rows.Snapshot s02 6 Marked)
     ∷ entry (keys.Snapshot vol1 bk1 8) (rows.Snapshot s03 7 Live)
-    ∷ entry (keys.SnapshotKey vol1 bk1 6 d) (rows.SnapshotKey 2 (piece 6 ∷ piece 7 ∷ []))
-    ∷ entry (keys.SnapshotKey vol1 bk1 6 e) (rows.SnapshotKey 2 (piece 3 ∷ []))
-    ∷ entry (keys.SnapshotKey vol1 bk1 7 a) (rows.SnapshotKey 1 (piece 1 ∷ piece 2 ∷ []))
-    ∷ entry (keys.SnapshotKey vol1 bk1 8 a) (rows.SnapshotKey 1 (piece 1 ∷ piece 2 ∷ []))
-    ∷ entry (keys.SnapshotKey vol1 bk1 8 b) (rows.SnapshotKey 2 (piece 3 ∷ []))
-    ∷ entry (keys.Renamed vol1 bk1 8 3) (rows.Renamed e)
+    ∷ entry (keys.SnapshotKey vol1 bk1 6 key_d) (rows.SnapshotKey 2 (piece 6 ∷ piece 7 ∷ []))
+    ∷ entry (keys.SnapshotKey vol1 bk1 6 key_e) (rows.SnapshotKey 2 (piece 3 ∷ []))
+    ∷ entry (keys.SnapshotKey vol1 bk1 7 key_a) (rows.SnapshotKey 1 (piece 1 ∷ piece 2 ∷ []))
+    ∷ entry (keys.SnapshotKey vol1 bk1 8 key_a) (rows.SnapshotKey 1 (piece 1 ∷ piece 2 ∷ []))
+    ∷ entry (keys.SnapshotKey vol1 bk1 8 key_b) (rows.SnapshotKey 2 (piece 3 ∷ []))
+    ∷ entry (keys.Renamed vol1 bk1 8 3) (rows.Renamed key_e)
     ∷ entry (keys.Stripe 2) (rows.Stripe 9)
     ∷ entry (keys.Stripe 3) (rows.Stripe 4)
     ∷ []
 
 abbrev pub first_snapshot : Snapshot
-first_snapshot = record { name = s01; keys = from_sorted ((d, piece 6 ∷ piece 7 ∷ []) ∷ (e, piece 3 ∷ []) ∷ []) }
+first_snapshot = record { name = s01; keys = from_sorted ((key_d, piece 6 ∷ piece 7 ∷ []) ∷ (key_e, piece 3 ∷ []) ∷ []) }
 
 abbrev pub third_snapshot : Snapshot
-third_snapshot = record { name = s03; keys = from_sorted ((a, piece 1 ∷ piece 2 ∷ []) ∷ (b, piece 3 ∷ []) ∷ []) }
+third_snapshot = record { name = s03; keys = from_sorted ((key_a, piece 1 ∷ piece 2 ∷ []) ∷ (key_b, piece 3 ∷ []) ∷ []) }
 
 abbrev pub first_session : Session
-first_session = record { key = a; blocks = block 4 ∷ [] }
+first_session = record { key = key_a; blocks = block 4 ∷ [] }
 
 abbrev pub second_session : Session
-second_session = record { key = c; blocks = [] }
+second_session = record { key = key_c; blocks = [] }
 
 abbrev pub first_bucket : Bucket
 first_bucket = record {
-  keys = from_sorted ((a, piece 1 ∷ piece 2 ∷ []) ∷ (b, piece 3 ∷ []) ∷ []);
+  keys = from_sorted ((key_a, piece 1 ∷ piece 2 ∷ []) ∷ (key_b, piece 3 ∷ []) ∷ []);
   sessions = from_sorted ((4, first_session) ∷ (5, second_session) ∷ []);
   snapshots = first_snapshot ∷ third_snapshot ∷ [];
 }
 
 abbrev pub second_bucket : Bucket
-second_bucket = record { keys = from_sorted ((a, []) ∷ []); sessions = empty; snapshots = [] }
+second_bucket = record { keys = from_sorted ((key_a, []) ∷ []); sessions = empty; snapshots = [] }
+
+abbrev pub first_volume : ByName Bucket
+first_volume = from_sorted ((bk1, first_bucket) ∷ (bk2, second_bucket) ∷ [])
+
+abbrev pub second_volume : ByName Bucket
+second_volume = from_sorted ((bk1, new_bucket) ∷ [])
 
 abbrev pub some_namespace : Namespace
 some_namespace = record {
-  volumes = from_sorted ((vol1, from_sorted ((bk1, first_bucket) ∷ (bk2, second_bucket) ∷ [])) ∷ (vol2, from_sorted ((bk1, new_bucket) ∷ [])) ∷ []);
+  volumes = from_sorted ((vol1, first_volume) ∷ (vol2, second_volume) ∷ []);
   stripes = 0 ∷ 0 ∷ 9 ∷ 4 ∷ 0 ∷ 0 ∷ 0 ∷ 0 ∷ 0 ∷ 0 ∷ 0 ∷ 0 ∷ 0 ∷ 0 ∷ 0 ∷ 0 ∷ [];
 }

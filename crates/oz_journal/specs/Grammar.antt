@@ -1,5 +1,6 @@
 -- The bytes of a journal.
-use Rattle.std.specs.Prelude.{◌≡◌, ◌≢◌, ◌⊎◌, ℕ, ◌+◌, ◌^◌, ◌<◌, ◌≤◌, List, [], ◌∷◌, ◌++◌, length, drop, Option, Some, None}
+use Rattle.std.specs.Prelude.{◌≡◌, ◌≢◌, ◌⊎◌, ℕ, ◌+◌, ◌^◌, ◌<◌, ◌≤◌, List, [], ◌∷◌, ◌++◌, length, drop, Option, Some}
+use Rattle.std.specs.Prelude.{None}
 use Rattle.std.specs.List.{AllByRecursion}
 use Rattle.oz_fields.specs.Number.{u32_bytes, u32_at}
 

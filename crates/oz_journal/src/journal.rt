@@ -1,6 +1,7 @@
 //! A journal: bodies one after another on a disk, each of them whole or not there.
 
-ghost use Rattle.std.specs.Prelude.{◌≡◌, ◌^◌, ◌≤◌, ◌<◌, ◌+◌, ◌++◌, ◌∷◌, [], ℕ, List, length, false, Some, IfSome, IsSomeAnd, is_err, OnOk, IfOk, IfErr};
+ghost use Rattle.std.specs.Prelude.{◌≡◌, ◌^◌, ◌≤◌, ◌<◌, ◌+◌, ◌++◌, ◌∷◌, [], ℕ, List, length, false, Some, IfSome};
+ghost use Rattle.std.specs.Prelude.{IsSomeAnd, is_err, OnOk, IfOk, IfErr};
 ghost use Rattle.oz_world.specs.Disk.{seen, TellsAsBefore, IsStable};
 ghost use Rattle.oz_world.specs.Faults.{Rose};
 ghost use Rattle.oz_journal.specs.Appends.{Appends, Clears};

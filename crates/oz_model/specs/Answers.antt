@@ -1,17 +1,23 @@
 -- What one thread replies to a request, and what it leaves.
-use Rattle.std.specs.Prelude.{◌≡◌, ℕ, Bool, not, ◌||◌, nat_lt, nat_le, List, [], ◌∷◌, length, Option, None, Some, if◌then◌else◌}
+use Rattle.std.specs.Prelude.{◌≡◌, ℕ, Bool, not, ◌||◌, nat_lt, nat_le, List, [], ◌∷◌, length, Option, None, Some}
+use Rattle.std.specs.Prelude.{if◌then◌else◌}
 use Rattle.std.specs.FinMap.{empty, len, keys, insert, remove}
 use Rattle.oz_names.specs.declared.code.Code.{Code}
-use Rattle.oz_names.specs.declared.code.Code.TheVariants.{VolumeNotFound, VolumeAlreadyExists, VolumeNotEmpty, BucketNotFound, BucketAlreadyExists, BucketNotEmpty, ContainsSnapshot, InvalidVolumeName, InvalidBucketName, BucketLimit}
+use Rattle.oz_names.specs.declared.code.Code.TheVariants.{VolumeNotFound, VolumeAlreadyExists, VolumeNotEmpty}
+use Rattle.oz_names.specs.declared.code.Code.TheVariants.{BucketNotFound, BucketAlreadyExists, BucketNotEmpty}
+use Rattle.oz_names.specs.declared.code.Code.TheVariants.{ContainsSnapshot, InvalidVolumeName, InvalidBucketName}
+use Rattle.oz_names.specs.declared.code.Code.TheVariants.{BucketLimit}
 use Rattle.oz_names.specs.declared.limits.TheConstants.{MOST_BUCKETS}
 use Rattle.oz_names.specs.Names.{is_volume_name}
 use Rattle.oz_namespace.specs.declared.namespace.Bucket.{Bucket}
 use Rattle.oz_namespace.specs.declared.namespace.Namespace.{Namespace}
-use Rattle.oz_namespace.specs.Namespace.{ByName, buckets_of, bucket_of, has_volume, has_bucket, new_bucket, with_volume, without_volume}
+use Rattle.oz_namespace.specs.Namespace.{ByName, buckets_of, bucket_of, has_volume, has_bucket, new_bucket, with_volume}
+use Rattle.oz_namespace.specs.Namespace.{without_volume}
 use Rattle.oz_requests.specs.declared.reply.Reply.{Reply}
 use Rattle.oz_requests.specs.declared.reply.Reply.TheVariants as replies
 use Rattle.oz_requests.specs.declared.request.Request.{Request}
-use Rattle.oz_requests.specs.declared.request.Request.TheVariants.{CreateVolume, InfoVolume, DeleteVolume, CreateBucket, InfoBucket, DeleteBucket, ListBuckets}
+use Rattle.oz_requests.specs.declared.request.Request.TheVariants.{CreateVolume, InfoVolume, DeleteVolume, CreateBucket}
+use Rattle.oz_requests.specs.declared.request.Request.TheVariants.{InfoBucket, DeleteBucket, ListBuckets}
 
 -- the buckets of a volume, none where there is no such volume
 abbrev pub buckets_in : Option (ByName Bucket) → ByName Bucket
@@ -61,14 +67,17 @@ no_bucket namespace volume bucket = where_so (not (has_bucket namespace volume b
 
 -- The codes of each request, in the order in which they are tested.
 abbrev pub refusals : Namespace → Request → List Refusal
-refusals namespace (CreateVolume volume) = bad_volume volume ∷ where_so (has_volume namespace volume) VolumeAlreadyExists ∷ []
+refusals namespace (CreateVolume volume) = bad_volume volume
+    ∷ where_so (has_volume namespace volume) VolumeAlreadyExists ∷ []
 refusals namespace (InfoVolume volume) = bad_volume volume ∷ no_volume namespace volume ∷ []
-refusals namespace (DeleteVolume volume) = bad_volume volume ∷ no_volume namespace volume ∷ where_so (nat_lt 0 (len (buckets_at namespace volume))) VolumeNotEmpty ∷ []
+refusals namespace (DeleteVolume volume) = bad_volume volume ∷ no_volume namespace volume
+    ∷ where_so (nat_lt 0 (len (buckets_at namespace volume))) VolumeNotEmpty ∷ []
 refusals namespace (CreateBucket volume bucket) =
     bad_volume volume ∷ bad_bucket bucket ∷ no_volume namespace volume
     ∷ where_so (has_bucket namespace volume bucket) BucketAlreadyExists
     ∷ where_so (nat_le MOST_BUCKETS (len (buckets_at namespace volume))) BucketLimit ∷ []
-refusals namespace (InfoBucket volume bucket) = bad_volume volume ∷ bad_bucket bucket ∷ no_volume namespace volume ∷ no_bucket namespace volume bucket ∷ []
+refusals namespace (InfoBucket volume bucket) = bad_volume volume ∷ bad_bucket bucket ∷ no_volume namespace volume
+    ∷ no_bucket namespace volume bucket ∷ []
 refusals namespace (DeleteBucket volume bucket) =
     bad_volume volume ∷ bad_bucket bucket ∷ no_volume namespace volume ∷ no_bucket namespace volume bucket
     ∷ where_so (is_in_use (bucket_at namespace volume bucket)) BucketNotEmpty

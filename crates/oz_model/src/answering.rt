@@ -1,7 +1,10 @@
+//! The reply of one thread to each request, and what it leaves.
+
 ghost use Rattle.std.specs.Prelude.{◌≡◌, [], ◌∷◌, length, nat_lt, nat_le, IfOk};
 ghost use Rattle.std.specs.FinMap.{len};
 ghost use Rattle.oz_namespace.specs.Namespace.{has_volume, has_bucket};
-ghost use Rattle.oz_model.specs.Answers.{Answers, after, refusals, first_of, where_so, no_volume, no_bucket, buckets_at, bucket_at, is_in_use, result_of, effect_of};
+ghost use Rattle.oz_model.specs.Answers.{Answers, after, refusals, first_of, where_so, no_volume, no_bucket};
+ghost use Rattle.oz_model.specs.Answers.{buckets_at, bucket_at, is_in_use, result_of, effect_of};
 
 use crate::lookups::{
     bucket_count, bucket_names, buckets_copied, counts, has_bucket, has_volume, in_use,

@@ -1,3 +1,5 @@
+//! The blocks that a namespace reaches.
+
 ghost use Rattle.std.specs.Prelude.{◌≡◌, ◌++◌, ◌↔◌, IfOk, OnOk};
 ghost use Rattle.std.specs.FinMap.{values};
 ghost use Rattle.std.specs.List.{Contains};

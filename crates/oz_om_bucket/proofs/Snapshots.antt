@@ -20,10 +20,10 @@ use Rattle.oz_tables.specs.Counts.{IsBetween, AllRise, AreKeys}
 use Rattle.oz_tables.specs.Sound.{AllDiffer}
 use Rattle.oz_tables.specs.StandsFor.{AreSnapshots, NumbersRise, IsLive, is_among}
 use Rattle.oz_tables.specs.Tables.{Rows, IsBelow, is_same}
-use Rattle.oz_tables.proofs.Order.{itself}
-use Rattle.oz_tables.proofs.Oneness.{alive}
-use Rattle.oz_tables.proofs.Same.{same_is_one}
-use Rattle.oz_tables.proofs.Sizes.{no_longer}
+use Rattle.oz_tables.specs.laws.Order.{itself}
+use Rattle.oz_tables.specs.laws.Oneness.{alive}
+use Rattle.oz_tables.specs.laws.Same.{same_is_one}
+use Rattle.oz_tables.specs.laws.Sizes.{no_longer}
 use Rattle.oz_om_bucket.specs.Meets.{Stand}
 use Rattle.oz_om_bucket.specs.Walking.{is_live}
 use Rattle.oz_om_bucket.proofs.Rising.{each_in_turn}

@@ -11,8 +11,8 @@ use Rattle.oz_rows.specs.Order.{key_order}
 use Rattle.oz_rows.specs.Rows.{kind_of}
 use Rattle.oz_tables.specs.Counts.{IsBetween, AllRise, AreKeys, IsCount}
 use Rattle.oz_tables.specs.Tables.{Rows, IsBelow, IsAbove, IsNext, is_same}
-use Rattle.oz_tables.proofs.Order.{key_order_total, itself, above_below, kinds_rise}
-use Rattle.oz_tables.proofs.Same.{same_is_one}
+use Rattle.oz_tables.specs.laws.Order.{key_order_total, itself, above_below, kinds_rise}
+use Rattle.oz_tables.specs.laws.Same.{same_is_one}
 use Rattle.oz_om_bucket.specs.Walking.{last_or, IsStep}
 
 not_itself : (a : RowKey) → IsBelow a a → ⊥

@@ -3,7 +3,8 @@ use Rattle.std.specs.Prelude.{ℕ, List, [], ◌∷◌}
 use Rattle.oz_requests.specs.declared.reply.Reply.{Reply}
 use Rattle.oz_requests.specs.declared.reply.Reply.TheVariants as replies
 use Rattle.oz_requests.specs.declared.request.Request.{Request}
-use Rattle.oz_requests.specs.declared.request.Request.TheVariants.{CreateVolume, InfoVolume, DeleteVolume, CreateBucket, InfoBucket, DeleteBucket, ListBuckets}
+use Rattle.oz_requests.specs.declared.request.Request.TheVariants.{CreateVolume, InfoVolume, DeleteVolume, CreateBucket}
+use Rattle.oz_requests.specs.declared.request.Request.TheVariants.{InfoBucket, DeleteBucket, ListBuckets}
 use Rattle.oz_rows.specs.declared.key.RowKey.TheVariants as keys
 use Rattle.oz_rows.specs.declared.row.Row.TheVariants as rows
 use Rattle.oz_rows.specs.declared.operation.Change.{Change}

@@ -1,3 +1,5 @@
+//! The decision on a request.
+
 ghost use Rattle.std.specs.Prelude.{◌≡◌, ◌≤◌, ◌↔◌, [], None, length, IfOk};
 ghost use Rattle.oz_cache.specs.Cache.{newest};
 ghost use Rattle.oz_namespace.specs.declared.namespace.Namespace.{Namespace as AnyNamespace};

@@ -1,3 +1,5 @@
+//! What a decision is.
+
 ghost use Rattle.std.specs.Prelude.{◌≡◌, []};
 
 use oz_fields::List;

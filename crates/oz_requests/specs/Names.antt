@@ -4,7 +4,8 @@ use Rattle.oz_names.specs.declared.code.Code.{Code}
 use Rattle.oz_names.specs.declared.code.Code.TheVariants.{InvalidVolumeName, InvalidBucketName}
 use Rattle.oz_names.specs.Names.{is_volume_name}
 use Rattle.oz_requests.specs.declared.request.Request.{Request}
-use Rattle.oz_requests.specs.declared.request.Request.TheVariants.{CreateVolume, InfoVolume, DeleteVolume, CreateBucket, InfoBucket, DeleteBucket, ListBuckets}
+use Rattle.oz_requests.specs.declared.request.Request.TheVariants.{CreateVolume, InfoVolume, DeleteVolume, CreateBucket}
+use Rattle.oz_requests.specs.declared.request.Request.TheVariants.{InfoBucket, DeleteBucket, ListBuckets}
 
 -- the volume that a request speaks of
 abbrev pub volume_in : Request → List ℕ

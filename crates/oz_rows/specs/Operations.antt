@@ -6,7 +6,8 @@ use Rattle.oz_fields.specs.Number.{u8_bytes, u64_bytes}
 use Rattle.oz_fields.specs.Text.{text_bytes}
 use Rattle.oz_names.specs.Names.{IsVolumeName, IsBucketName}
 use Rattle.oz_rows.specs.declared.operation.Operation.{Operation}
-use Rattle.oz_rows.specs.declared.operation.Operation.TheVariants.{Put, Remove, CopyKeys, MoveDeleted, DropKeys, DropOpen}
+use Rattle.oz_rows.specs.declared.operation.Operation.TheVariants.{Put, Remove, CopyKeys, MoveDeleted, DropKeys}
+use Rattle.oz_rows.specs.declared.operation.Operation.TheVariants.{DropOpen}
 use Rattle.oz_rows.specs.declared.operation.Operations.{Operations}
 use Rattle.oz_rows.specs.Rows.{IsNumber, IsOwner, KeyFits, RowFits, key_bytes, row_bytes}
 
@@ -14,16 +15,20 @@ abbrev pub OperationFits : Operation → Type 0
 OperationFits (Put key row) = RowFits key row
 OperationFits (Remove key) = KeyFits key
 OperationFits (CopyKeys volume bucket number) = IsVolumeName volume × IsBucketName bucket × IsNumber number
-OperationFits (MoveDeleted volume bucket from to) = IsVolumeName volume × IsBucketName bucket × IsOwner from × IsOwner to
+OperationFits (MoveDeleted volume bucket from to) = IsVolumeName volume × IsBucketName bucket × IsOwner from
+    × IsOwner to
 OperationFits (DropKeys volume bucket number) = IsVolumeName volume × IsBucketName bucket × IsNumber number
 OperationFits (DropOpen volume bucket) = IsVolumeName volume × IsBucketName bucket
 
 abbrev pub operation_bytes : Operation → List ℕ
 operation_bytes (Put key row) = u8_bytes 1 ++ row_bytes key row
 operation_bytes (Remove key) = u8_bytes 2 ++ key_bytes key
-operation_bytes (CopyKeys volume bucket number) = u8_bytes 3 ++ text_bytes volume ++ text_bytes bucket ++ u64_bytes number
-operation_bytes (MoveDeleted volume bucket from to) = u8_bytes 4 ++ text_bytes volume ++ text_bytes bucket ++ u64_bytes from ++ u64_bytes to
-operation_bytes (DropKeys volume bucket number) = u8_bytes 5 ++ text_bytes volume ++ text_bytes bucket ++ u64_bytes number
+operation_bytes (CopyKeys volume bucket number) = u8_bytes 3 ++ text_bytes volume ++ text_bytes bucket
+    ++ u64_bytes number
+operation_bytes (MoveDeleted volume bucket from to) = u8_bytes 4 ++ text_bytes volume ++ text_bytes bucket
+    ++ u64_bytes from ++ u64_bytes to
+operation_bytes (DropKeys volume bucket number) = u8_bytes 5 ++ text_bytes volume ++ text_bytes bucket
+    ++ u64_bytes number
 operation_bytes (DropOpen volume bucket) = u8_bytes 6 ++ text_bytes volume ++ text_bytes bucket
 
 -- operations in a row
@@ -43,4 +48,5 @@ head_bytes index = u8_bytes LAYOUT ++ u64_bytes index
 
 -- the bytes are this body
 abbrev pub IsBody : List ℕ → Operations → Type 0
-IsBody bytes body = (body.layout ≡ LAYOUT) × IsIndex body.index × AreOperations body.items × (bytes ≡ head_bytes body.index ++ batch_bytes body.items)
+IsBody bytes body = (body.layout ≡ LAYOUT) × IsIndex body.index × AreOperations body.items
+    × (bytes ≡ head_bytes body.index ++ batch_bytes body.items)

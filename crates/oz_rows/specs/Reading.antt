@@ -1,6 +1,7 @@
 -- Reading from left to right. What is read has a value and the bytes behind it. What isn't says how many bytes are left
 -- from the first field on that passes their end or breaks a rule.
-use Rattle.std.specs.Prelude.{◌≡◌, ℕ, zero, suc, ◌-◌, ◌^◌, Bool, true, ◌&&◌, ◌||◌, ◌==◌, nat_lt, nat_le, List, [], ◌∷◌, ◌++◌, length, Option, None, Some, Result, Ok, Err, if◌then◌else◌}
+use Rattle.std.specs.Prelude.{◌≡◌, ℕ, zero, suc, ◌-◌, ◌^◌, Bool, true, ◌&&◌, ◌||◌, ◌==◌, nat_lt, nat_le, List, [], ◌∷◌}
+use Rattle.std.specs.Prelude.{◌++◌, length, Option, None, Some, Result, Ok, Err, if◌then◌else◌}
 use Rattle.oz_fields.specs.declared.block.TheConstants.{GREATEST_BLOCK_NUMBER, LONGEST_PIECE}
 use Rattle.oz_names.specs.declared.limits.TheConstants.{STRIPES, MOST_BLOCKS, MOST_NUMBERS}
 use Rattle.oz_rows.specs.declared.operation.TheConstants.{LAYOUT, END_OF_INDEXES}
@@ -16,17 +17,20 @@ use Rattle.oz_rows.specs.declared.row.Row.TheVariants as rows
 use Rattle.oz_rows.specs.declared.row.SnapshotState.{SnapshotState}
 use Rattle.oz_rows.specs.declared.row.SnapshotState.TheVariants.{Live, Marked}
 use Rattle.oz_rows.specs.declared.operation.Operation.{Operation}
-use Rattle.oz_rows.specs.declared.operation.Operation.TheVariants.{Put, Remove, CopyKeys, MoveDeleted, DropKeys, DropOpen}
+use Rattle.oz_rows.specs.declared.operation.Operation.TheVariants.{Put, Remove, CopyKeys, MoveDeleted, DropKeys}
+use Rattle.oz_rows.specs.declared.operation.Operation.TheVariants.{DropOpen}
 use Rattle.oz_rows.specs.declared.fault.ReadFault.{ReadFault}
 use Rattle.oz_rows.specs.declared.fault.ReadFault.TheVariants as faults
 
-abbrev pub goes_on : {A B : Type 0} → Result (A × List ℕ) ℕ → (A → List ℕ → Result (B × List ℕ) ℕ) → Result (B × List ℕ) ℕ
+abbrev pub goes_on : {A B : Type 0} → Result (A × List ℕ) ℕ → (A → List ℕ → Result (B × List ℕ) ℕ)
+    → Result (B × List ℕ) ℕ
 goes_on (Ok found) next = next found.0 found.1
 goes_on (Err left) next = Err left
 
 -- one after the other
 infixl 10 ◌>>=◌
-abbrev pub ◌>>=◌ : {A B : Type 0} → (List ℕ → Result (A × List ℕ) ℕ) → (A → List ℕ → Result (B × List ℕ) ℕ) → List ℕ → Result (B × List ℕ) ℕ
+abbrev pub ◌>>=◌ : {A B : Type 0} → (List ℕ → Result (A × List ℕ) ℕ) → (A → List ℕ → Result (B × List ℕ) ℕ) → List ℕ
+    → Result (B × List ℕ) ℕ
 (read >>= next) bytes = goes_on (read bytes) next
 
 -- nothing more is read
@@ -102,7 +106,8 @@ items_at item (suc count) = do
   done (first ∷ others)
 
 -- items behind those that were read before
-abbrev pub with_front : {A : Type 0} → List A → (List ℕ → Result (List A × List ℕ) ℕ) → List ℕ → Result (List A × List ℕ) ℕ
+abbrev pub with_front : {A : Type 0} → List A → (List ℕ → Result (List A × List ℕ) ℕ) → List ℕ
+    → Result (List A × List ℕ) ℕ
 with_front front read = do
   others ← read
   done (front ++ others)

@@ -47,11 +47,15 @@ abbrev pub KeyFits : RowKey → Type 0
 KeyFits (keys.Volume volume) = IsVolumeName volume
 KeyFits (keys.Bucket volume bucket) = IsVolumeName volume × IsBucketName bucket
 KeyFits (keys.Key volume bucket key) = IsVolumeName volume × IsBucketName bucket × IsKeyName key
-KeyFits (keys.Open volume bucket key number) = IsVolumeName volume × IsBucketName bucket × IsKeyName key × IsNumber number
-KeyFits (keys.Deleted volume bucket owner key local) = IsVolumeName volume × IsBucketName bucket × IsOwner owner × IsKeyName key × IsBlockNumber local
+KeyFits (keys.Open volume bucket key number) = IsVolumeName volume × IsBucketName bucket × IsKeyName key
+    × IsNumber number
+KeyFits (keys.Deleted volume bucket owner key local) = IsVolumeName volume × IsBucketName bucket × IsOwner owner
+    × IsKeyName key × IsBlockNumber local
 KeyFits (keys.Snapshot volume bucket number) = IsVolumeName volume × IsBucketName bucket × IsNumber number
-KeyFits (keys.SnapshotKey volume bucket snapshot key) = IsVolumeName volume × IsBucketName bucket × IsNumber snapshot × IsKeyName key
-KeyFits (keys.Renamed volume bucket owner local) = IsVolumeName volume × IsBucketName bucket × IsOwner owner × IsBlockNumber local
+KeyFits (keys.SnapshotKey volume bucket snapshot key) = IsVolumeName volume × IsBucketName bucket × IsNumber snapshot
+    × IsKeyName key
+KeyFits (keys.Renamed volume bucket owner local) = IsVolumeName volume × IsBucketName bucket × IsOwner owner
+    × IsBlockNumber local
 KeyFits (keys.Stripe stripe) = stripe < STRIPES
 
 -- the kind of the value is that of the key, and the value fields keep their rules
@@ -60,9 +64,12 @@ ValueFits (keys.Volume volume) rows.Volume = Unit {0}
 ValueFits (keys.Bucket volume bucket) rows.Bucket = Unit {0}
 ValueFits (keys.Key volume bucket key) (rows.Key number pieces) = IsNumber number × AreItems IsPiece pieces
 ValueFits (keys.Open volume bucket key number) (rows.Open blocks) = AreItems IsBlock blocks
-ValueFits (keys.Deleted volume bucket owner key local) (rows.Deleted blocks) = AreItems IsBlock blocks × BeginsWith local blocks
-ValueFits (keys.Snapshot volume bucket number) (rows.Snapshot name previous state) = IsSnapshotName name × IsOwner previous
-ValueFits (keys.SnapshotKey volume bucket snapshot key) (rows.SnapshotKey number pieces) = IsNumber number × AreItems IsPiece pieces
+ValueFits (keys.Deleted volume bucket owner key local) (rows.Deleted blocks) = AreItems IsBlock blocks
+    × BeginsWith local blocks
+ValueFits (keys.Snapshot volume bucket number) (rows.Snapshot name previous state) = IsSnapshotName name
+    × IsOwner previous
+ValueFits (keys.SnapshotKey volume bucket snapshot key) (rows.SnapshotKey number pieces) = IsNumber number
+    × AreItems IsPiece pieces
 ValueFits (keys.Renamed volume bucket owner local) (rows.Renamed key) = IsKeyName key
 ValueFits (keys.Stripe stripe) (rows.Stripe number) = number ≤ MOST_NUMBERS
 ValueFits key row = ⊥
@@ -101,11 +108,16 @@ abbrev pub key_bytes : RowKey → List ℕ
 key_bytes (keys.Volume volume) = u8_bytes 1 ++ text_bytes volume
 key_bytes (keys.Bucket volume bucket) = u8_bytes 2 ++ text_bytes volume ++ text_bytes bucket
 key_bytes (keys.Key volume bucket key) = u8_bytes 3 ++ text_bytes volume ++ text_bytes bucket ++ text_bytes key
-key_bytes (keys.Open volume bucket key number) = u8_bytes 4 ++ text_bytes volume ++ text_bytes bucket ++ text_bytes key ++ u64_bytes number
-key_bytes (keys.Deleted volume bucket owner key local) = u8_bytes 5 ++ text_bytes volume ++ text_bytes bucket ++ u64_bytes owner ++ text_bytes key ++ u64_bytes local
-key_bytes (keys.Snapshot volume bucket number) = u8_bytes 6 ++ text_bytes volume ++ text_bytes bucket ++ u64_bytes number
-key_bytes (keys.SnapshotKey volume bucket snapshot key) = u8_bytes 7 ++ text_bytes volume ++ text_bytes bucket ++ u64_bytes snapshot ++ text_bytes key
-key_bytes (keys.Renamed volume bucket owner local) = u8_bytes 8 ++ text_bytes volume ++ text_bytes bucket ++ u64_bytes owner ++ u64_bytes local
+key_bytes (keys.Open volume bucket key number) = u8_bytes 4 ++ text_bytes volume ++ text_bytes bucket ++ text_bytes key
+    ++ u64_bytes number
+key_bytes (keys.Deleted volume bucket owner key local) = u8_bytes 5 ++ text_bytes volume ++ text_bytes bucket
+    ++ u64_bytes owner ++ text_bytes key ++ u64_bytes local
+key_bytes (keys.Snapshot volume bucket number) = u8_bytes 6 ++ text_bytes volume ++ text_bytes bucket
+    ++ u64_bytes number
+key_bytes (keys.SnapshotKey volume bucket snapshot key) = u8_bytes 7 ++ text_bytes volume ++ text_bytes bucket
+    ++ u64_bytes snapshot ++ text_bytes key
+key_bytes (keys.Renamed volume bucket owner local) = u8_bytes 8 ++ text_bytes volume ++ text_bytes bucket
+    ++ u64_bytes owner ++ u64_bytes local
 key_bytes (keys.Stripe stripe) = u8_bytes 9 ++ u8_bytes stripe
 
 -- the value fields

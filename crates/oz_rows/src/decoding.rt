@@ -1,7 +1,11 @@
 //! Rows, read field after field.
 
 ghost use Rattle.std.specs.Prelude.{◌≡◌, ◌++◌, IfOk, Ok};
-ghost use Rattle.oz_rows.specs.Reading.{ReadGives, with_front, items_at, list_at, block_at, piece_at, deleted_blocks_at, volume_key_at, bucket_key_at, key_key_at, open_key_at, deleted_key_at, snapshot_at, snapshot_key_at, renamed_key_at, stripe_key_at, key_at, key_value_at, open_value_at, deleted_value_at, snapshot_value_at, snapshot_key_value_at, renamed_value_at, stripe_value_at, value_at, row_at};
+ghost use Rattle.oz_rows.specs.Reading.{ReadGives, with_front, items_at, list_at, block_at, piece_at};
+ghost use Rattle.oz_rows.specs.Reading.{deleted_blocks_at, volume_key_at, bucket_key_at, key_key_at, open_key_at};
+ghost use Rattle.oz_rows.specs.Reading.{deleted_key_at, snapshot_at, snapshot_key_at, renamed_key_at, stripe_key_at};
+ghost use Rattle.oz_rows.specs.Reading.{key_at, key_value_at, open_value_at, deleted_value_at, snapshot_value_at};
+ghost use Rattle.oz_rows.specs.Reading.{snapshot_key_value_at, renamed_value_at, stripe_value_at, value_at, row_at};
 
 use crate::fault::ReadFault;
 use crate::key::RowKey;

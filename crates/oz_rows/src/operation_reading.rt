@@ -1,7 +1,8 @@
 //! Bodies, read operation after operation.
 
 ghost use Rattle.std.specs.Prelude.{◌≡◌, IfOk, IfErr, MatchResult};
-ghost use Rattle.oz_rows.specs.Reading.{ReadGives, put_at, remove_at, copy_keys_at, move_deleted_at, drop_keys_at, drop_open_at, operation_at, index_at, head_at};
+ghost use Rattle.oz_rows.specs.Reading.{ReadGives, put_at, remove_at, copy_keys_at, move_deleted_at, drop_keys_at};
+ghost use Rattle.oz_rows.specs.Reading.{drop_open_at, operation_at, index_at, head_at};
 
 use crate::decoding::{key_of, row_of};
 use crate::fault::ReadFault;

@@ -2,7 +2,9 @@
 
 ghost use Rattle.std.specs.Prelude.{◌≡◌, ◌≤◌, IfOk};
 ghost use Rattle.oz_names.specs.Names.{is_volume_name as passes_as_volume, is_key_name as passes_as_key};
-ghost use Rattle.oz_rows.specs.Reading.{ReadGives, volume_name_at, key_name_at, owner_at, number_at, block_number_at, same_local_at, drawn_at, length_at, stripe_at, state_at, count_at, block_at, piece_at};
+ghost use Rattle.oz_rows.specs.Reading.{ReadGives, volume_name_at, key_name_at, owner_at, number_at, block_number_at};
+ghost use Rattle.oz_rows.specs.Reading.{same_local_at, drawn_at, length_at, stripe_at, state_at, count_at, block_at};
+ghost use Rattle.oz_rows.specs.Reading.{piece_at};
 
 use crate::fault::ReadFault;
 use crate::row::SnapshotState;

@@ -5,7 +5,8 @@ use Rattle.std.specs.Option.{option_and_then, option_map}
 use Rattle.std.specs.Str.{bytes_eq}
 use Rattle.oz_names.specs.Paths.{volume_part, bucket_part}
 use Rattle.oz_script.specs.declared.grammar.Command.{Command}
-use Rattle.oz_script.specs.declared.grammar.Command.TheVariants.{VolumeCreate, VolumeDelete, VolumeInfo, BucketList, BucketCreate, BucketDelete, BucketInfo}
+use Rattle.oz_script.specs.declared.grammar.Command.TheVariants.{VolumeCreate, VolumeDelete, VolumeInfo, BucketList}
+use Rattle.oz_script.specs.declared.grammar.Command.TheVariants.{BucketCreate, BucketDelete, BucketInfo}
 
 -- what stands behind the `/` that a word begins with
 abbrev pub behind_slash : List ℕ → Option (List ℕ)

@@ -4,7 +4,8 @@ use Rattle.std.specs.List.{list_all, flat_map, join_with_byte}
 use Rattle.oz_script.specs.declared.grammar.TheConstants.{MOST_BYTES, MOST_LINES}
 use Rattle.oz_names.specs.Paths.{is_slash}
 use Rattle.oz_script.specs.declared.grammar.Command.{Command}
-use Rattle.oz_script.specs.declared.grammar.Command.TheVariants.{VolumeCreate, VolumeDelete, VolumeInfo, BucketList, BucketCreate, BucketDelete, BucketInfo}
+use Rattle.oz_script.specs.declared.grammar.Command.TheVariants.{VolumeCreate, VolumeDelete, VolumeInfo, BucketList}
+use Rattle.oz_script.specs.declared.grammar.Command.TheVariants.{BucketCreate, BucketDelete, BucketInfo}
 use Rattle.oz_script.specs.declared.grammar.Line.{Line}
 use Rattle.oz_script.specs.declared.grammar.Script.{Script}
 use Rattle.oz_script.specs.Script.{is_visible, is_client_name}
@@ -20,9 +21,24 @@ spelling_of (VolumeCreate volume) = record { kind = codes "volume"; verb = codes
 spelling_of (VolumeDelete volume) = record { kind = codes "volume"; verb = codes "delete"; parts = volume ∷ [] }
 spelling_of (VolumeInfo volume) = record { kind = codes "volume"; verb = codes "info"; parts = volume ∷ [] }
 spelling_of (BucketList volume) = record { kind = codes "bucket"; verb = codes "list"; parts = volume ∷ [] }
-spelling_of (BucketCreate volume bucket) = record { kind = codes "bucket"; verb = codes "create"; parts = volume ∷ bucket ∷ [] }
-spelling_of (BucketDelete volume bucket) = record { kind = codes "bucket"; verb = codes "delete"; parts = volume ∷ bucket ∷ [] }
-spelling_of (BucketInfo volume bucket) = record { kind = codes "bucket"; verb = codes "info"; parts = volume ∷ bucket ∷ [] }
+spelling_of (BucketCreate volume bucket) = record {
+  kind = codes "bucket";
+  verb = codes "create";
+  parts = volume
+      ∷ bucket ∷ [];
+}
+spelling_of (BucketDelete volume bucket) = record {
+  kind = codes "bucket";
+  verb = codes "delete";
+  parts = volume
+      ∷ bucket ∷ [];
+}
+spelling_of (BucketInfo volume bucket) = record {
+  kind = codes "bucket";
+  verb = codes "info";
+  parts = volume ∷ bucket
+      ∷ [];
+}
 
 -- the words of a command
 abbrev pub command_words : Command → List (List ℕ)
@@ -51,7 +67,8 @@ plain_text client commands = flat_map (λ command. plain_line client command ++ 
 -- the lines of these commands, numbered from here on
 abbrev pub plain_lines : ℕ → List Command → List Line
 plain_lines number [] = []
-plain_lines number (command ∷ rest) = record { client = 1; number = number; after = None; command = command } ∷ plain_lines (number + 1) rest
+plain_lines number (command ∷ rest) = record { client = 1; number = number; after = None; command = command }
+    ∷ plain_lines (number + 1) rest
 
 abbrev pub plain_script : List ℕ → List Command → Script
 plain_script client commands = record { clients = client ∷ []; lines = plain_lines 1 commands }

@@ -1,5 +1,6 @@
 -- The grammar of a script: what its bytes say, or which line has the first fault.
-use Rattle.std.specs.Prelude.{◌≡◌, ℕ, ◌+◌, ◌≤◌, Bool, false, nat_lt, nat_le, ◌==◌, ◌&&◌, ◌||◌, List, [], ◌∷◌, ◌++◌, length, filter, Option, None, Some, Result, Ok, Err, if◌then◌else◌}
+use Rattle.std.specs.Prelude.{◌≡◌, ℕ, ◌+◌, ◌≤◌, Bool, false, nat_lt, nat_le, ◌==◌, ◌&&◌, ◌||◌, List, [], ◌∷◌, ◌++◌}
+use Rattle.std.specs.Prelude.{length, filter, Option, None, Some, Result, Ok, Err, if◌then◌else◌}
 use Rattle.std.specs.List.{list_all, slice_split, filter_map}
 use Rattle.std.specs.Option.{ok_or}
 use Rattle.std.specs.Str.{bytes_eq}
@@ -39,7 +40,8 @@ is_remark (first ∷ rest) = first == 35
 
 -- a client's name
 abbrev pub is_client_name : List ℕ → Bool
-is_client_name name = nat_le 1 (length name) && nat_le (length name) LONGEST_CLIENT && list_all (λ byte. is_letter byte || is_digit byte) name
+is_client_name name = nat_le 1 (length name) && nat_le (length name) LONGEST_CLIENT
+    && list_all (λ byte. is_letter byte || is_digit byte) name
 
 -- The clients, where the one of this name speaks. Only one is served yet.
 abbrev pub with_client : List (List ℕ) → List ℕ → Option (List (List ℕ))
@@ -56,7 +58,11 @@ with_words script place [] = Ok script
 with_words script place (name ∷ words) = do
   clients ← ok_or (with_client script.clients name) (At place Form)
   command ← ok_or (command_of words) (At place Form)
-  if nat_lt (length script.lines) MOST_LINES then Ok (record { clients = clients; lines = script.lines ++ next_line script.lines command ∷ [] }) else Err (At place Many)
+  if nat_lt (length script.lines) MOST_LINES then Ok (record {
+    clients = clients;
+    lines = script.lines
+        ++ next_line script.lines command ∷ [];
+  }) else Err (At place Many)
 
 -- a script, and then this line at this place
 unfoldable pub with_line : Script → ℕ → List ℕ → Result Script ScriptFault

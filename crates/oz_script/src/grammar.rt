@@ -1,6 +1,7 @@
 //! A script as its bytes say it.
 
-ghost use Rattle.std.specs.Prelude.{◌≡◌, ℕ, List as Items, ◌+◌, ◌<◌, ◌==◌, ◌||◌, not, [], ◌∷◌, ◌++◌, length, map, IfOk, IfSome, MatchOption, codes};
+ghost use Rattle.std.specs.Prelude.{◌≡◌, ℕ, List as Items, ◌+◌, ◌<◌, ◌==◌, ◌||◌, not, [], ◌∷◌, ◌++◌, length, map, IfOk};
+ghost use Rattle.std.specs.Prelude.{IfSome, MatchOption, codes};
 ghost use Rattle.std.specs.List.{list_all, position};
 ghost use Rattle.std.specs.Option.{option_map};
 ghost use Rattle.std.specs.Str.Lines.{lines, strip_carriage_return};
@@ -10,7 +11,9 @@ ghost use Rattle.oz_script.specs.Commands.{behind_slash, command_of as command_s
 ghost use Rattle.oz_names.specs.Names.{is_digit, is_letter};
 ghost use Rattle.oz_script.specs.PlainScript.{IsPlain, plain_text, plain_script};
 ghost use Rattle.oz_script.specs.declared.grammar.Command.{Command as Said};
-ghost use Rattle.oz_script.specs.Script.{GivesSame, IsNumbered, is_blank, is_visible, is_client_name, words, commands_on, with_client as clients_with, next_line, with_line as script_with, script_of};
+ghost use Rattle.oz_script.specs.Script.{GivesSame, IsNumbered, is_blank, is_visible, is_client_name, words};
+ghost use Rattle.oz_script.specs.Script.{commands_on, with_client as clients_with, next_line, with_line as script_with};
+ghost use Rattle.oz_script.specs.Script.{script_of};
 
 use oz_fields::{List, Name, OutOfMemory};
 use oz_names::split_path;

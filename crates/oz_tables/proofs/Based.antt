@@ -18,8 +18,8 @@ use Rattle.oz_tables.specs.declared.entry.RowEntry.{RowEntry}
 use Rattle.oz_tables.specs.Tables.{row_of, row_after, is_same}
 use Rattle.oz_tables.specs.Effects.{Leads, operation_changes, copied, moved, dropped, closed, freed, put, gone, is_bucket, is_in_a_key}
 use Rattle.oz_tables.specs.Build.{base_of, puts, removes, IsOrphan, AllAreBased, IsAtFault, NoneAtFault}
-use Rattle.oz_tables.proofs.Order.{itself}
-use Rattle.oz_tables.proofs.Same.{same_is_one}
+use Rattle.oz_tables.specs.laws.Order.{itself}
+use Rattle.oz_tables.specs.laws.Same.{same_is_one}
 
 -- a change leaves a key as it is, or takes its row away
 abbrev Keeps : RowKey → Change → Type 0

@@ -22,10 +22,10 @@ use Rattle.oz_tables.specs.Tables.{row_of, KeysRise}
 use Rattle.oz_tables.specs.Effects.{Leads, Becomes, IsPossible, operation_changes}
 use Rattle.oz_tables.specs.Build.{base_of, removes, IsOrphan, LeavesOne, AllAreBased, IsAtFault, NoneAtFault, IsNextBody, BuildsFrom, OperationFails, BatchFails, LeavesOrphan, IsDamagedBody, FailsFrom}
 use Rattle.oz_tables.specs.Steps.{is_left}
-use Rattle.oz_tables.proofs.Changes.{become}
-use Rattle.oz_tables.proofs.Steps.{some_apart, some_inside, leads_rise}
+use Rattle.oz_tables.specs.laws.Changes.{become}
+use Rattle.oz_tables.specs.laws.Steps.{some_apart, some_inside, leads_rise}
 use Rattle.oz_tables.proofs.Based.{based_after}
-use Rattle.oz_tables.proofs.Lefts.{left_told}
+use Rattle.oz_tables.specs.laws.Lefts.{left_told}
 
 abbrev OperationRead : Type 0
 OperationRead = Result (Operation × List ℕ) ℕ

@@ -18,9 +18,9 @@ use Rattle.oz_tables.specs.declared.entry.RowEntry.{RowEntry}
 use Rattle.oz_tables.specs.Tables.{row_of, row_after, row_after_one, is_same, KeysRise, IsBelow}
 use Rattle.oz_tables.specs.Effects.{Leads, operation_changes, copied, moved, dropped, closed, freed, is_bucket, is_in_a_key, put}
 use Rattle.oz_tables.specs.Build.{Builds, BuildsFrom}
-use Rattle.oz_tables.proofs.Order.{itself}
-use Rattle.oz_tables.proofs.Same.{same_is_one}
-use Rattle.oz_tables.proofs.Steps.{some_inside, some_apart, leads_rise}
+use Rattle.oz_tables.specs.laws.Order.{itself}
+use Rattle.oz_tables.specs.laws.Same.{same_is_one}
+use Rattle.oz_tables.specs.laws.Steps.{some_inside, some_apart, leads_rise}
 
 abbrev AllFit : List RowEntry → Type 0
 AllFit l = (key : RowKey) (row : Row) → row_of l key ≡ Some row → RowFits key row

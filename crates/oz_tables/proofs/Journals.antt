@@ -11,7 +11,7 @@ use Rattle.oz_tables.specs.Tables.{TableView, row_of}
 use Rattle.oz_tables.specs.Build.{AllAreBased, IsNextBody, BuildsFrom, Builds, IsDamagedBody, FailsFrom, FailsAt}
 use Rattle.oz_rows.specs.declared.operation.TheConstants.{END_OF_INDEXES}
 use Rattle.oz_tables.specs.Steps.{Follows, IfLeft, fault_in}
-use Rattle.oz_tables.proofs.Splits.{parts_at}
+use Rattle.oz_tables.specs.laws.Splits.{parts_at}
 
 -- one body more
 pub builds_push : (before : List RowEntry) (last : ℕ) (bodies : List (List ℕ)) (between : List RowEntry) (middle : ℕ) (bytes : List ℕ) (body : Operations) (after : List RowEntry)

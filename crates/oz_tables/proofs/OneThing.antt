@@ -21,9 +21,9 @@ use Rattle.oz_tables.specs.declared.entry.RowEntry.{RowEntry}
 use Rattle.oz_tables.specs.Tables.{row_of, is_same, KeysRise}
 use Rattle.oz_tables.specs.Effects.{Leads, Becomes, IsPossible, operation_changes}
 use Rattle.oz_tables.specs.Build.{AllAreBased, IsAtFault, NoneAtFault, IsNextBody, BuildsFrom, HeadFails, OperationFails, BatchFails, LeavesOrphan, IsDamagedBody, FailsFrom}
-use Rattle.oz_tables.proofs.Order.{itself, below_above}
-use Rattle.oz_tables.proofs.Same.{same_is_one}
-use Rattle.oz_tables.proofs.Following.{found_over, first_least}
+use Rattle.oz_tables.specs.laws.Order.{itself, below_above}
+use Rattle.oz_tables.specs.laws.Same.{same_is_one}
+use Rattle.oz_tables.specs.laws.Following.{found_over, first_least}
 
 -- ---- rows in order are told by the row of each key
 

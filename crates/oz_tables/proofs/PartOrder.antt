@@ -16,10 +16,10 @@ use Rattle.oz_rows.specs.declared.key.RowKey.{RowKey}
 use Rattle.oz_tables.specs.declared.entry.RowEntry.{RowEntry}
 use Rattle.oz_tables.specs.Tables.{KeysRise, IsBelow}
 use Rattle.oz_tables.specs.Parts.{IsPart, fields_of, part_order}
-use Rattle.oz_tables.proofs.Order.{greater_from_test}
-use Rattle.oz_tables.proofs.Splits.{parts, all_front, all_rest}
-use Rattle.oz_tables.proofs.Lookups.{entry_key}
-use Rattle.oz_tables.proofs.Rising.{rise_rest}
+use Rattle.oz_tables.specs.laws.Order.{greater_from_test}
+use Rattle.oz_tables.specs.laws.Splits.{parts, all_front, all_rest}
+use Rattle.oz_tables.specs.laws.Lookups.{entry_key}
+use Rattle.oz_tables.specs.laws.Rising.{rise_rest}
 
 module _ {X : Type 0} {cmp : X → X → Ordering} (order : IsTotalOrder cmp) where
   below_not_above : (a b c : X) (o : Ordering) → cmp b c ≡ o → is_gt o ≡ false → cmp a b ≡ Less → cmp a c ≡ Less

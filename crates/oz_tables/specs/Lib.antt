@@ -8,3 +8,4 @@ pub mod Batches
 pub mod Counts
 pub mod Parts
 pub mod Steps
+pub mod laws

@@ -1,5 +1,6 @@
 -- What the calls of a disk do to what it contains, and what a stop may leave of it.
-use Rattle.std.specs.Prelude.{◌≡◌, ℕ, ◌+◌, ◌-◌, ◌^◌, ◌≤◌, ◌↔◌, min, max, List, ◌++◌, length, take, drop, Option, None, Some, IsSomeAnd}
+use Rattle.std.specs.Prelude.{◌≡◌, ℕ, ◌+◌, ◌-◌, ◌^◌, ◌≤◌, ◌↔◌, min, max, List, ◌++◌, length, take, drop, Option, None}
+use Rattle.std.specs.Prelude.{Some, IsSomeAnd}
 
 -- the clock's last value, at which nothing changes any more
 abbrev pub last_moment : ℕ

@@ -1,5 +1,6 @@
 -- What a memory disk keeps of what it did, and what a stop may leave by it.
-use Rattle.std.specs.Prelude.{◌≡◌, ℕ, ◌+◌, ◌-◌, ◌/◌, Bool, true, false, nat_lt, nat_le, List, [], ◌∷◌, ◌++◌, length, take, filter, replicate, if◌then◌else◌}
+use Rattle.std.specs.Prelude.{◌≡◌, ℕ, ◌+◌, ◌-◌, ◌/◌, Bool, true, false, nat_lt, nat_le, List, [], ◌∷◌, ◌++◌, length}
+use Rattle.std.specs.Prelude.{take, filter, replicate, if◌then◌else◌}
 use Rattle.oz_world.specs.declared.history.Change.{Change}
 use Rattle.oz_world.specs.declared.history.Change.TheVariants.{Write, Cut, Sync}
 use Rattle.oz_world.specs.declared.history.TimedChange.{TimedChange}

@@ -1,6 +1,7 @@
 //! What a disk is: its calls, what a read gives, and what a stop may leave at each moment.
 
-ghost use Rattle.std.specs.Prelude.{◌≡◌, ◌≤◌, ◌<◌, ◌+◌, ◌^◌, ℕ, List, length, take, drop, slice_range, Option, Some, IfOk, IfSome, OnOk, OnErr, IsErr};
+ghost use Rattle.std.specs.Prelude.{◌≡◌, ◌≤◌, ◌<◌, ◌+◌, ◌^◌, ℕ, List, length, take, drop, slice_range, Option, Some};
+ghost use Rattle.std.specs.Prelude.{IfOk, IfSome, OnOk, OnErr, IsErr};
 ghost use Rattle.std.specs.Option.{option_map};
 ghost use Rattle.oz_world.specs.Faults.{HasCause};
 ghost use Rattle.oz_world.specs.Disk.{last_moment, overwritten, Torn, CutShort, Same, Moves, Stands, Ticks, IsStable};

@@ -1,6 +1,7 @@
 //! What a memory disk did, and what a stop may leave by it.
 
-ghost use Rattle.std.specs.Prelude.{◌≡◌, ◌+◌, ◌<◌, ◌≤◌, ℕ, List, IsTrue, nat_le, false, vec_len, vec_capacity, length, take, OnOk, OnErr, IfOk, if◌then◌else◌};
+ghost use Rattle.std.specs.Prelude.{◌≡◌, ◌+◌, ◌<◌, ◌≤◌, ℕ, List, IsTrue, nat_le, false, vec_len, vec_capacity, length};
+ghost use Rattle.std.specs.Prelude.{take, OnOk, OnErr, IfOk, if◌then◌else◌};
 ghost use Rattle.std.specs.List.{list_all};
 ghost use Rattle.oz_world.specs.Disk.{last_moment, overwritten, Torn, CutShort, Same, Ticks, LeavesEach, IsStable};
 ghost use Rattle.oz_world.specs.Record.{images, synced_count, done, is_sync, half_of, none_of, padded};

@@ -1,9 +1,11 @@
 //! A disk in memory that loses, where it stops, whatever a disk may lose.
 
-ghost use Rattle.std.specs.Prelude.{◌≡◌, ◌≤◌, ◌<◌, ◌+◌, ◌^◌, ◌==◌, ℕ, Some, [], vec_capacity, length, take, slice_range, IfOk, OnOk, OnErr, IsErr, is_err, ◌↔◌, if◌then◌else◌};
+ghost use Rattle.std.specs.Prelude.{◌≡◌, ◌≤◌, ◌<◌, ◌+◌, ◌^◌, ◌==◌, ℕ, Some, [], vec_capacity, length, take};
+ghost use Rattle.std.specs.Prelude.{slice_range, IfOk, OnOk, OnErr, IsErr, is_err, ◌↔◌, if◌then◌else◌};
 ghost use Rattle.oz_world.specs.Calls.{raised, Counts, IsToFail};
 ghost use Rattle.oz_world.specs.Faults.{HasCause};
-ghost use Rattle.oz_world.specs.Disk.{last_moment, overwritten, Torn, CutShort, Same, Stands, Ticks, LeavesEach, IsStable};
+ghost use Rattle.oz_world.specs.Disk.{last_moment, overwritten, Torn, CutShort, Same, Stands, Ticks, LeavesEach};
+ghost use Rattle.oz_world.specs.Disk.{IsStable};
 ghost use Rattle.oz_world.specs.inner.Now.{contents_of};
 ghost use Rattle.oz_world.specs.Record.{none_of, half_of};
 

@@ -1,6 +1,7 @@
 //! A source in memory.
 
-ghost use Rattle.std.specs.Prelude.{◌≡◌, ◌≤◌, ◌<◌, ◌↔◌, Some, [], length, take, drop, min, vec_len, IfOk, IfSome, OnErr, IsErr, is_err};
+ghost use Rattle.std.specs.Prelude.{◌≡◌, ◌≤◌, ◌<◌, ◌↔◌, Some, [], length, take, drop, min, vec_len, IfOk, IfSome};
+ghost use Rattle.std.specs.Prelude.{OnErr, IsErr, is_err};
 ghost use Rattle.oz_world.specs.Faults.{HasCause};
 ghost use Rattle.oz_world.specs.Calls.{Counts, IsToFail};
 

@@ -1,5 +1,6 @@
 -- The fields of rows read as they are spelled.
-use Rattle.std.proofs.Common.{◌≡◌, ℕ, ◌<◌, ◌≤◌, ◌^◌, Bool, true, false, ◌&&◌, ◌||◌, eqb, leb, ltb, cond, List, [], ◌∷◌, ◌++◌, length, Result, refl, sym, ap, ◌∙◌, arith}
+use Rattle.std.proofs.Common.{◌≡◌, ℕ, ◌<◌, ◌≤◌, ◌^◌, Bool, true, false, ◌&&◌, ◌||◌, eqb, leb, ltb, cond, List, [], ◌∷◌}
+use Rattle.std.proofs.Common.{◌++◌, length, Result, refl, sym, ap, ◌∙◌, arith}
 use Rattle.std.proofs.lemmas.Bool.{and_parts, and_from, leb-true, le-leb, ltb-true, lt-ltb, eqb-true, eq-eqb}
 use Rattle.std.specs.List.{flat_map, AllByRecursion}
 use Rattle.std.proofs.Common.{suc, zero}
@@ -13,9 +14,13 @@ use Rattle.oz_names.specs.Names.{IsVolumeName, IsKeyName, is_volume_name, is_key
 use Rattle.oz_names.specs.laws.NameTests.{volume_name-passes, volume_name-from, key_name-passes, key_name-from}
 use Rattle.oz_rows.specs.declared.row.SnapshotState.{SnapshotState}
 use Rattle.oz_rows.specs.declared.row.SnapshotState.TheVariants.{Live, Marked}
-use Rattle.oz_rows.specs.Rows.{IsNumber, IsOwner, IsBlockNumber, IsBlock, IsPiece, AreItems, list_bytes, block_bytes, piece_bytes, state_number}
-use Rattle.oz_rows.specs.Reading.{volume_name_at, key_name_at, owner_at, number_at, is_block_number, block_number_at, same_local_at, drawn_at, length_at, stripe_at, state_at, done, count_at, block_at, piece_at, items_at, list_at, field}
-use Rattle.oz_rows.specs.laws.Grammar.{IsRead, Finds, Backs, fits_as, field_reads, finds_done, finds_then, finds_last, backs_done, backs_then, backs_last, backs_as, is_read}
+use Rattle.oz_rows.specs.Rows.{IsNumber, IsOwner, IsBlockNumber, IsBlock, IsPiece, AreItems, list_bytes, block_bytes}
+use Rattle.oz_rows.specs.Rows.{piece_bytes, state_number}
+use Rattle.oz_rows.specs.Reading.{volume_name_at, key_name_at, owner_at, number_at, is_block_number, block_number_at}
+use Rattle.oz_rows.specs.Reading.{same_local_at, drawn_at, length_at, stripe_at, state_at, done, count_at, block_at}
+use Rattle.oz_rows.specs.Reading.{piece_at, items_at, list_at, field}
+use Rattle.oz_rows.specs.laws.Grammar.{IsRead, Finds, Backs, fits_as, field_reads, finds_done, finds_then, finds_last}
+use Rattle.oz_rows.specs.laws.Grammar.{backs_done, backs_then, backs_last, backs_as, is_read}
 
 pub volume_name_reads : IsRead IsVolumeName text_bytes volume_name_at
 unfolding volume_name_at

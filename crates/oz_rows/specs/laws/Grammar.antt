@@ -1,5 +1,6 @@
 -- Readings that belong to a spelling, one field after the other.
-use Rattle.std.proofs.Common.{◌≡◌, ℕ, Bool, true, false, cond, List, [], ◌++◌, length, Option, None, Some, Result, Ok, Err, refl, sym, ap, subst, ◌∙◌, append_assoc}
+use Rattle.std.proofs.Common.{◌≡◌, ℕ, Bool, true, false, cond, List, [], ◌++◌, length, Option, None, Some, Result, Ok}
+use Rattle.std.proofs.Common.{Err, refl, sym, ap, subst, ◌∙◌, append_assoc}
 use Rattle.oz_fields.specs.Field.{AreBytes, IsField}
 use Rattle.oz_fields.specs.laws.Bytes.{AreBytes-behind}
 use Rattle.oz_rows.specs.Reading.{goes_on, ◌>>=◌, done, kept, field}

@@ -1,5 +1,6 @@
 -- Operations and heads read as they are spelled.
-use Rattle.std.proofs.Common.{◌≡◌, ℕ, suc, ◌<◌, ◌≤◌, ◌^◌, true, ◌&&◌, eqb, leb, ltb, List, [], ◌∷◌, ◌++◌, length, Ok, refl, sym, ap, subst, append_assoc, arith}
+use Rattle.std.proofs.Common.{◌≡◌, ℕ, suc, ◌<◌, ◌≤◌, ◌^◌, true, ◌&&◌, eqb, leb, ltb, List, [], ◌∷◌, ◌++◌, length, Ok}
+use Rattle.std.proofs.Common.{refl, sym, ap, subst, append_assoc, arith}
 use Rattle.std.proofs.lemmas.Bool.{eqb-true, eq-eqb, and_parts, and_from, leb-true, le-leb, ltb-true, lt-ltb}
 use Rattle.std.proofs.lemmas.List.{append-nil}
 use Rattle.oz_fields.specs.Field.{AreBytes}
@@ -8,13 +9,16 @@ use Rattle.oz_fields.specs.Text.{text_bytes}
 use Rattle.oz_fields.specs.laws.Bytes.{AreBytes-behind}
 use Rattle.oz_fields.specs.laws.Numbers.{u8_field, u64_field}
 use Rattle.oz_rows.specs.declared.operation.Operation.{Operation}
-use Rattle.oz_rows.specs.declared.operation.Operation.TheVariants.{Put, Remove, CopyKeys, MoveDeleted, DropKeys, DropOpen}
+use Rattle.oz_rows.specs.declared.operation.Operation.TheVariants.{Put, Remove, CopyKeys, MoveDeleted, DropKeys}
+use Rattle.oz_rows.specs.declared.operation.Operation.TheVariants.{DropOpen}
 use Rattle.oz_rows.specs.declared.key.RowKey.{RowKey}
 use Rattle.oz_rows.specs.declared.row.Row.{Row}
 use Rattle.oz_rows.specs.Rows.{KeyFits, RowFits, key_bytes, row_bytes}
 use Rattle.oz_rows.specs.Operations.{OperationFits, operation_bytes, IsIndex, head_bytes}
-use Rattle.oz_rows.specs.Reading.{field, put_at, remove_at, copy_keys_at, move_deleted_at, drop_keys_at, drop_open_at, operation_of_tag_at, operation_at, index_at, head_at}
-use Rattle.oz_rows.specs.laws.Grammar.{IsRead, Finds, Backs, fits_as, field_reads, finds_done, finds_then, finds_last, finds_either, finds_none, backs_done, backs_then, backs_last, backs_as, is_read}
+use Rattle.oz_rows.specs.Reading.{field, put_at, remove_at, copy_keys_at, move_deleted_at, drop_keys_at, drop_open_at}
+use Rattle.oz_rows.specs.Reading.{operation_of_tag_at, operation_at, index_at, head_at}
+use Rattle.oz_rows.specs.laws.Grammar.{IsRead, Finds, Backs, fits_as, field_reads, finds_done, finds_then, finds_last}
+use Rattle.oz_rows.specs.laws.Grammar.{finds_either, finds_none, backs_done, backs_then, backs_last, backs_as, is_read}
 use Rattle.oz_rows.specs.laws.FieldReads.{volume_name_reads, number_reads, owner_reads}
 use Rattle.oz_rows.specs.laws.RowReads.{key_reads, row_reads}
 

@@ -1,5 +1,6 @@
 -- Rows read as they are spelled.
-use Rattle.std.proofs.Common.{◌≡◌, ℕ, suc, ◌-◌, eqb, List, [], ◌∷◌, ◌++◌, length, Ok, refl, sym, ap, subst, ◌∙◌, append_assoc, arith}
+use Rattle.std.proofs.Common.{◌≡◌, ℕ, suc, ◌-◌, eqb, List, [], ◌∷◌, ◌++◌, length, Ok, refl, sym, ap, subst, ◌∙◌}
+use Rattle.std.proofs.Common.{append_assoc, arith}
 use Rattle.std.proofs.lemmas.Bool.{eqb-true}
 use Rattle.std.proofs.lemmas.List.{append-nil}
 use Rattle.std.proofs.lemmas.List.Concat.{flat_map-cons}
@@ -13,10 +14,18 @@ use Rattle.oz_rows.specs.declared.key.RowKey.{RowKey}
 use Rattle.oz_rows.specs.declared.key.RowKey.TheVariants as keys
 use Rattle.oz_rows.specs.declared.row.Row.{Row}
 use Rattle.oz_rows.specs.declared.row.Row.TheVariants as rows
-use Rattle.oz_rows.specs.Rows.{IsBlock, AreItems, BeginsWith, KeyFits, ValueFits, RowFits, list_bytes, block_bytes, key_bytes, value_bytes, row_bytes}
-use Rattle.oz_rows.specs.Reading.{deleted_blocks_at, done, volume_key_at, bucket_key_at, key_key_at, open_key_at, deleted_key_at, snapshot_at, snapshot_key_at, renamed_key_at, stripe_key_at, key_of_kind_at, key_at, key_value_at, open_value_at, deleted_value_at, snapshot_value_at, snapshot_key_value_at, renamed_value_at, stripe_value_at, value_at, row_at}
-use Rattle.oz_rows.specs.laws.Grammar.{IsRead, Finds, Backs, finds_done, finds_then, finds_either, finds_none, backs_done, backs_then, backs_as, is_read}
-use Rattle.oz_rows.specs.laws.FieldReads.{volume_name_reads, key_name_reads, owner_reads, number_reads, block_number_reads, same_local_reads, drawn_reads, stripe_reads, state_reads, count_reads, block_reads, piece_reads, items_reads, list_reads}
+use Rattle.oz_rows.specs.Rows.{IsBlock, AreItems, BeginsWith, KeyFits, ValueFits, RowFits, list_bytes, block_bytes}
+use Rattle.oz_rows.specs.Rows.{key_bytes, value_bytes, row_bytes}
+use Rattle.oz_rows.specs.Reading.{deleted_blocks_at, done, volume_key_at, bucket_key_at, key_key_at, open_key_at}
+use Rattle.oz_rows.specs.Reading.{deleted_key_at, snapshot_at, snapshot_key_at, renamed_key_at, stripe_key_at}
+use Rattle.oz_rows.specs.Reading.{key_of_kind_at, key_at, key_value_at, open_value_at, deleted_value_at}
+use Rattle.oz_rows.specs.Reading.{snapshot_value_at, snapshot_key_value_at, renamed_value_at, stripe_value_at, value_at}
+use Rattle.oz_rows.specs.Reading.{row_at}
+use Rattle.oz_rows.specs.laws.Grammar.{IsRead, Finds, Backs, finds_done, finds_then, finds_either, finds_none}
+use Rattle.oz_rows.specs.laws.Grammar.{backs_done, backs_then, backs_as, is_read}
+use Rattle.oz_rows.specs.laws.FieldReads.{volume_name_reads, key_name_reads, owner_reads, number_reads}
+use Rattle.oz_rows.specs.laws.FieldReads.{block_number_reads, same_local_reads, drawn_reads, stripe_reads, state_reads}
+use Rattle.oz_rows.specs.laws.FieldReads.{count_reads, block_reads, piece_reads, items_reads, list_reads}
 
 -- the blocks of a deleted row
 deleted_finds : (local : ℕ) → Finds (λ blocks. AreItems IsBlock blocks × BeginsWith local blocks) (list_bytes block_bytes) [] (deleted_blocks_at local)

@@ -12,7 +12,8 @@ use Rattle.oz_rows.specs.declared.key.RowKey.TheVariants as keys
 use Rattle.oz_rows.specs.declared.row.Row.{Row}
 use Rattle.oz_rows.specs.declared.row.Row.TheVariants as rows
 use Rattle.oz_rows.specs.declared.operation.Operation.{Operation}
-use Rattle.oz_rows.specs.declared.operation.Operation.TheVariants.{Put, Remove, CopyKeys, MoveDeleted, DropKeys, DropOpen}
+use Rattle.oz_rows.specs.declared.operation.Operation.TheVariants.{Put, Remove, CopyKeys, MoveDeleted, DropKeys}
+use Rattle.oz_rows.specs.declared.operation.Operation.TheVariants.{DropOpen}
 use Rattle.oz_rows.specs.Rows.{KeyFits, ValueFits, list_bytes, block_bytes, piece_bytes, key_bytes, value_bytes}
 use Rattle.oz_rows.specs.Operations.{OperationFits, operation_bytes}
 

@@ -1,5 +1,6 @@
 -- How stretches of time join.
-use Rattle.std.proofs.Common.{◌≡◌, ◌⊎◌, inl, inr, ℕ, ◌+◌, ◌<◌, ◌≤◌, List, Result, Ok, IsErr, is_err, sym, ◌∙◌, ap, subst, arith}
+use Rattle.std.proofs.Common.{◌≡◌, ◌⊎◌, inl, inr, ℕ, ◌+◌, ◌<◌, ◌≤◌, List, Result, Ok, IsErr, is_err, sym, ◌∙◌, ap}
+use Rattle.std.proofs.Common.{subst, arith}
 use Rattle.std.proofs.lemmas.Bool.{cases_lt, false≢true}
 use Rattle.oz_world.specs.Disk.{Images, Same, Stands, Ticks, IsStable, last_moment}
 use Rattle.oz_world.specs.Moments.{Elapses, Spans, LeavesOnly}

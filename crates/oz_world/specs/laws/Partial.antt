@@ -1,7 +1,10 @@
 -- Writes and cuts that were done in part.
-use Rattle.std.proofs.Common.{replicate, ◌-◌, subst, ◌≡◌, inl, inr, ℕ, ◌+◌, ◌≤◌, min, List, [], ◌++◌, length, take, drop, slice_range, refl, sym, ◌∙◌, ap, arith, length-append, length-take, length-drop, append_assoc}
+use Rattle.std.proofs.Common.{replicate, ◌-◌, subst, ◌≡◌, inl, inr, ℕ, ◌+◌, ◌≤◌, min, List, [], ◌++◌, length, take}
+use Rattle.std.proofs.Common.{drop, slice_range, refl, sym, ◌∙◌, ap, arith, length-append, length-take, length-drop}
+use Rattle.std.proofs.Common.{append_assoc}
 use Rattle.std.proofs.lemmas.Bool.{cases_lt}
-use Rattle.std.proofs.lemmas.List.{take_all, drop_all, take_at, drop_at, append-nil, length-replicate, drop-drop, drop-take, take-take}
+use Rattle.std.proofs.lemmas.List.{take_all, drop_all, take_at, drop_at, append-nil, length-replicate, drop-drop}
+use Rattle.std.proofs.lemmas.List.{drop-take, take-take}
 use Rattle.oz_world.specs.Record.{padded}
 use Rattle.oz_world.specs.Disk.{Torn, CutShort, overwritten}
 

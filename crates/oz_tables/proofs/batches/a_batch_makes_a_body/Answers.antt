@@ -1,5 +1,5 @@
 use Rattle.oz_tables.proofs.Fitting.{bodies_fit}
-use Rattle.oz_tables.proofs.Steps.{body_follows, bodies_based}
+use Rattle.oz_tables.specs.laws.Steps.{body_follows, bodies_based}
 use Rattle.oz_tables.proofs.batches.a_batch_makes_a_body.Goals as goal
 
 pub returns-clause-follows : goal.returns-clause-follows

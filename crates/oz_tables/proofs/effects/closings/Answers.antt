@@ -7,7 +7,7 @@ use Rattle.oz_tables.specs.declared.entry.RowEntry.{RowEntry}
 use Rattle.oz_tables.specs.Effects.{closed, is_in_a_key}
 use Rattle.oz_tables.specs.Parts.{IsPart}
 use Rattle.oz_tables.specs.Steps.{freed_but, holds}
-use Rattle.oz_tables.proofs.PartEffects.{in_bucket, closed_part, freed_part, freed_told}
+use Rattle.oz_tables.specs.laws.PartEffects.{in_bucket, closed_part, freed_part, freed_told}
 use Rattle.oz_tables.proofs.effects.closings.Goals as goal
 
 pub returns : goal.returns

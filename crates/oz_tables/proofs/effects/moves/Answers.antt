@@ -5,7 +5,7 @@ use Rattle.oz_rows.specs.declared.operation.Change.{Change}
 use Rattle.oz_tables.specs.declared.entry.RowEntry.{RowEntry}
 use Rattle.oz_tables.specs.Effects.{moved}
 use Rattle.oz_tables.specs.Parts.{IsPart}
-use Rattle.oz_tables.proofs.PartEffects.{in_bucket, moved_parts}
+use Rattle.oz_tables.specs.laws.PartEffects.{in_bucket, moved_parts}
 use Rattle.oz_tables.proofs.effects.moves.Goals as goal
 
 pub returns : goal.returns

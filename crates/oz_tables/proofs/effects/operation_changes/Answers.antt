@@ -3,7 +3,7 @@ use Rattle.oz_rows.specs.declared.operation.Change.{Change}
 use Rattle.oz_tables.specs.declared.entry.RowEntry.{RowEntry}
 use Rattle.oz_tables.specs.Effects.{operation_changes}
 use Rattle.oz_tables.specs.Parts.{IsPart}
-use Rattle.oz_tables.proofs.PartEffects.{in_bucket, copied_part, dropped_part}
+use Rattle.oz_tables.specs.laws.PartEffects.{in_bucket, copied_part, dropped_part}
 use Rattle.oz_tables.proofs.effects.operation_changes.Goals as goal
 
 pub returns-in-CopyKeys : goal.returns-in-CopyKeys

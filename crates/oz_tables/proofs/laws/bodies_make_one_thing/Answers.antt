@@ -1,7 +1,7 @@
 use Rattle.std.proofs.Common.{[], sym}
 use Rattle.oz_tables.proofs.FaultPlaces.{fails_within}
 use Rattle.oz_tables.proofs.EachBody.{each_builds}
-use Rattle.oz_tables.proofs.Steps.{some_apart}
+use Rattle.oz_tables.specs.laws.Steps.{some_apart}
 use Rattle.oz_tables.proofs.OneThing.{builds_one, not_both, fails_one}
 use Rattle.oz_tables.proofs.laws.bodies_make_one_thing.Goals as goal
 

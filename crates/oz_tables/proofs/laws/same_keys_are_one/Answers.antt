@@ -1,4 +1,4 @@
-use Rattle.oz_tables.proofs.Same.{same_is_one}
+use Rattle.oz_tables.specs.laws.Same.{same_is_one}
 use Rattle.oz_tables.proofs.laws.same_keys_are_one.Goals as goal
 
 pub returns : goal.returns

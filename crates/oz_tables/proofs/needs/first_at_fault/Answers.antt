@@ -4,7 +4,7 @@ use Rattle.oz_rows.specs.declared.operation.Operation.{Operation}
 use Rattle.oz_tables.specs.declared.body.Step.{Step}
 use Rattle.oz_tables.specs.Build.{IsAtFault, NoneAtFault}
 use Rattle.oz_tables.specs.Steps.{operations_of}
-use Rattle.oz_tables.proofs.Lefts.{none_more, first_found, rest_whole}
+use Rattle.oz_tables.specs.laws.Lefts.{none_more, first_found, rest_whole}
 use Rattle.oz_tables.proofs.needs.first_at_fault.Goals as goal
 
 pub returns-then-branch : goal.returns-then-branch

@@ -2,7 +2,7 @@ use Rattle.std.proofs.Common.{◌≡◌, sym, ◌∙◌, subst}
 use Rattle.std.specs.List.{list_any}
 use Rattle.oz_rows.specs.declared.key.RowKey.{RowKey}
 use Rattle.oz_tables.specs.Steps.{operations_of, is_left}
-use Rattle.oz_tables.proofs.Lefts.{volume_left}
+use Rattle.oz_tables.specs.laws.Lefts.{volume_left}
 use Rattle.oz_tables.proofs.needs.is_bucket_left.Goals as goal
 
 pub returns : goal.returns

@@ -1,5 +1,5 @@
 use Rattle.oz_tables.specs.Steps.{operations_of}
-use Rattle.oz_tables.proofs.Lefts.{content_left, all_told}
+use Rattle.oz_tables.specs.laws.Lefts.{content_left, all_told}
 use Rattle.oz_tables.proofs.needs.is_content_left.Goals as goal
 
 pub returns : goal.returns

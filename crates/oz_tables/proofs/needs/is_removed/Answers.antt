@@ -1,7 +1,7 @@
 use Rattle.std.proofs.Common.{sym, ◌∙◌}
 use Rattle.oz_tables.specs.declared.body.Step.{Step}
 use Rattle.oz_tables.specs.Build.{removes}
-use Rattle.oz_tables.proofs.Lefts.{any_map}
+use Rattle.oz_tables.specs.laws.Lefts.{any_map}
 use Rattle.oz_tables.proofs.needs.is_removed.Goals as goal
 
 pub returns : goal.returns

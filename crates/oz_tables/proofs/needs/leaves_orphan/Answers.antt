@@ -3,7 +3,7 @@ use Rattle.std.specs.List.{list_any}
 use Rattle.oz_tables.specs.declared.entry.RowEntry.{RowEntry}
 use Rattle.oz_tables.specs.Tables.{row_of, KeysRise}
 use Rattle.oz_tables.specs.Steps.{operations_of, is_left}
-use Rattle.oz_tables.proofs.Lefts.{left_told}
+use Rattle.oz_tables.specs.laws.Lefts.{left_told}
 use Rattle.oz_tables.proofs.needs.leaves_orphan.Goals as goal
 
 pub returns-in-Volume : goal.returns-in-Volume

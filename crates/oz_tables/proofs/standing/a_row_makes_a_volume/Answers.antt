@@ -1,4 +1,4 @@
-use Rattle.oz_tables.proofs.VolumeRows.{makes_a_volume}
+use Rattle.oz_tables.specs.laws.VolumeRows.{makes_a_volume}
 use Rattle.oz_tables.proofs.standing.a_row_makes_a_volume.Goals as goal
 
 pub returns : goal.returns

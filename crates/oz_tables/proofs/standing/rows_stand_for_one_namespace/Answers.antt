@@ -1,4 +1,4 @@
-use Rattle.oz_tables.proofs.Oneness.{one_namespace}
+use Rattle.oz_tables.specs.laws.Oneness.{one_namespace}
 use Rattle.oz_tables.proofs.standing.rows_stand_for_one_namespace.Goals as goal
 
 pub returns : goal.returns

@@ -3,7 +3,6 @@ use Rattle.oz_journal.specs.declared.body.Body.{Body}
 use Rattle.oz_journal.specs.Body.{bodies_in}
 use Rattle.oz_cache.specs.Cache.{newest, batched_changes}
 use Rattle.oz_tables.specs.Tables.{row_of, row_after}
-use Rattle.oz_tables.proofs.Fitting.{bodies_fit}
 use Rattle.oz_cluster.specs.Opens.{IsFaultIn}
 use Rattle.oz_cluster.proofs.Openings.{damaged_journal, damaged_body}
 use Rattle.oz_cluster.proofs.manager.Manager.open.Goals as goal
@@ -18,4 +17,4 @@ pub returns-in-Ok-tables_of-clause-fit : goal.returns-in-Ok-tables_of-clause-fit
 returns-in-Ok-tables_of-clause-fit g c key row is =
     let tables = c.in-Ok-tables_of.tables in
     let same : newest c.over.result key ≡ row_of tables.rows key = λ i. row_after (batched_changes (c.over.ensures.entered i)) key (row_of (c.over.ensures.durable i).rows key) in
-    bodies_fit _ tables.rows tables.last_index c.in-Ok-tables_of.ensures.built key row (sym same ∙ is)
+    c.a_batch_makes_a_body.ensures.fit _ tables.rows tables.last_index c.in-Ok-tables_of.ensures.built key row (sym same ∙ is)

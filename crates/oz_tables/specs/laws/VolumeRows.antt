@@ -19,7 +19,7 @@ use Rattle.oz_rows.specs.declared.row.Row.TheVariants as rows
 use Rattle.oz_rows.specs.Rows.{kind_of}
 use Rattle.oz_tables.specs.Tables.{Rows, is_same, row_of, row_after}
 use Rattle.oz_tables.specs.Effects.{put}
-use Rattle.oz_tables.proofs.Order.{equal_from_test}
+use Rattle.oz_tables.specs.laws.Order.{equal_from_test}
 use Rattle.oz_tables.specs.StandsFor.{StandsFor, SessionStands, SnapshotsStand, AreSnapshots, IsSnapshot, IsLive, pieces_in, drawn_in}
 
 -- rows that are the same but for those of volumes

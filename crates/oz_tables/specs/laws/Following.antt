@@ -11,10 +11,10 @@ use Rattle.oz_rows.specs.Order.{key_order}
 use Rattle.oz_tables.specs.declared.entry.RowEntry.{RowEntry}
 use Rattle.oz_tables.specs.Tables.{row_of, is_same, KeysRise, IsBelow, IsAbove, IsNext, HasNoNext}
 use Rattle.oz_tables.specs.Places.{IsBehind}
-use Rattle.oz_tables.proofs.Splits.{parts}
-use Rattle.oz_tables.proofs.Order.{key_order_total, equal_from_test, alike, alike_left, above_below, below_above, kinds_rise, itself}
-use Rattle.oz_tables.proofs.Lookups.{entry_key, AllBelow, AllAbove, row_behind}
-use Rattle.oz_tables.proofs.Rising.{rise_rest}
+use Rattle.oz_tables.specs.laws.Splits.{parts}
+use Rattle.oz_tables.specs.laws.Order.{key_order_total, equal_from_test, alike, alike_left, above_below, below_above, kinds_rise, itself}
+use Rattle.oz_tables.specs.laws.Lookups.{entry_key, AllBelow, AllAbove, row_behind}
+use Rattle.oz_tables.specs.laws.Rising.{rise_rest}
 
 le_below : (a b c : RowKey) (o : Ordering) → key_order a b ≡ o → is_le o ≡ true → IsBelow b c → IsBelow a c
 le_below a b c Less e le below = key_order_total.trans a b c e below

@@ -8,9 +8,9 @@ use Rattle.std.proofs.lemmas.List.Sorted.{searchable_from_sorted}
 use Rattle.oz_rows.specs.declared.key.RowKey.{RowKey}
 use Rattle.oz_rows.specs.Order.{key_order}
 use Rattle.oz_tables.specs.Tables.{IsBelow}
-use Rattle.oz_tables.proofs.Order.{key_order_total, below_above}
-use Rattle.oz_tables.proofs.Splits.{parts_at, some_item, all_front, all_rest}
-use Rattle.oz_tables.proofs.Rising.{Rise, AllUnder, AllOver, before_at, behind_at}
+use Rattle.oz_tables.specs.laws.Order.{key_order_total, below_above}
+use Rattle.oz_tables.specs.laws.Splits.{parts_at, some_item, all_front, all_rest}
+use Rattle.oz_tables.specs.laws.Rising.{Rise, AllUnder, AllOver, before_at, behind_at}
 
 module _ {A : Type 0} (key_of : A → RowKey) where
   -- the key stands here, with lower keys before it and greater ones behind

@@ -11,13 +11,13 @@ use Rattle.oz_tables.specs.declared.entry.RowEntry.{RowEntry}
 use Rattle.oz_tables.specs.Counts.{IsBetween, AllRise, IsCount}
 use Rattle.oz_tables.specs.Sound.{AllDiffer}
 use Rattle.oz_tables.specs.Tables.{Rows, row_of, is_same, KeysRise, IsBelow}
-use Rattle.oz_tables.proofs.Order.{less_from_test, itself}
-use Rattle.oz_tables.proofs.Same.{same_is_one}
-use Rattle.oz_tables.proofs.Sizes.{no_longer}
-use Rattle.oz_tables.proofs.Splits.{each_in_turn}
-use Rattle.oz_tables.proofs.Lookups.{entry_key, row_at, row_behind, row_above, row_added, row_replaced, row_removed, row_absent}
-use Rattle.oz_tables.proofs.Rising.{rise_with, rise_without, rise_replaced, before_at, behind_at}
-use Rattle.oz_tables.proofs.Changes.{Spot, at, between, spot}
+use Rattle.oz_tables.specs.laws.Order.{less_from_test, itself}
+use Rattle.oz_tables.specs.laws.Same.{same_is_one}
+use Rattle.oz_tables.specs.laws.Sizes.{no_longer}
+use Rattle.oz_tables.specs.laws.Splits.{each_in_turn}
+use Rattle.oz_tables.specs.laws.Lookups.{entry_key, row_at, row_behind, row_above, row_added, row_replaced, row_removed, row_absent}
+use Rattle.oz_tables.specs.laws.Rising.{rise_with, rise_without, rise_replaced, before_at, behind_at}
+use Rattle.oz_tables.specs.laws.Changes.{Spot, at, between, spot}
 
 -- a count where one thing comes or goes
 abbrev pub counted_anew : ℕ → Bool → Bool → ℕ

@@ -24,12 +24,12 @@ use Rattle.oz_tables.specs.Tables.{row_of, is_same, KeysRise}
 use Rattle.oz_tables.specs.Build.{base_of, puts, LeavesOne, IsAtFault, NoneAtFault}
 use Rattle.oz_tables.specs.Steps.{operations_of, FirstAtFault, is_needed, stands_on, is_left}
 use Rattle.oz_tables.specs.Parts.{IsPart, part_order}
-use Rattle.oz_tables.proofs.Order.{itself}
-use Rattle.oz_tables.proofs.Same.{same_is_one}
-use Rattle.oz_tables.proofs.Following.{found_over}
-use Rattle.oz_tables.proofs.Splits.{parts_at}
-use Rattle.oz_tables.proofs.PartLists.{any_part}
-use Rattle.oz_tables.proofs.PartEffects.{in_bucket}
+use Rattle.oz_tables.specs.laws.Order.{itself}
+use Rattle.oz_tables.specs.laws.Same.{same_is_one}
+use Rattle.oz_tables.specs.laws.Following.{found_over}
+use Rattle.oz_tables.specs.laws.Splits.{parts_at}
+use Rattle.oz_tables.specs.laws.PartLists.{any_part}
+use Rattle.oz_tables.specs.laws.PartEffects.{in_bucket}
 
 pub any_map : {X Y : Type 0} (f : X → Y) (p : Y → Bool) (xs : List X) → list_any p (map f xs) ≡ list_any (λ x. p (f x)) xs
 any_map f p [] = refl

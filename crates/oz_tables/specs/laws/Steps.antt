@@ -14,8 +14,8 @@ use Rattle.oz_tables.specs.Tables.{Rows, row_of, is_same, KeysRise}
 use Rattle.oz_tables.specs.Effects.{Leads, put, gone}
 use Rattle.oz_tables.specs.Build.{base_of, AllAreBased, Builds, BuildsFrom, IsNextBody}
 use Rattle.oz_tables.specs.Batches.{AreRows, IsBatchOf, after_changes}
-use Rattle.oz_tables.proofs.Same.{same_is_one}
-use Rattle.oz_tables.proofs.Changes.{become}
+use Rattle.oz_tables.specs.laws.Same.{same_is_one}
+use Rattle.oz_tables.specs.laws.Changes.{become}
 
 pub some_apart : {A : Type 0} {a : A} → Some a ≡ None → ⊥
 some_apart e = false≢true (sym (ap is_some e))

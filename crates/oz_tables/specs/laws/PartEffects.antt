@@ -14,7 +14,7 @@ use Rattle.oz_tables.specs.Effects.{copied, moved, dropped, closed, freed, put, 
 use Rattle.oz_fields.specs.declared.block.Block.{Block}
 use Rattle.oz_tables.specs.Steps.{freed_block, freed_but}
 use Rattle.oz_tables.specs.Parts.{IsPart, part_order}
-use Rattle.oz_tables.proofs.PartLists.{flat_each, flat_part, flat_parts}
+use Rattle.oz_tables.specs.laws.PartLists.{flat_each, flat_part, flat_parts}
 
 -- the bucket's rows of a kind
 abbrev pub in_bucket : ℕ → List ℕ → List ℕ → List (List ℕ)

@@ -6,7 +6,7 @@ use Rattle.oz_rows.specs.declared.key.RowKey.TheVariants as keys
 use Rattle.oz_rows.specs.Rows.{kind_of}
 use Rattle.oz_rows.specs.Order.{key_fields}
 use Rattle.oz_tables.specs.Tables.{is_same}
-use Rattle.oz_tables.proofs.Order.{equal_from_test}
+use Rattle.oz_tables.specs.laws.Order.{equal_from_test}
 
 abbrev told : RowKey → List (List ℕ)
 told key = (kind_of key ∷ []) ∷ key_fields key

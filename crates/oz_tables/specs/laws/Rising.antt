@@ -5,8 +5,8 @@ use Rattle.std.specs.declared.cmp.Ordering.TheVariants.{Less, Equal, Greater}
 use Rattle.oz_rows.specs.declared.key.RowKey.{RowKey}
 use Rattle.oz_rows.specs.Order.{key_order}
 use Rattle.oz_tables.specs.Tables.{IsBelow}
-use Rattle.oz_tables.proofs.Order.{key_order_total, alike, alike_left, below_above, above_below}
-use Rattle.oz_tables.proofs.Splits.{all_with, all_without, all_at}
+use Rattle.oz_tables.specs.laws.Order.{key_order_total, alike, alike_left, below_above, above_below}
+use Rattle.oz_tables.specs.laws.Splits.{all_with, all_without, all_at}
 
 module _ {A : Type 0} (key_of : A → RowKey) where
   -- the key of each item is below those behind it

@@ -17,8 +17,8 @@ use Rattle.oz_rows.specs.declared.row.Row.{Row}
 use Rattle.oz_rows.specs.Rows.{kind_of}
 use Rattle.oz_tables.specs.Tables.{Rows, is_same}
 use Rattle.oz_tables.specs.StandsFor.{StandsFor}
-use Rattle.oz_tables.proofs.Order.{equal_from_test}
-use Rattle.oz_tables.proofs.BucketRows.{SeenAlike, seen_again, stand_on}
+use Rattle.oz_tables.specs.laws.Order.{equal_from_test}
+use Rattle.oz_tables.specs.laws.BucketRows.{SeenAlike, seen_again, stand_on}
 
 abbrev pub is_name : List ℕ → List ℕ → Bool
 is_name a b = eq_by_cmp (slice_cmp nat_cmp) a b

@@ -7,7 +7,7 @@ use Rattle.oz_rows.specs.declared.key.RowKey.{RowKey}
 use Rattle.oz_rows.specs.Order.{key_order}
 use Rattle.oz_tables.specs.declared.entry.RowEntry.{RowEntry}
 use Rattle.oz_tables.specs.Tables.{row_of, is_same}
-use Rattle.oz_tables.proofs.Order.{equal_from_test, alike, alike_left}
+use Rattle.oz_tables.specs.laws.Order.{equal_from_test, alike, alike_left}
 
 abbrev pub entry_key : RowEntry → RowKey
 entry_key entry = entry.key

@@ -1,0 +1,19 @@
+-- Laws with their proofs, which proofs cite, those of other crates too. A reader has nothing to believe here.
+pub mod BucketChanges
+pub mod BucketRows
+pub mod Changes
+pub mod Following
+pub mod Halving
+pub mod Lefts
+pub mod Lookups
+pub mod Oneness
+pub mod Order
+pub mod PartEffects
+pub mod PartLists
+pub mod RangeCounts
+pub mod Rising
+pub mod Same
+pub mod Sizes
+pub mod Splits
+pub mod Steps
+pub mod VolumeRows

@@ -1,6 +1,7 @@
 //! A crate over fields, names and lists: what their contracts give a caller.
 
-ghost use Rattle.std.specs.Prelude.{◌≡◌, ◌+◌, ◌++◌, ◌↔◌, IsTrue, IfOk, OnOk, ◌<◌, ◌^◌, length, vec_len, map, sum_by, MatchOption, Some, None};
+ghost use Rattle.std.specs.Prelude.{◌≡◌, ◌+◌, ◌++◌, ◌↔◌, IsTrue, IfOk, OnOk, ◌<◌, ◌^◌, length, vec_len, map, sum_by};
+ghost use Rattle.std.specs.Prelude.{MatchOption, Some, None};
 ghost use Rattle.oz_fields.specs.Field.{IsField};
 ghost use Rattle.oz_fields.specs.Cursor.{unread};
 ghost use Rattle.ground_tests.specs.Sample.{name_of, with_block};

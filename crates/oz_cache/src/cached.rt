@@ -1,6 +1,7 @@
 //! Tables with newer rows above them, as one map.
 
-ghost use Rattle.std.specs.Prelude.{◌≡◌, ◌+◌, ◌^◌, ◌<◌, ◌≤◌, ◌↔◌, [], ◌∷◌, ◌++◌, length, false, option_copied, IsTrue, MatchOption, IfOk, OnOk};
+ghost use Rattle.std.specs.Prelude.{◌≡◌, ◌+◌, ◌^◌, ◌<◌, ◌≤◌, ◌↔◌, [], ◌∷◌, ◌++◌, length, false, option_copied, IsTrue};
+ghost use Rattle.std.specs.Prelude.{MatchOption, IfOk, OnOk};
 ghost use Rattle.std.specs.Ordering.{is_gt};
 ghost use Rattle.oz_rows.specs.declared.key.RowKey.{RowKey as AnyKey};
 ghost use Rattle.oz_rows.specs.declared.operation.TheConstants.{END_OF_INDEXES};
@@ -37,8 +38,11 @@ impl Model for Cached {
 
     ghost Value = { CacheView };
 
-    ghost view = { λ c. record { durable = c.pending.durable; entered = c.pending.batches;
-        spare = min c.pending.spare c.newer.spare } };
+    ghost view = { λ c. record {
+      durable = c.pending.durable;
+      entered = c.pending.batches;
+      spare = min c.pending.spare c.newer.spare;
+    } };
 
     ghost invariant = { λ c. AreLastOf c.pending.batches c.newer.rows };
 }

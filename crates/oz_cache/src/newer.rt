@@ -1,11 +1,13 @@
 //! The rows that stand above the tables, in the order of their keys.
 
-ghost use Rattle.std.specs.Prelude.{◌≡◌, ◌+◌, ◌<◌, ◌≤◌, [], length, slice_set, insert, vec_len, vec_capacity, option_copied, Some, if◌then◌else◌, nat_lt, filter, IfOk, IfErr, OnOk};
+ghost use Rattle.std.specs.Prelude.{◌≡◌, ◌+◌, ◌<◌, ◌≤◌, [], length, slice_set, insert, vec_len, vec_capacity};
+ghost use Rattle.std.specs.Prelude.{option_copied, Some, if◌then◌else◌, nat_lt, filter, IfOk, IfErr, OnOk};
 ghost use Rattle.std.specs.List.{AllByRecursion};
 ghost use Rattle.oz_rows.specs.declared.key.RowKey.{RowKey as AnyKey};
 ghost use Rattle.oz_rows.specs.Order.{key_order};
 ghost use Rattle.oz_tables.specs.Tables.{is_same, IsBelow};
-ghost use Rattle.oz_cache.specs.Places.{RowsRise, AllAbove, IsAt, IsGap, HasRank, IsWithin, found, after_changes, if_later};
+ghost use Rattle.oz_cache.specs.Places.{RowsRise, AllAbove, IsAt, IsGap, HasRank, IsWithin, found, after_changes};
+ghost use Rattle.oz_cache.specs.Places.{if_later};
 
 use oz_epochs::Steps;
 use oz_fields::{List, OutOfMemory};

@@ -1,3 +1,5 @@
+-- For calls inside this crate alone.
+
 -- The bytes of a body of the manager's journal.
 use Rattle.std.specs.Prelude.{ℕ, List, ◌++◌}
 use Rattle.oz_rows.specs.Operations.{head_bytes}

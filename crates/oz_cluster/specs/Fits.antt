@@ -1,5 +1,6 @@
 -- When a story is that of a script.
-use Rattle.std.specs.Prelude.{◌≡◌, ◌≢◌, ℕ, ◌-◌, ◌<◌, true, IsTrue, ◌==◌, List, [], ◌∷◌, ◌++◌, map, filter, Option, None, Some, if◌then◌else◌}
+use Rattle.std.specs.Prelude.{◌≡◌, ◌≢◌, ℕ, ◌-◌, ◌<◌, true, IsTrue, ◌==◌, List, [], ◌∷◌, ◌++◌, map, filter, Option, None}
+use Rattle.std.specs.Prelude.{Some, if◌then◌else◌}
 use Rattle.std.specs.List.{filter_map}
 use Rattle.oz_cluster.specs.declared.events.Event.{Event}
 use Rattle.oz_cluster.specs.declared.events.EventKind.{EventKind}
@@ -10,13 +11,16 @@ use Rattle.oz_requests.specs.declared.answer.Answer.TheVariants as told
 use Rattle.oz_requests.specs.declared.reply.Reply.{Reply}
 use Rattle.oz_requests.specs.declared.reply.Reply.TheVariants as reply
 use Rattle.oz_requests.specs.declared.request.Request.{Request}
-use Rattle.oz_requests.specs.declared.request.Request.TheVariants.{CreateVolume, InfoVolume, DeleteVolume, CreateBucket, InfoBucket, DeleteBucket, ListBuckets}
+use Rattle.oz_requests.specs.declared.request.Request.TheVariants.{CreateVolume, InfoVolume, DeleteVolume, CreateBucket}
+use Rattle.oz_requests.specs.declared.request.Request.TheVariants.{InfoBucket, DeleteBucket, ListBuckets}
 use Rattle.oz_requests.specs.declared.answer.Values.TheVariants as values
 use Rattle.oz_script.specs.declared.grammar.Command.{Command}
-use Rattle.oz_script.specs.declared.grammar.Command.TheVariants.{VolumeCreate, VolumeInfo, VolumeDelete, BucketCreate, BucketInfo, BucketDelete, BucketList}
+use Rattle.oz_script.specs.declared.grammar.Command.TheVariants.{VolumeCreate, VolumeInfo, VolumeDelete, BucketCreate}
+use Rattle.oz_script.specs.declared.grammar.Command.TheVariants.{BucketInfo, BucketDelete, BucketList}
 use Rattle.oz_script.specs.declared.grammar.Line.{Line}
 use Rattle.oz_script.specs.declared.grammar.Script.{Script}
-use Rattle.oz_cluster.specs.Story.{Opening, is_of_line, is_told, last_reply, line_index, durable_index, halt_of, asked_late}
+use Rattle.oz_cluster.specs.Story.{Opening, is_of_line, is_told, last_reply, line_index, durable_index, halt_of}
+use Rattle.oz_cluster.specs.Story.{asked_late}
 
 -- the one request of a line
 abbrev pub request_of : Command → Request

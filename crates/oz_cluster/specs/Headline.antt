@@ -1,5 +1,6 @@
 -- What a run promises of the story that it prints.
-use Rattle.std.specs.Prelude.{◌≡◌, ◌≢◌, ◌⊎◌, ℕ, ◌-◌, ◌<◌, ◌≤◌, true, List, ◌∷◌, ◌++◌, length, Option, Some, None, IfSome}
+use Rattle.std.specs.Prelude.{◌≡◌, ◌≢◌, ◌⊎◌, ℕ, ◌-◌, ◌<◌, ◌≤◌, true, List, ◌∷◌, ◌++◌, length, Option, Some, None}
+use Rattle.std.specs.Prelude.{IfSome}
 use Rattle.std.specs.Option.{option_map}
 use Rattle.oz_world.specs.Disk.{Images, Seen}
 use Rattle.oz_world.specs.Faults.{Rose}
@@ -26,7 +27,8 @@ use Rattle.oz_cluster.specs.Report.{report_of, memory_fault}
 use Rattle.oz_cluster.specs.Stopped.{IsScriptOf, Says, IsStopped}
 use Rattle.oz_cluster.specs.Statuses.{status_number}
 use Rattle.oz_cluster.specs.Stops.{StopsHold}
-use Rattle.oz_cluster.specs.Story.{Opening, is_told, pending, line_index, durable_index, last_index, flushed_moment, namespace_of, halt_of}
+use Rattle.oz_cluster.specs.Story.{Opening, is_told, pending, line_index, durable_index, last_index, flushed_moment}
+use Rattle.oz_cluster.specs.Story.{namespace_of, halt_of}
 use Rattle.oz_cluster.specs.Streams.{IsReadThrough, HoldsPrefix}
 use Rattle.oz_cluster.specs.Words.{IsRun}
 

@@ -13,7 +13,8 @@ use Rattle.oz_requests.specs.declared.reply.Reply.{Reply}
 use Rattle.oz_names.specs.Names.{stripe_of}
 use Rattle.oz_model.specs.Answers.{Answers, after}
 use Rattle.oz_requests.specs.Names.{volume_in}
-use Rattle.oz_cluster.specs.Story.{Opening, is_asked, is_id, is_of_line, is_told, halt_of, asked_late, pending, last_index, swapped_index, durable_index, flushed_moment, line_index, namespace_of}
+use Rattle.oz_cluster.specs.Story.{Opening, is_asked, is_id, is_of_line, is_told, halt_of, asked_late, pending}
+use Rattle.oz_cluster.specs.Story.{last_index, swapped_index, durable_index, flushed_moment, line_index, namespace_of}
 
 -- the seats: the flusher's, the caller's, the SCM's, the first datanode's, the first stripe's, the first worker's
 abbrev pub flusher_seat : ℕ

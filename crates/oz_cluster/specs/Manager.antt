@@ -1,3 +1,5 @@
+-- For calls inside this crate alone.
+
 -- What a manager keeps of a line that wasn't served, and what it leaves in its cache.
 use Rattle.std.specs.Prelude.{◌≡◌, false, []}
 use Rattle.oz_rows.specs.declared.key.RowKey.{RowKey}

@@ -1,3 +1,5 @@
+-- For calls inside this crate alone.
+
 -- What a fault of the journal is to the manager that opens it, and to the run.
 use Rattle.std.specs.Prelude.{Result, Ok, Err}
 use Rattle.oz_journal.specs.declared.load_fault.LoadFault.{LoadFault}

@@ -1,6 +1,9 @@
+-- For calls inside this crate alone.
+
 -- A story of one client between two of its lines: what was asked is decided, stable and told, or the manager has
 -- halted.
-use Rattle.std.specs.Prelude.{◌≡◌, ◌≢◌, ℕ, ◌+◌, ◌≤◌, ◌<◌, zero, suc, Bool, true, false, List, [], ◌∷◌, ◌++◌, Option, Some, None, is_some, IfSome}
+use Rattle.std.specs.Prelude.{◌≡◌, ◌≢◌, ℕ, ◌+◌, ◌≤◌, ◌<◌, zero, suc, Bool, true, false, List, [], ◌∷◌, ◌++◌, Option}
+use Rattle.std.specs.Prelude.{Some, None, is_some, IfSome}
 use Rattle.std.specs.List.{AllByRecursion}
 use Rattle.oz_world.specs.Disk.{Seen, IsStable}
 use Rattle.oz_world.specs.Faults.{Rose}
@@ -16,7 +19,8 @@ use Rattle.oz_om_bucket.specs.Meets.{Stand}
 use Rattle.oz_tables.specs.Tables.{Rows}
 use Rattle.oz_cluster.specs.Opens.{Keeps}
 use Rattle.oz_cluster.specs.Stops.{IsWithin, StopsHold}
-use Rattle.oz_cluster.specs.Story.{Opening, is_asked, is_told, pending, last_index, swapped_index, durable_index, flushed_moment, line_index, namespace_of, kept_namespace, halt_of}
+use Rattle.oz_cluster.specs.Story.{Opening, is_asked, is_told, pending, last_index, swapped_index, durable_index}
+use Rattle.oz_cluster.specs.Story.{flushed_moment, line_index, namespace_of, kept_namespace, halt_of}
 
 -- 1, 2 and so on, so many
 unfoldable pub counted : ℕ → List ℕ

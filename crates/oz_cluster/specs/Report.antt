@@ -1,5 +1,6 @@
 -- The text that a run prints.
-use Rattle.std.specs.Prelude.{ℕ, Bool, true, false, ◌==◌, List, [], ◌∷◌, ◌++◌, codes, decimal, count_by, length, Option, None, Some, if◌then◌else◌}
+use Rattle.std.specs.Prelude.{ℕ, Bool, true, false, ◌==◌, List, [], ◌∷◌, ◌++◌, codes, decimal, count_by, length, Option}
+use Rattle.std.specs.Prelude.{None, Some, if◌then◌else◌}
 use Rattle.std.specs.List.{flat_map}
 use Rattle.oz_cluster.specs.declared.events.Event.{Event}
 use Rattle.oz_cluster.specs.declared.events.EventKind.{EventKind}
@@ -13,7 +14,8 @@ use Rattle.oz_requests.specs.declared.reply.Counts.{Counts}
 use Rattle.oz_requests.specs.declared.reply.Reply.{Reply}
 use Rattle.oz_requests.specs.declared.reply.Reply.TheVariants as reply
 use Rattle.oz_requests.specs.declared.request.Request.{Request}
-use Rattle.oz_requests.specs.declared.request.Request.TheVariants.{CreateVolume, InfoVolume, DeleteVolume, CreateBucket, InfoBucket, DeleteBucket, ListBuckets}
+use Rattle.oz_requests.specs.declared.request.Request.TheVariants.{CreateVolume, InfoVolume, DeleteVolume, CreateBucket}
+use Rattle.oz_requests.specs.declared.request.Request.TheVariants.{InfoBucket, DeleteBucket, ListBuckets}
 use Rattle.oz_requests.specs.declared.answer.Values.TheVariants as values
 use Rattle.oz_names.specs.Codes.{code_text}
 use Rattle.oz_cluster.specs.Story.{pending}

@@ -1,3 +1,5 @@
+-- For calls inside this crate alone.
+
 -- What serving one line does: to the rows, the story, the last index, the journal and the disk.
 use Rattle.std.specs.Prelude.{◌≡◌, ◌≢◌, ◌⊎◌, ℕ, ◌+◌, ◌<◌, ◌≤◌, Bool, true, false, List, [], ◌∷◌, ◌++◌}
 use Rattle.oz_world.specs.Disk.{Seen}

@@ -1,7 +1,8 @@
 -- The number that a program ends with.
 use Rattle.std.specs.Prelude.{ℕ}
 use Rattle.oz_cluster.specs.declared.status.Status.{Status}
-use Rattle.oz_cluster.specs.declared.status.Status.TheVariants.{Done, Script, Words, Read, Unwritten, Disk, Damaged, OutOfMemory}
+use Rattle.oz_cluster.specs.declared.status.Status.TheVariants.{Done, Script, Words, Read, Unwritten, Disk, Damaged}
+use Rattle.oz_cluster.specs.declared.status.Status.TheVariants.{OutOfMemory}
 
 abbrev pub status_number : Status → ℕ
 status_number Done = 0

@@ -1,3 +1,5 @@
+-- For calls inside this crate alone.
+
 -- The events of a line that asks one thing.
 use Rattle.std.specs.Prelude.{ℕ, List}
 use Rattle.oz_cluster.specs.declared.events.Event.{Event}

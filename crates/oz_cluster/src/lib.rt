@@ -4,8 +4,8 @@
 mod asking;
 pub mod events;
 pub mod laws;
-pub mod manager;
-pub mod opening;
+mod manager;
+mod opening;
 pub mod report;
 pub mod run;
 pub mod status;

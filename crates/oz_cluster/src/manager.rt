@@ -1,6 +1,7 @@
 //! The manager: it decides what a line asks, makes it stable, and tells the line.
 
-ghost use Rattle.std.specs.Prelude.{List as Items, ◌≡◌, ◌≤◌, ◌<◌, ◌+◌, ◌^◌, ◌++◌, [], ◌∷◌, ℕ, false, length, vec_len, vec_capacity, is_err, IfOk, OnOk, OnErr, IsErr};
+ghost use Rattle.std.specs.Prelude.{List as Items, ◌≡◌, ◌≤◌, ◌<◌, ◌+◌, ◌^◌, ◌++◌, [], ◌∷◌, ℕ, false, length, vec_len};
+ghost use Rattle.std.specs.Prelude.{vec_capacity, is_err, IfOk, OnOk, OnErr, IsErr};
 ghost use Rattle.oz_world.specs.Disk.{seen};
 ghost use Rattle.oz_world.specs.Faults.{HasCause};
 ghost use Rattle.oz_cache.specs.Cache.{batched_changes, epoch_after, last_epoch, later, newest, up_to};

@@ -1,7 +1,9 @@
 //! The texts that a run writes.
 
 ghost use Rattle.std.specs.Prelude.{◌≡◌, ◌++◌, IfOk, OnOk, option_copied};
-ghost use Rattle.oz_cluster.specs.Report.{report_of, decide_text, halt_text, node_text, told_text, answer_text, counts_text, list_text, request_text, reply_text, words_fault, script_fault, damaged_manager, disk_fault, read_fault, memory_fault};
+ghost use Rattle.oz_cluster.specs.Report.{report_of, decide_text, halt_text, node_text, told_text, answer_text};
+ghost use Rattle.oz_cluster.specs.Report.{counts_text, list_text, request_text, reply_text, words_fault, script_fault};
+ghost use Rattle.oz_cluster.specs.Report.{damaged_manager, disk_fault, read_fault, memory_fault};
 
 use crate::events::{Event, EventKind, Node};
 use oz_fields::{Name, OutOfMemory};

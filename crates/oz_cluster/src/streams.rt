@@ -1,6 +1,7 @@
 //! Reading the script, and writing the report.
 
-ghost use Rattle.std.specs.Prelude.{◌≡◌, ◌≤◌, ◌<◌, ◌+◌, ◌↔◌, ◌++◌, [], ℕ, List, length, take, drop, OnOk, OnErr, IfOk, IfSome, IsErrOf};
+ghost use Rattle.std.specs.Prelude.{◌≡◌, ◌≤◌, ◌<◌, ◌+◌, ◌↔◌, ◌++◌, [], ℕ, List, length, take, drop, OnOk, OnErr, IfOk};
+ghost use Rattle.std.specs.Prelude.{IfSome, IsErrOf};
 ghost use Rattle.std.specs.Option.{option_map};
 ghost use Rattle.oz_world.specs.Faults.{Rose, HasCause};
 ghost use Rattle.oz_cluster.specs.Streams.{script_limit, TakesUpTo, IsReadThrough, HoldsPrefix};

@@ -1,6 +1,7 @@
 //! The disks of a folder.
 
-ghost use Rattle.std.specs.Prelude.{List, ℕ, ◌≡◌, ◌<◌, [], ◌∷◌, ◌++◌, None, map, length, codes, vec_len, IfOk, IsSomeAnd};
+ghost use Rattle.std.specs.Prelude.{List, ℕ, ◌≡◌, ◌<◌, [], ◌∷◌, ◌++◌, None, map, length, codes, vec_len, IfOk};
+ghost use Rattle.std.specs.Prelude.{IsSomeAnd};
 ghost use Rattle.std.specs.String.{string_bytes};
 ghost use Rattle.oz_cluster.specs.Words.{IsRun};
 

@@ -1,5 +1,6 @@
 -- For private calls: what the single steps of building make and find.
-use Rattle.std.specs.Prelude.{◌≡◌, ℕ, Bool, true, false, not, ◌&&◌, ◌==◌, ◌+◌, ◌-◌, ◌<◌, ◌≤◌, ◌⊎◌, List, [], ◌∷◌, ◌++◌, length, map, Option, None, Some, is_some, Ok, Err, if◌then◌else◌}
+use Rattle.std.specs.Prelude.{◌≡◌, ℕ, Bool, true, false, not, ◌&&◌, ◌==◌, ◌+◌, ◌-◌, ◌<◌, ◌≤◌, ◌⊎◌, List, [], ◌∷◌, ◌++◌}
+use Rattle.std.specs.Prelude.{length, map, Option, None, Some, is_some, Ok, Err, if◌then◌else◌}
 use Rattle.std.specs.List.{flat_map, list_any}
 use Rattle.std.specs.Ordering.{nat_cmp, ordering_then}
 use Rattle.std.specs.declared.cmp.Ordering.{Ordering}
@@ -79,7 +80,8 @@ pub record BatchStops (before : List RowEntry) (bytes : List ℕ) (between : Lis
   pub leads : Leads before items between
   pub not_over : 1 ≤ length rest
   pub fails : (operation_at rest ≡ Err left)
-      ⊎ ((key : RowKey) × (behind : List ℕ) × (operation_at rest ≡ Ok (Remove key, behind)) × (row_of between key ≡ None)
+      ⊎ ((key : RowKey) × (behind : List ℕ) × (operation_at rest ≡ Ok (Remove key, behind))
+      × (row_of between key ≡ None)
       × (left ≡ length rest))
 
 -- what a body makes of tables, and their index

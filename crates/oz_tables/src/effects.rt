@@ -2,7 +2,10 @@
 
 ghost use Rattle.std.specs.Prelude.{◌≡◌, ◌∷◌, ◌++◌, ◌||◌, [], not, map, filter, OnOk, IfOk};
 ghost use Rattle.std.specs.List.{flat_map, list_any};
-ghost use Rattle.oz_tables.specs.Effects.{copied, moved, dropped, closed, freed, put, gone, is_bucket as is_same_bucket, is_block as is_same_block, has_block as does_have, is_in_a_key as is_kept, operation_changes as changed_by};
+ghost use Rattle.oz_tables.specs.Effects.{copied, moved, dropped, closed, freed, put, gone};
+ghost use Rattle.oz_tables.specs.Effects.{is_bucket as is_same_bucket, is_block as is_same_block};
+ghost use Rattle.oz_tables.specs.Effects.{has_block as does_have, is_in_a_key as is_kept};
+ghost use Rattle.oz_tables.specs.Effects.{operation_changes as changed_by};
 ghost use Rattle.oz_fields.specs.declared.block.Block.{Block as AnyBlock};
 ghost use Rattle.oz_tables.specs.Steps.{renamed_moved, freed_block, freed_but, holds as does_hold};
 ghost use Rattle.oz_rows.specs.declared.row.Row.{Row as AnyRow};

@@ -1,11 +1,14 @@
 //! The rows that rows need, and the operations at fault where one is missing.
 
-ghost use Rattle.std.specs.Prelude.{◌≡◌, [], ◌∷◌, ◌&&◌, ◌⊎◌, ℕ, Option, None, false, not, map, IfOk, MatchOption, MatchBool};
+ghost use Rattle.std.specs.Prelude.{◌≡◌, [], ◌∷◌, ◌&&◌, ◌⊎◌, ℕ, Option, None, false, not, map, IfOk, MatchOption};
+ghost use Rattle.std.specs.Prelude.{MatchBool};
 ghost use Rattle.std.specs.List.{list_any};
 ghost use Rattle.oz_rows.specs.declared.key.RowKey.{RowKey as AnyKey};
 ghost use Rattle.oz_tables.specs.Tables.{is_same, KeysRise};
-ghost use Rattle.oz_tables.specs.Build.{base_of as needed_by, puts as is_put_by, removes as is_removed_by, IsOrphan, LeavesOne, IsAtFault, NoneAtFault};
-ghost use Rattle.oz_tables.specs.Steps.{operations_of, FirstAtFault, stands_on as does_stand_on, is_left as does_leave, is_live as is_live_row};
+ghost use Rattle.oz_tables.specs.Build.{base_of as needed_by, puts as is_put_by, removes as is_removed_by, IsOrphan};
+ghost use Rattle.oz_tables.specs.Build.{LeavesOne, IsAtFault, NoneAtFault};
+ghost use Rattle.oz_tables.specs.Steps.{operations_of, FirstAtFault, stands_on as does_stand_on, is_left as does_leave};
+ghost use Rattle.oz_tables.specs.Steps.{is_live as is_live_row};
 
 use crate::body::Step;
 use crate::entry::RowEntry;

@@ -1,5 +1,6 @@
 -- What a row of a volume or a bucket that comes or goes does to what the rows stand for.
-use Rattle.std.proofs.Common.{◌≡◌, ◌<◌, ℕ, Bool, true, false, ◌&&◌, List, Option, None, Some, is_some, cond, refl, sym, ◌∙◌, ap, subst, arith}
+use Rattle.std.proofs.Common.{◌≡◌, ◌<◌, ℕ, Bool, true, false, ◌&&◌, List, Option, None, Some, is_some, cond, refl, sym}
+use Rattle.std.proofs.Common.{◌∙◌, ap, subst, arith}
 use mathlib.Core.Bool.{false≢true}
 use Rattle.std.proofs.lemmas.Cmp.{nat_list_cmp_total, eq_by_cmp_equiv}
 use Rattle.std.specs.Ordering.{nat_cmp, is_eq, eq_by_cmp, ordering_then}
@@ -10,7 +11,8 @@ use Rattle.std.specs.FinMap.{get, get-insert, get-remove, slice_cmp-IsAntisymmet
 use Rattle.std.specs.Option.{option_and_then}
 use Rattle.oz_namespace.specs.declared.namespace.Bucket.{Bucket}
 use Rattle.oz_namespace.specs.declared.namespace.Namespace.{Namespace}
-use Rattle.oz_namespace.specs.Namespace.{ByName, has_volume, has_bucket, bucket_of, buckets_of, with_volume, without_volume}
+use Rattle.oz_namespace.specs.Namespace.{ByName, has_volume, has_bucket, bucket_of, buckets_of, with_volume}
+use Rattle.oz_namespace.specs.Namespace.{without_volume}
 use Rattle.oz_rows.specs.declared.key.RowKey.{RowKey}
 use Rattle.oz_rows.specs.declared.key.RowKey.TheVariants as keys
 use Rattle.oz_rows.specs.declared.row.Row.{Row}

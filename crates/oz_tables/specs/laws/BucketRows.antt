@@ -1,5 +1,6 @@
 -- Rows go on standing for a namespace, and go on being sound, as volumes and buckets come and go.
-use Rattle.std.proofs.Common.{◌≡◌, ◌<◌, ◌≤◌, ℕ, true, List, [], ◌∷◌, map, Option, None, Some, IsSome, is_some, refl, sym, ◌∙◌, ap, subst, arith, inl, inr}
+use Rattle.std.proofs.Common.{◌≡◌, ◌<◌, ◌≤◌, ℕ, true, List, [], ◌∷◌, map, Option, None, Some, IsSome, is_some, refl}
+use Rattle.std.proofs.Common.{sym, ◌∙◌, ap, subst, arith, inl, inr}
 use mathlib.Core.Bool.{false≢true}
 use Rattle.std.proofs.lemmas.Bool.{cases_lt}
 use Rattle.std.specs.List.{AllByRecursion, list_any}
@@ -20,7 +21,8 @@ use Rattle.oz_rows.specs.declared.row.Row.{Row}
 use Rattle.oz_rows.specs.Rows.{kind_of}
 use Rattle.oz_tables.specs.Tables.{Rows}
 use Rattle.oz_tables.specs.Effects.{is_block}
-use Rattle.oz_tables.specs.Sound.{blocks_of, StandsIn, SnapshotHas, AreTogether, IsRename, IsNamedAnew, IsUsing, AtMost, BlocksAreSound, NamesAreSound, NumbersAreSound, CountsAreSound, IsSound}
+use Rattle.oz_tables.specs.Sound.{blocks_of, StandsIn, SnapshotHas, AreTogether, IsRename, IsNamedAnew, IsUsing, AtMost}
+use Rattle.oz_tables.specs.Sound.{BlocksAreSound, NamesAreSound, NumbersAreSound, CountsAreSound, IsSound}
 use Rattle.oz_tables.specs.StandsFor.{StandsFor, SnapshotsStand, AreSnapshots, IsSnapshot, IsLive, pieces_in, drawn_in}
 
 -- the pieces, the session and the snapshots that a bucket has, None and nothing where there is no bucket

@@ -10,7 +10,8 @@ use Rattle.oz_tables.specs.declared.entry.RowEntry.{RowEntry}
 use Rattle.oz_tables.specs.Tables.{row_of, row_after, row_after_one, is_same, KeysRise}
 use Rattle.oz_tables.specs.Effects.{Becomes}
 use Rattle.oz_tables.specs.laws.Order.{above_below}
-use Rattle.oz_tables.specs.laws.Lookups.{entry_key, AllBelow, AllAbove, row_added, row_replaced, row_removed, row_absent}
+use Rattle.oz_tables.specs.laws.Lookups.{entry_key, AllBelow, AllAbove, row_added, row_replaced, row_removed}
+use Rattle.oz_tables.specs.laws.Lookups.{row_absent}
 use Rattle.oz_tables.specs.laws.Rising.{over_lower, rise_with, rise_without, rise_replaced, before_at, behind_at}
 
 -- where a key stands among rows in order, or would stand

@@ -1,5 +1,6 @@
 -- Which key is the next one of a kind.
-use Rattle.std.proofs.Common.{◌≡◌, ℕ, zero, suc, ◌<◌, ◌≤◌, Bool, true, false, List, [], ◌∷◌, length, take, drop, drop-cons, get_or, Some, IsSome, cond, refl, sym, ◌∙◌, ap, subst, arith}
+use Rattle.std.proofs.Common.{◌≡◌, ℕ, zero, suc, ◌<◌, ◌≤◌, Bool, true, false, List, [], ◌∷◌, length, take, drop}
+use Rattle.std.proofs.Common.{drop-cons, get_or, Some, IsSome, cond, refl, sym, ◌∙◌, ap, subst, arith}
 use mathlib.Core.Bool.{false≢true}
 use Rattle.std.specs.List.{AllByRecursion}
 use Rattle.std.specs.Ordering.{is_eq, is_le, is_gt}
@@ -12,7 +13,8 @@ use Rattle.oz_tables.specs.declared.entry.RowEntry.{RowEntry}
 use Rattle.oz_tables.specs.Tables.{row_of, is_same, KeysRise, IsBelow, IsAbove, IsNext, HasNoNext}
 use Rattle.oz_tables.specs.Places.{IsBehind}
 use Rattle.oz_tables.specs.laws.Splits.{parts}
-use Rattle.oz_tables.specs.laws.Order.{key_order_total, equal_from_test, alike, alike_left, above_below, below_above, kinds_rise, itself}
+use Rattle.oz_tables.specs.laws.Order.{key_order_total, equal_from_test, alike, alike_left, above_below, below_above}
+use Rattle.oz_tables.specs.laws.Order.{kinds_rise, itself}
 use Rattle.oz_tables.specs.laws.Lookups.{entry_key, AllBelow, AllAbove, row_behind}
 use Rattle.oz_tables.specs.laws.Rising.{rise_rest}
 

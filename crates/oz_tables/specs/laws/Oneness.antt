@@ -1,5 +1,6 @@
 -- Rows stand for one namespace alone.
-use Rattle.std.proofs.Common.{◌≡◌, ◌<◌, ℕ, Bool, true, false, ◌||◌, ◌==◌, List, [], ◌∷◌, Option, None, Some, is_some, refl, sym, ◌∙◌, ap, subst, arith}
+use Rattle.std.proofs.Common.{◌≡◌, ◌<◌, ℕ, Bool, true, false, ◌||◌, ◌==◌, List, [], ◌∷◌, Option, None, Some, is_some}
+use Rattle.std.proofs.Common.{refl, sym, ◌∙◌, ap, subst, arith}
 use mathlib.Core.Bool.{false≢true}
 use Rattle.std.specs.List.{AllByRecursion}
 use Rattle.std.specs.Ordering.{nat_cmp}
@@ -15,7 +16,8 @@ use Rattle.oz_namespace.specs.Namespace.{ByName, bucket_of, buckets_of, session_
 use Rattle.oz_rows.specs.declared.row.Row.{Row}
 use Rattle.oz_rows.specs.declared.row.Row.TheVariants as rows
 use Rattle.oz_tables.specs.Tables.{Rows}
-use Rattle.oz_tables.specs.StandsFor.{StandsFor, SnapshotsStand, AreSnapshots, IsSnapshot, IsLive, NumbersRise, is_among}
+use Rattle.oz_tables.specs.StandsFor.{StandsFor, SnapshotsStand, AreSnapshots, IsSnapshot, IsLive, NumbersRise}
+use Rattle.oz_tables.specs.StandsFor.{is_among}
 
 itself : (n : ℕ) → (n == n) ≡ true
 itself n = grind (arith, nat_tests)

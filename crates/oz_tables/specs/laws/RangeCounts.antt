@@ -1,5 +1,6 @@
 -- How many rows of a list have a key from one on and below another, and how that changes with one row.
-use Rattle.std.proofs.Common.{◌≡◌, ◌+◌, ◌-◌, ℕ, Bool, true, false, not, ◌&&◌, ◌||◌, List, [], ◌∷◌, ◌++◌, length, Option, None, Some, IsSome, is_some, cond, refl, sym, ◌∙◌, ap, subst, arith}
+use Rattle.std.proofs.Common.{◌≡◌, ◌+◌, ◌-◌, ℕ, Bool, true, false, not, ◌&&◌, ◌||◌, List, [], ◌∷◌, ◌++◌, length, Option}
+use Rattle.std.proofs.Common.{None, Some, IsSome, is_some, cond, refl, sym, ◌∙◌, ap, subst, arith}
 use mathlib.Core.Bool.{false≢true}
 use Rattle.std.specs.List.{AllByRecursion, list_any}
 use Rattle.std.specs.Ordering.{is_eq, is_lt}
@@ -15,7 +16,8 @@ use Rattle.oz_tables.specs.laws.Order.{less_from_test, itself}
 use Rattle.oz_tables.specs.laws.Same.{same_is_one}
 use Rattle.oz_tables.specs.laws.Sizes.{no_longer}
 use Rattle.oz_tables.specs.laws.Splits.{each_in_turn}
-use Rattle.oz_tables.specs.laws.Lookups.{entry_key, row_at, row_behind, row_above, row_added, row_replaced, row_removed, row_absent}
+use Rattle.oz_tables.specs.laws.Lookups.{entry_key, row_at, row_behind, row_above, row_added, row_replaced, row_removed}
+use Rattle.oz_tables.specs.laws.Lookups.{row_absent}
 use Rattle.oz_tables.specs.laws.Rising.{rise_with, rise_without, rise_replaced, before_at, behind_at}
 use Rattle.oz_tables.specs.laws.Changes.{Spot, at, between, spot}
 

@@ -1,5 +1,6 @@
 -- What one operation leads to, and what a body adds to those before it.
-use Rattle.std.proofs.Common.{◌≡◌, ◌<◌, ℕ, Bool, true, false, List, [], ◌∷◌, ◌++◌, Option, None, Some, IsSome, is_some, cond, refl, sym, ◌∙◌, ap, subst, append-nil}
+use Rattle.std.proofs.Common.{◌≡◌, ◌<◌, ℕ, Bool, true, false, List, [], ◌∷◌, ◌++◌, Option, None, Some, IsSome, is_some}
+use Rattle.std.proofs.Common.{cond, refl, sym, ◌∙◌, ap, subst, append-nil}
 use mathlib.Core.Bool.{false≢true}
 use Rattle.oz_rows.specs.declared.key.RowKey.{RowKey}
 use Rattle.oz_rows.specs.declared.row.Row.{Row}

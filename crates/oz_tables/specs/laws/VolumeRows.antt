@@ -1,5 +1,6 @@
 -- Rows go on standing for a namespace as volumes come and go.
-use Rattle.std.proofs.Common.{◌≡◌, ◌≢◌, ℕ, Bool, true, false, List, [], ◌∷◌, map, Option, None, Some, is_some, cond, refl, sym, ◌∙◌, ap, subst, arith}
+use Rattle.std.proofs.Common.{◌≡◌, ◌≢◌, ℕ, Bool, true, false, List, [], ◌∷◌, map, Option, None, Some, is_some, cond}
+use Rattle.std.proofs.Common.{refl, sym, ◌∙◌, ap, subst, arith}
 use mathlib.Core.Bool.{false≢true}
 use Rattle.std.proofs.lemmas.Cmp.{nat_list_cmp_total, eq_by_cmp_equiv}
 use Rattle.std.specs.Ordering.{nat_cmp, is_eq, eq_by_cmp, ordering_then}
@@ -12,7 +13,8 @@ use Rattle.oz_namespace.specs.declared.namespace.Bucket.{Bucket}
 use Rattle.oz_namespace.specs.declared.namespace.Namespace.{Namespace}
 use Rattle.oz_namespace.specs.declared.namespace.Session.{Session}
 use Rattle.oz_namespace.specs.declared.namespace.Snapshot.{Snapshot}
-use Rattle.oz_namespace.specs.Namespace.{ByName, nothing, sixteen, has_volume, bucket_of, buckets_of, with_volume, snapshots_in}
+use Rattle.oz_namespace.specs.Namespace.{ByName, nothing, sixteen, has_volume, bucket_of, buckets_of, with_volume}
+use Rattle.oz_namespace.specs.Namespace.{snapshots_in}
 use Rattle.oz_rows.specs.declared.key.RowKey.{RowKey}
 use Rattle.oz_rows.specs.declared.key.RowKey.TheVariants as keys
 use Rattle.oz_rows.specs.declared.row.Row.TheVariants as rows
@@ -20,7 +22,8 @@ use Rattle.oz_rows.specs.Rows.{kind_of}
 use Rattle.oz_tables.specs.Tables.{Rows, is_same, row_of, row_after}
 use Rattle.oz_tables.specs.Effects.{put}
 use Rattle.oz_tables.specs.laws.Order.{equal_from_test}
-use Rattle.oz_tables.specs.StandsFor.{StandsFor, SessionStands, SnapshotsStand, AreSnapshots, IsSnapshot, IsLive, pieces_in, drawn_in}
+use Rattle.oz_tables.specs.StandsFor.{StandsFor, SessionStands, SnapshotsStand, AreSnapshots, IsSnapshot, IsLive}
+use Rattle.oz_tables.specs.StandsFor.{pieces_in, drawn_in}
 
 -- rows that are the same but for those of volumes
 module _ (all now : Rows) (agree : (key : RowKey) → kind_of key ≢ 1 → now key ≡ all key) where

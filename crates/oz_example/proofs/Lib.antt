@@ -1,0 +1,15 @@
+pub mod Keys
+pub mod Lists
+pub mod Entries
+pub mod Blocks
+pub mod Few
+pub mod Tests
+pub mod BlockFacts
+pub mod NameFacts
+pub mod NumberFacts
+pub mod CountFacts
+pub mod SoundRows
+pub mod Grammar
+pub mod Based
+pub mod Found
+pub mod Standing

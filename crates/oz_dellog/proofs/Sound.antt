@@ -16,12 +16,12 @@ use Rattle.oz_fields.specs.declared.block.Block.{Block}
 use Rattle.oz_dellog.specs.declared.logged.Logged.{Logged}
 use Rattle.oz_dellog.specs.Logged.{pending_txn, txn_of, new_logged, with_acknowledgement}
 use Rattle.oz_dellog.specs.Log.{Log, pending, is_pending, IsLogged, with_txn, acknowledged, without_txn}
-use Rattle.oz_dellog.specs.Index.{IsSound, Lists, Unlists, Names, listed, numbers_in, without, pending_at}
+use Rattle.oz_dellog.specs.Index.{IsIndexed, Lists, Unlists, Names, listed, numbers_in, without, pending_at}
 use Rattle.oz_dellog.proofs.Rising.{rises, found_all, put_at_end, all_set, looks, has_entries, is_put, is_taken}
 use Rattle.oz_dellog.proofs.Numbers.{numbers_all, numbers_push, below_push, below_next, undone, numbers_set, numbers_remove, below_remove, tells_all}
 
-pub is_added : (last number : ℕ) (m n : BTreeMap ℕ Logged) (i j : BTreeMap ℕ (Vec ℕ)) (v : Logged) → IsSound last m i → number ≡ last + 1
-    → n.entries ≡ insert_entry nat_cmp m.entries number v → IsOrdered nat_cmp n → Lists i j v.container number → IsSound number n j
+pub is_added : (last number : ℕ) (m n : BTreeMap ℕ Logged) (i j : BTreeMap ℕ (Vec ℕ)) (v : Logged) → IsIndexed last m i → number ≡ last + 1
+    → n.entries ≡ insert_entry nat_cmp m.entries number v → IsOrdered nat_cmp n → Lists i j v.container number → IsIndexed number n j
 is_added last number m n i j v sound next put ordered lists =
     let ended : insert_entry nat_cmp m.entries number v ≡ m.entries ++ (number, v) ∷ [] =
     put_at_end m.entries number v (subst (λ x. AllByRecursion (λ (e : ℕ × Logged). e.0 < x) m.entries) (sym next) (below_next last m.entries sound.below)) in
@@ -34,8 +34,8 @@ is_added last number m n i j v sound next put ordered lists =
           ∙ sym (ap (λ es. numbers_in es c) (put ∙ ended) ∙ numbers_push m.entries (number, v) c);
     }
 
-pub is_undone : (last number container : ℕ) (m n : BTreeMap ℕ Logged) (i j k : BTreeMap ℕ (Vec ℕ)) → IsSound last m i → number ≡ last + 1
-    → n.entries ≡ m.entries → IsOrdered nat_cmp n → Lists i j container number → Unlists j k container number → IsSound last n k
+pub is_undone : (last number container : ℕ) (m n : BTreeMap ℕ Logged) (i j k : BTreeMap ℕ (Vec ℕ)) → IsIndexed last m i → number ≡ last + 1
+    → n.entries ≡ m.entries → IsOrdered nat_cmp n → Lists i j container number → Unlists j k container number → IsIndexed last n k
 is_undone last number container m n i j k sound next stay ordered lists unlists =
     let fresh : (c : ℕ) → AllByRecursion (λ x. x < number) (listed i c) = λ c. subst (AllByRecursion (λ x. x < number)) (sym (sound.listed_well c))
     (numbers_all (λ x. x < number) m.entries c (subst (λ x. AllByRecursion (λ (e : ℕ × Logged). e.0 < x) m.entries) (sym next) (below_next last m.entries sound.below))) in
@@ -46,16 +46,16 @@ is_undone last number container m n i j k sound next stay ordered lists unlists 
           ∙ sound.listed_well c ∙ ap (λ es. numbers_in es c) (sym stay);
     }
 
-pub is_changed : (last number : ℕ) (m n : BTreeMap ℕ Logged) (i : BTreeMap ℕ (Vec ℕ)) (v w : Logged) → IsSound last m i → get nat_cmp m number ≡ Some v
-    → n.entries ≡ set_value (is_at (nat_cmp number)) m.entries w → IsOrdered nat_cmp n → w.container ≡ v.container → IsSound last n i
+pub is_changed : (last number : ℕ) (m n : BTreeMap ℕ Logged) (i : BTreeMap ℕ (Vec ℕ)) (v w : Logged) → IsIndexed last m i → get nat_cmp m number ≡ Some v
+    → n.entries ≡ set_value (is_at (nat_cmp number)) m.entries w → IsOrdered nat_cmp n → w.container ≡ v.container → IsIndexed last n i
 is_changed last number m n i v w sound there set ordered same = record {
   ordered = ordered;
   below = subst (λ (es : List (ℕ × Logged)). AllByRecursion (λ e. e.0 ≤ last) es) (sym set) (all_set (λ x. x ≤ last) (is_at (nat_cmp number)) m.entries w sound.below);
   listed_well = λ c. sound.listed_well c ∙ sym (ap (λ es. numbers_in es c) set ∙ numbers_set (is_at (nat_cmp number)) m.entries v w c there same);
 }
 
-pub is_removed : (last number : ℕ) (m n : BTreeMap ℕ Logged) (i j : BTreeMap ℕ (Vec ℕ)) (v : Logged) → IsSound last m i → get nat_cmp m number ≡ Some v
-    → n.entries ≡ remove_entry (is_at (nat_cmp number)) m.entries → IsOrdered nat_cmp n → Unlists i j v.container number → IsSound last n j
+pub is_removed : (last number : ℕ) (m n : BTreeMap ℕ Logged) (i j : BTreeMap ℕ (Vec ℕ)) (v : Logged) → IsIndexed last m i → get nat_cmp m number ≡ Some v
+    → n.entries ≡ remove_entry (is_at (nat_cmp number)) m.entries → IsOrdered nat_cmp n → Unlists i j v.container number → IsIndexed last n j
 is_removed last number m n i j v sound there taken ordered unlists = record {
   ordered = ordered;
   below = subst (λ (es : List (ℕ × Logged)). AllByRecursion (λ e. e.0 ≤ last) es) (sym taken) (below_remove (λ x. x ≤ last) (is_at (nat_cmp number)) m.entries sound.below);
@@ -69,7 +69,7 @@ found_here dn whole [] all = tt
 found_here dn whole (e ∷ es) all = (ap (option_and_then (λ (logged : Logged). pending_txn e.0 logged dn)) all.0, found_here dn whole es all.1)
 
 -- what the index finds is what is pending
-pub is_told : (last container dn : ℕ) (m : BTreeMap ℕ Logged) (i : BTreeMap ℕ (Vec ℕ)) → IsSound last m i
+pub is_told : (last container dn : ℕ) (m : BTreeMap ℕ Logged) (i : BTreeMap ℕ (Vec ℕ)) → IsIndexed last m i
     → filter_map (pending_at m dn) (listed i container) ≡ pending (record { last = last; unretired = map.from_entries m.entries }) container dn
 is_told last container dn m i sound =
     ap (filter_map (pending_at m dn)) (sound.listed_well container)
@@ -115,7 +115,7 @@ abbrev seen : ℕ → BTreeMap ℕ Logged → Log
 seen last m = record { last = last; unretired = map.from_entries m.entries }
 
 -- a look-up by the index finds exactly the blocks that are logged
-pub is_logged : (log : Log) (last : ℕ) (m : BTreeMap ℕ Logged) (i : BTreeMap ℕ (Vec ℕ)) (block : Block) → IsSound last m i → seen last m ≡ log
+pub is_logged : (log : Log) (last : ℕ) (m : BTreeMap ℕ Logged) (i : BTreeMap ℕ (Vec ℕ)) (block : Block) → IsIndexed last m i → seen last m ≡ log
     → Any (λ number. Names m number block.local) (listed i block.container) → IsLogged log block
 is_logged log last m i block sound view any =
     let here : Any (λ number. Names m number block.local) (numbers_in m.entries block.container) = subst (Any (λ number. Names m number block.local)) (sound.listed_well block.container) any in
@@ -129,7 +129,7 @@ is_logged log last m i block sound view any =
       local = subst (λ o. IsSomeAnd o (λ (logged : Logged). Contains logged.locals block.local)) there.1 here.4;
     })
 
-pub is_found : (log : Log) (last : ℕ) (m : BTreeMap ℕ Logged) (i : BTreeMap ℕ (Vec ℕ)) (block : Block) → IsSound last m i → seen last m ≡ log
+pub is_found : (log : Log) (last : ℕ) (m : BTreeMap ℕ Logged) (i : BTreeMap ℕ (Vec ℕ)) (block : Block) → IsIndexed last m i → seen last m ≡ log
     → IsLogged log block → Any (λ number. Names m number block.local) (listed i block.container)
 is_found log last m i block sound view named =
     let here : IsLogged (seen last m) block = subst (λ l. IsLogged l block) (sym view) named in

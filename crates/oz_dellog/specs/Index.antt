@@ -1,6 +1,7 @@
 -- How the log keeps its transactions: in a map by their numbers, and in an index the numbers container by container.
 -- Only private calls speak of it.
-use Rattle.std.specs.Prelude.{◌≡◌, ℕ, ◌≤◌, ◌==◌, List, [], ◌∷◌, ◌++◌, if◌then◌else◌, filter, not, Option, Contains, IsSomeAnd}
+use Rattle.std.specs.Prelude.{◌≡◌, ℕ, ◌≤◌, ◌==◌, List, [], ◌∷◌, ◌++◌, if◌then◌else◌, filter, not, Option, Contains}
+use Rattle.std.specs.Prelude.{IsSomeAnd}
 use Rattle.std.specs.Global.{Vec}
 use Rattle.std.specs.List.{AllByRecursion}
 use Rattle.std.specs.Option.{option_map_or, option_and_then}
@@ -34,7 +35,7 @@ numbers_in (entry ∷ entries) container =
     if container == entry.1.container then entry.0 ∷ numbers_in entries container else numbers_in entries container
 
 -- no number is above the last, and the index has the numbers of each container
-pub record IsSound (last : ℕ) (unretired : BTreeMap ℕ Logged) (index : BTreeMap ℕ (Vec ℕ)) : Type 0 where
+pub record IsIndexed (last : ℕ) (unretired : BTreeMap ℕ Logged) (index : BTreeMap ℕ (Vec ℕ)) : Type 0 where
   pub ordered : IsOrdered nat_cmp unretired
   pub below : AllByRecursion (λ entry. entry.0 ≤ last) unretired.entries
   pub listed_well : (container : ℕ) → listed index container ≡ numbers_in unretired.entries container

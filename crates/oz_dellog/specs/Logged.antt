@@ -1,5 +1,6 @@
 -- A transaction of the log, and who acknowledged it.
-use Rattle.std.specs.Prelude.{ℕ, List, Bool, false, true, Option, None, Some, if◌then◌else◌, replicate, slice_set, count_by}
+use Rattle.std.specs.Prelude.{ℕ, List, Bool, false, true, Option, None, Some, if◌then◌else◌, replicate, slice_set}
+use Rattle.std.specs.Prelude.{count_by}
 use Rattle.std.specs.List.{slice_index_or}
 use Rattle.oz_dellog.specs.declared.txn.Txn.{Txn}
 use Rattle.oz_dellog.specs.declared.logged.Logged.{Logged}

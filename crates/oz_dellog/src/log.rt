@@ -1,5 +1,6 @@
 //! The transactions that aren't retired, by their numbers.
-ghost use Rattle.std.specs.Prelude.{◌≡◌, ◌≤◌, ◌+◌, ◌↔◌, ℕ, length, IsTrue, IfOk, IfErr, OnOk, OnErr, Any, filter_map, option_copied};
+ghost use Rattle.std.specs.Prelude.{◌≡◌, ◌≤◌, ◌+◌, ◌↔◌, ℕ, length, IsTrue, IfOk, IfErr, OnOk, OnErr, Any, filter_map};
+ghost use Rattle.std.specs.Prelude.{option_copied};
 ghost use Rattle.std.specs.Bool.{OnTrue, OnFalse};
 ghost use Rattle.oz_dellog.specs.Index.{pending_at, Names};
 ghost use Rattle.std.specs.FinMap.{empty, get, entries};
@@ -27,7 +28,7 @@ impl Model for DelLog {
     ghost use Rattle.std.specs.FinMap.{from_entries};
     ghost use Rattle.oz_dellog.specs.Codes.{coded_log};
     ghost use Rattle.oz_dellog.specs.Log.{Log};
-    ghost use Rattle.oz_dellog.specs.Index.{IsSound};
+    ghost use Rattle.oz_dellog.specs.Index.{IsIndexed};
 
     ghost Value = { Log };
 
@@ -35,7 +36,7 @@ impl Model for DelLog {
 
     ghost view = { λ log. record { last = log.last; unretired = from_entries log.unretired.entries } };
 
-    ghost invariant = { λ log. IsSound log.last log.unretired log.index };
+    ghost invariant = { λ log. IsIndexed log.last log.unretired log.index };
 }
 
 impl DelLog {

@@ -1,7 +1,8 @@
 //! What the log keeps of a transaction.
 ghost use Rattle.std.specs.Prelude.{◌≡◌, IfOk, nat_le, not};
 ghost use Rattle.std.specs.Bool.{OnTrue, OnFalse};
-ghost use Rattle.oz_dellog.specs.Logged.{nobody, new_logged, is_acknowledged_by, acknowledgement_count, with_acknowledgement, pending_txn};
+ghost use Rattle.oz_dellog.specs.Logged.{nobody, new_logged, is_acknowledged_by, acknowledgement_count};
+ghost use Rattle.oz_dellog.specs.Logged.{with_acknowledgement, pending_txn};
 
 use crate::txn::Txn;
 use oz_fields::{List, OutOfMemory};

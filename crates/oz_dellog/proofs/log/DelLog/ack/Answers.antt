@@ -4,7 +4,7 @@ use Rattle.std.proofs.lemmas.Bool.{OnTrue_at, OnTrue_from, OnFalse_at, OnFalse_f
 use Rattle.oz_dellog.specs.declared.log.DelLog.TheInside.{Inside}
 use Rattle.oz_dellog.specs.Logged.{is_acknowledged_by}
 use Rattle.oz_dellog.specs.Log.{Log}
-use Rattle.oz_dellog.specs.Index.{IsSound}
+use Rattle.oz_dellog.specs.Index.{IsIndexed}
 use Rattle.oz_dellog.proofs.Sound.{is_changed, asked, acks, stays}
 use Rattle.oz_dellog.proofs.log.DelLog.ack.Goals as goal
 use Rattle.oz_dellog.proofs.log.DelLog.ack.Goals.{in-Some, in-None}
@@ -21,12 +21,12 @@ invariant_of-self c =
     elim c.match-get_mut.branch [
       | in-Some w ↦
           let through = c.get_mut.follows.holds w.acknowledge.new.logged in
-          subst (λ (inside : Inside). IsSound inside.last inside.unretired inside.index) (sym w.self-inside-is)
+          subst (λ (inside : Inside). IsIndexed inside.last inside.unretired inside.index) (sym w.self-inside-is)
           (is_changed c.self.inside.last c.args.number c.self.inside.unretired (c.get_mut.follows.lender w.acknowledge.new.logged) c.self.inside.index w.in-Some.logged.now w.acknowledge.new.logged
           c.self.invariant (sym w.in-Some.ensures.value) through.0 through.4 w.acknowledge.ensures.container)
       | in-None w ↦
-          subst (λ (inside : Inside). IsSound inside.last inside.unretired inside.index) (sym w.self-inside-is)
-          (subst (λ m. IsSound c.self.inside.last m c.self.inside.index) (sym c.get_mut.follows.holds-at-none) c.self.invariant)
+          subst (λ (inside : Inside). IsIndexed inside.last inside.unretired inside.index) (sym w.self-inside-is)
+          (subst (λ m. IsIndexed c.self.inside.last m c.self.inside.index) (sym c.get_mut.follows.holds-at-none) c.self.invariant)
     ]
 
 pub returns-clause-answer : goal.returns-clause-answer

@@ -5,6 +5,8 @@ ghost use Rattle.std.specs.Prelude.{vec_capacity, is_err, IfOk, OnOk, OnErr, IsE
 ghost use Rattle.oz_world.specs.Disk.{seen};
 ghost use Rattle.oz_cache.specs.Cache.{batched_changes, epoch_after, last_epoch, later, newest, up_to};
 ghost use Rattle.oz_journal.specs.Appends.{Appends};
+ghost use Rattle.oz_journal.specs.declared.frame.TheConstants.{LONGEST_FRAME};
+ghost use Rattle.oz_rows.specs.declared.operation.TheConstants.{LONGEST_OPERATION};
 ghost use Rattle.oz_journal.specs.Journal.{body_of};
 ghost use Rattle.oz_names.specs.Names.{stripe_of};
 ghost use Rattle.oz_requests.specs.Names.{volume_in};
@@ -37,12 +39,6 @@ const FLUSHER_SEAT: u16 = 0;
 const CALLER_SEAT: u16 = 2;
 
 const FIRST_STRIPE_SEAT: u16 = 20;
-
-/// The most bytes that a decision's operations have.
-const LONGEST_BATCH: usize = 6_304;
-
-/// The most bytes that the journal takes of a body and its frame.
-const LONGEST_FRAME: usize = 4_294_967_300;
 
 /// The manager on one thread: its rows, its journal, and the story so far.
 #[derive(Drop)]
@@ -191,10 +187,10 @@ impl<D: Disk> Manager<D> {
         batch: List<u8>,
         changes: List<Change>,
     ) -> Result<Planned, OutOfMemory>
-        requires index { last_epoch self.old.rows < 2 ^ 63 }
-        requires size { length batch ≤ LONGEST_BATCH }
+        requires index { last_epoch self.old.rows < END_OF_INDEXES }
+        requires size { length batch ≤ LONGEST_OPERATION }
         ensures index { IfOk result (λ planned. planned.index ≡ last_epoch self.old.rows + 1) }
-        ensures limit { IfOk result (λ planned. planned.index < 2 ^ 63) }
+        ensures limit { IfOk result (λ planned. planned.index < END_OF_INDEXES) }
         ensures batch { IfOk result (λ planned. planned.batch ≡ batch) }
         ensures body { IfOk result (λ planned. body_of planned.frame.items ≡ body_bytes planned.index batch) }
         ensures least { IfOk result (λ planned. 5 ≤ length planned.frame.items) }
@@ -298,7 +294,7 @@ impl<D: Disk> Manager<D> {
         gate: &G,
         line: &Line,
     ) -> Result<(), OutOfMemory>
-        requires index { last_epoch self.old.rows < 2 ^ 63 }
+        requires index { last_epoch self.old.rows < END_OF_INDEXES }
         ensures serves { OnOk result (Serves line.now (newest self.old.rows) (newest self.new.rows)
             self.old.story.items self.new.story.items (last_epoch self.old.rows) (last_epoch self.new.rows)
             self.old.journal.stopped self.new.journal.stopped
@@ -308,7 +304,7 @@ impl<D: Disk> Manager<D> {
             (D.image self.new.journal.disk) (D.faults self.new.journal.disk))) }
         ensures settled { IsSettled self.old → IsSettled self.new }
         ensures unserved { IsErr result → IsUnchanged self.old self.new }
-        ensures index { last_epoch self.new.rows < 2 ^ 63 }
+        ensures index { last_epoch self.new.rows < END_OF_INDEXES }
     {
         let (client, number) = (line.client, line.number);
         let request = request_of(alloc, &line.command)?;

@@ -1,6 +1,7 @@
 //! Opening the manager over its disk.
 
 ghost use Rattle.std.specs.Prelude.{◌≡◌, ◌≤◌, ◌<◌, ◌+◌, ◌^◌, [], ℕ, List, length, false, Some, IfOk, IfErr, IfSome};
+ghost use Rattle.oz_rows.specs.declared.operation.TheConstants.{END_OF_INDEXES};
 ghost use Rattle.oz_world.specs.Disk.{IsStable};
 ghost use Rattle.oz_world.specs.Faults.{Rose};
 ghost use Rattle.oz_cache.specs.Cache.{newest, last_epoch};
@@ -58,7 +59,7 @@ fn tables_of(alloc: Global, bodies: &[Body]) -> Result<Tables, OpenFault>
     requires places { places_in bodies.now ≡ places 0 (bodies_in bodies.now) }
     requires ends { length (records (bodies_in bodies.now)) < 2 ^ 64 }
     ensures built { IfOk result (λ tables. Builds (bodies_in bodies.now) tables.rows tables.last_index) }
-    ensures index { IfOk result (λ tables. tables.last_index < 2 ^ 63) }
+    ensures index { IfOk result (λ tables. tables.last_index < END_OF_INDEXES) }
     ensures damaged { IfErr result (λ fault. (offset : ℕ) → fault ≡ OpenFault.Damaged offset →
         IsFaultIn (bodies_in bodies.now) offset) }
     ensures disk { IfErr result (λ fault. fault ≡ OpenFault.Disk → ⊥) }
@@ -92,7 +93,7 @@ impl<D: Disk> Manager<D> {
             newest manager.rows key ≡ Some row → RowFits key row) }
         ensures story { IfOk result (λ manager. manager.story.items ≡ []) }
         ensures running { IfOk result (λ manager. manager.journal.stopped ≡ false) }
-        ensures index { IfOk result (λ manager. last_epoch manager.rows < 2 ^ 63) }
+        ensures index { IfOk result (λ manager. last_epoch manager.rows < END_OF_INDEXES) }
         ensures damaged { IfErr result (λ refused. (offset : ℕ) →
             refused.1 ≡ OpenFault.Damaged offset →
             IfSome (D.told disk) (λ bytes. IsDamagedDisk bytes offset)) }

@@ -1,6 +1,7 @@
 //! Serving all lines of a script.
 
 ghost use Rattle.std.specs.Prelude.{◌≡◌, ◌≤◌, ◌<◌, ◌^◌, [], ℕ, false, length, OnOk};
+ghost use Rattle.oz_rows.specs.declared.operation.TheConstants.{END_OF_INDEXES};
 ghost use Rattle.oz_world.specs.Disk.{seen};
 ghost use Rattle.oz_cache.specs.Cache.{newest, last_epoch};
 ghost use Rattle.oz_world.specs.Moments.{Elapses};
@@ -28,7 +29,7 @@ pub fn serve_all<R: Wait, D: Disk, G: Gate>(
     requires numbered { IsNumbered script.now }
     requires unserved { manager.old.story.items ≡ [] }
     requires running { manager.old.journal.stopped ≡ false }
-    requires index { last_epoch manager.old.rows < 2 ^ 63 }
+    requires index { last_epoch manager.old.rows < END_OF_INDEXES }
     ensures served { (lines : ℕ) × (lines ≤ length script.now.lines)
         × OnOk result (lines ≡ length script.now.lines)
         × ((namespace : AnyNamespace) →

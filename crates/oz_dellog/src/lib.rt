@@ -8,4 +8,4 @@ mod txn;
 
 pub use log::DelLog;
 pub use logged::Logged;
-pub use txn::Txn;
+pub use txn::{MOST_LOCALS, Txn};

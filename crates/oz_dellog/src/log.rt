@@ -2,6 +2,7 @@
 ghost use Rattle.std.specs.Prelude.{◌≡◌, ◌≤◌, ◌+◌, ◌↔◌, ℕ, length, IsTrue, IfOk, IfErr, OnOk, OnErr, Any, filter_map};
 ghost use Rattle.std.specs.Prelude.{option_copied};
 ghost use Rattle.std.specs.Bool.{OnTrue, OnFalse};
+ghost use Rattle.oz_dellog.specs.declared.txn.TheConstants.{MOST_LOCALS};
 ghost use Rattle.oz_dellog.specs.Index.{pending_at, Names};
 ghost use Rattle.std.specs.FinMap.{empty, get, entries};
 ghost use Rattle.std.specs.Map.Iter.{ShowsInOrder, deref_pair};
@@ -85,7 +86,7 @@ impl DelLog {
         locals: List<u64>,
     ) -> Result<u64, (List<u64>, OutOfMemory)>
         requires some { 1 ≤ length locals }
-        requires few { length locals ≤ 1024 }
+        requires few { length locals ≤ MOST_LOCALS }
         ensures number { IfOk result (λ number. number ≡ self.old.last + 1) }
         ensures ok { OnOk result (self.new ≡ with_txn self.old container locals) }
         ensures err { OnErr result (self.new ≡ self.old) }

@@ -12,10 +12,13 @@ pub const OPEN: u8 = 1;
 /// The gate behind the last record.
 pub const CLOSED: u8 = 0;
 
+/// The most bytes that a body has in its frame: 2^32 - 1, four before them and one behind.
+pub const LONGEST_FRAME: usize = 4_294_967_300;
+
 /// Puts the body's length before it, and a closed gate behind it.
 pub fn frame(framed: &mut [u8])
     requires least { 5 ≤ length framed.old }
-    requires most { length framed.old ≤ 4_294_967_300 }
+    requires most { length framed.old ≤ LONGEST_FRAME }
     ensures { framed.new ≡ sized (body_of framed.old) ++ 0 ∷ [] }
 {
     let last = framed.len() - 1;

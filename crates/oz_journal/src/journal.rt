@@ -6,6 +6,7 @@ ghost use Rattle.oz_world.specs.Disk.{seen, TellsAsBefore, IsStable};
 ghost use Rattle.oz_world.specs.Faults.{Rose};
 ghost use Rattle.oz_journal.specs.Appends.{Appends, Clears};
 ghost use Rattle.oz_journal.specs.Body.{bodies_in, places_in};
+ghost use Rattle.oz_journal.specs.declared.frame.TheConstants.{LONGEST_FRAME};
 ghost use Rattle.oz_journal.specs.Grammar.{sized, IsJournal, IsDamagedAt, TellsBodies, records, places, with_body};
 ghost use Rattle.oz_journal.specs.Journal.{body_of};
 ghost use Rattle.oz_world.specs.Moments.{Elapses, Spans};
@@ -108,7 +109,7 @@ impl<D: Disk> Journal<D> {
     pub fn append(&mut self, framed: &mut [u8]) -> Result<u64, Failed>
         requires running { self.old.stopped ≡ false }
         requires least { 5 ≤ length framed.old }
-        requires most { length framed.old ≤ 4_294_967_300 }
+        requires most { length framed.old ≤ LONGEST_FRAME }
 
         ensures appended { Appends (body_of framed.old)
             (seen (D.told self.old.disk) (D.clock self.old.disk) (D.image self.old.disk)

@@ -12,6 +12,7 @@ mod scan;
 mod store;
 
 pub use body::Body;
+pub use frame::LONGEST_FRAME;
 pub use framing::Frame;
 pub use journal::Journal;
 pub use laws::{bytes_left_alone_stand_for_the_same, bytes_stand_for_one_thing};

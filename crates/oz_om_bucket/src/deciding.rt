@@ -1,6 +1,7 @@
 //! The decision on a request.
 
 ghost use Rattle.std.specs.Prelude.{◌≡◌, ◌≤◌, ◌↔◌, [], None, length, IfOk};
+ghost use Rattle.oz_rows.specs.declared.operation.TheConstants.{LONGEST_OPERATION};
 ghost use Rattle.oz_cache.specs.Cache.{newest};
 ghost use Rattle.oz_namespace.specs.declared.namespace.Namespace.{Namespace as AnyNamespace};
 ghost use Rattle.oz_requests.specs.Names.{name_fault};
@@ -25,7 +26,7 @@ pub fn decide(alloc: Global, cached: &Cached, request: &Request) -> Result<Decis
     // Of the rows that no namespace shows, none changes.
     ensures exact { IfOk result (λ decision. decision.changes ≡ recorded_changes request.now decision.reply) }
     ensures recorded { IfOk result (λ decision. (decision.bytes ≡ []) ↔ (decision.changes ≡ [])) }
-    ensures size { IfOk result (λ decision. length decision.bytes ≤ 6304) }
+    ensures size { IfOk result (λ decision. length decision.bytes ≤ LONGEST_OPERATION) }
 {
     if let Some(code) = request.name_fault() {
         return Ok(unchanged(alloc, Reply::Code(code)));

@@ -12,6 +12,7 @@ ghost use Rattle.oz_rows.specs.Faults.{IsBodyFault};
 ghost use Rattle.oz_rows.specs.Rows.{KeyFits, RowFits, key_bytes, row_bytes};
 ghost use Rattle.oz_rows.specs.Operations.{OperationFits, operation_bytes, IsBody};
 ghost use Rattle.oz_rows.specs.Order.{key_order};
+ghost use Rattle.oz_rows.specs.declared.operation.TheConstants.{LONGEST_OPERATION, MOST_REMOVALS};
 
 use crate::key::RowKey;
 
@@ -41,11 +42,11 @@ pub fn bytes_are_a_body_or_at_fault()
         → IsBodyFault bytes (At place) → IsBodyFault bytes (At other) → place ≡ other }
 {}
 
-/// An operation has at most 6,304 bytes, and the removals of 1,024 rows are below 2 MiB.
+/// An operation has at most `LONGEST_OPERATION` bytes, and `MOST_REMOVALS` removals are below 2 MiB.
 pub fn longest_batch()
     ensures operation { (operation : AnyOperation) → OperationFits operation
-        → length (operation_bytes operation) ≤ 6304 }
-    ensures removals { (rows : List AnyKey) → AllByRecursion KeyFits rows → length rows ≤ 1024
+        → length (operation_bytes operation) ≤ LONGEST_OPERATION }
+    ensures removals { (rows : List AnyKey) → AllByRecursion KeyFits rows → length rows ≤ MOST_REMOVALS
         → length (flat_map (λ key. 2 ∷ key_bytes key) rows) < 2 ^ 21 }
 {}
 

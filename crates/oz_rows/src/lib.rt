@@ -21,7 +21,9 @@ pub use laws::{
     bytes_are_a_body_or_at_fault, keys_are_in_order, longest_batch, one_operation_for_a_spelling,
     one_row_for_a_spelling,
 };
-pub use operation::{Change, END_OF_INDEXES, LAYOUT, Operation, Operations};
+pub use operation::{
+    Change, END_OF_INDEXES, LAYOUT, LONGEST_OPERATION, MOST_REMOVALS, Operation, Operations,
+};
 pub use operation_reading::{head_of, operation_of};
 pub use row::{Row, SnapshotState};
 pub use whole::{decode, operations};

@@ -11,6 +11,12 @@ pub const LAYOUT: u8 = 1;
 /// The indexes end here: each is below it.
 pub const END_OF_INDEXES: u64 = 1 << 63;
 
+/// The most bytes that an operation has.
+pub const LONGEST_OPERATION: usize = 6_304;
+
+/// How many rows may be removed at a time.
+pub const MOST_REMOVALS: usize = 1_024;
+
 /// A change of the manager's rows, as its journal keeps it.
 #[derive(Debug, Drop, PartialEq, Eq)]
 pub enum Operation {

@@ -6,11 +6,11 @@ use Rattle.std.specs.Ordering.{is_eq}
 use Rattle.std.specs.declared.cmp.Ordering.TheVariants.{Greater}
 use Rattle.oz_rows.specs.declared.key.RowKey.{RowKey}
 use Rattle.oz_rows.specs.Order.{key_order}
-use Rattle.oz_tables.specs.Tables.{IsBelow, is_same}
-use Rattle.oz_tables.specs.laws.Order.{key_order_total, itself}
-use Rattle.oz_tables.specs.laws.Same.{same_is_one}
-use Rattle.oz_tables.specs.laws.Splits.{parts, parts_at, set_parts, some_item}
-use Rattle.oz_tables.specs.laws.Rising.{over_same, rise_with, rise_without}
+use Rattle.oz_rows.specs.RowMaps.{IsBelow, is_same}
+use Rattle.oz_rows.specs.laws.Order.{key_order_total, itself}
+use Rattle.oz_rows.specs.laws.Same.{same_is_one}
+use Rattle.oz_rows.specs.laws.Splits.{parts, parts_at, set_parts, some_item}
+use Rattle.oz_rows.specs.laws.Rising.{over_same, rise_with, rise_without}
 use Rattle.oz_cache.specs.declared.newer.CachedRow.{CachedRow}
 use Rattle.oz_cache.specs.Places.{RowsRise, AllBelow, AllAbove, IsAt, IsGap, found, if_later}
 

@@ -1,5 +1,5 @@
 use Rattle.std.proofs.Common.{None, refl, sym, ◌∙◌, ap}
-use Rattle.oz_tables.specs.Tables.{row_of, row_after}
+use Rattle.oz_rows.specs.RowMaps.{row_of, row_after}
 use Rattle.oz_cache.specs.Cache.{CacheView, batched_changes, newest, epoch_after, last_epoch, later}
 use Rattle.oz_cache.specs.Places.{after_batches, if_later}
 use Rattle.oz_cache.proofs.Newest.{kept_rows, newest_stays, last_stays}

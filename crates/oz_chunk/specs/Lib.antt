@@ -1,0 +1,4 @@
+pub mod Disk
+pub mod Slots
+pub mod Taken
+pub mod laws

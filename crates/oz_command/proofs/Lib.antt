@@ -1,0 +1,3 @@
+mod DigitFacts
+mod Fills
+mod Parts

@@ -1,0 +1,5 @@
+pub mod Commands
+pub mod Numbers
+pub mod Paths
+pub mod Payload
+pub mod Words

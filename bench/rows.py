@@ -1,0 +1,143 @@
+#!/usr/bin/env python3
+"""What rows cost the manager, by how many it has: to load them, to add to them, and to change many at once.
+
+usage: bench/rows.py [ROUNDS] [FOLDER]
+
+It writes manager's disks by itself, with so many keys in buckets of 4,096, in the order of their names or in a mixed
+one, and has the program load each of them in FOLDER (/dev/shm, so that no disk is waited for). All times are the
+processor's, the program's and the system's together, the median of ROUNDS (5) runs. Printed are
+
+    load KEYS ORDER MICROSECONDS        a row, while a disk of so many is loaded
+    volume KEYS MICROSECONDS            a line that makes a volume, over so many keys
+    bucket KEYS MICROSECONDS            a line that makes a bucket
+    copy KEYS PLACE MICROSECONDS        the copy of a bucket's keys, 4,096 mostly, for a snapshot, while a disk is
+                                        loaded; the bucket is the first, the middle or the last one
+    expire KEYS MICROSECONDS            the end of all sessions of a bucket that has none
+"""
+
+import os
+import random
+import resource
+import statistics
+import struct
+import subprocess
+import sys
+import tempfile
+
+TOP = os.path.dirname(os.path.dirname(os.path.realpath(__file__)))
+ROUNDS = int(sys.argv[1]) if len(sys.argv) > 1 else 5
+FOLDER = sys.argv[2] if len(sys.argv) > 2 else "/dev/shm"
+SIZES = [1_024, 10_240, 102_400, 409_600]
+IN_BUCKET = 4_096
+LINES = 1_000
+COPIES = 8
+EXPIRES = 1_000
+
+
+def text(word):
+    return struct.pack(">H", len(word)) + word
+
+
+def bucket_name(number):
+    return b"bk%03d" % number
+
+
+def put_volume():
+    return b"\x01\x01" + text(b"vol1")
+
+
+def put_bucket(number):
+    return b"\x01\x02" + text(b"vol1") + text(bucket_name(number))
+
+
+def put_key(number):
+    pieces = struct.pack(">H", 1) + struct.pack(">QQI", 1 + number // 1024, 1 + number, 65_536)
+    name = text(b"vol1") + text(bucket_name(number // IN_BUCKET)) + text(b"key-%09d" % number)
+    return b"\x01\x03" + name + struct.pack(">Q", 1 + number) + pieces
+
+
+def copy_keys(bucket, number):
+    return b"\x03" + text(b"vol1") + text(bucket_name(bucket)) + struct.pack(">Q", number)
+
+
+def drop_open(bucket):
+    return b"\x06" + text(b"vol1") + text(bucket_name(bucket))
+
+
+class Disk:
+    """A manager's disk, written body by body."""
+
+    def __init__(self):
+        self.parts = []
+        self.index = 0
+
+    def add(self, operations):
+        self.index += 1
+        body = struct.pack(">BQ", 1, self.index) + b"".join(operations)
+        self.parts.append(b"\x01" + struct.pack(">I", len(body)) + body)
+        return self
+
+    def bytes(self):
+        return b"".join(self.parts) + b"\x00"
+
+
+def disk_of(keys, mixed):
+    disk = Disk()
+    buckets = (keys + IN_BUCKET - 1) // IN_BUCKET
+    disk.add([put_volume()] + [put_bucket(number) for number in range(buckets)])
+    numbers = list(range(keys))
+    if mixed:
+        random.Random(7).shuffle(numbers)
+    for start in range(0, keys, 512):
+        disk.add([put_key(number) for number in numbers[start:start + 512]])
+    return disk
+
+
+def seconds_of(program, disk, script):
+    """The processor's seconds of one run over a fresh folder with this disk."""
+    with tempfile.TemporaryDirectory(dir=FOLDER, prefix="rows.") as folder:
+        with open(os.path.join(folder, "manager"), "wb") as file:
+            file.write(disk)
+        before = resource.getrusage(resource.RUSAGE_CHILDREN)
+        done = subprocess.run([program, "run", folder], input=script, stdout=subprocess.PIPE, check=True)
+        after = resource.getrusage(resource.RUSAGE_CHILDREN)
+        lines = sum(1 for line in script.split(b"\n") if line)
+        if not done.stdout.endswith(b"end %d of %d\n" % (lines, lines)):
+            sys.exit("bench/rows.py: a run didn't serve its lines")
+        return after.ru_utime + after.ru_stime - before.ru_utime - before.ru_stime
+
+
+def median_of(program, disk, script=b""):
+    return statistics.median(seconds_of(program, disk, script) for _ in range(ROUNDS))
+
+
+def tell(name, *words):
+    print(name, *words[:-1], "%.2f" % words[-1], flush=True)
+
+
+def main():
+    program = os.environ.get("OZONE_PROGRAM")
+    if program is None:
+        subprocess.run([os.path.join(TOP, "ozone"), "--version"], stdout=subprocess.DEVNULL, check=True)
+        program = os.path.join(TOP, "crates/oz_main/out/oz_main")
+    empty = median_of(program, b"\x00")
+    volumes = b"".join(b"a volume create /new%d\n" % number for number in range(LINES))
+    made = b"a volume create /new\n" + b"".join(b"a bucket create /new/bk%d\n" % number for number in range(LINES))
+    for keys in SIZES:
+        mixed = disk_of(keys, True).bytes()
+        tell("load", keys, "mixed", (median_of(program, mixed) - empty) / keys * 1e6)
+        in_order = disk_of(keys, False).bytes()
+        loaded = median_of(program, in_order)
+        tell("load", keys, "in order", (loaded - empty) / keys * 1e6)
+        tell("volume", keys, (median_of(program, in_order, volumes) - loaded) / LINES * 1e6)
+        tell("bucket", keys, (median_of(program, in_order, made) - loaded) / LINES * 1e6)
+        buckets = (keys + IN_BUCKET - 1) // IN_BUCKET
+        for place, bucket in (("first", 0), ("middle", buckets // 2), ("last", buckets - 1)):
+            copies = [copy_keys(bucket, number) for number in range(1, 1 + COPIES)]
+            copied = disk_of(keys, False).add(copies).bytes()
+            tell("copy", keys, place, (median_of(program, copied) - loaded) / COPIES * 1e6)
+        expired = disk_of(keys, False).add([drop_open(0)] * EXPIRES).bytes()
+        tell("expire", keys, (median_of(program, expired) - loaded) / EXPIRES * 1e6)
+
+
+main()

@@ -1,0 +1,4 @@
+mod Afters
+mod Counting
+mod DraftSteps
+mod Places

@@ -2,4 +2,5 @@ pub mod Causes
 pub mod Drafts
 pub mod Placed
 pub mod Said
+pub mod Served
 pub mod Tracked

@@ -3,6 +3,7 @@
 ghost use Rattle.std.specs.Prelude.{◌≡◌, map, IfOk, MatchResult};
 ghost use Rattle.std.specs.List.{zip};
 ghost use Rattle.oz_lines.specs.Drafts.{Fails};
+ghost use Rattle.oz_lines.specs.Numbered.{IsNumbered};
 ghost use Rattle.oz_lines.specs.Placed.{after_of, afters_of, line_named, line_with, placed_of, read_of};
 ghost use Rattle.oz_lines.specs.Tracked.{IsTracked};
 
@@ -40,7 +41,9 @@ pub struct PlacedScript {
 /// the forms, too many, or with an unknown label, and else the first whose `after` names no line.
 #[tactic(auto, unfolding(crate::specs::Placed::read_of))]
 pub fn read_lines(alloc: Global, bytes: &[u8]) -> Result<PlacedScript, ScriptFault>
-    ensures { MatchResult result (λ placed. read_of bytes.now ≡ Ok placed) (λ fault. Fails fault (read_of bytes.now)) }
+    ensures exact { MatchResult result (λ placed. read_of bytes.now ≡ Ok placed)
+        (λ fault. Fails fault (read_of bytes.now)) }
+    ensures numbered { IfOk result (λ placed. IsNumbered placed.script) }
 {
     let drafting = draft_of(alloc, bytes)?;
     placed_of(alloc, drafting)

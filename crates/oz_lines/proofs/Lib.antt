@@ -1,0 +1,5 @@
+mod Afters
+mod Counting
+mod DraftSteps
+mod Numbers
+mod Places

@@ -1,0 +1,49 @@
+-- Which lines are served today.
+use Rattle.std.specs.Prelude.{ℕ, ◌==◌, ◌&&◌, Bool, true, false, not, is_none, List, Option, None, Some}
+use Rattle.std.specs.List.{position, slice_get}
+use Rattle.oz_command.specs.declared.command.Command.{Command}
+use Rattle.oz_command.specs.declared.command.Command.TheVariants.{VolumeCreate, VolumeDelete, VolumeInfo, BucketCreate}
+use Rattle.oz_command.specs.declared.command.Command.TheVariants.{BucketDelete, BucketInfo, BucketList, KeyPut, KeyOpen}
+use Rattle.oz_command.specs.declared.command.Command.TheVariants.{KeyCommit, KeyGet, KeyDelete, KeyRename, KeyList}
+use Rattle.oz_command.specs.declared.command.Command.TheVariants.{KeyExpire, SnapshotCreate, SnapshotDelete, SnapshotInfo}
+use Rattle.oz_command.specs.declared.command.Command.TheVariants.{SnapshotList, Admin}
+use Rattle.oz_lines.specs.declared.script.Line.{Line}
+use Rattle.oz_lines.specs.declared.script.PlacedScript.{PlacedScript}
+
+-- the command is served
+abbrev pub is_served_command : Command → Bool
+is_served_command (VolumeCreate volume) = true
+is_served_command (VolumeDelete volume) = true
+is_served_command (VolumeInfo volume) = true
+is_served_command (BucketCreate volume bucket) = true
+is_served_command (BucketDelete volume bucket) = true
+is_served_command (BucketInfo volume bucket) = true
+is_served_command (BucketList volume) = true
+is_served_command (KeyPut volume bucket key payload) = false
+is_served_command (KeyOpen label volume bucket key payload) = false
+is_served_command (KeyCommit label) = false
+is_served_command (KeyGet volume bucket snapshot key) = false
+is_served_command (KeyDelete volume bucket key) = false
+is_served_command (KeyRename volume bucket key to) = false
+is_served_command (KeyList volume bucket snapshot prefix start count) = false
+is_served_command (KeyExpire volume bucket) = false
+is_served_command (SnapshotCreate volume bucket snapshot) = false
+is_served_command (SnapshotDelete volume bucket snapshot) = false
+is_served_command (SnapshotInfo volume bucket snapshot) = false
+is_served_command (SnapshotList volume bucket) = false
+is_served_command (Admin command) = false
+
+-- The line is served: one of the first client that waits for no other, with such a command.
+abbrev pub is_served : Line → Bool
+is_served line = is_served_command line.command && line.client == 1 && is_none line.after
+
+-- which line is the first that isn't served, counted from 0, and its place in the text
+abbrev pub later_index : List Line → Option ℕ
+later_index lines = position (λ line. not (is_served line)) lines
+
+abbrev pub place_at : List ℕ → Option ℕ → Option ℕ
+place_at places None = None
+place_at places (Some index) = slice_get places index
+
+abbrev pub later_place : PlacedScript → Option ℕ
+later_place placed = place_at placed.places (later_index placed.script.lines)

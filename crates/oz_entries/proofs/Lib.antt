@@ -1,0 +1,3 @@
+pub mod HeldEdits
+pub mod MapEdits
+pub mod SlotUsers

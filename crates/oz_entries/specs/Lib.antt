@@ -1,0 +1,5 @@
+pub mod Entries
+pub mod Held
+pub mod Node
+pub mod Reading
+pub mod laws

@@ -1,0 +1,2 @@
+-- Entries read as they are spelled.
+use Rattle.std.specs.Prelude.{ℕ}

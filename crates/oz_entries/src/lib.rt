@@ -1,0 +1,16 @@
+//! The entries of a datanode's journal: their bytes, which may follow which, and the rows and states that they make.
+#![tactic(auto)]
+
+mod encoding;
+mod entry;
+mod held;
+mod maps;
+mod replica;
+mod row;
+mod users;
+
+pub use encoding::{encode_apply, encode_drop, encode_put, encode_state};
+pub use entry::Entry;
+pub use held::Held;
+pub use replica::Replica;
+pub use row::{BlockRow, Chunk};

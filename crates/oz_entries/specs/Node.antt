@@ -117,6 +117,11 @@ chunk_count size = (size + (SLOT_SIZE - 1)) / SLOT_SIZE
 abbrev pub or_slot : (ℕ → Bool) → ℕ → ℕ → Bool
 or_slot used slot other = used other || (slot == other)
 
+-- so are those of chunks
+abbrev pub or_slots : (ℕ → Bool) → List Chunk → ℕ → Bool
+or_slots used [] = used
+or_slots used (chunk ∷ chunks) = or_slots (or_slot used chunk.slot) chunks
+
 -- each chunk has a slot of its own, of those that there are, which isn't in use
 abbrev pub HaveFreeSlots : (ℕ → Bool) → List Chunk → Type 0
 HaveFreeSlots used [] = Unit {0}

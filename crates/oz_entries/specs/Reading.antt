@@ -1,7 +1,7 @@
 -- Reading an entry from left to right, over what was held before it. What isn't read says how many bytes are left from
 -- the first bad field on.
 use Rattle.std.specs.Prelude.{◌≡◌, ℕ, zero, suc, Bool, true, ◌&&◌, ◌||◌, not, ◌==◌, nat_lt, nat_le, List, [], ◌∷◌}
-use Rattle.std.specs.Prelude.{length, take, drop, Option, None, Some, Result, Ok, Err, if◌then◌else◌}
+use Rattle.std.specs.Prelude.{◌++◌, length, take, drop, Option, None, Some, Result, Ok, Err, if◌then◌else◌}
 use Rattle.oz_chunk.specs.declared.table.TheConstants.{SLOTS}
 use Rattle.oz_container.specs.declared.state.State.{State}
 use Rattle.oz_container.specs.declared.state.State.TheVariants as states
@@ -9,12 +9,12 @@ use Rattle.oz_dellog.specs.declared.txn.TheConstants.{MOST_LOCALS}
 use Rattle.oz_dellog.specs.declared.txn.Txn.{Txn}
 use Rattle.oz_fields.specs.declared.block.Block.{Block}
 use Rattle.oz_fields.specs.Number.{u8_at, u16_at, u32_at, u64_at}
-use Rattle.oz_rows.specs.Reading.{◌>>=◌, done, field, is_block_number, owner_at, number_at, length_at, items_at}
+use Rattle.oz_rows.specs.Reading.{◌>>=◌, done, field, is_block_number, owner_at, number_at, length_at}
 use Rattle.oz_entries.specs.declared.row.Chunk.{Chunk}
 use Rattle.oz_entries.specs.declared.row.BlockRow.{BlockRow}
 use Rattle.oz_entries.specs.declared.entry.Entry.{Entry}
 use Rattle.oz_entries.specs.declared.entry.Entry.TheVariants.{Put, SetState, Apply, Drop}
-use Rattle.oz_entries.specs.Node.{Node, is_deleted, is_held, is_used, names_held, chunk_count, or_slot}
+use Rattle.oz_entries.specs.Node.{Node, is_deleted, is_held, is_used, names_held, chunk_count, or_slots}
 
 -- 32 bytes
 unfoldable pub digest_at : List ℕ → Option (List ℕ × List ℕ)
@@ -30,13 +30,17 @@ chunk_at used = do
   digest ← field digest_at (λ digest. true)
   done (record { slot = slot; digest = digest })
 
--- so many chunks, each in a slot of its own
-unfoldable pub chunks_at : (ℕ → Bool) → ℕ → List ℕ → Result (List Chunk × List ℕ) ℕ
-chunks_at used zero = done []
-chunks_at used (suc count) = do
-  first ← chunk_at used
-  others ← chunks_at (or_slot used first.slot) count
-  done (first ∷ others)
+-- so many items behind those that were read before; how the next one is read may rest on them
+unfoldable pub each_at : {A : Type 0} → (List A → List ℕ → Result (A × List ℕ) ℕ) → List A → ℕ → List ℕ
+    → Result (List A × List ℕ) ℕ
+each_at item front zero = done front
+each_at item front (suc count) = do
+  next ← item front
+  each_at item (front ++ next ∷ []) count
+
+-- the next chunk, in a slot that none of those before it has
+abbrev pub next_chunk_at : (ℕ → Bool) → List Chunk → List ℕ → Result (Chunk × List ℕ) ℕ
+next_chunk_at used before = chunk_at (or_slots used before)
 
 unfoldable pub count_at : ℕ → List ℕ → Result (ℕ × List ℕ) ℕ
 count_at size bytes = field u8_at (λ count. count == chunk_count size) bytes
@@ -45,7 +49,7 @@ unfoldable pub row_at : (ℕ → Bool) → List ℕ → Result (BlockRow × List
 row_at used = do
   size ← length_at
   count ← count_at size
-  chunks ← chunks_at used count
+  chunks ← each_at (next_chunk_at used) [] count
   done (record { length = size; chunks = chunks })
 
 -- a block that isn't held, in a replica that isn't deleted
@@ -87,7 +91,7 @@ set_state_at = do
 unfoldable pub locals_at : List ℕ → Result (List ℕ × List ℕ) ℕ
 locals_at = do
   count ← field u16_at (λ n. nat_le 1 n && nat_le n MOST_LOCALS)
-  items_at owner_at count
+  each_at (λ before. owner_at) [] count
 
 unfoldable pub numbered_at : ℕ → List ℕ → Result (Txn × List ℕ) ℕ
 numbered_at container = do

@@ -5,6 +5,7 @@ mod encoding;
 mod entry;
 mod held;
 mod maps;
+mod reading;
 mod replica;
 mod row;
 mod users;

@@ -1,3 +1,4 @@
+pub mod Build
 pub mod Entries
 pub mod Held
 pub mod Node

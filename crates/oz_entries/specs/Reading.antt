@@ -117,15 +117,15 @@ apply_at node = do
   txn ← due_at node container
   done (Apply txn)
 
-unfoldable pub drop_at : List ℕ → Result (Entry × List ℕ) ℕ
-drop_at = do
+unfoldable pub dropped_at : List ℕ → Result (Entry × List ℕ) ℕ
+dropped_at = do
   container ← owner_at
   done (Drop container)
 
 -- the fields of an entry, nothing where there is no such entry
 abbrev pub entry_of_tag_at : Node → ℕ → ℕ → List ℕ → Result (Entry × List ℕ) ℕ
 entry_of_tag_at node left tag =
-    if tag == 1 then put_at node else (if tag == 2 then set_state_at else (if tag == 3 then apply_at node else (if tag == 4 then drop_at else (λ bytes. Err left))))
+    if tag == 1 then put_at node else (if tag == 2 then set_state_at else (if tag == 3 then apply_at node else (if tag == 4 then dropped_at else (λ bytes. Err left))))
 
 unfoldable pub entry_at : Node → List ℕ → Result (Entry × List ℕ) ℕ
 entry_at node [] = Err 0

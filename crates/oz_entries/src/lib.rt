@@ -4,6 +4,7 @@
 mod encoding;
 mod entry;
 mod held;
+mod laws;
 mod maps;
 mod reading;
 mod replica;
@@ -13,5 +14,6 @@ mod users;
 pub use encoding::{encode_apply, encode_drop, encode_put, encode_state};
 pub use entry::Entry;
 pub use held::Held;
+pub use laws::an_entry_has_one_spelling;
 pub use replica::Replica;
 pub use row::{BlockRow, Chunk};

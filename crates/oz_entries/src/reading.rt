@@ -8,7 +8,7 @@ ghost use Rattle.oz_entries.specs.Held.{node_of, any_in};
 ghost use Rattle.oz_entries.specs.Node.{is_used, is_held, is_deleted, or_slots};
 ghost use Rattle.oz_entries.specs.Reading.{digest_at, slot_at, chunk_at, each_at, next_chunk_at, count_at, row_at};
 ghost use Rattle.oz_entries.specs.Reading.{container_at, local_at, new_block_at, put_at, state_at, set_state_at};
-ghost use Rattle.oz_entries.specs.Reading.{locals_at, numbered_at, is_due, due_at, apply_at, drop_at, entry_at};
+ghost use Rattle.oz_entries.specs.Reading.{locals_at, numbered_at, is_due, due_at, apply_at, dropped_at, entry_at};
 
 use crate::entry::Entry;
 use crate::held::Held;
@@ -387,9 +387,9 @@ fn so_many_locals(
     Ok((locals, rest))
 }
 
-#[tactic(auto, unfolding(crate::specs::Reading::drop_at))]
+#[tactic(auto, unfolding(crate::specs::Reading::dropped_at))]
 fn drop_of(bytes: &[u8]) -> Result<(Entry, &[u8]), ReadFault>
-    ensures { ReadGives (λ x. (x.0, x.1.now)) result (drop_at bytes.now) }
+    ensures { ReadGives (λ x. (x.0, x.1.now)) result (dropped_at bytes.now) }
 {
     let (container, rest) = u64_of(bytes)?;
     Ok((Entry::Drop { container }, rest))

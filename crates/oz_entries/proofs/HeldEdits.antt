@@ -3,13 +3,12 @@ use Rattle.std.proofs.Common.{◌≡◌, inl, inr, ℕ, ◌<◌, ◌≤◌, eqb,
 use Rattle.std.proofs.lemmas.Bool.{cases_lt, false≢true}
 use Rattle.std.proofs.lemmas.List.{get_or_past}
 use Rattle.std.specs.Option.{option_map_or}
-use Rattle.oz_container.specs.declared.state.State.{State}
 use Rattle.oz_fields.specs.declared.block.Block.{Block}
 use Rattle.oz_entries.specs.declared.row.Chunk.{Chunk}
 use Rattle.oz_entries.specs.declared.row.BlockRow.{BlockRow}
 use Rattle.oz_entries.specs.declared.replica.Replica.{Replica}
-use Rattle.oz_entries.specs.Node.{Node, is_same_block, is_held, is_used, is_in, has_slot, unless_gone, without, with_row, with_state, with_number, HaveFreeSlots, or_slot}
-use Rattle.oz_entries.specs.Held.{HeldView, node_of, row_of, replica_of, user_of, any_in, row_has, AreSame, IsSound, state_in, greatest_in}
+use Rattle.oz_entries.specs.Node.{is_same_block, is_used, is_in, unless_gone, without, with_row, HaveFreeSlots, or_slot}
+use Rattle.oz_entries.specs.Held.{HeldView, node_of, row_of, replica_of, user_of, any_in, row_has, AreSame, IsSound}
 use Rattle.oz_entries.specs.laws.Sound.{released}
 
 -- each slot of a row is one of those that there are

@@ -1,6 +1,5 @@
 -- What edits of maps leave of what they stand for.
-use Rattle.std.proofs.Common.{◌≡◌, ℕ, eqb, Bool, true, false, cond, not, List, Option, None, Some, refl, sym, ap, ◌∙◌, eqb-true}
-use Rattle.std.specs.Map.{lookup}
+use Rattle.std.proofs.Common.{◌≡◌, ℕ, Bool, true, false, cond, not, List, Option, None, Some, refl, sym, ap, ◌∙◌, eqb-true}
 use Rattle.std.specs.Option.{option_map_or}
 use Rattle.std.specs.Ordering.{nat_cmp, is_eq}
 use Rattle.std.specs.List.{filter}

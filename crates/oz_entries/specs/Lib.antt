@@ -3,4 +3,5 @@ pub mod Entries
 pub mod Held
 pub mod Node
 pub mod Reading
+pub mod Steps
 pub mod laws

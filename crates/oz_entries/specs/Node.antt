@@ -53,9 +53,13 @@ is_used node slot = is_some (node.users slot)
 abbrev pub has_slot : BlockRow → ℕ → Bool
 has_slot row slot = list_any (λ (chunk : Chunk). chunk.slot == slot) row.chunks
 
+-- these are local ids of a container, and the block's is one of them
+abbrev pub names_some : ℕ → List ℕ → Block → Bool
+names_some container locals block = (container == block.container) && list_any (λ local. local == block.local) locals
+
 -- the transaction names the block
 abbrev pub names : Txn → Block → Bool
-names txn block = (txn.container == block.container) && list_any (λ local. local == block.local) txn.locals
+names txn = names_some txn.container txn.locals
 
 -- the transaction names a block that is held
 abbrev pub names_held : Node → Txn → Bool

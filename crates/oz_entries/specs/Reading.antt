@@ -1,6 +1,6 @@
 -- Reading an entry from left to right, over what was held before it. What isn't read says how many bytes are left from
 -- the first bad field on.
-use Rattle.std.specs.Prelude.{◌≡◌, ℕ, zero, suc, Bool, true, ◌&&◌, ◌||◌, not, ◌==◌, nat_lt, nat_le, List, [], ◌∷◌}
+use Rattle.std.specs.Prelude.{ℕ, zero, suc, Bool, true, ◌&&◌, ◌||◌, not, ◌==◌, nat_lt, nat_le, List, [], ◌∷◌}
 use Rattle.std.specs.Prelude.{◌++◌, length, take, drop, Option, None, Some, Result, Ok, Err, if◌then◌else◌}
 use Rattle.oz_chunk.specs.declared.table.TheConstants.{SLOTS}
 use Rattle.oz_container.specs.declared.state.State.{State}

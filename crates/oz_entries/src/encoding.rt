@@ -43,11 +43,7 @@ fn put_chunks(alloc: Global, out: &mut Vec<u8>, chunks: &[Chunk]) -> Result<(), 
 }
 
 /// The bytes of a replica's state.
-pub fn encode_state(
-    alloc: Global,
-    container: u64,
-    state: State,
-) -> Result<Vec<u8>, OutOfMemory>
+pub fn encode_state(alloc: Global, container: u64, state: State) -> Result<Vec<u8>, OutOfMemory>
     ensures { IfOk result (λ bytes. bytes.items ≡ entry_bytes (Entry.SetState container state)) }
 {
     let mut out = Vec::new(alloc);

@@ -1,8 +1,8 @@
 //! What a datanode holds, in memory.
 
-ghost use Rattle.std.specs.Prelude.{◌≡◌, ◌<◌, ◌^◌, true, false, None, option_copied, IfOk, OnOk, OnErr, if◌then◌else◌};
+ghost use Rattle.std.specs.Prelude.{◌≡◌, ◌<◌, ◌^◌, ℕ, true, false, None, option_copied, IfOk, OnOk, OnErr, if◌then◌else◌};
 ghost use Rattle.oz_entries.specs.Node.{empty_node, is_held, is_used, is_same_block, is_in, without, with_row};
-ghost use Rattle.oz_entries.specs.Node.{with_state, with_number, HaveFreeSlots};
+ghost use Rattle.oz_entries.specs.Node.{with_state, with_number, names_some, HaveFreeSlots};
 ghost use Rattle.oz_entries.specs.Held.{node_of, AreSame, IsSound, IsNamed};
 
 use crate::maps::{change, drop_rows, insert_row, name, replica_at, row_at, take_row};
@@ -85,12 +85,7 @@ impl Held {
     }
 
     /// Gives a row to a block that isn't held. Where memory runs out nothing changes.
-    pub fn put(
-        &mut self,
-        alloc: Global,
-        block: Block,
-        row: BlockRow,
-    ) -> Result<(), OutOfMemory>
+    pub fn put(&mut self, alloc: Global, block: Block, row: BlockRow) -> Result<(), OutOfMemory>
         requires absent { is_held (node_of self.old) block ≡ false }
         requires free { HaveFreeSlots (is_used (node_of self.old)) row.chunks }
         ensures ok { OnOk result (AreSame (with_row block row (node_of self.old)) (node_of self.new)) }
@@ -104,15 +99,30 @@ impl Held {
 
     /// Takes a block's row away, if it has one.
     pub fn forget(&mut self, block: &Block)
-        ensures { AreSame (without (is_same_block block.now) (node_of self.old)) (node_of self.new) }
+        ensures same { AreSame (without (is_same_block block.now) (node_of self.old)) (node_of self.new) }
+        ensures named { (other : ℕ) → IsNamed self.old other → IsNamed self.new other }
     {
         let row = take_row(&mut self.rows, block);
         release_row(&mut self.users, row);
     }
 
+    /// Takes the rows of blocks of one container away, by their own numbers.
+    pub fn forget_locals(&mut self, container: u64, locals: &[u64])
+        ensures same { AreSame (without (names_some container locals.now) (node_of self.old)) (node_of self.new) }
+        ensures named { (other : ℕ) → IsNamed self.old other → IsNamed self.new other }
+    {
+        for local in locals {
+            self.forget(&Block {
+                container,
+                local: *local,
+            });
+        }
+    }
+
     /// Takes the rows of a container's blocks away.
     pub fn forget_container(&mut self, container: u64)
-        ensures { AreSame (without (is_in container) (node_of self.old)) (node_of self.new) }
+        ensures same { AreSame (without (is_in container) (node_of self.old)) (node_of self.new) }
+        ensures named { (other : ℕ) → IsNamed self.old other → IsNamed self.new other }
     {
         drop_rows(&mut self.rows, container);
         release_container(&mut self.users, container);

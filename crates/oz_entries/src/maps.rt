@@ -55,10 +55,7 @@ pub(crate) fn replica_at(replicas: &BTreeMap<u64, Replica>, container: u64) -> O
 }
 
 /// Names a replica that wasn't named, so that it can be changed later without memory. It stands for the same.
-pub(crate) fn name(
-    replicas: &mut BTreeMap<u64, Replica>,
-    container: u64,
-) -> Result<(), OutOfMemory>
+pub(crate) fn name(replicas: &mut BTreeMap<u64, Replica>, container: u64) -> Result<(), OutOfMemory>
     ensures named { OnOk result (is_some (replica_of replicas.new.entries container) ≡ true) }
     ensures states { (other : ℕ) → state_in replicas.new.entries other ≡ state_in replicas.old.entries other }
     ensures greatest { (other : ℕ) → greatest_in replicas.new.entries other ≡ greatest_in replicas.old.entries other }

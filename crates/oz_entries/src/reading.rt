@@ -42,11 +42,7 @@ pub(crate) fn entry_of<'b>(
 }
 
 #[tactic(auto, unfolding(crate::specs::Reading::put_at))]
-fn put_of<'b>(
-    alloc: Global,
-    held: &Held,
-    bytes: &'b [u8],
-) -> Result<(Entry, &'b [u8]), ReadFault>
+fn put_of<'b>(alloc: Global, held: &Held, bytes: &'b [u8]) -> Result<(Entry, &'b [u8]), ReadFault>
     ensures { ReadGives (λ x. (x.0, x.1.now)) result (put_at (node_of held.now) bytes.now) }
 {
     let (block, rest) = new_block_of(held, bytes)?;
@@ -82,20 +78,13 @@ fn is_gone(state: State) -> bool
 {
     match state {
         State::Deleted => true,
-        State::Open
-        | State::Closing
-        | State::QuasiClosed
-        | State::Closed
-        | State::Deleting => false,
+        State::Open | State::Closing | State::QuasiClosed | State::Closed | State::Deleting =>
+            false,
     }
 }
 
 #[tactic(auto, unfolding(crate::specs::Reading::local_at))]
-fn local_of<'b>(
-    held: &Held,
-    container: u64,
-    bytes: &'b [u8],
-) -> Result<(u64, &'b [u8]), ReadFault>
+fn local_of<'b>(held: &Held, container: u64, bytes: &'b [u8]) -> Result<(u64, &'b [u8]), ReadFault>
     ensures { ReadGives (λ x. (x.0, x.1.now)) result (local_at (node_of held.now) container bytes.now) }
 {
     let mut reader = Reader::new(bytes);
@@ -103,8 +92,7 @@ fn local_of<'b>(
         Some(local)
             if local >= 1
                 && local <= GREATEST_BLOCK_NUMBER
-                && !holds(held, Block { container, local }) =>
-        {
+                && !holds(held, Block { container, local }) => {
             Ok((local, &bytes[reader.at()..]))
         }
         _ => Err(ReadFault::Left(bytes.len())),
@@ -194,11 +182,7 @@ fn chunk_of<'b>(
     Ok((Chunk { slot, digest }, rest))
 }
 
-fn slot_of<'b>(
-    held: &Held,
-    before: &[Chunk],
-    bytes: &'b [u8],
-) -> Result<(u32, &'b [u8]), ReadFault>
+fn slot_of<'b>(held: &Held, before: &[Chunk], bytes: &'b [u8]) -> Result<(u32, &'b [u8]), ReadFault>
     ensures { ReadGives (λ x. (x.0, x.1.now)) result
         (slot_at (or_slots (is_used (node_of held.now)) before.now) bytes.now) }
 {
@@ -275,11 +259,7 @@ fn state_of(bytes: &[u8]) -> Result<(State, &[u8]), ReadFault>
 }
 
 #[tactic(auto, unfolding(crate::specs::Reading::apply_at))]
-fn apply_of<'b>(
-    alloc: Global,
-    held: &Held,
-    bytes: &'b [u8],
-) -> Result<(Entry, &'b [u8]), ReadFault>
+fn apply_of<'b>(alloc: Global, held: &Held, bytes: &'b [u8]) -> Result<(Entry, &'b [u8]), ReadFault>
     ensures { ReadGives (λ x. (x.0, x.1.now)) result (apply_at (node_of held.now) bytes.now) }
 {
     let (container, rest) = u64_of(bytes)?;
@@ -313,17 +293,17 @@ fn is_due_now(held: &Held, txn: &Txn) -> bool
 fn names_one(held: &Held, container: u64, locals: &[u64]) -> bool
     ensures { result ≡ list_any (λ local. is_held (node_of held.now) (record { container = container; local = local })) locals.now }
 {
-    locals
-        .iter()
-        .any(|local| holds(held, Block { container, local: *local }))
+    locals.iter().any(|local| holds(
+        held,
+        Block {
+            container,
+            local: *local,
+        },
+    ))
 }
 
 #[tactic(auto, unfolding(crate::specs::Reading::numbered_at))]
-fn numbered_of(
-    alloc: Global,
-    container: u64,
-    bytes: &[u8],
-) -> Result<(Txn, &[u8]), ReadFault>
+fn numbered_of(alloc: Global, container: u64, bytes: &[u8]) -> Result<(Txn, &[u8]), ReadFault>
     ensures { ReadGives (λ x. (x.0, x.1.now)) result (numbered_at container bytes.now) }
 {
     let (number, rest) = number_of(bytes)?;
@@ -370,11 +350,7 @@ fn locals_count_of(bytes: &[u8]) -> Result<(u16, &[u8]), ReadFault>
     }
 }
 
-fn so_many_locals(
-    alloc: Global,
-    count: u16,
-    bytes: &[u8],
-) -> Result<(Vec<u64>, &[u8]), ReadFault>
+fn so_many_locals(alloc: Global, count: u16, bytes: &[u8]) -> Result<(Vec<u64>, &[u8]), ReadFault>
     ensures { ReadGives (λ x. (x.0.items, x.1.now)) result (each_at (λ before. owner_at) [] count bytes.now) }
 {
     let mut locals = Vec::new(alloc);

@@ -1,6 +1,6 @@
 -- When two blocks are one.
 use Rattle.std.proofs.Common.{◌≡◌, ℕ, eqb, ltb, Bool, true, false, cond, ◌&&◌, refl, sym, ap, ◌∙◌, eqb-true, eq-eqb, arith}
-use Rattle.std.proofs.lemmas.Bool.{and_parts, and_from, cases_lt, false≢true, lt-ltb, le-ltb}
+use Rattle.std.proofs.lemmas.Bool.{and_parts, and_from}
 use Rattle.std.specs.Ordering.{nat_cmp, ordering_then, is_eq}
 use Rattle.std.specs.declared.cmp.Ordering.{Ordering}
 use Rattle.std.specs.declared.cmp.Ordering.TheVariants.{Less, Equal, Greater}
@@ -15,6 +15,7 @@ eq_number x y = both (ltb x y) (eqb x y) (λ less. not_equal less)
     both true e differ = sym (differ refl)
     both false true differ = refl
     both false false differ = refl
+
     not_equal : ltb x y ≡ true → eqb x y ≡ false
     not_equal less = grind (arith, less)
 

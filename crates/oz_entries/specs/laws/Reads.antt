@@ -1,5 +1,5 @@
 -- Entries read as they are spelled.
-use Rattle.std.proofs.Common.{◌≡◌, ℕ, zero, suc, ◌+◌, ◌-◌, ◌*◌, ◌/◌, ◌<◌, ◌≤◌, ◌^◌, eqb, leb, ltb, Bool, true, false, cond, not, ◌&&◌, ◌||◌, List, [], ◌∷◌, ◌++◌, length, take, drop, Option, None, Some, is_some, Result, Ok, Err, refl, sym, ap, subst, ◌∙◌, arith, append_assoc, take-append-drop, length-append, length-take}
+use Rattle.std.proofs.Common.{◌≡◌, ℕ, zero, suc, ◌<◌, ◌≤◌, ◌^◌, eqb, leb, ltb, Bool, true, false, cond, not, ◌&&◌, List, [], ◌∷◌, ◌++◌, length, take, drop, Option, None, Some, Result, Ok, Err, refl, sym, ap, subst, ◌∙◌, arith, append_assoc, take-append-drop, length-append, length-take}
 use Rattle.std.proofs.lemmas.Bool.{eqb-true, eq-eqb, and_parts, and_from, leb-true, le-leb, ltb-true, lt-ltb, le-ltb, ltb-false, false≢true}
 use Rattle.std.proofs.lemmas.Option.{some_pair_parts}
 use Rattle.std.proofs.lemmas.List.{append-nil, take_at, drop_at}
@@ -12,8 +12,8 @@ use Rattle.oz_fields.specs.Field.{AreBytes, IsField}
 use Rattle.oz_fields.specs.Number.{u8_bytes, u16_bytes, u32_bytes, u64_bytes, u8_at, u16_at, u32_at, u64_at}
 use Rattle.oz_fields.specs.laws.Bytes.{AreBytes-behind}
 use Rattle.oz_fields.specs.laws.Numbers.{u8_field, u16_field, u32_field, u64_field}
-use Rattle.oz_rows.specs.Rows.{IsBlock, IsBlockNumber, block_bytes}
-use Rattle.oz_rows.specs.Reading.{goes_on, done, field, is_block_number, owner_at, number_at, length_at}
+use Rattle.oz_rows.specs.Rows.{IsBlockNumber, block_bytes}
+use Rattle.oz_rows.specs.Reading.{goes_on, done, field, is_block_number, owner_at}
 use Rattle.oz_rows.specs.laws.Grammar.{IsRead, Finds, Backs, fits_as, field_reads, finds_done, finds_then, finds_last, finds_either, finds_none, backs_done, backs_then, backs_last, backs_as, is_read}
 use Rattle.oz_rows.specs.laws.FieldReads.{owner_reads, number_reads, length_reads}
 use Rattle.oz_entries.specs.declared.row.Chunk.{Chunk}
@@ -299,7 +299,7 @@ numbered_reads container = is_read
     (subst (λ (c : ℕ). Backs (numbered_at c) (u64_bytes txn.number ++ (locals_bytes txn.locals ++ [])) txn) fits.0 (backs_then _ txn.number number_reads fits.1 (backs_then _ txn.locals locals_read fits.2 backs_done))))
 
 -- what was read
-abbrev as_read : {A : Type 0} → A × List ℕ → Result (A × List ℕ) ℕ
+abbrev pub as_read : {A : Type 0} → A × List ℕ → Result (A × List ℕ) ℕ
 as_read found = Ok found
 
 checked_is : {A : Type 0} (rule : A → Bool) (left : ℕ) (read : Result (A × List ℕ) ℕ) (found : A × List ℕ) → checked rule left read ≡ Ok found → (read ≡ Ok found) × (rule found.0 ≡ true)

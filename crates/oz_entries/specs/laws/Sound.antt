@@ -1,5 +1,5 @@
 -- What stays of the slots of blocks where rows come and go.
-use Rattle.std.proofs.Common.{◌≡◌, ℕ, ◌+◌, ◌<◌, eqb, ltb, Bool, true, false, cond, ◌&&◌, ◌||◌, not, List, [], ◌∷◌, length, Option, None, Some, refl, sym, ap, subst, ◌∙◌, eqb-true}
+use Rattle.std.proofs.Common.{◌≡◌, ℕ, eqb, Bool, true, false, cond, ◌||◌, List, [], ◌∷◌, Option, None, Some, refl, sym, ap, subst, ◌∙◌, eqb-true}
 use Rattle.std.proofs.lemmas.Bool.{false≢true}
 use Rattle.oz_fields.specs.declared.block.Block.{Block}
 use Rattle.oz_entries.specs.declared.row.Chunk.{Chunk}
@@ -24,8 +24,10 @@ sound_without is_gone node sound slot block = by (node.users slot) refl (is_gone
       where
         here : is_same_block block user ≡ row_has (node.rows block) slot
         here = ap (λ (o : Option Block). belongs_to o block) is ∙ sound slot block
+
         alike : is_same_block block user ≡ true → is_gone block ≡ is_gone user
         alike same = ap is_gone (same_block block user same)
+
         each : (u : Bool) → u ≡ is_gone user → (g : Bool) → g ≡ is_gone block → belongs_to (cond u None (Some user)) block ≡ row_has (cond g None (node.rows block)) slot
         each true user_gone true gone = refl
         each false user_gone false gone = here
@@ -48,6 +50,7 @@ free_slot used (chunk ∷ chunks) free slot has = by (eqb chunk.slot slot) refl 
     first : (b t : Bool) → (b || t) ≡ false → b ≡ false
     first true t never = never
     first false t never = refl
+
     by : (b : Bool) → b ≡ eqb chunk.slot slot → (has_slot (record { length = 0; chunks = chunks }) slot ≡ true → or_slot used chunk.slot slot ≡ false) → used slot ≡ false
     by true is others = let same : chunk.slot ≡ slot = eqb-true chunk.slot slot (sym is) in subst (λ (n : ℕ). used n ≡ false) same free.1
     by false is others = first (used slot) (eqb chunk.slot slot) (others (ap (λ (b : Bool). b || has_slot (record { length = 0; chunks = chunks }) slot) is ∙ has))
@@ -63,8 +66,10 @@ sound_with block row node sound none free slot other = by (has_slot row slot) re
         turned : (b : Bool) → (b ≡ true → true ≡ false) → b ≡ false
         turned true never = never refl
         turned false never = refl
+
         not_other : is_same_block other block ≡ false
         not_other = turned (is_same_block other block) (λ is. sym (itself block) ∙ (ap (λ (b : Block). is_same_block block b) (sym (same_block other block is)) ∙ sym same))
+
         unused : (user : Option Block) → user ≡ node.users slot → row_has (node.rows other) slot ≡ false
         unused None is = sym (sound slot other) ∙ ap (λ (o : Option Block). belongs_to o other) (sym is)
         unused (Some user) is = absurd (false≢true (sym (free_slot (is_used node) row.chunks free slot (sym has)) ∙ ap (λ (o : Option Block). used_by o) (sym is)))

@@ -1,4 +1,4 @@
-use Rattle.std.proofs.Common.{arith, refl}
+use Rattle.std.proofs.Common.{arith}
 use Rattle.oz_entries.proofs.SlotUsers.{gives_none, gives_more, frees_all}
 use Rattle.oz_entries.proofs.users.release.Goals as goal
 

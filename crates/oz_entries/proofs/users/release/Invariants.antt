@@ -1,4 +1,4 @@
-use Rattle.std.proofs.Common.{take, Some, None}
+use Rattle.std.proofs.Common.{take, None}
 use Rattle.oz_entries.proofs.SlotUsers.{Gives}
 use Rattle.oz_entries.proofs.users.release.Given as goal
 

@@ -1,4 +1,4 @@
-use Rattle.std.proofs.Common.{arith, sym, ap, ◌∙◌}
+use Rattle.std.proofs.Common.{arith, ap, ◌∙◌}
 use Rattle.oz_entries.specs.Node.{is_in, unless_gone}
 use Rattle.oz_entries.specs.Held.{user_of}
 use Rattle.oz_entries.proofs.SlotUsers.{cleans_none, cleans_more, cleans_all}

@@ -1,4 +1,4 @@
-use Rattle.std.proofs.Common.{take, Some, None}
+use Rattle.std.proofs.Common.{take, Some}
 use Rattle.oz_entries.proofs.SlotUsers.{Gives}
 use Rattle.oz_entries.proofs.users.take_slots.Given as goal
 

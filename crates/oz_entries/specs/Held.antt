@@ -33,12 +33,20 @@ replica_of replicas container = lookup (λ other. is_eq (nat_cmp container other
 abbrev pub user_of : List (Option Block) → ℕ → Option Block
 user_of users slot = slice_index_or users slot None
 
--- a replica that wasn't named is open, and no transaction was applied to it
+-- what these replicas stand for: one that wasn't named is open, and no transaction was applied to it
+abbrev pub state_in : List (ℕ × Replica) → ℕ → State
+state_in replicas container =
+    option_map_or (λ (replica : Replica). replica.state) (replica_of replicas container) states.Open
+
+abbrev pub greatest_in : List (ℕ × Replica) → ℕ → ℕ
+greatest_in replicas container =
+    option_map_or (λ (replica : Replica). replica.greatest) (replica_of replicas container) 0
+
 abbrev pub node_of : HeldView → Node
 node_of held = record {
   rows = λ block. row_of held.rows block;
-  states = λ container. option_map_or (λ (replica : Replica). replica.state) (replica_of held.replicas container) states.Open;
-  greatest = λ container. option_map_or (λ (replica : Replica). replica.greatest) (replica_of held.replicas container) 0;
+  states = λ container. state_in held.replicas container;
+  greatest = λ container. greatest_in held.replicas container;
   users = λ slot. user_of held.users slot;
 }
 
@@ -64,13 +72,6 @@ row_has (Some row) slot = has_slot row slot
 -- a block uses the slots of its row, and no other slots are used
 abbrev pub IsSound : Node → Type 0
 IsSound node = (slot : ℕ) (block : Block) → belongs_to (node.users slot) block ≡ row_has (node.rows block) slot
-
--- what these replicas stand for
-abbrev pub state_in : List (ℕ × Replica) → ℕ → State
-state_in replicas container = option_map_or (λ (replica : Replica). replica.state) (replica_of replicas container) states.Open
-
-abbrev pub greatest_in : List (ℕ × Replica) → ℕ → ℕ
-greatest_in replicas container = option_map_or (λ (replica : Replica). replica.greatest) (replica_of replicas container) 0
 
 -- one of the chunks is in the slot
 abbrev pub any_in : List Chunk → ℕ → Bool

@@ -74,7 +74,11 @@ put_at node = do
 
 abbrev pub state_of : ℕ → State
 state_of n =
-    if n == 1 then states.Open else (if n == 2 then states.Closing else (if n == 3 then states.QuasiClosed else (if n == 4 then states.Closed else (if n == 5 then states.Deleting else states.Deleted))))
+    if n == 1 then states.Open
+    else (if n == 2 then states.Closing
+    else (if n == 3 then states.QuasiClosed
+    else (if n == 4 then states.Closed
+    else (if n == 5 then states.Deleting else states.Deleted))))
 
 unfoldable pub state_at : List ℕ → Result (State × List ℕ) ℕ
 state_at = do
@@ -125,7 +129,10 @@ dropped_at = do
 -- the fields of an entry, nothing where there is no such entry
 abbrev pub entry_of_tag_at : Node → ℕ → ℕ → List ℕ → Result (Entry × List ℕ) ℕ
 entry_of_tag_at node left tag =
-    if tag == 1 then put_at node else (if tag == 2 then set_state_at else (if tag == 3 then apply_at node else (if tag == 4 then dropped_at else (λ bytes. Err left))))
+    if tag == 1 then put_at node
+    else (if tag == 2 then set_state_at
+    else (if tag == 3 then apply_at node
+    else (if tag == 4 then dropped_at else (λ bytes. Err left))))
 
 unfoldable pub entry_at : Node → List ℕ → Result (Entry × List ℕ) ℕ
 entry_at node [] = Err 0

@@ -1,7 +1,8 @@
 //! Entries written.
 
 ghost use Rattle.std.specs.Prelude.{◌≡◌, ◌≤◌, ◌<◌, ◌^◌, ◌++◌, length, IfOk, OnOk};
-ghost use Rattle.oz_entries.specs.Entries.{entry_bytes, row_bytes, chunks_bytes, locals_bytes, state_number as number_of_state};
+ghost use Rattle.oz_entries.specs.Entries.{entry_bytes, row_bytes, chunks_bytes, locals_bytes};
+ghost use Rattle.oz_entries.specs.Entries.{state_number as number_of_state};
 
 use crate::entry::Entry;
 use crate::row::{BlockRow, Chunk};

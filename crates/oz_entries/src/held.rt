@@ -1,6 +1,7 @@
 //! What a datanode holds, in memory.
 
-ghost use Rattle.std.specs.Prelude.{◌≡◌, ◌<◌, ◌^◌, ℕ, true, false, None, option_copied, IfOk, OnOk, OnErr, if◌then◌else◌};
+ghost use Rattle.std.specs.Prelude.{◌≡◌, ◌<◌, ◌^◌, ℕ, true, false};
+ghost use Rattle.std.specs.Prelude.{None, option_copied, IfOk, OnOk, OnErr, if◌then◌else◌};
 ghost use Rattle.oz_entries.specs.Node.{empty_node, is_held, is_used, is_same_block, is_in, without, with_row};
 ghost use Rattle.oz_entries.specs.Node.{with_state, with_number, names_some, HaveFreeSlots};
 ghost use Rattle.oz_entries.specs.Held.{node_of, AreSame, IsSound, IsNamed};
@@ -29,10 +30,12 @@ impl Model for Held {
 
     ghost Value = { HeldView };
 
-    ghost view = { λ held. record { rows = held.rows.entries; replicas = held.replicas.entries; users = held.users.items } };
+    ghost view = { λ held.
+        record { rows = held.rows.entries; replicas = held.replicas.entries; users = held.users.items } };
 
     ghost invariant = { λ held. (length held.users.items ≡ 16384)
-        × IsSound (node_of (record { rows = held.rows.entries; replicas = held.replicas.entries; users = held.users.items })) };
+        × IsSound (node_of
+        (record { rows = held.rows.entries; replicas = held.replicas.entries; users = held.users.items })) };
 }
 
 impl Held {

@@ -21,7 +21,8 @@ pub fn an_entry_has_one_spelling()
 
 /// The bodies of a journal make one thing, or are damaged, and not both.
 pub fn bodies_make_one_node()
-    ensures one_node { (bodies : List (List ℕ)) (node other : Node) → Makes bodies node → Makes bodies other → node ≡ other }
+    ensures one_node { (bodies : List (List ℕ)) (node other : Node) →
+        Makes bodies node → Makes bodies other → node ≡ other }
     ensures not_both { (bodies : List (List ℕ)) (node : Node) (count place : ℕ) →
         Makes bodies node → FailsAt bodies count place → ⊥ }
 {}

@@ -291,7 +291,8 @@ fn is_due_now(held: &Held, txn: &Txn) -> bool
 }
 
 fn names_one(held: &Held, container: u64, locals: &[u64]) -> bool
-    ensures { result ≡ list_any (λ local. is_held (node_of held.now) (record { container = container; local = local })) locals.now }
+    ensures { result ≡ list_any
+        (λ local. is_held (node_of held.now) (record { container = container; local = local })) locals.now }
 {
     locals.iter().any(|local| holds(
         held,
@@ -339,7 +340,8 @@ fn locals_of(alloc: Global, bytes: &[u8]) -> Result<(Vec<u64>, &[u8]), ReadFault
 }
 
 fn locals_count_of(bytes: &[u8]) -> Result<(u16, &[u8]), ReadFault>
-    ensures { ReadGives (λ x. (x.0, x.1.now)) result (field u16_at (λ n. nat_le 1 n && nat_le n MOST_LOCALS) bytes.now) }
+    ensures { ReadGives (λ x. (x.0, x.1.now)) result
+        (field u16_at (λ n. nat_le 1 n && nat_le n MOST_LOCALS) bytes.now) }
 {
     let mut reader = Reader::new(bytes);
     match reader.u16() {

@@ -8,7 +8,8 @@ use Rattle.oz_chunk.specs.declared.table.TheConstants.{SLOT_SIZE}
 use Rattle.oz_chunk.specs.Slots.{start_of}
 
 -- These bytes fill a slot, or a part of them does. Nothing else is written.
-pub record Writes {T E : Type 0} (slot : ℕ) (filling : List ℕ) (before after : Seen) (result : Result T E) : Type 0 where
+pub record Writes {T E : Type 0} (slot : ℕ) (filling : List ℕ) (before after : Seen)
+    (result : Result T E) : Type 0 where
   pub written : OnOk result (after.told ≡ option_map (overwritten (start_of slot) filling) before.told)
   pub torn : Moves (Torn (start_of slot) SLOT_SIZE) before.told after.told
   pub time : Spans (Torn (start_of slot) SLOT_SIZE) before.clock after.clock before.image after.image

@@ -1,6 +1,7 @@
 //! What loading slots needs: room, and a look at the slots that are held.
 
-ghost use Rattle.std.specs.Prelude.{◌≡◌, ◌↔◌, ◌<◌, ◌≤◌, ◌⊎◌, ℕ, true, false, vec_len, length, IsTrue, All, Contains, IfOk, IfSome, IfNone, Some};
+ghost use Rattle.std.specs.Prelude.{◌≡◌, ◌↔◌, ◌<◌, ◌≤◌, ◌⊎◌, ℕ, true, false, vec_len};
+ghost use Rattle.std.specs.Prelude.{length, IsTrue, All, Contains, IfOk, IfSome, IfNone, Some};
 ghost use Rattle.std.specs.Bool.{OnTrue, OnFalse};
 ghost use Rattle.oz_chunk.specs.Slots.{end_of};
 ghost use Rattle.oz_chunk.specs.Taken.{is_taken};

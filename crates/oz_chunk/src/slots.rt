@@ -96,7 +96,8 @@ impl<D: Disk> Slots<D> {
         ensures lowest { IfOk result (λ slot. AllTakenBelow slot self.old.taken) }
         ensures taken { IfOk result (λ slot. Marks slot true self.old.taken self.new.taken) }
         ensures full { OnErr result (AllTakenBelow SLOTS self.old.taken) }
-        ensures sizes { IfErr result (λ full. full ≡ record { used = CAPACITY; asked = SLOT_SIZE; capacity = CAPACITY }) }
+        ensures sizes { IfErr result (λ full.
+            full ≡ record { used = CAPACITY; asked = SLOT_SIZE; capacity = CAPACITY }) }
         ensures unchanged { OnErr result (self.new ≡ self.old) }
         ensures disk { self.new.disk ≡ self.old.disk }
     {

@@ -1,0 +1,5 @@
+pub mod HeldEdits
+pub mod Loop
+pub mod MapEdits
+pub mod SlotUsers
+pub mod SlotUses

@@ -1,0 +1,15 @@
+use Rattle.std.proofs.Common.{arith}
+use Rattle.oz_entries.proofs.SlotUsers.{gives_none, gives_more, frees_all}
+use Rattle.oz_entries.proofs.users.release.Goals as goal
+
+pub loop-chunk-init : goal.loop-chunk-init
+loop-chunk-init c = gives_none _ _
+
+pub loop-chunk-preserved : goal.loop-chunk-preserved
+loop-chunk-preserved c = gives_more _ _ _ c.args.chunks.now c.loop-chunk.chunk-index _ _ c.loop-chunk.invariant (omega arith) c.set_user.ensures.count c.set_user.ensures.there
+
+pub returns-clause-count : goal.returns-clause-count
+returns-clause-count c = c.loop-chunk.invariant.count
+
+pub returns-clause-free : goal.returns-clause-free
+returns-clause-free c = frees_all _ _ _ c.loop-chunk.chunk-index c.loop-chunk.invariant (omega arith)

@@ -1,0 +1,162 @@
+//! What a datanode holds, in memory.
+
+ghost use Rattle.std.specs.Prelude.{◌≡◌, ◌<◌, ◌^◌, ℕ, true, false};
+ghost use Rattle.std.specs.Prelude.{None, option_copied, IfOk, OnOk, OnErr, if◌then◌else◌};
+ghost use Rattle.oz_entries.specs.Node.{empty_node, is_held, is_used, is_same_block, is_in, without, with_row};
+ghost use Rattle.oz_entries.specs.Node.{with_state, with_number, names_some, HaveFreeSlots};
+ghost use Rattle.oz_entries.specs.Held.{node_of, AreSame, IsSound, IsNamed};
+
+use crate::maps::{change, drop_rows, insert_row, name, replica_at, row_at, take_row};
+use crate::replica::Replica;
+use crate::row::BlockRow;
+use crate::users::{no_users, release_container, release_row, take_slots};
+use oz_container::State;
+use oz_fields::{Block, OutOfMemory};
+use std::alloc::Global;
+use std::collections::BTreeMap;
+use std::marker::Model;
+
+/// The rows of the blocks that are held, the replicas that were named, and which block uses which slot.
+#[derive(Drop)]
+pub struct Held {
+    rows: BTreeMap<Block, BlockRow>,
+    replicas: BTreeMap<u64, Replica>,
+    users: Vec<Option<Block>>,
+}
+
+impl Model for Held {
+    ghost use Rattle.std.specs.Prelude.{◌≡◌, length};
+    ghost use Rattle.oz_entries.specs.Held.{HeldView, node_of, IsSound};
+
+    ghost Value = { HeldView };
+
+    ghost view = { λ held.
+        record { rows = held.rows.entries; replicas = held.replicas.entries; users = held.users.items } };
+
+    ghost invariant = { λ held. (length held.users.items ≡ 16384)
+        × IsSound (node_of
+        (record { rows = held.rows.entries; replicas = held.replicas.entries; users = held.users.items })) };
+}
+
+impl Held {
+    /// Nothing is held.
+    pub fn new(alloc: Global) -> Result<Held, OutOfMemory>
+        ensures { IfOk result (λ held. AreSame empty_node (node_of held)) }
+    {
+        let users = no_users(alloc)?;
+        Ok(Held {
+            rows: BTreeMap::new(alloc),
+            replicas: BTreeMap::new(alloc),
+            users,
+        })
+    }
+
+    /// The row of a block, None where it isn't held.
+    pub fn get(&self, block: &Block) -> Option<&BlockRow>
+        ensures { option_copied result ≡ (node_of self.now).rows block.now }
+    {
+        row_at(&self.rows, block)
+    }
+
+    pub fn state(&self, container: u64) -> State
+        ensures { result ≡ (node_of self.now).states container }
+    {
+        match replica_at(&self.replicas, container) {
+            Some(replica) => replica.state,
+            None => State::Open,
+        }
+    }
+
+    /// The greatest number of a transaction that was applied to a replica, 0 for none.
+    pub fn greatest(&self, container: u64) -> u64
+        ensures { result ≡ (node_of self.now).greatest container }
+    {
+        match replica_at(&self.replicas, container) {
+            Some(replica) => replica.greatest,
+            None => 0,
+        }
+    }
+
+    /// Whether a block uses the slot.
+    pub fn is_used(&self, slot: u32) -> bool
+        ensures { result ≡ is_used (node_of self.now) slot }
+    {
+        match self.users.get(slot as usize) {
+            Some(user) => user.is_some(),
+            None => false,
+        }
+    }
+
+    /// Gives a row to a block that isn't held. Where memory runs out nothing changes.
+    pub fn put(&mut self, alloc: Global, block: Block, row: BlockRow) -> Result<(), OutOfMemory>
+        requires absent { is_held (node_of self.old) block ≡ false }
+        requires free { HaveFreeSlots (is_used (node_of self.old)) row.chunks }
+        ensures ok { OnOk result (AreSame (with_row block row (node_of self.old)) (node_of self.new)) }
+        ensures err { OnErr result (AreSame (node_of self.old) (node_of self.new)) }
+    {
+        let chunks = Vec::from_slice(alloc, row.chunks.items())?;
+        insert_row(&mut self.rows, block, row)?;
+        take_slots(&mut self.users, block, &chunks);
+        Ok(())
+    }
+
+    /// Takes a block's row away, if it has one.
+    pub fn forget(&mut self, block: &Block)
+        ensures same { AreSame (without (is_same_block block.now) (node_of self.old)) (node_of self.new) }
+        ensures named { (other : ℕ) → IsNamed self.old other → IsNamed self.new other }
+    {
+        let row = take_row(&mut self.rows, block);
+        release_row(&mut self.users, row);
+    }
+
+    /// Takes the rows of blocks of one container away, by their own numbers.
+    pub fn forget_locals(&mut self, container: u64, locals: &[u64])
+        ensures same { AreSame (without (names_some container locals.now) (node_of self.old)) (node_of self.new) }
+        ensures named { (other : ℕ) → IsNamed self.old other → IsNamed self.new other }
+    {
+        for local in locals {
+            self.forget(&Block {
+                container,
+                local: *local,
+            });
+        }
+    }
+
+    /// Takes the rows of a container's blocks away.
+    pub fn forget_container(&mut self, container: u64)
+        ensures same { AreSame (without (is_in container) (node_of self.old)) (node_of self.new) }
+        ensures named { (other : ℕ) → IsNamed self.old other → IsNamed self.new other }
+    {
+        drop_rows(&mut self.rows, container);
+        release_container(&mut self.users, container);
+    }
+
+    /// Makes the room that a change of a replica takes. It stands for the same.
+    pub fn name(&mut self, _alloc: Global, container: u64) -> Result<(), OutOfMemory>
+        ensures named { OnOk result (IsNamed self.new container) }
+        ensures same { AreSame (node_of self.old) (node_of self.new) }
+    {
+        name(&mut self.replicas, container)
+    }
+
+    /// Gives a state to a replica that was named.
+    pub fn set_state(&mut self, container: u64, state: State)
+        requires { IsNamed self.old container }
+        ensures state { AreSame (with_state container state (node_of self.old)) (node_of self.new) }
+        ensures named { IsNamed self.new container }
+    {
+        let greatest = self.greatest(container);
+        change(&mut self.replicas, container, Replica { state, greatest });
+    }
+
+    /// Notes a transaction that was applied to a replica that was named.
+    pub fn set_number(&mut self, container: u64, number: u64)
+        requires { IsNamed self.old container }
+        ensures number { AreSame (with_number container number (node_of self.old)) (node_of self.new) }
+        ensures named { IsNamed self.new container }
+    {
+        let state = self.state(container);
+        let greatest = self.greatest(container).max(number);
+        change(&mut self.replicas, container, Replica { state, greatest });
+    }
+}

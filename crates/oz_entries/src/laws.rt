@@ -1,0 +1,39 @@
+//! What holds of all entries.
+
+ghost use Rattle.std.specs.Prelude.{◌≡◌, ◌++◌, ◌∷◌, [], ℕ, List, Ok};
+ghost use Rattle.oz_fields.specs.Field.{AreBytes};
+ghost use Rattle.oz_entries.specs.declared.entry.Entry.{Entry as AnyEntry};
+ghost use Rattle.oz_entries.specs.Build.{Makes, FailsAt};
+ghost use Rattle.oz_entries.specs.Held.{IsSound};
+ghost use Rattle.oz_entries.specs.Entries.{entry_bytes};
+ghost use Rattle.oz_entries.specs.Node.{Node, MayFollow, after_entry};
+ghost use Rattle.oz_entries.specs.Reading.{entry_at};
+
+/// An entry that may follow is read, whatever stands behind it; and what is read is an entry that may follow, in its
+/// one spelling.
+pub fn an_entry_has_one_spelling()
+    ensures read_back { (before : Node) (entry : AnyEntry) (rest : List ℕ) → MayFollow before entry →
+        entry_at before (entry_bytes entry ++ rest) ≡ Ok (entry, rest) }
+    ensures only { (before : Node) (bytes : List ℕ) (entry : AnyEntry) (rest : List ℕ) → AreBytes bytes →
+        entry_at before bytes ≡ Ok (entry, rest) →
+        MayFollow before entry × (bytes ≡ entry_bytes entry ++ rest) }
+{}
+
+/// The bodies of a journal make one thing, or are damaged, and not both.
+pub fn bodies_make_one_node()
+    ensures one_node { (bodies : List (List ℕ)) (node other : Node) →
+        Makes bodies node → Makes bodies other → node ≡ other }
+    ensures not_both { (bodies : List (List ℕ)) (node : Node) (count place : ℕ) →
+        Makes bodies node → FailsAt bodies count place → ⊥ }
+{}
+
+/// An entry that may follow makes one body more.
+pub fn an_entry_is_one_body_more()
+    ensures { (bodies : List (List ℕ)) (node : Node) (entry : AnyEntry) → Makes bodies node → MayFollow node entry →
+        Makes (bodies ++ entry_bytes entry ∷ []) (after_entry entry node) }
+{}
+
+/// A slot is in use where a block that is held has it in its row, and belongs to that block alone.
+pub fn each_slot_belongs_to_one_block()
+    ensures { (bodies : List (List ℕ)) (node : Node) → Makes bodies node → IsSound node }
+{}

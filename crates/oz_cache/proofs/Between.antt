@@ -18,7 +18,7 @@ use Rattle.oz_tables.specs.laws.Splits.{parts, parts_at, some_item, all_at, each
 use Rattle.oz_tables.specs.laws.Rising.{before_at, rise_rest}
 use Rattle.oz_tables.specs.laws.RangeCounts.{size, size_counts, after_one, one_count, count_alike, range_from}
 use Rattle.oz_tables.specs.laws.RangeCounts.{counted_anew as tables_anew}
-use Rattle.oz_cache.specs.declared.newer.CachedRow.{CachedRow}
+use Rattle.oz_cache.specs.declared.cached_rows.CachedRow.{CachedRow}
 use Rattle.oz_cache.specs.Places.{RowsRise, AllBelow, AllAbove, IsAt, IsGap, HasRank, IsWithin, found, over_row, over_rows, counted_anew}
 use Rattle.oz_cache.proofs.Rows.{row_key, found_behind, found_above, found_added}
 

@@ -4,3 +4,4 @@ pub mod Batches
 pub mod Newest
 pub mod Next
 pub mod Between
+mod Links

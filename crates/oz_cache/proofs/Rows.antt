@@ -1,30 +1,19 @@
 -- Which cached row a key has, and how cached rows stay in order.
-use Rattle.std.proofs.Common.{◌≡◌, ℕ, suc, ◌+◌, Bool, true, false, List, [], ◌∷◌, ◌++◌, take, drop, get_or, set, filter, nat_lt, Some, None, cond, refl, sym, ◌∙◌, ap, subst, arith}
+use Rattle.std.proofs.Common.{◌≡◌, ℕ, suc, ◌+◌, Bool, true, false, List, [], ◌∷◌, ◌++◌, take, drop, get_or, set, Some, None, cond, refl, sym, ◌∙◌, ap, subst, arith}
 use mathlib.Core.Bool.{false≢true}
-use Rattle.std.specs.List.{AllByRecursion, insert}
+use Rattle.std.specs.List.{insert, remove}
 use Rattle.std.specs.Ordering.{is_eq}
-use Rattle.std.specs.declared.cmp.Ordering.TheVariants.{Greater}
 use Rattle.oz_rows.specs.declared.key.RowKey.{RowKey}
-use Rattle.oz_rows.specs.Order.{key_order}
 use Rattle.oz_tables.specs.Tables.{IsBelow, is_same}
-use Rattle.oz_tables.specs.laws.Order.{key_order_total, itself}
+use Rattle.oz_tables.specs.laws.Order.{key_order_total}
 use Rattle.oz_tables.specs.laws.Same.{same_is_one}
 use Rattle.oz_tables.specs.laws.Splits.{parts, parts_at, set_parts, some_item}
-use Rattle.oz_tables.specs.laws.Rising.{over_same, rise_with, rise_without}
-use Rattle.oz_cache.specs.declared.newer.CachedRow.{CachedRow}
-use Rattle.oz_cache.specs.Places.{RowsRise, AllBelow, AllAbove, IsAt, IsGap, found, if_later}
+use Rattle.oz_tables.specs.laws.Rising.{rise_with, rise_without}
+use Rattle.oz_cache.specs.declared.cached_rows.CachedRow.{CachedRow}
+use Rattle.oz_cache.specs.Places.{RowsRise, AllBelow, AllAbove, IsAt, IsGap, found}
 
 abbrev pub row_key : CachedRow → RowKey
 row_key row = row.key
-
-module _ {X : Type 0} (P : X → Type 0) where
-  all_kept : (p : X → Bool) (l : List X) → AllByRecursion P l → AllByRecursion P (filter p l)
-  all_kept p [] all = tt
-  all_kept p (x ∷ l) all = by_test (p x) (all_kept p l all.1)
-    where
-      by_test : (t : Bool) → AllByRecursion P (filter p l) → AllByRecursion P (cond t (x ∷ filter p l) (filter p l))
-      by_test true rest = (all.0, rest)
-      by_test false rest = rest
 
 not_same : (a b : RowKey) → IsBelow a b → is_same a b ≡ false
 not_same a b below = ap is_eq below
@@ -94,6 +83,22 @@ module _ (l : List CachedRow) (key : RowKey) (at : ℕ) (is_at : IsAt l key at) 
       ∙ ap (λ (t : Bool). cond t (Some (get_or l at d)) (found (drop (suc at) l) q)) (ap (λ k. is_same k q) the_key ∙ not_same key q below)
       ∙ ap (λ l. found l q) (sym next_place)
 
+  pub rise_removed : RowsRise l → RowsRise (remove l at)
+  rise_removed rise = rise_without row_key (take at l) (drop (suc at) l) (get_or l at d) (subst RowsRise around rise)
+
+  pub found_removed : (q : RowKey) → found (remove l at) q ≡ cond (is_same key q) None (found l q)
+  found_removed q = by_test (is_same key q) refl
+    where
+      its_below : AllBelow (get_or l at d).key (take at l)
+      its_below = subst (λ k. AllBelow k (take at l)) (sym the_key) is_at.before
+
+      by_test : (t : Bool) → is_same key q ≡ t → found (take at l ++ drop (suc at) l) q ≡ cond t None (found l q)
+      by_test true same = subst (λ k. found (take at l ++ drop (suc at) l) k ≡ None) (same_is_one key q same) (found_behind (take at l) (drop (suc at) l) key is_at.before ∙ found_above (drop (suc at) l) key (subst (λ rest. AllAbove key rest) next_place is_at.after))
+      by_test false other =
+          sym (ap (λ l. found l q) around
+          ∙ found_added (take at l) (drop (suc at) l) (get_or l at d) q its_below
+          ∙ ap (λ (t : Bool). cond t (Some (get_or l at d)) (found (take at l ++ drop (suc at) l) q)) (ap (λ k. is_same k q) the_key ∙ other))
+
   module _ (x : CachedRow) (same : x.key ≡ key) where
     below_x : AllBelow x.key (take at l)
     below_x = subst (λ k. AllBelow k (take at l)) (sym same) is_at.before
@@ -119,6 +124,13 @@ module _ (l : List CachedRow) (key : RowKey) (at : ℕ) (gap : IsGap l key at) w
   pub found_none : found l key ≡ None
   found_none = ap (λ l. found l key) (parts l at) ∙ found_behind (take at l) (drop at l) key gap.before ∙ found_above (drop at l) key gap.after
 
+  pub found_absent : (q : RowKey) → found l q ≡ cond (is_same key q) None (found l q)
+  found_absent q = by_test (is_same key q) refl
+    where
+      by_test : (t : Bool) → is_same key q ≡ t → found l q ≡ cond t None (found l q)
+      by_test true same = subst (λ k. found l k ≡ None) (same_is_one key q same) found_none
+      by_test false other = refl
+
   pub found_over : (q : RowKey) → IsBelow key q → found l q ≡ found (drop at l) q
   found_over q below = ap (λ l. found l q) (parts l at) ∙ found_behind (take at l) (drop at l) q (below_all key q below (take at l) gap.before)
 
@@ -129,29 +141,3 @@ module _ (l : List CachedRow) (key : RowKey) (at : ℕ) (gap : IsGap l key at) w
 
     pub found_inserted : (q : RowKey) → found (insert l at x) q ≡ cond (is_same x.key q) (Some x) (found l q)
     found_inserted q = found_added (take at l) (drop at l) x q (subst (λ k. AllBelow k (take at l)) (sym same) gap.before) ∙ ap (λ l. cond (is_same x.key q) (Some x) (found l q)) (sym (parts l at))
-
-module _ (p : CachedRow → Bool) where
-  pub rise_kept : (l : List CachedRow) → RowsRise l → RowsRise (filter p l)
-  rise_kept [] rise = tt
-  rise_kept (x ∷ l) rise = by_test (p x) (rise_kept l rise.1)
-    where
-      by_test : (t : Bool) → RowsRise (filter p l) → RowsRise (cond t (x ∷ filter p l) (filter p l))
-      by_test true rest = (all_kept _ p l rise.0, rest)
-      by_test false rest = rest
-
-abbrev later_row : ℕ → CachedRow → Bool
-later_row epoch row = nat_lt epoch row.epoch
-
--- of the rows that stay each key has the one that it had
-pub found_kept : (epoch : ℕ) (l : List CachedRow) → RowsRise l → (q : RowKey) → found (filter (λ row. nat_lt epoch row.epoch) l) q ≡ if_later epoch (found l q)
-found_kept epoch [] rise q = refl
-found_kept epoch (x ∷ l) rise q = by_tests (nat_lt epoch x.epoch) refl (is_same x.key q) refl (found_kept epoch l rise.1 q)
-  where
-    none : is_same x.key q ≡ true → found (filter (later_row epoch) l) q ≡ None
-    none same = subst (λ k. found (filter (later_row epoch) l) k ≡ None) (same_is_one x.key q same) (found_above (filter (later_row epoch) l) x.key (all_kept (λ (row : CachedRow). key_order row.key x.key ≡ Greater) (later_row epoch) l (over_same row_key x x.key l (itself x.key) rise.0)))
-
-    by_tests : (s : Bool) → nat_lt epoch x.epoch ≡ s → (t : Bool) → is_same x.key q ≡ t → found (filter (later_row epoch) l) q ≡ if_later epoch (found l q) → found (cond s (x ∷ filter (later_row epoch) l) (filter (later_row epoch) l)) q ≡ if_later epoch (cond t (Some x) (found l q))
-    by_tests true later true same others = ap (λ (t : Bool). cond t (Some x) (found (filter (later_row epoch) l) q)) same ∙ sym (ap (λ (s : Bool). cond s (Some x) None) later)
-    by_tests true later false same others = ap (λ (t : Bool). cond t (Some x) (found (filter (later_row epoch) l) q)) same ∙ others
-    by_tests false later true same others = none same ∙ sym (ap (λ (s : Bool). cond s (Some x) None) later)
-    by_tests false later false same others = others

@@ -8,11 +8,11 @@ use Rattle.oz_rows.specs.declared.operation.Change.{Change}
 use Rattle.oz_rows.specs.Order.{key_order}
 use Rattle.oz_rows.specs.declared.row.Row.{Row}
 use Rattle.oz_tables.specs.Tables.{Rows, IsBelow, is_same}
-use Rattle.oz_cache.specs.declared.newer.CachedRow.{CachedRow}
+use Rattle.oz_cache.specs.declared.cached_rows.CachedRow.{CachedRow}
 use Rattle.oz_cache.specs.declared.batch.Batch.{Batch}
 
 -- the cached rows, and for how many more there is room
-pub record NewerRows : Type 0 where
+pub record OrderedRows : Type 0 where
   pub rows : List CachedRow
   pub spare : ℕ
 
@@ -45,29 +45,46 @@ pub record IsGap (rows : List CachedRow) (key : RowKey) (place : ℕ) : Type 0 w
   pub before : AllBelow key (take place rows)
   pub after : AllAbove key (drop place rows)
 
-abbrev pub cached_row : ℕ → Change → CachedRow
-cached_row epoch change = record { key = change.key; epoch = epoch; row = change.row }
+-- what the last change made of a key: its epoch, and the row, or none where it was taken away
+pub record Written : Type 0 where
+  pub epoch : ℕ
+  pub row : Option Row
 
--- the cached row of a key after changes of one epoch
-abbrev pub after_changes : ℕ → List Change → RowKey → Option CachedRow → Option CachedRow
+abbrev pub written : ℕ → Change → Written
+written epoch change = record { epoch = epoch; row = change.row }
+
+-- a cached row without its place
+abbrev pub written_by : CachedRow → Written
+written_by cached = record { epoch = cached.epoch; row = cached.row }
+
+abbrev pub as_written : Option CachedRow → Option Written
+as_written None = None
+as_written (Some cached) = Some (written_by cached)
+
+-- what the cached rows have of a key
+abbrev pub written_in : List CachedRow → RowKey → Option Written
+written_in rows key = as_written (found rows key)
+
+-- the same after changes of one epoch
+abbrev pub after_changes : ℕ → List Change → RowKey → Option Written → Option Written
 after_changes epoch [] key before = before
 after_changes epoch (change ∷ changes) key before =
-    after_changes epoch changes key (if is_same change.key key then Some (cached_row epoch change) else before)
+    after_changes epoch changes key (if is_same change.key key then Some (written epoch change) else before)
 
--- the same after batches
-abbrev pub after_batches : List Batch → RowKey → Option CachedRow → Option CachedRow
+-- and after batches
+abbrev pub after_batches : List Batch → RowKey → Option Written → Option Written
 after_batches [] key before = before
 after_batches (batch ∷ batches) key before =
     after_batches batches key (after_changes batch.epoch batch.changes key before)
 
--- a cached row that an epoch after this one wrote
-abbrev pub if_later : ℕ → Option CachedRow → Option CachedRow
+-- what an epoch after this one wrote
+abbrev pub if_later : ℕ → Option Written → Option Written
 if_later epoch None = None
-if_later epoch (Some row) = if nat_lt epoch row.epoch then Some row else None
+if_later epoch (Some w) = if nat_lt epoch w.epoch then Some w else None
 
--- each key has the cached row that the batches make of none
+-- the cached rows have of each key what the batches make of none
 abbrev pub AreLastOf : List Batch → List CachedRow → Type 0
-AreLastOf batches rows = (key : RowKey) → found rows key ≡ after_batches batches key None
+AreLastOf batches rows = (key : RowKey) → written_in rows key ≡ after_batches batches key None
 
 -- the key is one from a key on and below another
 abbrev pub IsWithin : RowKey → RowKey → RowKey → Type 0

@@ -1,6 +1,6 @@
 //! Tables with newer rows above them, as one map.
 
-ghost use Rattle.std.specs.Prelude.{◌≡◌, ◌+◌, ◌^◌, ◌<◌, ◌≤◌, ◌↔◌, [], ◌∷◌, ◌++◌, length, false, option_copied, IsTrue};
+ghost use Rattle.std.specs.Prelude.{◌≡◌, ◌+◌, ◌^◌, ◌<◌, ◌≤◌, ◌↔◌, [], ◌∷◌, ◌++◌, length, false, None, option_copied, IsTrue};
 ghost use Rattle.std.specs.Prelude.{MatchOption, IfOk, OnOk};
 ghost use Rattle.std.specs.Ordering.{is_gt};
 ghost use Rattle.oz_rows.specs.declared.key.RowKey.{RowKey as AnyKey};
@@ -10,13 +10,15 @@ ghost use Rattle.oz_rows.specs.Order.{key_order};
 ghost use Rattle.oz_tables.specs.Counts.{IsCount};
 ghost use Rattle.oz_tables.specs.Tables.{row_of, row_after, IsNext, HasNoNext};
 ghost use Rattle.oz_cache.specs.Places.{RowsRise, IsWithin, over_rows, counted_anew};
+ghost use Rattle.oz_cache.specs.Cache.{changed_at, epochs_under, one_or_none};
 ghost use Rattle.std.specs.List.{AllByRecursion};
 ghost use Rattle.oz_cache.specs.Cache.{batch_of, batched_changes, newest, epoch_after, last_epoch, up_to, later};
 
-use crate::newer::{CachedRow, Newer};
+use crate::cached_rows::CachedRow;
+use crate::newer::Newer;
 use crate::pending::Pending;
 use crate::prepared::Prepared;
-use oz_epochs::Steps;
+use oz_epochs::{EpochList, Steps};
 use oz_fields::OutOfMemory;
 use oz_rows::{Change, Row, RowKey};
 use oz_tables::Tables;
@@ -33,18 +35,23 @@ pub struct Cached {
 
 impl Model for Cached {
     ghost use Rattle.std.specs.Prelude.{min};
-    ghost use Rattle.oz_cache.specs.Cache.{CacheView};
+    ghost use Rattle.oz_cache.specs.Cache.{CacheView, epoch_after};
     ghost use Rattle.oz_cache.specs.Places.{AreLastOf};
+    ghost use Rattle.oz_cache.specs.Linked.{AllBy};
 
     ghost Value = { CacheView };
 
     ghost view = { λ c. record {
       durable = c.pending.durable;
       entered = c.pending.batches;
+      epochs = c.newer.epochs;
       spare = min c.pending.spare c.newer.spare;
     } };
 
-    ghost invariant = { λ c. AreLastOf c.pending.batches c.newer.rows };
+    ghost invariant = { λ c. record {
+      last : AreLastOf c.pending.batches c.newer.rows;
+      ends : AllBy (epoch_after c.pending.durable.last_index c.pending.batches) c.newer.epochs;
+    } };
 }
 
 impl Cached {
@@ -52,6 +59,7 @@ impl Cached {
     pub fn over(alloc: Global, tables: Tables) -> Cached
         ensures durable { result.durable ≡ tables }
         ensures entered { result.entered ≡ [] }
+        ensures epochs { result.epochs ≡ [] }
     {
         Cached {
             pending: Pending::over(alloc, tables),
@@ -119,6 +127,16 @@ impl Cached {
         self.pending.last_epoch()
     }
 
+    /// The list of the epochs of all cached rows, those among them that mark a removal. It has one
+    /// entry for each key that was changed and not yet flushed since, of the epoch of the last change.
+    pub fn epochs(&self) -> &EpochList<RowKey>
+        ensures list { result.now.entries ≡ self.now.epochs }
+        ensures each { (key : AnyKey) → epochs_under key self.now.epochs
+            ≡ one_or_none (changed_at key None self.now.entered) }
+    {
+        self.newer.epochs()
+    }
+
     /// Takes all memory that these changes need. Where it runs out, the changes are gone.
     pub fn prepare(&mut self, alloc: Global, changes: Vec<Change>) -> Result<Prepared, OutOfMemory>
         ensures changes { IfOk result (λ prepared. prepared ≡ changes.items) }
@@ -127,10 +145,11 @@ impl Cached {
         ensures rows { self.new.durable.rows ≡ self.old.durable.rows }
         ensures last_index { self.new.durable.last_index ≡ self.old.durable.last_index }
         ensures entered { self.new.entered ≡ self.old.entered }
+        ensures epochs { self.new.epochs ≡ self.old.epochs }
         ensures kept { self.old.spare ≤ self.new.spare }
     {
         self.pending.reserve(alloc, changes.len())?;
-        self.newer.reserve(changes.len())?;
+        self.newer.reserve(alloc, changes.len())?;
         Prepared::of(alloc, changes)
     }
 
@@ -151,9 +170,9 @@ impl Cached {
         self.newer.enter(epoch, changes);
     }
 
-    /// Moves what was entered up to an epoch down into the tables, where it is durable. It takes no
-    /// memory. There is one cached row for each key that was entered; each of them is looked at,
-    /// which is one step.
+    /// Moves what was entered up to an epoch down into the tables, where it is durable, and takes the
+    /// cached rows out that no later epoch wrote. It takes no memory, and at most one step more than
+    /// it takes rows out. The changes that go down are not counted, nor is the search for a row.
     pub fn flushed<L: Ledger>(&mut self, epoch: u64, steps: &mut Steps<L>)
         ensures rows { (key : AnyKey) → row_of self.new.durable.rows key
             ≡ row_after (batched_changes (up_to epoch self.old.entered)) key (row_of self.old.durable.rows key) }
@@ -166,6 +185,7 @@ impl Cached {
         ensures last { last_epoch self.new ≡ last_epoch self.old }
 
         ensures spare { self.old.spare ≤ self.new.spare }
+        ensures steps { steps.new + length self.new.epochs ≤ steps.old + length self.old.epochs + 1 }
     {
         self.pending.move_down(epoch);
         self.newer.keep_after(epoch, steps);

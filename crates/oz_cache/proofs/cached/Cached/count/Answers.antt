@@ -20,4 +20,4 @@ returns c =
     (count_alike (over_rows between (row_of pending.durable.rows)) (λ key. row_after (batched_changes pending.batches) key (row_of pending.durable.rows key)) from to count
     (λ key over below.
     ap (λ o. over_row o (row_of pending.durable.rows key)) (sym (c.between.ensures.rows key (over, below)))
-    ∙ sym (newest_row pending.batches newer c.self.invariant key (row_of pending.durable.rows key))) here)
+    ∙ sym (newest_row pending.batches newer c.self.invariant.last key (row_of pending.durable.rows key))) here)

@@ -13,7 +13,7 @@ returns-in-Some c =
     subst (λ (w : CacheView). option_copied c.as_ref.result ≡ newest w key) c.self.view_is
     (c.as_ref.ensures.value
     ∙ ap (λ o. over_row o row) c.in-Some.ensures
-    ∙ sym (newest_row pending.batches c.self.inside.newer.rows c.self.invariant key row))
+    ∙ sym (newest_row pending.batches c.self.inside.newer.rows c.self.invariant.last key row))
 
 pub returns-in-None : goal.returns-in-None
 returns-in-None c =
@@ -24,4 +24,4 @@ returns-in-None c =
     (c.get.ensures
     ∙ ap (λ (t : Tables). row_of t.rows key) c.tables.ensures
     ∙ ap (λ o. over_row o row) c.in-None.ensures
-    ∙ sym (newest_row pending.batches c.self.inside.newer.rows c.self.invariant key row))
+    ∙ sym (newest_row pending.batches c.self.inside.newer.rows c.self.invariant.last key row))

@@ -20,7 +20,7 @@ loop-cached-init c =
       above = c.above-cached-items.ensures.above;
       rows = λ q below.
           sym (ap (λ (w : CacheView). newest w q) c.self.view_is)
-          ∙ newest_row pending.batches all c.self.invariant q (row_of pending.durable.rows q)
+          ∙ newest_row pending.batches all c.self.invariant.last q (row_of pending.durable.rows q)
           ∙ ap (λ o. over_row o (row_of pending.durable.rows q)) (c.above-cached-items.ensures.rows q below)
           ∙ ap (λ (t : Tables). over_row (found above q) (row_of t.rows q)) (sym c.tables-tables.ensures);
     }

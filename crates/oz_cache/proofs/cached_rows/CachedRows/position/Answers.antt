@@ -1,9 +1,9 @@
 use Rattle.std.proofs.Common.{◌≡◌, rules}
 use Rattle.std.proofs.lemmas.Fn.{always_returns_same}
 use Rattle.oz_rows.specs.Order.{key_order}
-use Rattle.oz_cache.specs.declared.newer.CachedRow.{CachedRow}
+use Rattle.oz_cache.specs.declared.cached_rows.CachedRow.{CachedRow}
 use Rattle.oz_cache.proofs.Searches.{searched}
-use Rattle.oz_cache.proofs.newer.Newer.position.Goals as goal
+use Rattle.oz_cache.proofs.cached_rows.CachedRows.position.Goals as goal
 
 pub returns : goal.returns
 returns c =

@@ -1,8 +1,8 @@
 use Rattle.std.proofs.Common.{◌≡◌, ◌≤◌, ◌+◌, ◌-◌, ◌⊎◌, inl, inr, ◌∙◌, ap, subst, arith}
 use Rattle.std.proofs.lemmas.Bool.{cases_lt}
-use Rattle.oz_cache.specs.Places.{NewerRows, RowsRise}
+use Rattle.oz_cache.specs.Places.{OrderedRows, RowsRise}
 use Rattle.oz_cache.proofs.Between.{range_rise, range_within, range_rows}
-use Rattle.oz_cache.proofs.newer.Newer.between.Goals as goal
+use Rattle.oz_cache.proofs.cached_rows.CachedRows.between.Goals as goal
 
 pub returns : goal.returns
 returns c =
@@ -12,8 +12,8 @@ returns c =
     let a = c.rank-first.result in
     let b = c.rank.result in
     let n = c.max-end.result - a in
-    let same = c.deref.ensures.value ∙ ap (λ (n : NewerRows). n.rows) c.self.view_is in
-    let rise : RowsRise l = subst RowsRise (ap (λ (n : NewerRows). n.rows) c.self.view_is) c.self.invariant in
+    let same = c.deref.ensures.value ∙ ap (λ (n : OrderedRows). n.rows) c.self.view_is in
+    let rise : RowsRise l = subst RowsRise (ap (λ (n : OrderedRows). n.rows) c.self.view_is) c.self.invariant in
     let inside : b ≤ a + n = omega arith in
     let size : (a + n ≤ b) ⊎ (n ≡ 0) = elim (cases_lt a b) [ inl lt ↦ inl (omega arith) | inr le ↦ inr (omega arith) ] in
     rw same (record {

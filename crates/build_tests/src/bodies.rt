@@ -2,10 +2,11 @@
 
 use crate::hex::bytes_of;
 use crate::kinds::lowest;
+use oz_build::{BuildFault, build};
 use oz_fields::List;
 use oz_journal::Body;
 use oz_rows::{RowFault, RowKey, decode};
-use oz_tables::{BuildFault, Tables, build};
+use oz_tables::Tables;
 use std::alloc::{AllocError, Global};
 
 /// The bodies, as if each began at the place 0.
@@ -67,7 +68,7 @@ pub fn count_of(alloc: Global, tables: &Tables) -> Result<u64, AllocError> {
 #[cfg(test)]
 mod tests {
     use super::{bodies_of, count_of, damaged_at, has_row};
-    use oz_tables::build;
+    use oz_build::build;
     use std::test::Fail;
 
     /// Bodies, with the body and the place at which they are damaged.

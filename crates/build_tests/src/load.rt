@@ -1,9 +1,9 @@
 //! Bodies as large as the limits let them be.
 
 use crate::hex::bytes_of;
+use oz_build::{BuildFault, build};
 use oz_fields::{List, OutOfMemory, put_u8, put_u16, put_u32, put_u64};
 use oz_journal::Body;
-use oz_tables::{BuildFault, build};
 use std::alloc::Global;
 
 /// How many keys and sessions a bucket may have together.

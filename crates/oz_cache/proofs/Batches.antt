@@ -5,7 +5,7 @@ use Rattle.std.proofs.lemmas.Bool.Decides.{nat_tests}
 use Rattle.oz_rows.specs.declared.key.RowKey.{RowKey}
 use Rattle.oz_rows.specs.declared.row.Row.{Row}
 use Rattle.oz_rows.specs.declared.operation.Change.{Change}
-use Rattle.oz_tables.specs.Tables.{row_after, row_after_one}
+use Rattle.oz_rows.specs.RowMaps.{row_after, row_after_one}
 use Rattle.oz_cache.specs.declared.batch.Batch.{Batch}
 use Rattle.oz_cache.specs.Cache.{batched_changes, epoch_after, up_to, later}
 use Rattle.oz_cache.specs.Waiting.{EpochsRise, starts_by}

@@ -9,15 +9,15 @@ use Rattle.std.specs.declared.cmp.Ordering.TheVariants.{Less, Equal, Greater}
 use Rattle.oz_rows.specs.declared.key.RowKey.{RowKey}
 use Rattle.oz_rows.specs.declared.row.Row.{Row}
 use Rattle.oz_rows.specs.Order.{key_order}
-use Rattle.oz_tables.specs.declared.entry.RowEntry.{RowEntry}
-use Rattle.oz_tables.specs.Counts.{IsCount}
-use Rattle.oz_tables.specs.Tables.{row_of, KeysRise, IsBelow, is_same}
-use Rattle.oz_tables.specs.laws.Order.{key_order_total, itself, above_below, below_above}
-use Rattle.oz_tables.specs.laws.Same.{same_is_one}
-use Rattle.oz_tables.specs.laws.Splits.{parts, parts_at, some_item, all_at, each_in_turn}
-use Rattle.oz_tables.specs.laws.Rising.{before_at, rise_rest}
-use Rattle.oz_tables.specs.laws.RangeCounts.{size, size_counts, after_one, one_count, count_alike, range_from}
-use Rattle.oz_tables.specs.laws.RangeCounts.{counted_anew as tables_anew}
+use Rattle.oz_rows.specs.declared.entry.RowEntry.{RowEntry}
+use Rattle.oz_rows.specs.Counts.{IsCount}
+use Rattle.oz_rows.specs.RowMaps.{row_of, KeysRise, IsBelow, is_same}
+use Rattle.oz_rows.specs.laws.Order.{key_order_total, itself, above_below, below_above}
+use Rattle.oz_rows.specs.laws.Same.{same_is_one}
+use Rattle.oz_rows.specs.laws.Splits.{parts, parts_at, some_item, all_at, each_in_turn}
+use Rattle.oz_rows.specs.laws.Rising.{before_at, rise_rest}
+use Rattle.oz_rows.specs.laws.RangeCounts.{size, size_counts, after_one, one_count, count_alike, range_from}
+use Rattle.oz_rows.specs.laws.RangeCounts.{counted_anew as tables_anew}
 use Rattle.oz_cache.specs.declared.cached_rows.CachedRow.{CachedRow}
 use Rattle.oz_cache.specs.Places.{RowsRise, AllBelow, AllAbove, IsAt, IsGap, HasRank, IsWithin, found, over_row, over_rows, counted_anew}
 use Rattle.oz_cache.proofs.Rows.{row_key, found_behind, found_above, found_added}

@@ -5,8 +5,8 @@ use Rattle.std.specs.List.{AllByRecursion}
 use Rattle.std.proofs.lemmas.Bool.Decides.{nat_tests}
 use Rattle.oz_epochs.specs.Epochs.{EpochEntry, entry, found as found_at, without, behind, first_by, IsAway, NoSlotTwice, EndsBy, EpochsRise}
 use Rattle.oz_rows.specs.declared.key.RowKey.{RowKey}
-use Rattle.oz_tables.specs.Tables.{is_same}
-use Rattle.oz_tables.specs.laws.Same.{same_is_one}
+use Rattle.oz_rows.specs.RowMaps.{is_same}
+use Rattle.oz_rows.specs.laws.Same.{same_is_one}
 use Rattle.oz_cache.specs.declared.cached_rows.CachedRow.{CachedRow}
 use Rattle.oz_cache.specs.Cache.{epochs_under, one_or_none}
 use Rattle.oz_cache.specs.Places.{written_by, as_written, if_later}

@@ -4,7 +4,7 @@ use Rattle.std.proofs.lemmas.Bool.Decides.{nat_tests}
 use Rattle.oz_rows.specs.declared.key.RowKey.{RowKey}
 use Rattle.oz_rows.specs.declared.row.Row.{Row}
 use Rattle.oz_rows.specs.declared.operation.Change.{Change}
-use Rattle.oz_tables.specs.Tables.{is_same, row_after}
+use Rattle.oz_rows.specs.RowMaps.{is_same, row_after}
 use Rattle.oz_cache.specs.declared.batch.Batch.{Batch}
 use Rattle.oz_cache.specs.declared.cached_rows.CachedRow.{CachedRow}
 use Rattle.oz_cache.specs.Cache.{batched_changes, epoch_after, up_to, later, has_key, changed_at}

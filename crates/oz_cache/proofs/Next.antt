@@ -8,10 +8,10 @@ use Rattle.oz_rows.specs.declared.key.RowKey.{RowKey}
 use Rattle.oz_rows.specs.declared.row.Row.{Row}
 use Rattle.oz_rows.specs.Rows.{kind_of}
 use Rattle.oz_rows.specs.Order.{key_order}
-use Rattle.oz_tables.specs.Tables.{Rows, IsBelow, IsAbove, IsNext, HasNoNext}
-use Rattle.oz_tables.specs.laws.Order.{key_order_total, greater_from_test, itself, below_above, above_below, kinds_rise}
-use Rattle.oz_tables.specs.laws.Same.{same_is_one}
-use Rattle.oz_tables.specs.laws.Rising.{over_same, over_lower}
+use Rattle.oz_rows.specs.RowMaps.{Rows, IsBelow, IsAbove, IsNext, HasNoNext}
+use Rattle.oz_rows.specs.laws.Order.{key_order_total, greater_from_test, itself, below_above, above_below, kinds_rise}
+use Rattle.oz_rows.specs.laws.Same.{same_is_one}
+use Rattle.oz_rows.specs.laws.Rising.{over_same, over_lower}
 use Rattle.oz_cache.specs.declared.cached_rows.CachedRow.{CachedRow}
 use Rattle.oz_cache.specs.Places.{RowsRise, AllAbove, found, over_row}
 use Rattle.oz_cache.proofs.Rows.{row_key, found_above}

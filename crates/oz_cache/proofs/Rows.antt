@@ -4,11 +4,11 @@ use mathlib.Core.Bool.{false≢true}
 use Rattle.std.specs.List.{insert, remove}
 use Rattle.std.specs.Ordering.{is_eq}
 use Rattle.oz_rows.specs.declared.key.RowKey.{RowKey}
-use Rattle.oz_tables.specs.Tables.{IsBelow, is_same}
-use Rattle.oz_tables.specs.laws.Order.{key_order_total}
-use Rattle.oz_tables.specs.laws.Same.{same_is_one}
-use Rattle.oz_tables.specs.laws.Splits.{parts, parts_at, set_parts, some_item}
-use Rattle.oz_tables.specs.laws.Rising.{rise_with, rise_without}
+use Rattle.oz_rows.specs.RowMaps.{IsBelow, is_same}
+use Rattle.oz_rows.specs.laws.Order.{key_order_total}
+use Rattle.oz_rows.specs.laws.Same.{same_is_one}
+use Rattle.oz_rows.specs.laws.Splits.{parts, parts_at, set_parts, some_item}
+use Rattle.oz_rows.specs.laws.Rising.{rise_with, rise_without}
 use Rattle.oz_cache.specs.declared.cached_rows.CachedRow.{CachedRow}
 use Rattle.oz_cache.specs.Places.{RowsRise, AllBelow, AllAbove, IsAt, IsGap, found}
 

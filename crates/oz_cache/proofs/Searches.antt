@@ -3,7 +3,7 @@ use Rattle.std.proofs.Common.{ℕ, List, length, Result, IfOk, IfErr}
 use Rattle.std.specs.List.Sorted.{IsSearchInRange, IsBinarySearchResult}
 use Rattle.oz_rows.specs.declared.key.RowKey.{RowKey}
 use Rattle.oz_rows.specs.Order.{key_order}
-use Rattle.oz_tables.specs.laws.Halving.{halved}
+use Rattle.oz_rows.specs.laws.Halving.{halved}
 use Rattle.oz_cache.specs.declared.cached_rows.CachedRow.{CachedRow}
 use Rattle.oz_cache.specs.Places.{RowsRise, IsAt, IsGap}
 use Rattle.oz_cache.proofs.Rows.{row_key}

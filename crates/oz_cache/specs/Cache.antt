@@ -6,7 +6,8 @@ use Rattle.oz_epochs.specs.Epochs.{EpochEntry}
 use Rattle.oz_rows.specs.declared.key.RowKey.{RowKey}
 use Rattle.oz_rows.specs.declared.row.Row.{Row}
 use Rattle.oz_rows.specs.declared.operation.Change.{Change}
-use Rattle.oz_tables.specs.Tables.{TableView as Tables, row_of, row_after, is_same}
+use Rattle.oz_tables.specs.Tables.{TableView as Tables}
+use Rattle.oz_rows.specs.RowMaps.{row_of, row_after, is_same}
 use Rattle.oz_cache.specs.declared.batch.Batch.{Batch}
 
 -- the tables beneath; the batches that were entered and not yet flushed, in order; the list of epochs;

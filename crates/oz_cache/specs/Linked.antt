@@ -4,7 +4,7 @@ use Rattle.std.specs.List.{AllByRecursion}
 use Rattle.oz_epochs.specs.declared.list.Place.{Place}
 use Rattle.oz_epochs.specs.Epochs.{EpochEntry, without, AreInOrder}
 use Rattle.oz_rows.specs.declared.key.RowKey.{RowKey}
-use Rattle.oz_tables.specs.Tables.{is_same}
+use Rattle.oz_rows.specs.RowMaps.{is_same}
 use Rattle.oz_cache.specs.declared.cached_rows.CachedRow.{CachedRow}
 use Rattle.oz_cache.specs.Places.{found}
 

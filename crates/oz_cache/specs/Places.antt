@@ -7,7 +7,7 @@ use Rattle.oz_rows.specs.declared.key.RowKey.{RowKey}
 use Rattle.oz_rows.specs.declared.operation.Change.{Change}
 use Rattle.oz_rows.specs.Order.{key_order}
 use Rattle.oz_rows.specs.declared.row.Row.{Row}
-use Rattle.oz_tables.specs.Tables.{Rows, IsBelow, is_same}
+use Rattle.oz_rows.specs.RowMaps.{Rows, IsBelow, is_same}
 use Rattle.oz_cache.specs.declared.cached_rows.CachedRow.{CachedRow}
 use Rattle.oz_cache.specs.declared.batch.Batch.{Batch}
 

@@ -5,7 +5,7 @@ ghost use Rattle.std.specs.Prelude.{option_copied, None, Some, if◌then◌else�
 ghost use Rattle.std.specs.List.{AllByRecursion};
 ghost use Rattle.oz_rows.specs.declared.key.RowKey.{RowKey as AnyKey};
 ghost use Rattle.oz_rows.specs.Order.{key_order};
-ghost use Rattle.oz_tables.specs.Tables.{is_same, IsBelow};
+ghost use Rattle.oz_rows.specs.RowMaps.{is_same, IsBelow};
 ghost use Rattle.oz_cache.specs.Places.{RowsRise, AllAbove, IsAt, IsGap, HasRank, IsWithin, found};
 
 use oz_epochs::Place;

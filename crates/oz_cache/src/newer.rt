@@ -5,7 +5,7 @@ ghost use Rattle.std.specs.Prelude.{IsSome, IfSome, if◌then◌else◌, OnOk};
 ghost use Rattle.std.specs.List.{AllByRecursion};
 ghost use Rattle.oz_epochs.specs.Epochs.{found as found_at};
 ghost use Rattle.oz_rows.specs.declared.key.RowKey.{RowKey as AnyKey};
-ghost use Rattle.oz_tables.specs.Tables.{is_same, IsBelow};
+ghost use Rattle.oz_rows.specs.RowMaps.{is_same, IsBelow};
 ghost use Rattle.oz_cache.specs.Places.{RowsRise, AllAbove, IsWithin, found, written, written_in, after_changes};
 ghost use Rattle.oz_cache.specs.Places.{if_later};
 ghost use Rattle.oz_cache.specs.Linked.{AreLinked, AllBy, place_of, without_place};

@@ -3,7 +3,7 @@
 ghost use Rattle.std.specs.Prelude.{◌≡◌, ◌+◌, ◌<◌, ◌≤◌, [], ◌++◌, length, take, drop, OnOk};
 ghost use Rattle.oz_rows.specs.declared.key.RowKey.{RowKey as AnyKey};
 ghost use Rattle.oz_rows.specs.declared.operation.TheConstants.{END_OF_INDEXES};
-ghost use Rattle.oz_tables.specs.Tables.{row_of, row_after};
+ghost use Rattle.oz_rows.specs.RowMaps.{row_of, row_after};
 ghost use Rattle.oz_cache.specs.Cache.{batched_changes, epoch_after, up_to, later};
 ghost use Rattle.oz_cache.specs.Waiting.{EpochsRise, starts_by};
 

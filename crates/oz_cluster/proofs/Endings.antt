@@ -21,11 +21,11 @@ use Rattle.oz_om_bucket.specs.Meets.{Stand}
 use Rattle.oz_rows.specs.declared.key.RowKey.{RowKey}
 use Rattle.oz_rows.specs.declared.row.Row.{Row}
 use Rattle.oz_rows.specs.Rows.{RowFits}
-use Rattle.oz_tables.specs.declared.entry.RowEntry.{RowEntry}
-use Rattle.oz_tables.specs.Build.{Builds}
-use Rattle.oz_tables.specs.Sound.{IsSound}
-use Rattle.oz_tables.specs.StandsFor.{StandsFor}
-use Rattle.oz_tables.specs.Tables.{Rows, row_of}
+use Rattle.oz_rows.specs.declared.entry.RowEntry.{RowEntry}
+use Rattle.oz_effects.specs.Build.{Builds}
+use Rattle.oz_sound.specs.Sound.{IsSound}
+use Rattle.oz_sound.specs.StandsFor.{StandsFor}
+use Rattle.oz_rows.specs.RowMaps.{Rows, row_of}
 use Rattle.oz_cluster.specs.Fits.{AllAreTold}
 use Rattle.oz_cluster.specs.declared.events.Node.{Node}
 use Rattle.oz_cluster.specs.declared.events.Node.TheVariants.{Manager, Scm, Datanode}

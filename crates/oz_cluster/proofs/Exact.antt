@@ -4,11 +4,11 @@ use Rattle.std.proofs.lemmas.List.{take-append-drop}
 use Rattle.oz_journal.specs.Grammar.{IsJournal, IsDamagedAt, places}
 use Rattle.oz_namespace.specs.declared.namespace.Namespace.{Namespace}
 use Rattle.oz_namespace.specs.Namespace.{nothing}
-use Rattle.oz_tables.specs.declared.entry.RowEntry.{RowEntry}
-use Rattle.oz_tables.specs.Build.{Builds, BuildsFrom, FailsAt}
-use Rattle.oz_tables.specs.Sound.{IsSound}
-use Rattle.oz_tables.specs.StandsFor.{StandsFor}
-use Rattle.oz_tables.specs.Tables.{Rows, row_of}
+use Rattle.oz_rows.specs.declared.entry.RowEntry.{RowEntry}
+use Rattle.oz_effects.specs.Build.{Builds, BuildsFrom, FailsAt}
+use Rattle.oz_sound.specs.Sound.{IsSound}
+use Rattle.oz_sound.specs.StandsFor.{StandsFor}
+use Rattle.oz_rows.specs.RowMaps.{Rows, row_of}
 use Rattle.oz_cluster.specs.Opens.{Loads, IsCoherent, Opens, IsDamagedDisk, IsFaultIn}
 use Rattle.oz_cluster.specs.Story.{Opening}
 use Rattle.oz_cluster.specs.Words.{IsRun, BeginsRun, IsFirstFault}

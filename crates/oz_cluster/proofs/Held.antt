@@ -12,11 +12,11 @@ use Rattle.oz_requests.specs.declared.answer.Answer.{Answer}
 use Rattle.oz_requests.specs.declared.reply.Reply.{Reply}
 use Rattle.oz_requests.specs.declared.request.Request.{Request}
 use Rattle.oz_rows.specs.declared.operation.Change.{Change}
-use Rattle.oz_tables.specs.declared.entry.RowEntry.{RowEntry}
-use Rattle.oz_tables.specs.Batches.{AreRows, IsBatchOf, after_changes}
-use Rattle.oz_tables.specs.Build.{Builds}
-use Rattle.oz_tables.specs.Tables.{Rows, row_of}
-use Rattle.oz_tables.specs.laws.Steps.{body_follows}
+use Rattle.oz_rows.specs.declared.entry.RowEntry.{RowEntry}
+use Rattle.oz_rows.specs.RowMaps.{AreRows, Rows, row_of, after_changes}
+use Rattle.oz_effects.specs.Batches.{IsBatchOf}
+use Rattle.oz_effects.specs.Build.{Builds}
+use Rattle.oz_effects.specs.laws.Steps.{body_follows}
 use Rattle.oz_cluster.specs.declared.events.Event.{Event}
 use Rattle.oz_cluster.specs.declared.events.Node.TheVariants.{Manager}
 use Rattle.oz_cluster.specs.Opens.{IsCoherent, Opens, Keeps}

@@ -1,8 +1,8 @@
 -- The rows of an empty store are sound.
 use Rattle.std.proofs.Common.{◌≡◌, ℕ, List, [], ◌∷◌, Option, Some, None, arith}
 use Rattle.std.proofs.lemmas.Bool.{false≢true}
-use Rattle.oz_tables.specs.Sound.{AtMost, IsUsing, IsSound}
-use Rattle.oz_tables.specs.Tables.{row_of}
+use Rattle.oz_sound.specs.Sound.{AtMost, IsUsing, IsSound}
+use Rattle.oz_rows.specs.RowMaps.{row_of}
 
 none_hold : {A : Type 0} (count : ℕ) (Holds : A → Type 0) → ((item : A) → Holds item → ⊥) → AtMost count Holds
 none_hold count Holds none [] differ all = omega arith

@@ -6,7 +6,7 @@ use Rattle.oz_journal.specs.declared.load_fault.LoadFault.{LoadFault}
 use Rattle.oz_journal.specs.declared.load_fault.LoadFault.TheVariants as load
 use Rattle.oz_journal.specs.Body.{bodies_in, places_in}
 use Rattle.oz_journal.specs.Grammar.{IsDamagedAt, IsJournal, places, records, sized}
-use Rattle.oz_tables.specs.Build.{FailsAt}
+use Rattle.oz_effects.specs.Build.{FailsAt}
 use Rattle.oz_cluster.specs.declared.opening.OpenFault.TheVariants as open_faults
 use Rattle.oz_cluster.specs.OpenFaults.{as_open}
 use Rattle.oz_cluster.specs.Opens.{IsDamagedDisk, IsFaultIn}

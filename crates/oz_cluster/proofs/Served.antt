@@ -11,9 +11,8 @@ use Rattle.oz_requests.specs.declared.answer.Answer.TheVariants as told
 use Rattle.oz_requests.specs.declared.reply.Reply.{Reply}
 use Rattle.oz_script.specs.declared.grammar.Line.{Line}
 use Rattle.oz_script.specs.declared.grammar.Script.{Script}
-use Rattle.oz_tables.specs.Batches.{after_changes}
-use Rattle.oz_tables.specs.Tables.{Rows}
-use Rattle.oz_tables.specs.laws.Oneness.{one_namespace}
+use Rattle.oz_rows.specs.RowMaps.{after_changes, Rows}
+use Rattle.oz_sound.specs.laws.Oneness.{one_namespace}
 use Rattle.oz_cluster.specs.declared.events.Event.{Event}
 use Rattle.oz_cluster.specs.declared.events.Node.TheVariants.{Manager}
 use Rattle.oz_cluster.specs.Fits.{IsLineOf, request_of, answer_of}

@@ -2,12 +2,11 @@
 use Rattle.std.specs.Prelude.{◌≡◌, ◌⊎◌, ℕ, ◌+◌, List, Option, Some, slice_get}
 use Rattle.oz_journal.specs.Grammar.{IsJournal, TellsBodies, IsDamagedAt, places}
 use Rattle.oz_namespace.specs.declared.namespace.Namespace.{Namespace}
-use Rattle.oz_tables.specs.declared.entry.RowEntry.{RowEntry}
-use Rattle.oz_tables.specs.Batches.{AreRows}
-use Rattle.oz_tables.specs.Build.{Builds, FailsAt}
-use Rattle.oz_tables.specs.Sound.{IsSound}
-use Rattle.oz_tables.specs.StandsFor.{StandsFor}
-use Rattle.oz_tables.specs.Tables.{Rows, row_of}
+use Rattle.oz_rows.specs.declared.entry.RowEntry.{RowEntry}
+use Rattle.oz_rows.specs.RowMaps.{AreRows, Rows, row_of}
+use Rattle.oz_effects.specs.Build.{Builds, FailsAt}
+use Rattle.oz_sound.specs.Sound.{IsSound}
+use Rattle.oz_sound.specs.StandsFor.{StandsFor}
 use Rattle.oz_cluster.specs.Story.{Opening}
 
 -- the bodies of a disk's journal make these rows, with this last index

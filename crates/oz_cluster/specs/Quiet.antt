@@ -16,7 +16,7 @@ use Rattle.oz_cluster.specs.Fits.{FitsFrom, told_lines}
 use Rattle.oz_cluster.specs.Law.{IsLegal}
 use Rattle.oz_namespace.specs.declared.namespace.Namespace.{Namespace}
 use Rattle.oz_om_bucket.specs.Meets.{Stand}
-use Rattle.oz_tables.specs.Tables.{Rows}
+use Rattle.oz_rows.specs.RowMaps.{Rows}
 use Rattle.oz_cluster.specs.Opens.{Keeps}
 use Rattle.oz_cluster.specs.Stops.{IsWithin, StopsHold}
 use Rattle.oz_cluster.specs.Story.{Opening, is_asked, is_told, pending, last_index, swapped_index, durable_index}

@@ -14,8 +14,7 @@ use Rattle.oz_requests.specs.declared.reply.Reply.{Reply}
 use Rattle.oz_requests.specs.declared.request.Request.{Request}
 use Rattle.oz_rows.specs.declared.operation.Change.{Change}
 use Rattle.oz_script.specs.declared.grammar.Line.{Line}
-use Rattle.oz_tables.specs.Batches.{after_changes}
-use Rattle.oz_tables.specs.Tables.{Rows}
+use Rattle.oz_rows.specs.RowMaps.{after_changes, Rows}
 use Rattle.oz_cluster.specs.declared.events.Event.{Event}
 use Rattle.oz_cluster.specs.Fits.{request_of, answer_of}
 use Rattle.oz_cluster.specs.Stopped.{IsUntouched}

@@ -2,7 +2,7 @@
 use Rattle.std.specs.Prelude.{◌≡◌, ◌⊎◌, ℕ, ◌≤◌, List, take, Option, Some, Err, IfSome}
 use Rattle.oz_script.specs.declared.grammar.Cause.{Cause}
 use Rattle.oz_script.specs.declared.grammar.ScriptFault.TheVariants.{At}
-use Rattle.oz_tables.specs.declared.entry.RowEntry.{RowEntry}
+use Rattle.oz_rows.specs.declared.entry.RowEntry.{RowEntry}
 use Rattle.oz_cluster.specs.Opens.{Loads, IsDamagedDisk}
 use Rattle.oz_cluster.specs.Stopped.{IsScript}
 use Rattle.oz_script.specs.Script.{script_of}

@@ -2,13 +2,14 @@
 
 ghost use Rattle.std.specs.Prelude.{◌≡◌, ◌≤◌, ℕ, List, length};
 ghost use Rattle.oz_namespace.specs.Namespace.{nothing};
-ghost use Rattle.oz_tables.specs.declared.entry.RowEntry.{RowEntry as AnyEntry};
+ghost use Rattle.oz_rows.specs.declared.entry.RowEntry.{RowEntry as AnyEntry};
 ghost use Rattle.oz_cluster.specs.Opens.{Loads, IsCoherent, Opens, IsDamagedDisk};
 ghost use Rattle.oz_cluster.specs.Story.{Opening};
 ghost use Rattle.oz_cluster.specs.Words.{IsRun, IsFirstFault};
 
+use oz_build::bodies_make_one_thing;
 use oz_journal::bytes_stand_for_one_thing;
-use oz_tables::{bodies_make_one_thing, no_rows_stand_for_nothing, rows_stand_for_one_namespace};
+use oz_sound::{no_rows_stand_for_nothing, rows_stand_for_one_namespace};
 
 /// The bytes of a manager's disk open as one thing, or are damaged at one place.
 pub fn a_disk_opens_as_one_thing()

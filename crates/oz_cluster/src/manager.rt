@@ -10,7 +10,7 @@ ghost use Rattle.oz_rows.specs.declared.operation.TheConstants.{LONGEST_OPERATIO
 ghost use Rattle.oz_journal.specs.Journal.{body_of};
 ghost use Rattle.oz_names.specs.Names.{stripe_of};
 ghost use Rattle.oz_requests.specs.Names.{volume_in};
-ghost use Rattle.oz_tables.specs.Tables.{row_after, row_of};
+ghost use Rattle.oz_rows.specs.RowMaps.{row_after, row_of};
 ghost use Rattle.oz_rows.specs.Operations.{IsIndex};
 ghost use Rattle.oz_cluster.specs.Body.{body_bytes};
 ghost use Rattle.oz_cluster.specs.Law.{stripe_seat};

@@ -12,15 +12,17 @@ ghost use Rattle.oz_world.specs.Moments.{Elapses, Spans};
 ghost use Rattle.oz_rows.specs.declared.key.RowKey.{RowKey as AnyKey};
 ghost use Rattle.oz_rows.specs.declared.row.Row.{Row as AnyRow};
 ghost use Rattle.oz_rows.specs.Rows.{RowFits};
-ghost use Rattle.oz_tables.specs.Build.{Builds, FailsAt};
+ghost use Rattle.oz_effects.specs.Build.{Builds, FailsAt};
 ghost use Rattle.oz_cluster.specs.OpenFaults.{as_open};
 ghost use Rattle.oz_cluster.specs.Opens.{Loads, IsFaultIn, IsDamagedDisk, Keeps};
 
 use crate::manager::Manager;
+use oz_build::{BuildFault, bodies_make_one_thing, build};
 use oz_cache::Cached;
+use oz_effects::a_batch_makes_a_body;
 use oz_fields::OutOfMemory;
 use oz_journal::{Body, Journal, LoadFault};
-use oz_tables::{BuildFault, Tables, a_batch_makes_a_body, bodies_make_one_thing, build};
+use oz_tables::Tables;
 use oz_world::Disk;
 use std::alloc::Global;
 

@@ -4,9 +4,9 @@ use mathlib.Core.Bool.{false≢true}
 use Rattle.std.specs.List.{list_all}
 use Rattle.oz_rows.specs.declared.key.RowKey.{RowKey}
 use Rattle.oz_rows.specs.declared.row.Row.{Row}
-use Rattle.oz_tables.specs.declared.entry.RowEntry.{RowEntry}
-use Rattle.oz_tables.specs.Build.{base_of, AllAreBased}
-use Rattle.oz_tables.specs.Tables.{row_of}
+use Rattle.oz_rows.specs.declared.entry.RowEntry.{RowEntry}
+use Rattle.oz_effects.specs.Build.{base_of, AllAreBased}
+use Rattle.oz_rows.specs.RowMaps.{row_of}
 use Rattle.oz_example.specs.Example.{rows}
 use Rattle.oz_example.proofs.Entries.{row_passes}
 

@@ -6,11 +6,10 @@ use Rattle.std.proofs.lemmas.Bool.{eq-eqb}
 use Rattle.oz_fields.specs.declared.block.Block.{Block}
 use Rattle.oz_rows.specs.declared.key.RowKey.{RowKey}
 use Rattle.oz_rows.specs.declared.key.RowKey.TheVariants as keys
-use Rattle.oz_tables.specs.declared.entry.RowEntry.{RowEntry}
-use Rattle.oz_tables.specs.Effects.{is_block}
-use Rattle.oz_tables.specs.Sound.{bucket_of_row, StandsIn, IsHome, IsKeeper, SnapshotHas, AreTogether, BlocksAreSound}
-use Rattle.oz_tables.specs.StandsFor.{IsLive, is_among}
-use Rattle.oz_tables.specs.Tables.{row_of, KeysRise}
+use Rattle.oz_rows.specs.declared.entry.RowEntry.{RowEntry}
+use Rattle.oz_rows.specs.RowMaps.{is_block, row_of, KeysRise}
+use Rattle.oz_sound.specs.Sound.{bucket_of_row, StandsIn, IsHome, IsKeeper, SnapshotHas, AreTogether, BlocksAreSound}
+use Rattle.oz_sound.specs.StandsFor.{IsLive, is_among}
 use Rattle.oz_example.proofs.Keys.{same_is_one, same_self}
 use Rattle.oz_example.proofs.Lists.{split_and, if_so}
 use Rattle.oz_example.proofs.Entries.{row_passes}

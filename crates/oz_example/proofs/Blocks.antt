@@ -6,10 +6,9 @@ use Rattle.std.proofs.lemmas.Bool.{eq-eqb}
 use Rattle.std.proofs.lemmas.Bool.Decides.{nat_tests}
 use Rattle.oz_fields.specs.declared.block.Block.{Block}
 use Rattle.oz_rows.specs.declared.key.RowKey.{RowKey}
-use Rattle.oz_tables.specs.declared.entry.RowEntry.{RowEntry}
-use Rattle.oz_tables.specs.Effects.{is_block}
-use Rattle.oz_tables.specs.Sound.{blocks_of, StandsIn}
-use Rattle.oz_tables.specs.Tables.{row_of, KeysRise}
+use Rattle.oz_rows.specs.declared.entry.RowEntry.{RowEntry}
+use Rattle.oz_rows.specs.RowMaps.{is_block, row_of, KeysRise}
+use Rattle.oz_sound.specs.Sound.{blocks_of, StandsIn}
 use Rattle.oz_example.proofs.Lists.{IsAmong, split_and, split_or, some_item}
 use Rattle.oz_example.proofs.Entries.{row_passes, own_row}
 

@@ -3,10 +3,10 @@ use Rattle.std.proofs.Common.{◌≡◌, ◌≤◌, ℕ, Bool, true, false, List
 use Rattle.oz_names.specs.declared.limits.TheConstants.{MOST_BUCKETS, MOST_KEYS, MOST_SNAPSHOTS}
 use Rattle.oz_rows.specs.declared.key.RowKey.{RowKey}
 use Rattle.oz_rows.specs.declared.key.RowKey.TheVariants as keys
-use Rattle.oz_tables.specs.declared.entry.RowEntry.{RowEntry}
-use Rattle.oz_tables.specs.Sound.{IsUsing, CountsAreSound}
-use Rattle.oz_tables.specs.StandsFor.{IsLive}
-use Rattle.oz_tables.specs.Tables.{row_of}
+use Rattle.oz_rows.specs.declared.entry.RowEntry.{RowEntry}
+use Rattle.oz_sound.specs.Sound.{IsUsing, CountsAreSound}
+use Rattle.oz_sound.specs.StandsFor.{IsLive}
+use Rattle.oz_rows.specs.RowMaps.{row_of}
 use Rattle.oz_example.proofs.Entries.{is_there}
 use Rattle.oz_example.proofs.Few.{keys_passing, at_most}
 

@@ -6,8 +6,8 @@ use Rattle.std.specs.Ordering.{is_eq, is_lt}
 use Rattle.oz_rows.specs.declared.key.RowKey.{RowKey}
 use Rattle.oz_rows.specs.declared.row.Row.{Row}
 use Rattle.oz_rows.specs.Order.{key_order}
-use Rattle.oz_tables.specs.declared.entry.RowEntry.{RowEntry}
-use Rattle.oz_tables.specs.Tables.{row_of, is_same, IsBelow, KeysRise}
+use Rattle.oz_rows.specs.declared.entry.RowEntry.{RowEntry}
+use Rattle.oz_rows.specs.RowMaps.{row_of, is_same, IsBelow, KeysRise}
 use Rattle.oz_example.proofs.Keys.{same_is_one, same_self, less_from_test}
 use Rattle.oz_example.proofs.Lists.{IsAmong, split_and, each_item}
 

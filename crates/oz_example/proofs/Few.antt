@@ -3,9 +3,10 @@ use Rattle.std.proofs.Common.{◌≡◌, ◌≢◌, ◌≤◌, ℕ, Bool, true, 
 use mathlib.Core.Bool.{false≢true}
 use Rattle.std.specs.List.{AllByRecursion}
 use Rattle.oz_rows.specs.declared.key.RowKey.{RowKey}
-use Rattle.oz_tables.specs.declared.entry.RowEntry.{RowEntry}
-use Rattle.oz_tables.specs.Sound.{AllDiffer, AtMost}
-use Rattle.oz_tables.specs.Tables.{row_of, is_same}
+use Rattle.oz_rows.specs.declared.entry.RowEntry.{RowEntry}
+use Rattle.oz_rows.specs.Counts.{AllDiffer}
+use Rattle.oz_sound.specs.Sound.{AtMost}
+use Rattle.oz_rows.specs.RowMaps.{row_of, is_same}
 use Rattle.oz_example.proofs.Keys.{same_is_one}
 use Rattle.oz_example.proofs.Lists.{IsAmong, no_more}
 

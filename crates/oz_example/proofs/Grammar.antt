@@ -15,7 +15,7 @@ use Rattle.oz_rows.specs.declared.key.RowKey.TheVariants as keys
 use Rattle.oz_rows.specs.declared.row.Row.{Row}
 use Rattle.oz_rows.specs.declared.row.Row.TheVariants as values
 use Rattle.oz_rows.specs.Rows.{IsNumber, IsBlock, IsPiece, AreItems, BeginsWith, KeyFits, ValueFits, RowFits}
-use Rattle.oz_tables.specs.declared.entry.RowEntry.{RowEntry}
+use Rattle.oz_rows.specs.declared.entry.RowEntry.{RowEntry}
 use Rattle.oz_example.specs.Example.{rows}
 use Rattle.oz_example.proofs.Lists.{split_and}
 use Rattle.oz_example.proofs.Blocks.{eq_from}

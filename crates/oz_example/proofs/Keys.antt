@@ -10,7 +10,7 @@ use Rattle.oz_rows.specs.declared.key.RowKey.{RowKey}
 use Rattle.oz_rows.specs.declared.key.RowKey.TheVariants as keys
 use Rattle.oz_rows.specs.Rows.{kind_of}
 use Rattle.oz_rows.specs.Order.{key_fields}
-use Rattle.oz_tables.specs.Tables.{is_same}
+use Rattle.oz_rows.specs.RowMaps.{is_same}
 
 abbrev told : RowKey → List (List ℕ)
 told key = (kind_of key ∷ []) ∷ key_fields key

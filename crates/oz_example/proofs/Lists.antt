@@ -3,7 +3,7 @@ use Rattle.std.proofs.Common.{◌≡◌, ◌≢◌, ◌⊎◌, ◌≤◌, ◌&&�
 use Rattle.std.specs.Prelude.{not}
 use mathlib.Core.Bool.{false≢true}
 use Rattle.std.specs.List.{AllByRecursion, list_all, list_any}
-use Rattle.oz_tables.specs.Sound.{AllDiffer}
+use Rattle.oz_rows.specs.Counts.{AllDiffer}
 
 pub split_and : (a b : Bool) → (a && b) ≡ true → (a ≡ true) × (b ≡ true)
 split_and true b e = (refl, e)

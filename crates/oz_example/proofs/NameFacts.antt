@@ -11,10 +11,9 @@ use Rattle.oz_rows.specs.declared.key.RowKey.TheVariants as keys
 use Rattle.oz_rows.specs.declared.row.Row.{Row}
 use Rattle.oz_rows.specs.declared.row.Row.TheVariants as values
 use Rattle.oz_rows.specs.declared.row.SnapshotState.TheVariants.{Live}
-use Rattle.oz_tables.specs.declared.entry.RowEntry.{RowEntry}
-use Rattle.oz_tables.specs.Effects.{is_block}
-use Rattle.oz_tables.specs.Sound.{StandsIn, SnapshotHas, ComesBehind, IsRename, IsNamedAnew, NamesAreSound}
-use Rattle.oz_tables.specs.Tables.{row_of, is_same, KeysRise}
+use Rattle.oz_rows.specs.declared.entry.RowEntry.{RowEntry}
+use Rattle.oz_rows.specs.RowMaps.{is_block, row_of, is_same, KeysRise}
+use Rattle.oz_sound.specs.Sound.{StandsIn, SnapshotHas, ComesBehind, IsRename, IsNamedAnew, NamesAreSound}
 use Rattle.oz_example.proofs.Keys.{same_is_one, same_self}
 use Rattle.oz_example.proofs.Lists.{split_and, split_or, if_so, not_so, some_item}
 use Rattle.oz_example.proofs.Entries.{row_passes, own_row, found_row, is_there}

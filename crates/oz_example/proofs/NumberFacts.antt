@@ -5,10 +5,10 @@ use Rattle.std.proofs.lemmas.Bool.{leb-true}
 use Rattle.oz_names.specs.Names.{stripe_of}
 use Rattle.oz_rows.specs.declared.key.RowKey.{RowKey}
 use Rattle.oz_rows.specs.declared.key.RowKey.TheVariants as keys
-use Rattle.oz_tables.specs.declared.entry.RowEntry.{RowEntry}
-use Rattle.oz_tables.specs.Sound.{NumbersAreSound}
-use Rattle.oz_tables.specs.StandsFor.{drawn_in}
-use Rattle.oz_tables.specs.Tables.{Rows, row_of}
+use Rattle.oz_rows.specs.declared.entry.RowEntry.{RowEntry}
+use Rattle.oz_sound.specs.Sound.{NumbersAreSound}
+use Rattle.oz_sound.specs.StandsFor.{drawn_in}
+use Rattle.oz_rows.specs.RowMaps.{Rows, row_of}
 use Rattle.oz_example.proofs.Lists.{split_or}
 use Rattle.oz_example.proofs.Entries.{key_passes}
 use Rattle.oz_example.proofs.Blocks.{eq_from}

@@ -1,9 +1,9 @@
 -- The example's rows pass the tests.
 use Rattle.std.proofs.Common.{◌≡◌, ◌∷◌, [], ℕ, List, true, refl, arith}
 use Rattle.std.specs.List.{list_all}
-use Rattle.oz_tables.specs.declared.entry.RowEntry.{RowEntry}
-use Rattle.oz_tables.specs.Sound.{IsSound}
-use Rattle.oz_tables.specs.Tables.{row_of, KeysRise}
+use Rattle.oz_rows.specs.declared.entry.RowEntry.{RowEntry}
+use Rattle.oz_sound.specs.Sound.{IsSound}
+use Rattle.oz_rows.specs.RowMaps.{row_of, KeysRise}
 use Rattle.oz_example.specs.Example.{rows}
 use Rattle.oz_example.proofs.Entries.{do_rise, rising}
 use Rattle.oz_example.proofs.Few.{keys_passing}

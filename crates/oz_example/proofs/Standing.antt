@@ -19,9 +19,9 @@ use Rattle.oz_rows.specs.declared.row.Row.{Row}
 use Rattle.oz_rows.specs.declared.row.Row.TheVariants as values
 use Rattle.oz_rows.specs.declared.row.SnapshotState.TheVariants.{Live}
 use Rattle.oz_rows.specs.Rows.{kind_of}
-use Rattle.oz_tables.specs.declared.entry.RowEntry.{RowEntry}
-use Rattle.oz_tables.specs.StandsFor.{StandsFor, SnapshotsStand, pieces_in}
-use Rattle.oz_tables.specs.Tables.{row_of}
+use Rattle.oz_rows.specs.declared.entry.RowEntry.{RowEntry}
+use Rattle.oz_sound.specs.StandsFor.{StandsFor, SnapshotsStand, pieces_in}
+use Rattle.oz_rows.specs.RowMaps.{row_of}
 use Rattle.oz_example.specs.Example.{rows, namespace, home, shop, drafts, photos, orders, cat, fox, pond, one, two, block, volumes, buckets_of_home, buckets_of_shop, bucket_photos, bucket_orders, keys_of_photos, keys_of_monday, keys_of_tuesday, keys_of_orders, sessions_of_photos, dog, sea, lake, session}
 use Rattle.oz_example.proofs.Entries.{each_row, row_passes}
 use Rattle.oz_example.proofs.Found.{each_found, not_none, same_option, same_test, came_of}

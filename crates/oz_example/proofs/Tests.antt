@@ -8,11 +8,10 @@ use Rattle.oz_rows.specs.declared.key.RowKey.TheVariants as keys
 use Rattle.oz_rows.specs.declared.row.Row.{Row}
 use Rattle.oz_rows.specs.declared.row.Row.TheVariants as values
 use Rattle.oz_rows.specs.declared.row.SnapshotState.TheVariants.{Live}
-use Rattle.oz_tables.specs.declared.entry.RowEntry.{RowEntry}
-use Rattle.oz_tables.specs.Effects.{is_block, is_bucket}
-use Rattle.oz_tables.specs.Sound.{bucket_of_row}
-use Rattle.oz_tables.specs.StandsFor.{drawn_in, is_among}
-use Rattle.oz_tables.specs.Tables.{Rows, is_same}
+use Rattle.oz_rows.specs.declared.entry.RowEntry.{RowEntry}
+use Rattle.oz_rows.specs.RowMaps.{is_block, is_bucket, Rows, is_same}
+use Rattle.oz_sound.specs.Sound.{bucket_of_row}
+use Rattle.oz_sound.specs.StandsFor.{drawn_in, is_among}
 use Rattle.oz_example.proofs.Blocks.{each_block, some_block}
 
 abbrev pub is_name : List ℕ → List ℕ → Bool

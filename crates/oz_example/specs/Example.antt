@@ -13,7 +13,7 @@ use Rattle.oz_rows.specs.declared.key.RowKey.TheVariants as keys
 use Rattle.oz_rows.specs.declared.row.Row.{Row}
 use Rattle.oz_rows.specs.declared.row.Row.TheVariants as values
 use Rattle.oz_rows.specs.declared.row.SnapshotState.TheVariants.{Live, Marked}
-use Rattle.oz_tables.specs.declared.entry.RowEntry.{RowEntry}
+use Rattle.oz_rows.specs.declared.entry.RowEntry.{RowEntry}
 
 -- ---- names: two volumes, four buckets, of which `bills` is gone, keys and snapshots
 

@@ -3,10 +3,10 @@
 ghost use Rattle.std.specs.List.{AllByRecursion};
 ghost use Rattle.oz_example.specs.Example.{rows, namespace};
 ghost use Rattle.oz_rows.specs.Rows.{RowFits};
-ghost use Rattle.oz_tables.specs.Build.{AllAreBased};
-ghost use Rattle.oz_tables.specs.Sound.{IsSound};
-ghost use Rattle.oz_tables.specs.StandsFor.{StandsFor};
-ghost use Rattle.oz_tables.specs.Tables.{KeysRise, row_of};
+ghost use Rattle.oz_effects.specs.Build.{AllAreBased};
+ghost use Rattle.oz_sound.specs.Sound.{IsSound};
+ghost use Rattle.oz_sound.specs.StandsFor.{StandsFor};
+ghost use Rattle.oz_rows.specs.RowMaps.{KeysRise, row_of};
 
 /// The example's rows are in the grammar and in their order, and each has the row that it needs. They stand for its
 /// namespace, and are sound.

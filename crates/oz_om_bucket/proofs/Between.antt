@@ -10,8 +10,8 @@ use Rattle.std.proofs.lemmas.Bool.Decides.{nat_tests}
 use Rattle.std.specs.FinMap.{nat_cmp-IsAntisymmetric, slice_cmp-IsAntisymmetric}
 use Rattle.oz_rows.specs.declared.key.RowKey.{RowKey}
 use Rattle.oz_rows.specs.declared.key.RowKey.TheVariants as keys
-use Rattle.oz_tables.specs.Counts.{IsBetween}
-use Rattle.oz_tables.specs.Tables.{Rows, IsBelow}
+use Rattle.oz_rows.specs.Counts.{IsBetween}
+use Rattle.oz_rows.specs.RowMaps.{Rows, IsBelow}
 
 abbrev pub cmp : List ℕ → List ℕ → Ordering
 cmp a b = slice_cmp nat_cmp a b

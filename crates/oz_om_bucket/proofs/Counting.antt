@@ -19,17 +19,17 @@ use Rattle.oz_rows.specs.declared.row.Row.{Row}
 use Rattle.oz_rows.specs.declared.row.Row.TheVariants as rows
 use Rattle.oz_rows.specs.Order.{key_order}
 use Rattle.oz_rows.specs.Rows.{ValueFits}
-use Rattle.oz_tables.specs.Counts.{IsBetween, AllRise, AreKeys, IsCount}
-use Rattle.oz_tables.specs.Sound.{AllDiffer, AtMost, IsUsing}
-use Rattle.oz_tables.specs.StandsFor.{pieces_in}
-use Rattle.oz_tables.specs.Tables.{Rows, IsBelow, is_same}
-use Rattle.oz_tables.specs.laws.Order.{itself}
-use Rattle.oz_tables.specs.laws.Same.{same_is_one}
+use Rattle.oz_rows.specs.Counts.{IsBetween, AllRise, AreKeys, IsCount, AllDiffer}
+use Rattle.oz_sound.specs.Sound.{AtMost, IsUsing}
+use Rattle.oz_sound.specs.StandsFor.{pieces_in}
+use Rattle.oz_rows.specs.RowMaps.{Rows, IsBelow, is_same}
+use Rattle.oz_rows.specs.laws.Order.{itself}
+use Rattle.oz_rows.specs.laws.Same.{same_is_one}
 use Rattle.oz_om_bucket.specs.Meets.{Stand}
 use Rattle.oz_om_bucket.specs.Walking.{bucket_named}
 use Rattle.oz_om_bucket.proofs.Rising.{each_in_turn, Rises, among, same_rising, keys_rise, len_keys, differ, among_cases, among_head, among_later, each_among, same_size}
 use Rattle.oz_om_bucket.proofs.Writing.{looked_up, has_pieces}
-use Rattle.oz_tables.specs.laws.BucketRows.{pieces_seen, session_seen}
+use Rattle.oz_sound.specs.laws.BucketRows.{pieces_seen, session_seen}
 use Rattle.oz_om_bucket.proofs.Between.{cmp, next, a_bucket, bucket_between, buckets_rise, a_key, key_between, an_open_key, open_between}
 use Rattle.oz_om_bucket.proofs.Between.{keys_rise as key_rows_rise}
 

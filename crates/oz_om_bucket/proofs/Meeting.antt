@@ -16,9 +16,8 @@ use Rattle.oz_rows.specs.declared.key.RowKey.TheVariants as keys
 use Rattle.oz_rows.specs.declared.row.Row.TheVariants as rows
 use Rattle.oz_rows.specs.declared.operation.Operation.TheVariants.{Put, Remove}
 use Rattle.oz_rows.specs.laws.Sizes.{operation_size}
-use Rattle.oz_tables.specs.Batches.{after_changes}
-use Rattle.oz_tables.specs.Tables.{Rows}
-use Rattle.oz_tables.specs.laws.Steps.{nothing_is_batch}
+use Rattle.oz_rows.specs.RowMaps.{after_changes, Rows}
+use Rattle.oz_effects.specs.laws.Steps.{nothing_is_batch}
 use Rattle.oz_om_bucket.specs.Meets.{Stand, Meets}
 use Rattle.oz_om_bucket.specs.Records.{changes_for, recorded_changes, bytes_for, recorded_bytes}
 use Rattle.oz_om_bucket.proofs.Writing.{Writes, creates_volume, deletes_volume, creates_bucket, deletes_bucket}

@@ -9,9 +9,9 @@ use Rattle.std.specs.Cmp.{IsTotalOrder}
 use Rattle.std.proofs.lemmas.Cmp.{tied_itself}
 use Rattle.std.specs.FinMap.{FinMap, IsAntisymmetric, keys, entries, entries_sorted, len, len-entries, is_sorted}
 use Rattle.std.specs.FinMap.Entries.{below_all}
-use Rattle.oz_tables.specs.Sound.{AllDiffer}
-use Rattle.oz_tables.specs.laws.Order.{equal_from_test}
-use Rattle.oz_tables.specs.laws.Sizes.{no_longer}
+use Rattle.oz_rows.specs.Counts.{AllDiffer}
+use Rattle.oz_rows.specs.laws.Order.{equal_from_test}
+use Rattle.oz_rows.specs.laws.Lengths.{no_longer}
 
 pub each_in_turn : {A : Type 0} (P Q : A → Type 0) → ((a : A) → P a → Q a) → (l : List A) → AllByRecursion P l → AllByRecursion Q l
 each_in_turn P Q f [] all = tt

@@ -16,14 +16,13 @@ use Rattle.oz_rows.specs.declared.row.Row.{Row}
 use Rattle.oz_rows.specs.declared.row.Row.TheVariants as rows
 use Rattle.oz_rows.specs.declared.row.SnapshotState.TheVariants.{Live}
 use Rattle.oz_rows.specs.Order.{key_order}
-use Rattle.oz_tables.specs.Counts.{IsBetween, AllRise, AreKeys}
-use Rattle.oz_tables.specs.Sound.{AllDiffer}
-use Rattle.oz_tables.specs.StandsFor.{AreSnapshots, NumbersRise, IsLive, is_among}
-use Rattle.oz_tables.specs.Tables.{Rows, IsBelow, is_same}
-use Rattle.oz_tables.specs.laws.Order.{itself}
-use Rattle.oz_tables.specs.laws.Oneness.{alive}
-use Rattle.oz_tables.specs.laws.Same.{same_is_one}
-use Rattle.oz_tables.specs.laws.Sizes.{no_longer}
+use Rattle.oz_rows.specs.Counts.{IsBetween, AllRise, AreKeys, AllDiffer}
+use Rattle.oz_sound.specs.StandsFor.{AreSnapshots, NumbersRise, IsLive, is_among}
+use Rattle.oz_rows.specs.RowMaps.{Rows, IsBelow, is_same}
+use Rattle.oz_rows.specs.laws.Order.{itself}
+use Rattle.oz_sound.specs.laws.Oneness.{alive}
+use Rattle.oz_rows.specs.laws.Same.{same_is_one}
+use Rattle.oz_rows.specs.laws.Lengths.{no_longer}
 use Rattle.oz_om_bucket.specs.Meets.{Stand}
 use Rattle.oz_om_bucket.specs.Walking.{is_live}
 use Rattle.oz_om_bucket.proofs.Rising.{each_in_turn}

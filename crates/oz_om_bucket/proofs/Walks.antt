@@ -9,10 +9,10 @@ use Rattle.oz_rows.specs.declared.key.RowKey.{RowKey}
 use Rattle.oz_rows.specs.declared.row.Row.{Row}
 use Rattle.oz_rows.specs.Order.{key_order}
 use Rattle.oz_rows.specs.Rows.{kind_of}
-use Rattle.oz_tables.specs.Counts.{IsBetween, AllRise, AreKeys, IsCount}
-use Rattle.oz_tables.specs.Tables.{Rows, IsBelow, IsAbove, IsNext, is_same}
-use Rattle.oz_tables.specs.laws.Order.{key_order_total, itself, above_below, kinds_rise}
-use Rattle.oz_tables.specs.laws.Same.{same_is_one}
+use Rattle.oz_rows.specs.Counts.{IsBetween, AllRise, AreKeys, IsCount}
+use Rattle.oz_rows.specs.RowMaps.{Rows, IsBelow, IsAbove, IsNext, is_same}
+use Rattle.oz_rows.specs.laws.Order.{key_order_total, itself, above_below, kinds_rise}
+use Rattle.oz_rows.specs.laws.Same.{same_is_one}
 use Rattle.oz_om_bucket.specs.Walking.{last_or, IsStep}
 
 not_itself : (a : RowKey) → IsBelow a a → ⊥

@@ -23,17 +23,17 @@ use Rattle.oz_rows.specs.declared.row.Row.{Row}
 use Rattle.oz_rows.specs.declared.row.Row.TheVariants as rows
 use Rattle.oz_rows.specs.declared.row.SnapshotState.TheVariants.{Live}
 use Rattle.oz_rows.specs.Rows.{RowFits, ValueFits, kind_of}
-use Rattle.oz_tables.specs.Batches.{IsBatchOf, after_changes}
-use Rattle.oz_tables.specs.Build.{base_of}
-use Rattle.oz_tables.specs.Sound.{blocks_of, AtMost, IsSound}
-use Rattle.oz_tables.specs.StandsFor.{StandsFor, AreSnapshots, is_among, pieces_in}
-use Rattle.oz_tables.specs.Tables.{Rows, is_same}
-use Rattle.oz_tables.specs.laws.Same.{same_is_one}
-use Rattle.oz_tables.specs.laws.Sizes.{no_longer}
-use Rattle.oz_tables.specs.laws.Steps.{put_is_batch, removal_is_batch}
-use Rattle.oz_tables.specs.laws.VolumeRows.{makes_a_volume}
-use Rattle.oz_tables.specs.laws.BucketRows.{SeenAlike, sound_again}
-use Rattle.oz_tables.specs.laws.BucketChanges.{is_name, one_name, itself, same_bucket, replaced, volume_kept, bucket_kept, volume_goes, bucket_changes}
+use Rattle.oz_effects.specs.Batches.{IsBatchOf}
+use Rattle.oz_rows.specs.RowMaps.{after_changes, Rows, is_same}
+use Rattle.oz_effects.specs.Build.{base_of}
+use Rattle.oz_sound.specs.Sound.{blocks_of, AtMost, IsSound}
+use Rattle.oz_sound.specs.StandsFor.{StandsFor, AreSnapshots, is_among, pieces_in}
+use Rattle.oz_rows.specs.laws.Same.{same_is_one}
+use Rattle.oz_rows.specs.laws.Lengths.{no_longer}
+use Rattle.oz_effects.specs.laws.Steps.{put_is_batch, removal_is_batch}
+use Rattle.oz_sound.specs.laws.VolumeRows.{makes_a_volume}
+use Rattle.oz_sound.specs.laws.BucketRows.{SeenAlike, sound_again}
+use Rattle.oz_sound.specs.laws.BucketChanges.{is_name, one_name, itself, same_bucket, replaced, volume_kept, bucket_kept, volume_goes, bucket_changes}
 use Rattle.oz_om_bucket.specs.Meets.{Stand}
 use Rattle.oz_om_bucket.specs.Records.{changes_for, bytes_for}
 use Rattle.oz_om_bucket.proofs.Rising.{each_in_turn, len_keys}

@@ -8,10 +8,10 @@ use Rattle.oz_rows.specs.declared.key.RowKey.{RowKey}
 use Rattle.oz_rows.specs.declared.row.Row.{Row}
 use Rattle.oz_rows.specs.declared.operation.Change.{Change}
 use Rattle.oz_rows.specs.Rows.{RowFits}
-use Rattle.oz_tables.specs.Batches.{IsBatchOf, after_changes}
-use Rattle.oz_tables.specs.Sound.{IsSound}
-use Rattle.oz_tables.specs.StandsFor.{StandsFor}
-use Rattle.oz_tables.specs.Tables.{Rows}
+use Rattle.oz_effects.specs.Batches.{IsBatchOf}
+use Rattle.oz_rows.specs.RowMaps.{after_changes, Rows}
+use Rattle.oz_sound.specs.Sound.{IsSound}
+use Rattle.oz_sound.specs.StandsFor.{StandsFor}
 
 -- rows in the grammar that are sound, and the namespace that they stand for
 pub record Stand (rows : Rows) (namespace : Namespace) : Type 0 where

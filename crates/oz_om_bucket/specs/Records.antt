@@ -9,7 +9,7 @@ use Rattle.oz_rows.specs.declared.key.RowKey.TheVariants as keys
 use Rattle.oz_rows.specs.declared.row.Row.TheVariants as rows
 use Rattle.oz_rows.specs.declared.operation.Change.{Change}
 use Rattle.oz_rows.specs.Rows.{row_bytes, key_bytes}
-use Rattle.oz_tables.specs.Effects.{put, gone}
+use Rattle.oz_rows.specs.RowMaps.{put, gone}
 
 abbrev pub changes_for : Request → List Change
 changes_for (CreateVolume volume) = put (keys.Volume volume) rows.Volume ∷ []

@@ -3,7 +3,7 @@ use Rattle.oz_model.specs.Answers.{Answers}
 use Rattle.oz_namespace.specs.declared.namespace.Namespace.{Namespace}
 use Rattle.oz_requests.specs.declared.reply.Reply.{Reply}
 use Rattle.oz_requests.specs.declared.request.Request.{Request}
-use Rattle.oz_tables.specs.Tables.{Rows}
+use Rattle.oz_rows.specs.RowMaps.{Rows}
 use Rattle.oz_om_bucket.specs.Meets.{Stand}
 
 -- it is that of one thread, whichever namespace the rows stand for

@@ -5,7 +5,7 @@ use Rattle.oz_rows.specs.declared.key.RowKey.TheVariants as keys
 use Rattle.oz_rows.specs.declared.row.Row.{Row}
 use Rattle.oz_rows.specs.declared.row.Row.TheVariants as rows
 use Rattle.oz_rows.specs.declared.row.SnapshotState.TheVariants.{Live}
-use Rattle.oz_tables.specs.Tables.{Rows, IsNext, HasNoNext}
+use Rattle.oz_rows.specs.RowMaps.{Rows, IsNext, HasNoNext}
 
 -- the last of keys, or the one before them where there are none
 abbrev pub last_or : RowKey → List RowKey → RowKey

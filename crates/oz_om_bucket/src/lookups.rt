@@ -4,7 +4,7 @@ ghost use Rattle.std.specs.Prelude.{◌≡◌, ◌<◌, ◌^◌, ◌∷◌, ◌+
 ghost use Rattle.std.specs.FinMap.{len, keys};
 ghost use Rattle.oz_cache.specs.Cache.{newest};
 ghost use Rattle.oz_model.specs.Answers.{buckets_at, bucket_at};
-ghost use Rattle.oz_tables.specs.Counts.{IsCount};
+ghost use Rattle.oz_rows.specs.Counts.{IsCount};
 ghost use Rattle.oz_om_bucket.specs.Replies.{ShowsThat};
 
 use crate::walking::{buckets_named, keys_between, live_count};

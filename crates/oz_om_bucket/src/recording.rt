@@ -3,7 +3,7 @@
 ghost use Rattle.std.specs.Prelude.{◌≡◌, ◌∷◌, [], None, IfOk};
 ghost use Rattle.oz_requests.specs.Names.{name_fault};
 ghost use Rattle.oz_rows.specs.Rows.{RowFits, KeyFits, row_bytes, key_bytes};
-ghost use Rattle.oz_tables.specs.Effects.{put, gone};
+ghost use Rattle.oz_rows.specs.RowMaps.{put, gone};
 ghost use Rattle.oz_om_bucket.specs.Records.{recorded_changes, recorded_bytes};
 
 use crate::decision::{Decision, unchanged};

@@ -3,7 +3,7 @@
 ghost use Rattle.std.specs.Prelude.{◌≡◌, [], None, map, count_by, IfOk, OnOk};
 ghost use Rattle.oz_cache.specs.Cache.{newest};
 ghost use Rattle.oz_rows.specs.Rows.{kind_of};
-ghost use Rattle.oz_tables.specs.Counts.{AreKeys};
+ghost use Rattle.oz_rows.specs.Counts.{AreKeys};
 ghost use Rattle.oz_om_bucket.specs.Walking.{last_or as last_key, IsStep, bucket_named, is_live};
 
 use oz_cache::Cached;

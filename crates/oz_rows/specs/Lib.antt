@@ -4,4 +4,6 @@ pub mod Reading
 pub mod Faults
 pub mod Order
 pub mod KeyParts
+pub mod RowMaps
+pub mod Counts
 pub mod laws

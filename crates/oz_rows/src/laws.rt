@@ -1,6 +1,6 @@
 //! What holds of all rows and operations.
 
-ghost use Rattle.std.specs.Prelude.{◌≡◌, ◌⊎◌, ◌≤◌, ◌<◌, ◌^◌, ◌∷◌, ◌++◌, ℕ, List, length};
+ghost use Rattle.std.specs.Prelude.{◌≡◌, true, ◌⊎◌, ◌≤◌, ◌<◌, ◌^◌, ◌∷◌, ◌++◌, ℕ, List, length};
 ghost use Rattle.std.specs.List.{flat_map, AllByRecursion};
 ghost use Rattle.oz_rows.specs.declared.key.RowKey.{RowKey as AnyKey};
 ghost use Rattle.oz_rows.specs.declared.row.Row.{Row as AnyRow};
@@ -12,6 +12,7 @@ ghost use Rattle.oz_rows.specs.Faults.{IsBodyFault};
 ghost use Rattle.oz_rows.specs.Rows.{KeyFits, RowFits, key_bytes, row_bytes};
 ghost use Rattle.oz_rows.specs.Operations.{OperationFits, operation_bytes, IsBody};
 ghost use Rattle.oz_rows.specs.Order.{key_order};
+ghost use Rattle.oz_rows.specs.RowMaps.{is_same};
 ghost use Rattle.oz_rows.specs.declared.operation.TheConstants.{LONGEST_OPERATION, MOST_REMOVALS};
 
 use crate::key::RowKey;
@@ -53,4 +54,9 @@ pub fn longest_batch()
 /// Row keys are in the order that the tables keep.
 pub fn keys_are_in_order()
     ensures { (a b : AnyKey) → ⟦<RowKey as Ord>⟧.cmp a b ≡ key_order a b }
+{}
+
+/// Keys that the order takes for the same are one key.
+pub fn same_keys_are_one()
+    ensures { (a b : AnyKey) → is_same a b ≡ true → a ≡ b }
 {}

@@ -3,12 +3,12 @@ use Rattle.std.proofs.Common.{◌≡◌, ℕ, suc, List, ◌∷◌, ◌++◌, ta
 use Rattle.std.specs.List.{insert, remove}
 use Rattle.oz_rows.specs.declared.key.RowKey.{RowKey}
 use Rattle.oz_rows.specs.declared.row.Row.{Row}
-use Rattle.oz_tables.specs.declared.entry.RowEntry.{RowEntry}
-use Rattle.oz_tables.specs.Tables.{row_of, is_same, KeysRise}
+use Rattle.oz_rows.specs.declared.entry.RowEntry.{RowEntry}
+use Rattle.oz_rows.specs.RowMaps.{row_of, is_same, KeysRise}
 use Rattle.oz_tables.specs.Places.{IsAt, IsGap}
-use Rattle.oz_tables.specs.laws.Splits.{parts, parts_at, set_parts}
-use Rattle.oz_tables.specs.laws.Lookups.{entry_key, AllBelow, AllAbove, row_at, row_behind, row_above, row_added, row_replaced, row_removed, row_absent}
-use Rattle.oz_tables.specs.laws.Rising.{before_at, behind_at, rise_with, rise_without, rise_replaced}
+use Rattle.oz_rows.specs.laws.Splits.{parts, parts_at, set_parts}
+use Rattle.oz_rows.specs.laws.Lookups.{entry_key, AllBelow, AllAbove, row_at, row_behind, row_above, row_added, row_replaced, row_removed, row_absent}
+use Rattle.oz_rows.specs.laws.Rising.{before_at, behind_at, rise_with, rise_without, rise_replaced}
 
 abbrev pub entry_of : RowKey → Row → RowEntry
 entry_of key row = record { key = key; row = row }

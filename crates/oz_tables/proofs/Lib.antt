@@ -1,13 +1,4 @@
 pub mod Searches
 pub mod Edits
-pub mod Fitting
-pub mod FaultPlaces
+pub mod Following
 pub mod Ranks
-pub mod PartOrder
-pub mod Heads
-pub mod StepLists
-pub mod Based
-pub mod Bodies
-pub mod Journals
-pub mod OneThing
-pub mod EachBody

@@ -9,14 +9,14 @@ use Rattle.std.specs.declared.cmp.Ordering.{Ordering}
 use Rattle.std.specs.declared.cmp.Ordering.TheVariants.{Less, Equal, Greater}
 use Rattle.oz_rows.specs.declared.key.RowKey.{RowKey}
 use Rattle.oz_rows.specs.Order.{key_order}
-use Rattle.oz_tables.specs.declared.entry.RowEntry.{RowEntry}
-use Rattle.oz_tables.specs.Tables.{row_of, is_same, KeysRise, IsBelow}
+use Rattle.oz_rows.specs.declared.entry.RowEntry.{RowEntry}
+use Rattle.oz_rows.specs.RowMaps.{row_of, is_same, KeysRise, IsBelow}
 use Rattle.oz_tables.specs.Places.{IsRank}
-use Rattle.oz_tables.specs.Counts.{IsBetween, AllRise, IsCount}
-use Rattle.oz_tables.specs.laws.Order.{equal_from_test, less_from_test, alike_left, itself, turned}
-use Rattle.oz_tables.specs.laws.Lookups.{entry_key}
-use Rattle.oz_tables.specs.laws.Rising.{rise_rest}
-use Rattle.oz_tables.specs.laws.Halving.{comparisons_rise}
+use Rattle.oz_rows.specs.Counts.{IsBetween, AllRise, IsCount}
+use Rattle.oz_rows.specs.laws.Order.{equal_from_test, less_from_test, alike_left, itself, turned}
+use Rattle.oz_rows.specs.laws.Lookups.{entry_key}
+use Rattle.oz_rows.specs.laws.Rising.{rise_rest}
+use Rattle.oz_rows.specs.laws.Halving.{comparisons_rise}
 
 lt_falls : (a b : Ordering) → ordering_index a ≤ ordering_index b → is_lt b ≡ true → is_lt a ≡ true
 lt_falls Less b le e = refl

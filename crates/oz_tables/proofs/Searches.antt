@@ -7,12 +7,12 @@ use Rattle.std.specs.declared.cmp.Ordering.{Ordering}
 use Rattle.std.specs.declared.cmp.Ordering.TheVariants.{Less, Equal, Greater}
 use Rattle.oz_rows.specs.declared.key.RowKey.{RowKey}
 use Rattle.oz_rows.specs.Order.{key_order}
-use Rattle.oz_tables.specs.declared.entry.RowEntry.{RowEntry}
-use Rattle.oz_tables.specs.Tables.{KeysRise}
+use Rattle.oz_rows.specs.declared.entry.RowEntry.{RowEntry}
+use Rattle.oz_rows.specs.RowMaps.{KeysRise}
 use Rattle.oz_tables.specs.Places.{IsAt, IsGap, IsBehind}
-use Rattle.oz_tables.specs.laws.Splits.{all_front, all_rest}
-use Rattle.oz_tables.specs.laws.Lookups.{entry_key}
-use Rattle.oz_tables.specs.laws.Halving.{comparisons_rise, halved}
+use Rattle.oz_rows.specs.laws.Splits.{all_front, all_rest}
+use Rattle.oz_rows.specs.laws.Lookups.{entry_key}
+use Rattle.oz_rows.specs.laws.Halving.{comparisons_rise, halved}
 
 le_falls : (a b : Ordering) → ordering_index a ≤ ordering_index b → is_le b ≡ true → is_le a ≡ true
 le_falls Less b le e = refl

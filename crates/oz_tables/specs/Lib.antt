@@ -1,11 +1,2 @@
 pub mod Tables
 pub mod Places
-pub mod Effects
-pub mod Build
-pub mod StandsFor
-pub mod Sound
-pub mod Batches
-pub mod Counts
-pub mod Parts
-pub mod Steps
-pub mod laws

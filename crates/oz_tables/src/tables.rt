@@ -5,13 +5,12 @@ ghost use Rattle.std.specs.Prelude.{option_copied, None, Some, if◌then◌else�
 ghost use Rattle.std.specs.Prelude.{OnErr};
 ghost use Rattle.oz_rows.specs.declared.key.RowKey.{RowKey as AnyKey};
 ghost use Rattle.oz_rows.specs.Order.{key_order};
-ghost use Rattle.oz_tables.specs.Tables.{row_of, row_after, row_after_one, is_same, KeysRise, IsNext, HasNoNext};
+ghost use Rattle.oz_rows.specs.RowMaps.{row_of, row_after, row_after_one, is_same, KeysRise, IsNext, HasNoNext};
 ghost use Rattle.oz_tables.specs.Places.{IsAt, IsGap, IsBehind, IsRank};
-ghost use Rattle.oz_tables.specs.Counts.{IsCount};
+ghost use Rattle.oz_rows.specs.Counts.{IsCount};
 
-use crate::entry::RowEntry;
 use oz_fields::OutOfMemory;
-use oz_rows::{Change, Row, RowKey};
+use oz_rows::{Change, Row, RowEntry, RowKey, RowMap};
 use std::alloc::Global;
 use std::cmp::Ordering;
 use std::marker::Model;
@@ -26,7 +25,8 @@ pub struct Tables {
 
 impl Model for Tables {
     ghost use Rattle.std.specs.Prelude.{◌-◌, vec_len, vec_capacity};
-    ghost use Rattle.oz_tables.specs.Tables.{TableView, KeysRise};
+    ghost use Rattle.oz_tables.specs.Tables.{TableView};
+    ghost use Rattle.oz_rows.specs.RowMaps.{KeysRise};
 
     ghost Value = { TableView };
 
@@ -127,7 +127,7 @@ impl Tables {
     }
 
     /// Applies changes in their order, the index left as it is.
-    pub(crate) fn enter_all(&mut self, changes: Vec<Change>)
+    pub fn enter_all(&mut self, changes: Vec<Change>)
         requires { length changes.items ≤ self.old.spare }
         ensures rows { (key : AnyKey) → row_of self.new.rows key
             ≡ row_after changes.items key (row_of self.old.rows key) }
@@ -140,7 +140,7 @@ impl Tables {
     }
 
     /// Sets the index.
-    pub(crate) fn reach(&mut self, index: u64)
+    pub fn reach(&mut self, index: u64)
         ensures rows { self.new.rows ≡ self.old.rows }
         ensures last_index { self.new.last_index ≡ index }
         ensures spare { self.old.spare ≤ self.new.spare }
@@ -210,6 +210,18 @@ impl Tables {
     {
         self.entries
             .partition_point(|entry| compared(entry, key).is_lt())
+    }
+}
+
+impl RowMap for Tables {
+    ghost rows = { λ t. row_of t.rows };
+
+    fn get(&self, key: &RowKey) -> Option<&Row> {
+        Tables::get(self, key)
+    }
+
+    fn next(&self, key: &RowKey) -> Option<(&RowKey, &Row)> {
+        Tables::next(self, key)
     }
 }
 

@@ -1,6 +1,6 @@
 use Rattle.std.proofs.Common.{◌≡◌, [], ◌∷◌, ◌++◌, length, take, is_some, sym, ◌∙◌, ap, subst, arith, rules}
 use Rattle.std.proofs.Math.Seq.{take-length}
-use Rattle.oz_tables.specs.Tables.{row_of}
+use Rattle.oz_rows.specs.RowMaps.{row_of}
 use Rattle.oz_cache.specs.declared.cached_rows.CachedRow.{CachedRow}
 use Rattle.oz_cache.specs.Places.{IsWithin, counted_anew}
 use Rattle.oz_cache.proofs.Between.{Counted, counts_begin, counts_on, counts_end, one_later, row_between, one_more_at_most}

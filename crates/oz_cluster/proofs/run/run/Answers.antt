@@ -3,7 +3,7 @@ use Rattle.std.specs.String.{string_bytes}
 use Rattle.oz_world.specs.Disk.{seen}
 use Rattle.oz_world.specs.Faults.{Rose}
 use Rattle.oz_cache.specs.Cache.{newest, last_epoch, batched_changes, epoch_after}
-use Rattle.oz_tables.specs.Tables.{row_of, row_after}
+use Rattle.oz_rows.specs.RowMaps.{row_of, row_after}
 use Rattle.oz_cluster.specs.declared.events.Event.{Event}
 use Rattle.oz_cluster.specs.Disks.{faults_of}
 use Rattle.oz_cluster.specs.Headline.{IsPrinted, RunEnds}

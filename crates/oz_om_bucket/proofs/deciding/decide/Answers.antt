@@ -4,7 +4,7 @@ use Rattle.oz_requests.specs.Names.{name_fault}
 use Rattle.oz_namespace.specs.declared.namespace.Namespace.{Namespace}
 use Rattle.oz_requests.specs.declared.reply.Reply.{Reply}
 use Rattle.oz_requests.specs.declared.request.Request.{Request}
-use Rattle.oz_tables.specs.Tables.{Rows}
+use Rattle.oz_rows.specs.RowMaps.{Rows}
 use Rattle.oz_om_bucket.specs.declared.decision.Decision.{Decision}
 use Rattle.oz_om_bucket.specs.Meets.{Stand, Meets}
 use Rattle.oz_om_bucket.specs.Records.{recorded_changes, recorded_bytes}

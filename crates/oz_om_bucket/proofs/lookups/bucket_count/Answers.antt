@@ -1,7 +1,7 @@
 use Rattle.std.proofs.Common.{◌≡◌, [], ◌∙◌, subst, arith}
 use Rattle.oz_cache.specs.Cache.{newest}
 use Rattle.oz_rows.specs.declared.key.RowKey.TheVariants as keys
-use Rattle.oz_tables.specs.Counts.{IsCount}
+use Rattle.oz_rows.specs.Counts.{IsCount}
 use Rattle.oz_om_bucket.proofs.Between.{next}
 use Rattle.oz_om_bucket.proofs.Counting.{bucket_rows}
 use Rattle.oz_om_bucket.proofs.lookups.bucket_count.Goals as goal

@@ -6,7 +6,7 @@ use Rattle.oz_namespace.specs.declared.namespace.Namespace.{Namespace}
 use Rattle.oz_rows.specs.declared.key.RowKey.{RowKey}
 use Rattle.oz_rows.specs.declared.key.RowKey.TheVariants as keys
 use Rattle.oz_rows.specs.Rows.{kind_of}
-use Rattle.oz_tables.specs.Counts.{AreKeys}
+use Rattle.oz_rows.specs.Counts.{AreKeys}
 use Rattle.oz_om_bucket.specs.Meets.{Stand}
 use Rattle.oz_om_bucket.specs.Walking.{bucket_named}
 use Rattle.oz_om_bucket.proofs.Between.{next}

@@ -2,7 +2,7 @@ use Rattle.std.proofs.Common.{◌≡◌, None, count_by, sym, ◌∙◌, ap, sub
 use Rattle.oz_cache.specs.Cache.{newest}
 use Rattle.oz_rows.specs.declared.key.RowKey.TheVariants as keys
 use Rattle.oz_rows.specs.Rows.{kind_of}
-use Rattle.oz_tables.specs.Counts.{AreKeys}
+use Rattle.oz_rows.specs.Counts.{AreKeys}
 use Rattle.oz_om_bucket.specs.Walking.{is_live}
 use Rattle.oz_om_bucket.proofs.Between.{next}
 use Rattle.oz_om_bucket.proofs.Snapshots.{no_first_snapshot, snapshot_rows}

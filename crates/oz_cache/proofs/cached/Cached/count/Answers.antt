@@ -1,7 +1,8 @@
 use Rattle.std.proofs.Common.{sym, ◌∙◌, ap, subst}
-use Rattle.oz_tables.specs.Counts.{IsCount}
-use Rattle.oz_tables.specs.Tables.{TableView as Tables, row_of, row_after}
-use Rattle.oz_tables.specs.laws.RangeCounts.{count_alike}
+use Rattle.oz_rows.specs.Counts.{IsCount}
+use Rattle.oz_tables.specs.Tables.{TableView as Tables}
+use Rattle.oz_rows.specs.RowMaps.{row_of, row_after}
+use Rattle.oz_rows.specs.laws.RangeCounts.{count_alike}
 use Rattle.oz_cache.specs.Cache.{CacheView, newest, batched_changes}
 use Rattle.oz_cache.specs.Places.{over_row, over_rows}
 use Rattle.oz_cache.proofs.Newest.{newest_row}

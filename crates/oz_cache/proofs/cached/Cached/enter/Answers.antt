@@ -1,5 +1,6 @@
 use Rattle.std.proofs.Common.{◌<◌, [], ◌∷◌, ◌++◌, None, sym, ◌∙◌, ap, subst, arith}
-use Rattle.oz_tables.specs.Tables.{TableView as Tables, row_of, row_after}
+use Rattle.oz_tables.specs.Tables.{TableView as Tables}
+use Rattle.oz_rows.specs.RowMaps.{row_of, row_after}
 use Rattle.oz_cache.specs.Cache.{CacheView, batch_of, batched_changes, epoch_after, last_epoch, newest}
 use Rattle.oz_cache.specs.Linked.{AllBy}
 use Rattle.oz_cache.specs.Places.{written_in, after_changes, after_batches}

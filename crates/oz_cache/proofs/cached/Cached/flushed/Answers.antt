@@ -1,5 +1,5 @@
 use Rattle.std.proofs.Common.{None, refl, sym, ◌∙◌, ap, subst}
-use Rattle.oz_tables.specs.Tables.{row_of, row_after}
+use Rattle.oz_rows.specs.RowMaps.{row_of, row_after}
 use Rattle.oz_cache.specs.Cache.{CacheView, batched_changes, newest, epoch_after, last_epoch, later}
 use Rattle.oz_cache.specs.Linked.{AllBy}
 use Rattle.oz_cache.specs.Places.{after_batches, if_later}

@@ -1,5 +1,6 @@
 use Rattle.std.proofs.Common.{◌≡◌, option_copied, sym, ◌∙◌, ap, subst}
-use Rattle.oz_tables.specs.Tables.{TableView as Tables, row_of}
+use Rattle.oz_tables.specs.Tables.{TableView as Tables}
+use Rattle.oz_rows.specs.RowMaps.{row_of}
 use Rattle.oz_cache.specs.Cache.{CacheView, newest}
 use Rattle.oz_cache.specs.Places.{over_row}
 use Rattle.oz_cache.proofs.Newest.{newest_row}

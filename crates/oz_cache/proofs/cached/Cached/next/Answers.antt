@@ -1,6 +1,7 @@
 use Rattle.std.proofs.Common.{◌+◌, drop, refl, sym, ◌∙◌, ap, subst, arith}
 use mathlib.Core.Bool.{false≢true}
-use Rattle.oz_tables.specs.Tables.{TableView as Tables, row_of}
+use Rattle.oz_tables.specs.Tables.{TableView as Tables}
+use Rattle.oz_rows.specs.RowMaps.{row_of}
 use Rattle.oz_cache.specs.Cache.{CacheView, newest}
 use Rattle.oz_cache.specs.Places.{found, over_row}
 use Rattle.oz_cache.proofs.Newest.{newest_row}

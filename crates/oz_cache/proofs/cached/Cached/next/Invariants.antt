@@ -1,5 +1,5 @@
 use Rattle.std.proofs.Common.{drop}
-use Rattle.oz_tables.specs.Tables.{row_of}
+use Rattle.oz_rows.specs.RowMaps.{row_of}
 use Rattle.oz_cache.specs.Cache.{newest}
 use Rattle.oz_cache.proofs.Next.{HasPassed}
 use Rattle.oz_cache.proofs.cached.Cached.next.Given as goal

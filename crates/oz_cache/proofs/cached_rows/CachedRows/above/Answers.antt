@@ -1,6 +1,6 @@
 use Rattle.std.proofs.Common.{◌+◌, drop, ◌∙◌, ap, subst}
 use Rattle.std.proofs.lemmas.List.{take_rest}
-use Rattle.oz_tables.specs.laws.Rising.{rise_rest}
+use Rattle.oz_rows.specs.laws.Rising.{rise_rest}
 use Rattle.oz_cache.specs.Places.{OrderedRows, RowsRise}
 use Rattle.oz_cache.proofs.Rows.{row_key, found_behind_place, found_over}
 use Rattle.oz_cache.proofs.cached_rows.CachedRows.above.Goals as goal

@@ -1,5 +1,5 @@
 use Rattle.std.proofs.Common.{Some, cond, refl, sym, ◌∙◌, ap, subst}
-use Rattle.oz_tables.specs.Tables.{is_same}
+use Rattle.oz_rows.specs.RowMaps.{is_same}
 use Rattle.oz_cache.specs.Places.{OrderedRows, RowsRise, IsAt, IsGap, found}
 use Rattle.oz_cache.proofs.Rows.{rise_set, found_set, rise_inserted, found_inserted}
 use Rattle.oz_cache.proofs.cached_rows.CachedRows.put.Goals as goal

@@ -1,5 +1,5 @@
 use Rattle.std.proofs.Common.{None, cond, sym, ◌∙◌, ap, subst}
-use Rattle.oz_tables.specs.Tables.{is_same}
+use Rattle.oz_rows.specs.RowMaps.{is_same}
 use Rattle.oz_cache.specs.Places.{OrderedRows, RowsRise, IsAt, found}
 use Rattle.oz_cache.proofs.Rows.{rise_removed, found_removed, found_absent}
 use Rattle.oz_cache.proofs.cached_rows.CachedRows.take.Goals as goal

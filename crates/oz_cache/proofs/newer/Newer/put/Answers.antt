@@ -2,7 +2,7 @@ use Rattle.std.proofs.Common.{◌≤◌, [], ◌∷◌, ◌++◌, Option, Some, 
 use Rattle.oz_epochs.specs.declared.list.Place.{Place}
 use Rattle.oz_epochs.specs.Epochs.{entry, found as found_at}
 use Rattle.oz_rows.specs.declared.operation.Change.{Change}
-use Rattle.oz_tables.specs.Tables.{is_same}
+use Rattle.oz_rows.specs.RowMaps.{is_same}
 use Rattle.oz_cache.specs.declared.cached_rows.CachedRow.{CachedRow}
 use Rattle.oz_cache.specs.Linked.{NewerView, AllBy, AreLinked, place_of, without_place}
 use Rattle.oz_cache.specs.Places.{found, written, written_in, as_written}

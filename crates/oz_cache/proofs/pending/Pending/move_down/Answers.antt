@@ -1,5 +1,5 @@
 use Rattle.std.proofs.Common.{drop, sym, ◌∙◌, ap, rules, arith}
-use Rattle.oz_tables.specs.Tables.{row_of, row_after}
+use Rattle.oz_rows.specs.RowMaps.{row_of, row_after}
 use Rattle.oz_cache.specs.Cache.{batched_changes, epoch_after, up_to, later}
 use Rattle.oz_cache.proofs.Batches.{takes_first, all_later, first_rows, first_epoch}
 use Rattle.oz_cache.proofs.pending.Pending.move_down.Goals as goal

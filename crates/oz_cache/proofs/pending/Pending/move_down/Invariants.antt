@@ -1,6 +1,6 @@
 use Rattle.std.proofs.Common.{◌≡◌, ◌≤◌, length}
 use Rattle.oz_rows.specs.declared.key.RowKey.{RowKey as AnyKey}
-use Rattle.oz_tables.specs.Tables.{row_of, row_after}
+use Rattle.oz_rows.specs.RowMaps.{row_of, row_after}
 use Rattle.oz_cache.specs.Cache.{batched_changes, epoch_after, up_to, later}
 use Rattle.oz_cache.proofs.pending.Pending.move_down.Given as goal
 

@@ -2,7 +2,7 @@ use Rattle.std.proofs.Common.{◌≡◌, List, sym, ◌∙◌, subst}
 use Rattle.oz_journal.specs.declared.body.Body.{Body}
 use Rattle.oz_journal.specs.Body.{bodies_in}
 use Rattle.oz_cache.specs.Cache.{newest, batched_changes}
-use Rattle.oz_tables.specs.Tables.{row_of, row_after}
+use Rattle.oz_rows.specs.RowMaps.{row_of, row_after}
 use Rattle.oz_cluster.specs.Opens.{IsFaultIn}
 use Rattle.oz_cluster.proofs.Openings.{damaged_journal, damaged_body}
 use Rattle.oz_cluster.proofs.manager.Manager.open.Goals as goal

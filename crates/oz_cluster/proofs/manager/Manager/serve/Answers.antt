@@ -3,7 +3,7 @@ use Rattle.std.proofs.lemmas.Bool.Decides.{nat_tests}
 use Rattle.oz_cache.specs.Cache.{CacheView, later, newest, last_epoch}
 use Rattle.oz_requests.specs.declared.answer.Answer.TheVariants as told
 use Rattle.oz_rows.specs.declared.key.RowKey.{RowKey}
-use Rattle.oz_tables.specs.Tables.{row_after}
+use Rattle.oz_rows.specs.RowMaps.{row_after}
 use Rattle.oz_cluster.specs.Fits.{request_of, answer_of}
 use Rattle.oz_cluster.specs.Body.{body_bytes}
 use Rattle.oz_cluster.specs.Steps.{ask_event, decide_event, swap_event, flushed_event, halt_event, told_event}

@@ -1,6 +1,6 @@
 use Rattle.std.proofs.Common.{◌≡◌, ◌+◌, ◌≤◌, length}
 use Rattle.oz_rows.specs.declared.key.RowKey.{RowKey as AnyKey}
-use Rattle.oz_tables.specs.Tables.{row_of, row_after}
+use Rattle.oz_rows.specs.RowMaps.{row_of, row_after}
 use Rattle.oz_tables.proofs.tables.Tables.enter_all.Given as goal
 
 -- what the changes that are left make of the rows is what all of them make of the old ones

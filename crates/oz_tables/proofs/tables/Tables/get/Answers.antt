@@ -1,5 +1,6 @@
 use Rattle.std.proofs.Common.{◌≡◌, Some, sym, ap, subst}
-use Rattle.oz_tables.specs.Tables.{TableView, row_of}
+use Rattle.oz_tables.specs.Tables.{TableView}
+use Rattle.oz_rows.specs.RowMaps.{row_of}
 use Rattle.oz_tables.specs.Places.{IsAt}
 use Rattle.oz_tables.proofs.Edits.{row_there, no_row}
 use Rattle.oz_tables.proofs.tables.Tables.get.Goals as goal

@@ -1,7 +1,8 @@
 use Rattle.std.proofs.Common.{◌≡◌, ◌<◌, ◌≤◌, length, get_or, sym, ap, subst, rules}
-use Rattle.oz_tables.specs.Tables.{TableView, row_of, IsNext, HasNoNext}
+use Rattle.oz_tables.specs.Tables.{TableView}
+use Rattle.oz_rows.specs.RowMaps.{row_of, IsNext, HasNoNext}
 use Rattle.oz_tables.specs.Places.{IsBehind}
-use Rattle.oz_tables.specs.laws.Following.{none_behind, is_next, other_kind}
+use Rattle.oz_tables.proofs.Following.{none_behind, is_next, other_kind}
 use Rattle.oz_tables.proofs.tables.Tables.next.Goals as goal
 
 pub returns-in_err-entry : goal.returns-in_err-entry

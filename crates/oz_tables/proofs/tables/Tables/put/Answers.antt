@@ -1,5 +1,6 @@
 use Rattle.std.proofs.Common.{Some, cond, sym, ◌∙◌, ap, subst}
-use Rattle.oz_tables.specs.Tables.{TableView, row_of, is_same, KeysRise}
+use Rattle.oz_tables.specs.Tables.{TableView}
+use Rattle.oz_rows.specs.RowMaps.{row_of, is_same, KeysRise}
 use Rattle.oz_tables.specs.Places.{IsAt, IsGap}
 use Rattle.oz_tables.proofs.Edits.{entry_of, rise_set, rows_set, rise_inserted, rows_inserted}
 use Rattle.oz_tables.proofs.tables.Tables.put.Goals as goal

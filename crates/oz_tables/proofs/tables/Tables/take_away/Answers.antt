@@ -1,5 +1,6 @@
 use Rattle.std.proofs.Common.{None, cond, sym, ◌∙◌, ap, subst}
-use Rattle.oz_tables.specs.Tables.{TableView, row_of, is_same, KeysRise}
+use Rattle.oz_tables.specs.Tables.{TableView}
+use Rattle.oz_rows.specs.RowMaps.{row_of, is_same, KeysRise}
 use Rattle.oz_tables.specs.Places.{IsAt}
 use Rattle.oz_tables.proofs.Edits.{rise_removed, rows_removed, rows_absent}
 use Rattle.oz_tables.proofs.tables.Tables.take_away.Goals as goal

@@ -1,0 +1,9 @@
+pub mod FaultPlaces
+pub mod PartOrder
+pub mod Heads
+pub mod StepLists
+pub mod Based
+pub mod Bodies
+pub mod Journals
+pub mod OneThing
+pub mod EachBody

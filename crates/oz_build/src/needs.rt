@@ -1,0 +1,250 @@
+//! The rows that rows need, and the operations at fault where one is missing.
+
+ghost use Rattle.std.specs.Prelude.{◌≡◌, [], ◌∷◌, ◌&&◌, ◌⊎◌, ℕ, Option, None, false, not, map, IfOk, MatchOption};
+ghost use Rattle.std.specs.Prelude.{MatchBool};
+ghost use Rattle.std.specs.List.{list_any};
+ghost use Rattle.oz_rows.specs.declared.key.RowKey.{RowKey as AnyKey};
+ghost use Rattle.oz_rows.specs.RowMaps.{is_same, KeysRise};
+ghost use Rattle.oz_effects.specs.Build.{base_of as needed_by, puts as is_put_by, removes as is_removed_by, IsOrphan};
+ghost use Rattle.oz_effects.specs.Build.{LeavesOne, IsAtFault, NoneAtFault};
+ghost use Rattle.oz_build.specs.Steps.{operations_of, FirstAtFault, stands_on as does_stand_on, is_left as does_leave};
+ghost use Rattle.oz_build.specs.Steps.{is_live as is_live_row};
+
+use crate::body::Step;
+use crate::parts::{bucket_rows, buckets_of};
+use oz_fields::{Name, OutOfMemory};
+use oz_rows::{Operation, Row, RowEntry, RowKey, SnapshotState};
+use oz_tables::Tables;
+use std::alloc::Global;
+
+/// The first operation of a body that is at fault, once all have been applied: how many bytes of the
+/// body were left from it on.
+pub(crate) fn first_at_fault(
+    alloc: Global,
+    tables: &Tables,
+    steps: &[Step],
+) -> Result<Option<usize>, OutOfMemory>
+    ensures { IfOk result (λ found. MatchOption found
+        (NoneAtFault tables.now.rows (operations_of steps.now) (operations_of steps.now) [])
+        (FirstAtFault tables.now.rows steps.now)) }
+{
+    for (at, step) in steps.iter().enumerate() {
+        if is_at_fault(alloc, tables, steps, &steps[at + 1..], &step.operation)? {
+            return Ok(Some(step.left));
+        }
+    }
+    Ok(None)
+}
+
+/// Whether an operation of a body is at fault, behind which the later ones stand.
+fn is_at_fault(
+    alloc: Global,
+    tables: &Tables,
+    steps: &[Step],
+    later: &[Step],
+    operation: &Operation,
+) -> Result<bool, OutOfMemory>
+    ensures { let fault = IsAtFault tables.now.rows (operations_of steps.now) (operations_of later.now) operation.now in
+        IfOk result (λ found. MatchBool found fault (fault → ⊥)) }
+{
+    match operation {
+        Operation::Put { key, .. } => is_orphan(alloc, tables, key),
+        Operation::Remove { key } => Ok(is_last_to_leave(tables, steps, later, key)),
+        _ => Ok(false),
+    }
+}
+
+/// Whether the key has a row that stands without the one that it needs.
+fn is_orphan(alloc: Global, tables: &Tables, key: &RowKey) -> Result<bool, OutOfMemory>
+    ensures { let orphan = ((base : AnyKey) × IsOrphan tables.now.rows key.now base) in
+        IfOk result (λ found. MatchBool found orphan (orphan → ⊥)) }
+{
+    let Some(row) = tables.get(key) else {
+        return Ok(false);
+    };
+    let Some(base) = base_of(alloc, key, row)? else {
+        return Ok(false);
+    };
+    Ok(tables.get(&base).is_none())
+}
+
+fn base_of(alloc: Global, key: &RowKey, row: &Row) -> Result<Option<RowKey>, OutOfMemory>
+    ensures { IfOk result (λ base. base ≡ needed_by key.now row.now) }
+{
+    Ok(match (key, row) {
+        (RowKey::Bucket { volume, .. }, _) => Some(RowKey::of_volume(alloc, volume)?),
+        (RowKey::Key { volume, bucket, .. }, _) => Some(RowKey::of_bucket(alloc, volume, bucket)?),
+        (RowKey::Open { volume, bucket, .. }, _) => Some(RowKey::of_bucket(alloc, volume, bucket)?),
+        (
+            RowKey::Snapshot { volume, bucket, .. },
+            Row::Snapshot {
+                state: SnapshotState::Live,
+                ..
+            },
+        ) => Some(RowKey::of_bucket(alloc, volume, bucket)?),
+        _ => None,
+    })
+}
+
+/// Whether no later operation removes this row, and a row needs it that none of them all put.
+fn is_last_to_leave(tables: &Tables, steps: &[Step], later: &[Step], base: &RowKey) -> bool
+    ensures { let leaves = LeavesOne tables.now.rows (operations_of steps.now) base.now
+        × (list_any (is_removed_by base.now) (operations_of later.now) ≡ false) in
+        MatchBool result leaves (leaves → ⊥) }
+{
+    if !leaves_orphan(tables, steps, base) {
+        return false;
+    }
+    !is_removed(later, base)
+}
+
+/// Whether one of the operations removes the row.
+fn is_removed(steps: &[Step], key: &RowKey) -> bool
+    ensures { result ≡ list_any (is_removed_by key.now) (operations_of steps.now) }
+{
+    some_step_removes(steps, key)
+}
+
+fn some_step_removes(steps: &[Step], key: &RowKey) -> bool
+    ensures { result ≡ list_any (λ step. is_removed_by key.now step.operation) steps.now }
+{
+    steps.iter().any(|step| removes(&step.operation, key))
+}
+
+fn removes(operation: &Operation, key: &RowKey) -> bool
+    ensures { result ≡ is_removed_by key.now operation.now }
+{
+    match operation {
+        Operation::Remove { key: other } => other.cmp(key).is_eq(),
+        _ => false,
+    }
+}
+
+/// Whether a row needs this one that isn't there, and none of the operations put it.
+fn leaves_orphan(tables: &Tables, steps: &[Step], base: &RowKey) -> bool
+    ensures { let leaves = LeavesOne tables.now.rows (operations_of steps.now) base.now in
+        MatchBool result leaves (leaves → ⊥) }
+{
+    if tables.get(base).is_some() {
+        return false;
+    }
+    match base {
+        RowKey::Volume { volume } => is_bucket_left(tables.rows(), steps, base, volume),
+        RowKey::Bucket { volume, bucket } => is_content_left(
+            tables.rows(),
+            steps,
+            base,
+            volume,
+            bucket,
+        ),
+        _ => false,
+    }
+}
+
+/// The same of the buckets of a volume.
+fn is_bucket_left(rows: &[RowEntry], steps: &[Step], base: &RowKey, volume: &Name) -> bool
+    requires in_order { KeysRise rows.now }
+    requires base { base.now ≡ AnyKey.Volume volume.now }
+    ensures { result ≡ list_any (does_leave (operations_of steps.now) base.now) rows.now }
+{
+    is_one_left(buckets_of(rows, volume), steps, base)
+}
+
+/// The same of the keys, the open keys and the snapshots of a bucket.
+fn is_content_left(
+    rows: &[RowEntry],
+    steps: &[Step],
+    base: &RowKey,
+    volume: &Name,
+    bucket: &Name,
+) -> bool
+    requires in_order { KeysRise rows.now }
+    requires base { base.now ≡ AnyKey.Bucket volume.now bucket.now }
+    ensures { result ≡ list_any (does_leave (operations_of steps.now) base.now) rows.now }
+{
+    let keys = is_one_left(bucket_rows(rows, 3, volume, bucket), steps, base);
+    let sessions = is_one_left(bucket_rows(rows, 4, volume, bucket), steps, base);
+    let snapshots = is_one_left(bucket_rows(rows, 6, volume, bucket), steps, base);
+    if keys || sessions {
+        return true;
+    }
+    snapshots
+}
+
+/// Whether one of the rows needs this one, and none of the operations put it.
+fn is_one_left(rows: &[RowEntry], steps: &[Step], base: &RowKey) -> bool
+    ensures { result ≡ list_any (does_leave (operations_of steps.now) base.now) rows.now }
+{
+    rows.iter().any(|entry| is_left(entry, steps, base))
+}
+
+fn is_left(entry: &RowEntry, steps: &[Step], base: &RowKey) -> bool
+    ensures { result ≡ does_leave (operations_of steps.now) base.now entry.now }
+{
+    stands_on(entry, base) && !is_put(steps, &entry.key)
+}
+
+fn is_put(steps: &[Step], key: &RowKey) -> bool
+    ensures { result ≡ list_any (is_put_by key.now) (operations_of steps.now) }
+{
+    some_step_puts(steps, key)
+}
+
+fn some_step_puts(steps: &[Step], key: &RowKey) -> bool
+    ensures { result ≡ list_any (λ step. is_put_by key.now step.operation) steps.now }
+{
+    steps.iter().any(|step| puts(&step.operation, key))
+}
+
+fn puts(operation: &Operation, key: &RowKey) -> bool
+    ensures { result ≡ is_put_by key.now operation.now }
+{
+    match operation {
+        Operation::Put { key: other, .. } => other.cmp(key).is_eq(),
+        _ => false,
+    }
+}
+
+/// Whether the row needs the other one.
+fn stands_on(entry: &RowEntry, base: &RowKey) -> bool
+    ensures { result ≡ does_stand_on base.now entry.now }
+{
+    match &entry.key {
+        RowKey::Bucket { volume, .. } => is_volume(volume, base),
+        RowKey::Key { volume, bucket, .. } => is_bucket(volume, bucket, base),
+        RowKey::Open { volume, bucket, .. } => is_bucket(volume, bucket, base),
+        RowKey::Snapshot { volume, bucket, .. } => is_live(&entry.row)
+            && is_bucket(volume, bucket, base),
+        _ => false,
+    }
+}
+
+fn is_volume(volume: &Name, key: &RowKey) -> bool
+    ensures { result ≡ is_same key.now (AnyKey.Volume volume.now) }
+{
+    match key {
+        RowKey::Volume { volume: other } => other.cmp(volume).is_eq(),
+        _ => false,
+    }
+}
+
+fn is_bucket(volume: &Name, bucket: &Name, key: &RowKey) -> bool
+    ensures { result ≡ is_same key.now (AnyKey.Bucket volume.now bucket.now) }
+{
+    match key {
+        RowKey::Bucket {
+            volume: of_volume,
+            bucket: other,
+        } => of_volume.cmp(volume).is_eq() && other.cmp(bucket).is_eq(),
+        _ => false,
+    }
+}
+
+fn is_live(row: &Row) -> bool
+    ensures { result ≡ is_live_row row.now }
+{
+    match row {
+        Row::Snapshot { state, .. } => *state == SnapshotState::Live,
+        _ => false,
+    }
+}

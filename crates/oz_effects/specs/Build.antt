@@ -1,0 +1,143 @@
+-- What the bodies of a manager's journal make of the rows, and where they are damaged.
+use Rattle.std.specs.Prelude.{◌≡◌, ◌⊎◌, ℕ, zero, suc, Bool, false, ◌+◌, ◌-◌, ◌<◌, ◌≤◌, List, [], ◌∷◌, ◌++◌, length}
+use Rattle.std.specs.Prelude.{Option, None, Some, Ok, Err}
+use Rattle.std.specs.List.{list_any}
+use Rattle.oz_rows.specs.declared.key.RowKey.{RowKey}
+use Rattle.oz_rows.specs.declared.key.RowKey.TheVariants as keys
+use Rattle.oz_rows.specs.declared.row.Row.{Row}
+use Rattle.oz_rows.specs.declared.row.Row.TheVariants as rows
+use Rattle.oz_rows.specs.declared.row.SnapshotState.TheVariants.{Live}
+use Rattle.oz_rows.specs.declared.operation.Operation.{Operation}
+use Rattle.oz_rows.specs.declared.operation.Operation.TheVariants.{Put, Remove}
+use Rattle.oz_rows.specs.declared.operation.Operations.{Operations}
+use Rattle.oz_rows.specs.Operations.{IsBody, AreOperations, batch_bytes, head_bytes}
+use Rattle.oz_rows.specs.Reading.{head_at, operation_at}
+use Rattle.oz_rows.specs.declared.entry.RowEntry.{RowEntry}
+use Rattle.oz_rows.specs.RowMaps.{row_of, is_same}
+use Rattle.oz_effects.specs.Effects.{Leads}
+
+-- The row that a row needs: a bucket its volume; a key, an open key and a live snapshot their bucket. All others, a
+-- marked snapshot among them, may outlive their bucket.
+abbrev pub base_of : RowKey → Row → Option RowKey
+base_of (keys.Bucket volume bucket) row = Some (keys.Volume volume)
+base_of (keys.Key volume bucket key) row = Some (keys.Bucket volume bucket)
+base_of (keys.Open volume bucket key number) row = Some (keys.Bucket volume bucket)
+base_of (keys.Snapshot volume bucket number) (rows.Snapshot name previous Live) = Some (keys.Bucket volume bucket)
+base_of key row = None
+
+-- a row stands without the one that it needs
+pub record IsOrphan (all : List RowEntry) (key base : RowKey) : Type 0 where
+  pub row : Row
+  pub stands : row_of all key ≡ Some row
+  pub needs : base_of key row ≡ Some base
+  pub absent : row_of all base ≡ None
+
+-- none does
+abbrev pub AllAreBased : List RowEntry → Type 0
+AllAreBased all = (key base : RowKey) → IsOrphan all key base → ⊥
+
+-- an operation puts this row, with whatever value
+abbrev pub puts : RowKey → Operation → Bool
+puts key (Put other row) = is_same other key
+puts key operation = false
+
+-- it removes this row
+abbrev pub removes : RowKey → Operation → Bool
+removes key (Remove other) = is_same other key
+removes key operation = false
+
+-- a row that none of the operations put stands without this one, which it needs
+abbrev pub LeavesOne : List RowEntry → List Operation → RowKey → Type 0
+LeavesOne after items base = (key : RowKey) × IsOrphan after key base × (list_any (puts key) items ≡ false)
+
+-- An operation is at fault where it puts a row that stands without the one that it needs after all of them; or where it
+-- is the last that removes what such a row needs, and none of them put that row. The later ones stand behind it.
+abbrev pub IsAtFault : List RowEntry → List Operation → List Operation → Operation → Type 0
+IsAtFault after items later (Put key row) = (base : RowKey) × IsOrphan after key base
+IsAtFault after items later (Remove base) = LeavesOne after items base × (list_any (removes base) later ≡ false)
+IsAtFault after items later operation = ⊥
+
+-- none of some operations of a body is at fault, where these others stand behind them
+abbrev pub NoneAtFault : List RowEntry → List Operation → List Operation → List Operation → Type 0
+NoneAtFault after items [] behind = Unit {0}
+NoneAtFault after items (operation ∷ operations) behind =
+    (IsAtFault after items (operations ++ behind) operation → ⊥) × NoneAtFault after items operations behind
+
+-- A body may follow these rows: it is in the grammar, its index is above the last, each row that it removes is there,
+-- and after it each row has the one that it needs.
+pub record IsNextBody (last : ℕ) (before : List RowEntry) (bytes : List ℕ) (body : Operations)
+    (after : List RowEntry) : Type 0 where
+  pub body_is : IsBody bytes body
+  pub rises : last < body.index
+  pub leads : Leads before body.items after
+  pub based : AllAreBased after
+
+-- bodies lead from rows and an index to rows and an index
+unfoldable pub BuildsFrom : List RowEntry → ℕ → List (List ℕ) → List RowEntry → ℕ → Type 0
+BuildsFrom before last [] after index = (after ≡ before) × (index ≡ last)
+BuildsFrom before last (bytes ∷ bodies) after index =
+    (body : Operations) × (between : List RowEntry) × IsNextBody last before bytes body between
+    × BuildsFrom between body.index bodies after index
+
+-- what the bodies of a journal make
+abbrev pub Builds : List (List ℕ) → List RowEntry → ℕ → Type 0
+Builds bodies all index = BuildsFrom [] 0 bodies all index
+
+-- the head can't be read, at its layout or its index; or the index isn't above the last, and stands behind the layout
+abbrev pub HeadFails : ℕ → List ℕ → ℕ → Type 0
+HeadFails last bytes place =
+    ((left : ℕ) × (head_at bytes ≡ Err left) × (place ≡ length bytes - left))
+    ⊎ ((index : ℕ) × (rest : List ℕ) × (head_at bytes ≡ Ok (index, rest)) × (index ≤ last) × (place ≡ 1))
+
+-- an operation can't be read, at a field of it; or it removes a row that isn't there, and begins at the place
+abbrev pub OperationFails : List RowEntry → List ℕ → List ℕ → ℕ → Type 0
+OperationFails all bytes rest place =
+    ((left : ℕ) × (operation_at rest ≡ Err left) × (place ≡ length bytes - left))
+    ⊎ ((key : RowKey) × (behind : List ℕ) × (operation_at rest ≡ Ok (Remove key, behind)) × (row_of all key ≡ None)
+    × (place ≡ length bytes - length rest))
+
+-- behind a good head and operations that may follow each other stands one that fails
+pub record BatchFails (last : ℕ) (before : List RowEntry) (bytes : List ℕ) (place : ℕ) : Type 0 where
+  pub index : ℕ
+  pub items : List Operation
+  pub rest : List ℕ
+  pub between : List RowEntry
+  pub head : head_at bytes ≡ Ok (index, batch_bytes items ++ rest)
+  pub rises : last < index
+  pub fit : AreOperations items
+  pub leads : Leads before items between
+  pub not_over : 1 ≤ length rest
+  pub fails : OperationFails between bytes rest place
+
+-- all operations may follow each other, and behind some that aren't at fault stands one that is, which begins at the
+-- place
+pub record LeavesOrphan (last : ℕ) (before : List RowEntry) (bytes : List ℕ) (place : ℕ) : Type 0 where
+  pub body : Operations
+  pub after : List RowEntry
+  pub earlier : List Operation
+  pub operation : Operation
+  pub later : List Operation
+  pub body_is : IsBody bytes body
+  pub rises : last < body.index
+  pub leads : Leads before body.items after
+  pub parts : body.items ≡ earlier ++ operation ∷ later
+  pub first : NoneAtFault after body.items earlier (operation ∷ later)
+  pub at_fault : IsAtFault after body.items later operation
+  pub begins : place ≡ length (head_bytes body.index) + length (batch_bytes earlier)
+
+-- a body that may not follow these rows is damaged at this place of its bytes
+abbrev pub IsDamagedBody : ℕ → List RowEntry → List ℕ → ℕ → Type 0
+IsDamagedBody last before bytes place =
+    HeadFails last bytes place ⊎ (BatchFails last before bytes place ⊎ LeavesOrphan last before bytes place)
+
+-- behind so many good bodies stands one that is damaged at this place of its bytes
+unfoldable pub FailsFrom : List RowEntry → ℕ → List (List ℕ) → ℕ → ℕ → Type 0
+FailsFrom before last [] count place = ⊥
+FailsFrom before last (bytes ∷ bodies) zero place = IsDamagedBody last before bytes place
+FailsFrom before last (bytes ∷ bodies) (suc count) place =
+    (body : Operations) × (between : List RowEntry) × IsNextBody last before bytes body between
+    × FailsFrom between body.index bodies count place
+
+-- the bodies of a journal are damaged at this place of the bytes of this body, counted from 0
+abbrev pub FailsAt : List (List ℕ) → ℕ → ℕ → Type 0
+FailsAt bodies count place = FailsFrom [] 0 bodies count place

@@ -1,0 +1,4 @@
+pub mod Effects
+pub mod Build
+pub mod Batches
+pub mod laws

@@ -1,5 +1,0 @@
-use Rattle.oz_tables.specs.laws.Same.{same_is_one}
-use Rattle.oz_tables.proofs.laws.same_keys_are_one.Goals as goal
-
-pub returns : goal.returns
-returns c = same_is_one

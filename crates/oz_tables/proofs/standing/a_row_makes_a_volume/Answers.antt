@@ -1,5 +1,0 @@
-use Rattle.oz_tables.specs.laws.VolumeRows.{makes_a_volume}
-use Rattle.oz_tables.proofs.standing.a_row_makes_a_volume.Goals as goal
-
-pub returns : goal.returns
-returns c = makes_a_volume

@@ -1,5 +1,0 @@
-use Rattle.oz_tables.specs.laws.VolumeRows.{nothing_stands}
-use Rattle.oz_tables.proofs.standing.no_rows_stand_for_nothing.Goals as goal
-
-pub returns : goal.returns
-returns c = nothing_stands

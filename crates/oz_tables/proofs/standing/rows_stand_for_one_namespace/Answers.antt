@@ -1,5 +1,0 @@
-use Rattle.oz_tables.specs.laws.Oneness.{one_namespace}
-use Rattle.oz_tables.proofs.standing.rows_stand_for_one_namespace.Goals as goal
-
-pub returns : goal.returns
-returns c = one_namespace

@@ -1,0 +1,5 @@
+-- What contracts of this crate cite.
+pub mod Sorted
+pub mod Counts
+pub mod Places
+pub mod laws

@@ -131,13 +131,13 @@ abbrev left : (RowKey → Option CachedRow) → Entries → RowKey → Entries
 left rows es key = without_place (place_of (rows key)) es
 
 -- A row comes: its key's old entry leaves its place, and the new one comes to the end.
-pub relinked : (rows after : RowKey → Option CachedRow) (es : Entries) → NoSlotTwice es → AreLinked rows es → (row : CachedRow) → ((q : RowKey) → after q ≡ cond (is_same row.key q) (Some row) (rows q)) → AreLinked after (without_place (place_of (rows row.key)) es ++ entry row.place.slot row.epoch row.key ∷ [])
-relinked rows after es once linked row rows_are q =
-    under_append q (left rows es row.key) (entry row.place.slot row.epoch row.key ∷ []) ∙ by_test (is_same row.key q) refl ∙ ap entry_said (sym (rows_are q))
+pub relinked : (rows after : RowKey → Option CachedRow) (es : Entries) → NoSlotTwice es → AreLinked rows es → (key : RowKey) (row : CachedRow) → ((q : RowKey) → after q ≡ cond (is_same key q) (Some row) (rows q)) → AreLinked after (without_place (place_of (rows key)) es ++ entry row.place.slot row.epoch key ∷ [])
+relinked rows after es once linked key row rows_are q =
+    under_append q (left rows es key) (entry row.place.slot row.epoch key ∷ []) ∙ by_test (is_same key q) refl ∙ ap entry_said (sym (rows_are q))
   where
-    by_test : (t : Bool) → is_same row.key q ≡ t → entries_under q (left rows es row.key) ++ cond t ((row.place.slot, row.epoch) ∷ []) [] ≡ entry_said (cond t (Some row) (rows q))
-    by_test true same = ap (λ l. l ++ (row.place.slot, row.epoch) ∷ []) (subst (λ k. entries_under k (left rows es row.key) ≡ []) (same_is_one row.key q same) (own_gone row.key es once (rows row.key) (linked row.key)))
-    by_test false other = append-nil (entries_under q (left rows es row.key)) ∙ others_stay row.key es once q other (rows row.key) (linked row.key) ∙ linked q
+    by_test : (t : Bool) → is_same key q ≡ t → entries_under q (left rows es key) ++ cond t ((row.place.slot, row.epoch) ∷ []) [] ≡ entry_said (cond t (Some row) (rows q))
+    by_test true same = ap (λ l. l ++ (row.place.slot, row.epoch) ∷ []) (subst (λ k. entries_under k (left rows es key) ≡ []) (same_is_one key q same) (own_gone key es once (rows key) (linked key)))
+    by_test false other = append-nil (entries_under q (left rows es key)) ∙ others_stay key es once q other (rows key) (linked key) ∙ linked q
 
 -- no entry has a later epoch
 pub by_end : (epoch : ℕ) (es : Entries) (e : EpochEntry RowKey) → AllBy epoch es → e.epoch ≤ epoch → AllBy epoch (es ++ e ∷ [])

@@ -8,7 +8,7 @@ use Rattle.oz_rows.specs.RowMaps.{is_same, row_after}
 use Rattle.oz_cache.specs.declared.batch.Batch.{Batch}
 use Rattle.oz_cache.specs.declared.cached_rows.CachedRow.{CachedRow}
 use Rattle.oz_cache.specs.Cache.{batched_changes, epoch_after, up_to, later, has_key, changed_at}
-use Rattle.oz_cache.specs.Places.{Written, over_row, found, written, as_written, after_changes, after_batches, if_later, AreLastOf}
+use Rattle.oz_cache.specs.Places.{Entries, Written, over_row, found, written, as_written, after_changes, after_batches, if_later, AreLastOf}
 use Rattle.oz_cache.specs.Waiting.{EpochsRise}
 use Rattle.oz_cache.proofs.Batches.{batched_changes-append, epoch_after-append, row_after-append, all_later, rest_later}
 
@@ -38,7 +38,7 @@ entered_rows (batch ∷ batches) key o row =
     ∙ ap (row_after (batched_changes batches) key) (changed_rows batch.epoch batch.changes key o row)
     ∙ entered_rows batches key (after_changes batch.epoch batch.changes key o) row
 
-pub newest_row : (batches : List Batch) (rows : List CachedRow) → AreLastOf batches rows → (key : RowKey) (row : Option Row) → row_after (batched_changes batches) key row ≡ over_row (found rows key) row
+pub newest_row : (batches : List Batch) (rows : Entries) → AreLastOf batches rows → (key : RowKey) (row : Option Row) → row_after (batched_changes batches) key row ≡ over_row (found rows key) row
 newest_row batches rows last key row = entered_rows batches key None row ∙ ap (λ o. over_written o row) (sym (last key)) ∙ as_said (found rows key) row
 
 pub after_batches-append : (a b : List Batch) (key : RowKey) (o : Option Written) → after_batches (a ++ b) key o ≡ after_batches b key (after_batches a key o)

@@ -6,11 +6,11 @@ use Rattle.oz_epochs.specs.Epochs.{EpochEntry, without, AreInOrder}
 use Rattle.oz_rows.specs.declared.key.RowKey.{RowKey}
 use Rattle.oz_rows.specs.RowMaps.{is_same}
 use Rattle.oz_cache.specs.declared.cached_rows.CachedRow.{CachedRow}
-use Rattle.oz_cache.specs.Places.{found}
+use Rattle.oz_cache.specs.Places.{Entries, found}
 
 -- the cached rows, the list of their epochs, and for how many more there is room
 pub record NewerView : Type 0 where
-  pub rows : List CachedRow
+  pub rows : Entries
   pub epochs : List (EpochEntry RowKey)
   pub spare : ℕ
 
@@ -30,7 +30,7 @@ abbrev pub AreLinked : (RowKey → Option CachedRow) → List (EpochEntry RowKey
 AreLinked rows entries = (key : RowKey) → entries_under key entries ≡ entry_said (rows key)
 
 -- what holds of cached rows and the list of their epochs at every moment
-pub record AreListed (rows : List CachedRow) (entries : List (EpochEntry RowKey)) : Type 0 where
+pub record AreListed (rows : Entries) (entries : List (EpochEntry RowKey)) : Type 0 where
   pub linked : AreLinked (found rows) entries
   pub order : AreInOrder entries
 

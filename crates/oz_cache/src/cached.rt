@@ -2,19 +2,18 @@
 
 ghost use Rattle.std.specs.Prelude.{◌≡◌, ◌+◌, ◌^◌, ◌<◌, ◌≤◌, ◌↔◌, [], ◌∷◌, ◌++◌, length, false, None, option_copied, IsTrue};
 ghost use Rattle.std.specs.Prelude.{MatchOption, IfOk, OnOk};
-ghost use Rattle.std.specs.Ordering.{is_gt};
+ghost use Rattle.std.specs.Ordering.{is_gt, is_lt};
 ghost use Rattle.oz_rows.specs.declared.key.RowKey.{RowKey as AnyKey};
 ghost use Rattle.oz_rows.specs.declared.operation.TheConstants.{END_OF_INDEXES};
 ghost use Rattle.oz_rows.specs.Rows.{kind_of};
 ghost use Rattle.oz_rows.specs.Order.{key_order};
 ghost use Rattle.oz_rows.specs.Counts.{IsCount};
 ghost use Rattle.oz_rows.specs.RowMaps.{row_of, row_after, IsNext, HasNoNext};
-ghost use Rattle.oz_cache.specs.Places.{RowsRise, IsWithin, over_rows, counted_anew};
+ghost use Rattle.oz_cache.specs.Places.{over_rows, counted_anew};
 ghost use Rattle.oz_cache.specs.Cache.{changed_at, epochs_under, one_or_none};
-ghost use Rattle.std.specs.List.{AllByRecursion};
 ghost use Rattle.oz_cache.specs.Cache.{batch_of, batched_changes, newest, epoch_after, last_epoch, up_to, later};
 
-use crate::cached_rows::CachedRow;
+use crate::cached_rows::CachedRows;
 use crate::newer::Newer;
 use crate::pending::Pending;
 use crate::prepared::Prepared;
@@ -71,7 +70,7 @@ impl Cached {
     pub fn get(&self, key: &RowKey) -> Option<&Row>
         ensures { option_copied result ≡ newest self.now key.now }
     {
-        match self.newer.find(key) {
+        match self.newer.rows().find(key) {
             Some(cached) => cached.row.as_ref(),
             None => self.pending.tables().get(key),
         }
@@ -86,16 +85,19 @@ impl Cached {
             (λ found. IsNext (newest self.now) key.now found.0.now found.1.now) }
     {
         let tables = self.pending.tables();
+        let rows = self.newer.rows();
         let mut from = key;
-        for cached in self.newer.above(key) {
+        let mut next = rows.next(key);
+        while let Some((at, cached)) = next {
             let below = tables.next(from);
-            if !comes_first(cached, from, below) {
+            if !comes_first(at, from, below) {
                 return below;
             }
             match &cached.row {
-                Some(row) => return Some((&cached.key, row)),
-                None => from = &cached.key,
+                Some(row) => return Some((at, row)),
+                None => from = at,
             }
+            next = rows.next(at);
         }
         tables.next(from)
     }
@@ -105,12 +107,7 @@ impl Cached {
     pub fn count(&self, from: &RowKey, to: &RowKey) -> usize
         ensures { IsCount (newest self.now) from.now to.now result }
     {
-        count_with(
-            self.pending.tables(),
-            self.newer.between(from, to),
-            from,
-            to,
-        )
+        count_with(self.pending.tables(), self.newer.rows(), from, to)
     }
 
     /// The tables, which stand for what was flushed.
@@ -193,28 +190,38 @@ impl Cached {
 }
 
 /// Whether the first cached row above a key comes before what the tables have next.
-fn comes_first(cached: &CachedRow, from: &RowKey, below: Option<(&RowKey, &Row)>) -> bool
+fn comes_first(at: &RowKey, from: &RowKey, below: Option<(&RowKey, &Row)>) -> bool
     ensures { IsTrue result ↔ MatchOption below.entry
-        (kind_of cached.now.key ≡ kind_of from.now)
-        (λ found. is_gt (key_order cached.now.key found.0.now) ≡ false) }
+        (kind_of at.now ≡ kind_of from.now)
+        (λ found. is_gt (key_order at.now found.0.now) ≡ false) }
 {
     match below {
-        Some((key, _)) => cached.key.cmp(key).is_le(),
-        None => cached.key.kind() == from.kind(),
+        Some((key, _)) => at.cmp(key).is_le(),
+        None => at.kind() == from.kind(),
     }
 }
 
 /// How many keys have a row in tables with these cached rows above them.
-fn count_with(tables: &Tables, cached: &[CachedRow], from: &RowKey, to: &RowKey) -> usize
-    requires rise { RowsRise cached.now }
-    requires within { AllByRecursion (λ row. IsWithin from.now to.now row.key) cached.now }
-    ensures { IsCount (over_rows cached.now (row_of tables.now.rows)) from.now to.now result }
+fn count_with(tables: &Tables, cached: &CachedRows, from: &RowKey, to: &RowKey) -> usize
+    ensures { IsCount (over_rows cached.now.rows.entries (row_of tables.now.rows)) from.now to.now result }
 {
     let mut count = tables.count(from, to);
-    for row in cached {
-        count = count_after(count, tables.get(&row.key).is_some(), row.row.is_some());
+    let _ = cached.len();
+    let mut next = cached.first_from(from);
+    while let Some((at, row)) = next {
+        if !is_below(at, to) {
+            break;
+        }
+        count = count_after(count, tables.get(at).is_some(), row.row.is_some());
+        next = cached.next(at);
     }
     count
+}
+
+fn is_below(a: &RowKey, b: &RowKey) -> bool
+    ensures { result ≡ is_lt (key_order a.now b.now) }
+{
+    a.cmp(b).is_lt()
 }
 
 /// A count, where a row was there before or not, and is there now or not.

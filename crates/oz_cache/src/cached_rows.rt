@@ -1,168 +1,101 @@
 //! Cached rows, in the order of their keys.
 
-ghost use Rattle.std.specs.Prelude.{◌≡◌, ◌+◌, ◌<◌, ◌≤◌, [], slice_set, insert, vec_len, vec_capacity};
-ghost use Rattle.std.specs.Prelude.{option_copied, None, Some, if◌then◌else◌, IfOk, IfErr, OnOk};
-ghost use Rattle.std.specs.List.{AllByRecursion};
+ghost use Rattle.std.specs.Prelude.{◌≡◌, ◌+◌, ◌^◌, ◌<◌, ◌≤◌, [], length, None, Some, if◌then◌else◌};
+ghost use Rattle.std.specs.Prelude.{option_copied, MatchOption, OnOk};
 ghost use Rattle.oz_rows.specs.declared.key.RowKey.{RowKey as AnyKey};
 ghost use Rattle.oz_rows.specs.Order.{key_order};
-ghost use Rattle.oz_rows.specs.RowMaps.{is_same, IsBelow};
-ghost use Rattle.oz_cache.specs.Places.{RowsRise, AllAbove, IsAt, IsGap, HasRank, IsWithin, found};
+ghost use Rattle.oz_sorted.specs.Sorted.{IsNext, HasNoNext};
+ghost use Rattle.oz_rows.specs.RowMaps.{is_same};
+ghost use Rattle.oz_cache.specs.Places.{found, IsFirst, HasNone};
 
 use oz_epochs::Place;
 use oz_fields::OutOfMemory;
 use oz_rows::{Row, RowKey};
+use oz_sorted::SortedMap;
 use std::alloc::Global;
-use std::cmp::Ordering;
-use std::marker::Model;
-use std::mem::replace;
 
 /// What a key has above the tables: its row, or none where it was taken away. The epoch is that of
-/// the last change, and the place that of its entry in the list of epochs.
+/// the last change, and the place that of the key's entry in the list of epochs.
 #[derive(Debug, Drop)]
 pub struct CachedRow {
-    pub key: RowKey,
     pub epoch: u64,
     pub place: Place,
     pub row: Option<Row>,
 }
 
 /// Cached rows, in the order of their keys.
-#[derive(Debug, Drop)]
+#[derive(Drop)]
 pub struct CachedRows {
-    rows: Vec<CachedRow>,
-}
-
-impl Model for CachedRows {
-    ghost use Rattle.std.specs.Prelude.{◌-◌, vec_len, vec_capacity};
-    ghost use Rattle.oz_cache.specs.Places.{OrderedRows, RowsRise};
-
-    ghost Value = { OrderedRows };
-
-    ghost view = { λ n. record { rows = n.rows.items; spare = vec_capacity n.rows - vec_len n.rows } };
-
-    ghost invariant = { λ n. RowsRise n.rows.items };
+    rows: SortedMap<RowKey, CachedRow>,
 }
 
 impl CachedRows {
     pub fn new(alloc: Global) -> CachedRows
-        ensures { result.rows ≡ [] }
+        ensures { result.rows.entries ≡ [] }
     {
         CachedRows {
-            rows: Vec::new(alloc),
+            rows: SortedMap::new(alloc),
         }
+    }
+
+    /// How many keys have a cached row.
+    pub fn len(&self) -> usize
+        ensures len { result ≡ length self.now.rows.entries }
+        ensures small { result < 2 ^ 63 }
+    {
+        self.rows.len()
     }
 
     pub fn find(&self, key: &RowKey) -> Option<&CachedRow>
-        ensures { option_copied result ≡ found self.now.rows key.now }
+        ensures { option_copied result ≡ found self.now.rows.entries key.now }
     {
-        match self.position(key) {
-            Ok(at) => Some(&self.rows[at]),
-            Err(_at) => None,
+        self.rows.get(key)
+    }
+
+    /// The first cached row from a key on.
+    pub fn first_from<'a>(&'a self, from: &'a RowKey) -> Option<(&'a RowKey, &'a CachedRow)>
+        ensures { MatchOption result (HasNone (found self.now.rows.entries) from.now)
+            (λ at. IsFirst (found self.now.rows.entries) from.now at.0.now at.1.now) }
+    {
+        match self.find(from) {
+            Some(cached) => Some((from, cached)),
+            None => self.next(from),
         }
     }
 
-    /// The rows of all greater keys.
-    pub fn above(&self, key: &RowKey) -> &[CachedRow]
-        ensures rise { RowsRise result.now }
-        ensures above { AllAbove key.now result.now }
-        ensures rows { (other : AnyKey) → IsBelow key.now other → found self.now.rows other ≡ found result.now other }
+    /// The cached row of the least greater key.
+    pub fn next(&self, key: &RowKey) -> Option<(&RowKey, &CachedRow)>
+        ensures { MatchOption result (HasNoNext key_order (found self.now.rows.entries) key.now)
+            (λ at. IsNext key_order (found self.now.rows.entries) key.now at.0.now at.1.now) }
     {
-        match self.position(key) {
-            Ok(at) => &self.rows[at + 1..],
-            Err(at) => &self.rows[at..],
-        }
-    }
-
-    /// The rows of the keys from one on and below another.
-    pub fn between(&self, from: &RowKey, to: &RowKey) -> &[CachedRow]
-        ensures rise { RowsRise result.now }
-        ensures within { AllByRecursion (λ row. IsWithin from.now to.now row.key) result.now }
-        ensures rows { (key : AnyKey) → IsWithin from.now to.now key → found self.now.rows key ≡ found result.now key }
-    {
-        let first = self.rank(from);
-        let end = self.rank(to).max(first);
-        &self.rows[first..end]
+        self.rows.next(key)
     }
 
     /// Makes room for so many rows.
-    pub fn reserve(&mut self, rows: usize) -> Result<(), OutOfMemory>
-        ensures rows { self.new.rows ≡ self.old.rows }
-        ensures room { OnOk result (rows ≤ self.new.spare) }
-        ensures kept { self.old.spare ≤ self.new.spare }
+    pub fn reserve(&mut self, alloc: Global, rows: usize) -> Result<(), OutOfMemory>
+        ensures rows { self.new.rows.entries ≡ self.old.rows.entries }
+        ensures room { OnOk result (rows ≤ self.new.rows.spare) }
+        ensures kept { self.old.rows.spare ≤ self.new.rows.spare }
     {
-        self.rows.reserve(rows)?;
-        Ok(())
+        self.rows.reserve(alloc, rows)
     }
 
     /// Puts a row under its key.
-    pub fn put(&mut self, row: CachedRow)
-        requires { 0 < self.old.spare }
-        ensures rows { (key : AnyKey) → found self.new.rows key
-            ≡ (if is_same row.key key then Some row else found self.old.rows key) }
-        ensures spare { self.old.spare ≤ self.new.spare + 1 }
+    pub fn put(&mut self, key: RowKey, row: CachedRow)
+        requires { 0 < self.old.rows.spare }
+        ensures rows { (other : AnyKey) → found self.new.rows.entries other
+            ≡ (if is_same key other then Some row else found self.old.rows.entries other) }
+        ensures spare { self.old.rows.spare ≤ self.new.rows.spare + 1 }
     {
-        match self.position(&row.key) {
-            Ok(at) => write_over(&mut self.rows, at, row),
-            Err(at) => put_in(&mut self.rows, at, row),
-        }
+        self.rows.insert(key, row);
     }
 
     /// Takes the row of a key out, where there is one.
     pub fn take(&mut self, key: &RowKey)
-        ensures rows { (other : AnyKey) → found self.new.rows other
-            ≡ (if is_same key.now other then None else found self.old.rows other) }
-        ensures spare { self.old.spare ≤ self.new.spare }
+        ensures rows { (other : AnyKey) → found self.new.rows.entries other
+            ≡ (if is_same key.now other then None else found self.old.rows.entries other) }
+        ensures spare { self.old.rows.spare ≤ self.new.rows.spare }
     {
-        match self.position(key) {
-            Ok(at) => discard(self.rows.remove(at)),
-            Err(_at) => {}
-        }
-    }
-
-    /// How many keys are below this one.
-    fn rank(&self, key: &RowKey) -> usize
-        ensures { HasRank self.now.rows key.now result }
-    {
-        match self.position(key) {
-            Ok(at) => at,
-            Err(at) => at,
-        }
-    }
-
-    /// Where the key is, or else how many keys are below it.
-    fn position(&self, key: &RowKey) -> Result<usize, usize>
-        ensures found { IfOk result (IsAt self.now.rows key.now) }
-        ensures absent { IfErr result (IsGap self.now.rows key.now) }
-    {
-        self.rows.binary_search_by(|row| compared(row, key))
+        self.rows.remove(key);
     }
 }
-
-fn compared(row: &CachedRow, key: &RowKey) -> Ordering
-    ensures { result ≡ key_order row.now.key key.now }
-{
-    row.key.cmp(key)
-}
-
-/// Puts a row in the place of another.
-fn write_over(rows: &mut Vec<CachedRow>, at: usize, row: CachedRow)
-    requires { at < vec_len rows.old }
-    ensures items { rows.new.items ≡ slice_set rows.old.items at row }
-    ensures len { vec_len rows.new ≡ vec_len rows.old }
-    ensures capacity { vec_capacity rows.new ≡ vec_capacity rows.old }
-{
-    discard(replace(&mut rows[at], row));
-}
-
-/// Puts a row between others. Its room was taken before.
-fn put_in(rows: &mut Vec<CachedRow>, at: usize, row: CachedRow)
-    requires place { at ≤ vec_len rows.old }
-    requires room { vec_len rows.old < vec_capacity rows.old }
-    ensures items { rows.new.items ≡ insert rows.old.items at row }
-    ensures len { vec_len rows.new ≡ vec_len rows.old + 1 }
-    ensures capacity { vec_capacity rows.old ≤ vec_capacity rows.new }
-{
-    rows.insert(at, row).unwrap();
-}
-
-fn discard(_row: CachedRow) {}

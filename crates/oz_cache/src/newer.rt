@@ -1,13 +1,11 @@
 //! The cached rows, and the list of their epochs.
 
-ghost use Rattle.std.specs.Prelude.{◌≡◌, ◌+◌, ◌<◌, ◌≤◌, ℕ, [], length, false, option_copied, Some};
+ghost use Rattle.std.specs.Prelude.{◌≡◌, ◌+◌, ◌<◌, ◌≤◌, ℕ, [], length, false, Some};
 ghost use Rattle.std.specs.Prelude.{IsSome, IfSome, if◌then◌else◌, OnOk};
-ghost use Rattle.std.specs.List.{AllByRecursion};
 ghost use Rattle.oz_epochs.specs.Epochs.{found as found_at};
 ghost use Rattle.oz_rows.specs.declared.key.RowKey.{RowKey as AnyKey};
-ghost use Rattle.oz_rows.specs.RowMaps.{is_same, IsBelow};
-ghost use Rattle.oz_cache.specs.Places.{RowsRise, AllAbove, IsWithin, found, written, written_in, after_changes};
-ghost use Rattle.oz_cache.specs.Places.{if_later};
+ghost use Rattle.oz_rows.specs.RowMaps.{is_same};
+ghost use Rattle.oz_cache.specs.Places.{found, written, written_in, after_changes, if_later};
 ghost use Rattle.oz_cache.specs.Linked.{AreLinked, AllBy, place_of, without_place};
 
 use crate::cached_rows::{CachedRow, CachedRows};
@@ -33,12 +31,12 @@ impl Model for Newer {
     ghost Value = { NewerView };
 
     ghost view = { λ n. record {
-      rows = n.rows.rows;
+      rows = n.rows.rows.entries;
       epochs = n.epochs.entries;
-      spare = min n.rows.spare n.epochs.spare;
+      spare = min n.rows.rows.spare n.epochs.spare;
     } };
 
-    ghost invariant = { λ n. AreListed n.rows.rows n.epochs.entries };
+    ghost invariant = { λ n. AreListed n.rows.rows.entries n.epochs.entries };
 }
 
 impl Newer {
@@ -52,28 +50,11 @@ impl Newer {
         }
     }
 
-    pub fn find(&self, key: &RowKey) -> Option<&CachedRow>
-        ensures { option_copied result ≡ found self.now.rows key.now }
+    /// The cached rows.
+    pub fn rows(&self) -> &CachedRows
+        ensures { result.now.rows.entries ≡ self.now.rows }
     {
-        self.rows.find(key)
-    }
-
-    /// The rows of all greater keys.
-    pub fn above(&self, key: &RowKey) -> &[CachedRow]
-        ensures rise { RowsRise result.now }
-        ensures above { AllAbove key.now result.now }
-        ensures rows { (other : AnyKey) → IsBelow key.now other → found self.now.rows other ≡ found result.now other }
-    {
-        self.rows.above(key)
-    }
-
-    /// The rows of the keys from one on and below another.
-    pub fn between(&self, from: &RowKey, to: &RowKey) -> &[CachedRow]
-        ensures rise { RowsRise result.now }
-        ensures within { AllByRecursion (λ row. IsWithin from.now to.now row.key) result.now }
-        ensures rows { (key : AnyKey) → IsWithin from.now to.now key → found self.now.rows key ≡ found result.now key }
-    {
-        self.rows.between(from, to)
+        &self.rows
     }
 
     /// The list of epochs.
@@ -91,7 +72,7 @@ impl Newer {
         ensures room { OnOk result (changes ≤ self.new.spare) }
         ensures kept { self.old.spare ≤ self.new.spare }
     {
-        self.rows.reserve(changes)?;
+        self.rows.reserve(alloc, changes)?;
         self.epochs.reserve(alloc, changes)
     }
 
@@ -131,12 +112,7 @@ impl Newer {
         let (Change { key, row }, listed) = change.into_parts();
         unlist(&mut self.epochs, place_in(&self.rows, &key));
         let place = self.epochs.push_back(epoch, listed);
-        self.rows.put(CachedRow {
-            key,
-            epoch,
-            place,
-            row,
-        });
+        self.rows.put(key, CachedRow { epoch, place, row });
     }
 
     /// Takes the row at the front of the list out, unless its epoch is later, and says whether it
@@ -164,7 +140,7 @@ impl Newer {
 
 /// Where the entry of a key stands, where it has a cached row.
 fn place_in(rows: &CachedRows, key: &RowKey) -> Option<Place>
-    ensures { result ≡ place_of (found rows.now.rows key.now) }
+    ensures { result ≡ place_of (found rows.now.rows.entries key.now) }
 {
     match rows.find(key) {
         Some(cached) => Some(cached.place),

@@ -1,21 +1,11 @@
-use Rattle.std.proofs.Common.{None, cond, sym, ◌∙◌, ap, subst}
-use Rattle.oz_rows.specs.RowMaps.{is_same}
-use Rattle.oz_cache.specs.Places.{OrderedRows, RowsRise, IsAt, found}
-use Rattle.oz_cache.proofs.Rows.{rise_removed, found_removed, found_absent}
+use Rattle.std.proofs.Common.{◌≡◌, None, cond, subst}
+use Rattle.std.specs.declared.cmp.Ordering.{Ordering}
+use Rattle.oz_rows.specs.declared.key.RowKey.{RowKey}
+use Rattle.oz_sorted.specs.Sorted.{value_of, is_same}
+use Rattle.oz_cache.proofs.RowOrder.{same_order}
 use Rattle.oz_cache.proofs.cached_rows.CachedRows.take.Goals as goal
 
-pub invariant_of-self : goal.invariant_of-self
-invariant_of-self c =
-    let at = subst (λ rows. IsAt rows c.args.key.now c.in-Ok.at) (sym (ap (λ (n : OrderedRows). n.rows) c.self.view_is)) c.in-Ok.ensures.found in
-    subst RowsRise (sym c.remove.ensures.items) (rise_removed _ c.args.key.now c.in-Ok.at at c.remove.result c.self.invariant)
-
-pub returns-in-Ok-clause-rows : goal.returns-in-Ok-clause-rows
-returns-in-Ok-clause-rows c = λ other.
-    let same = ap (λ (n : OrderedRows). n.rows) c.self.view_is in
-    let at = subst (λ rows. IsAt rows c.args.key.now c.in-Ok.at) (sym same) c.in-Ok.ensures.found in
-    ap (λ rows. found rows other) c.remove.ensures.items
-    ∙ found_removed _ c.args.key.now c.in-Ok.at at c.remove.result other
-    ∙ ap (λ rows. cond (is_same c.args.key.now other) None (found rows other)) same
-
-pub returns-in-Err-clause-rows : goal.returns-in-Err-clause-rows
-returns-in-Err-clause-rows c = λ other. found_absent _ c.args.key.now _ c.in-Err.ensures.absent other
+pub returns-clause-rows : goal.returns-clause-rows
+returns-clause-rows c = subst
+    (λ (cmp : RowKey → RowKey → Ordering). (other : RowKey) → value_of cmp c.remove.new.self.entries other ≡ cond (is_same cmp c.args.key.now other) None (value_of cmp c.args.self.now.rows.entries other))
+    same_order c.remove.ensures.values

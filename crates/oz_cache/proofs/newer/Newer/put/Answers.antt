@@ -11,7 +11,7 @@ use Rattle.oz_cache.proofs.newer.Newer.put.Goals as goal
 
 pub unlist-requires : goal.unlist-requires
 unlist-requires c =
-    let rows = c.self.inside.rows.rows in
+    let rows = c.self.inside.rows.rows.entries in
     let es = c.self.inside.epochs.entries in
     let key = c.into_parts-key.result.0.key in
     subst (λ (o : Option Place). IfSome o (λ place. IsSome (found_at place.slot es))) (sym c.place_in.ensures)
@@ -20,33 +20,33 @@ unlist-requires c =
 pub push_back-place-requires-clause-order : goal.push_back-place-requires-clause-order
 push_back-place-requires-clause-order c =
     let es = c.self.inside.epochs.entries in
-    let row = found c.self.inside.rows.rows c.into_parts-key.result.0.key in
+    let row = found c.self.inside.rows.rows.entries c.into_parts-key.result.0.key in
     let all : AllBy c.args.epoch es = subst (λ (w : NewerView). AllBy c.args.epoch w.epochs) (sym c.self.view_is) c.requires.ends in
     ends_by c.args.epoch _ (subst (AllBy c.args.epoch) (sym (c.unlist.ensures.entries ∙ ap (λ o. without_place o es) c.place_in.ensures)) (by_without c.args.epoch row es all))
 
 pub invariant_of-self : goal.invariant_of-self
 invariant_of-self c =
-    let rows = c.self.inside.rows.rows in
+    let rows = c.self.inside.rows.rows.entries in
     let es = c.self.inside.epochs.entries in
     let change = c.into_parts-key.result.0 in
     let place = c.push_back-place.result in
-    let row : CachedRow = record { key = change.key; epoch = c.args.epoch; place = place; row = change.row } in
+    let row : CachedRow = record { epoch = c.args.epoch; place = place; row = change.row } in
     let left = without_place (place_of (found rows change.key)) es in
     let listed = c.into_parts-key.ensures.listed ∙ sym (ap (λ (x : Change). x.key) c.into_parts-key.ensures.change) in
     record {
-      linked = subst (AreLinked (found c.put.new.self.rows))
+      linked = subst (AreLinked (found c.put.new.self.rows.entries))
           (sym (c.push_back-place.ensures.entries
           ∙ ap (λ l. l ++ entry place.slot c.args.epoch c.into_parts-key.result.1 ∷ []) (c.unlist.ensures.entries ∙ ap (λ o. without_place o es) c.place_in.ensures)
           ∙ ap (λ k. left ++ entry place.slot c.args.epoch k ∷ []) listed))
-          (relinked (found rows) (found c.put.new.self.rows) es c.self.invariant.order.slots c.self.invariant.linked row c.put.ensures.rows);
+          (relinked (found rows) (found c.put.new.self.rows.entries) es c.self.invariant.order.slots c.self.invariant.linked change.key row c.put.ensures.rows);
       order = c.push_back-place.ensures.order;
     }
 
 pub returns-clause-rows : goal.returns-clause-rows
 returns-clause-rows c = λ key.
-    let rows = c.self.inside.rows.rows in
+    let rows = c.self.inside.rows.rows.entries in
     let change = c.into_parts-key.result.0 in
-    let row : CachedRow = record { key = change.key; epoch = c.args.epoch; place = c.push_back-place.result; row = change.row } in
+    let row : CachedRow = record { epoch = c.args.epoch; place = c.push_back-place.result; row = change.row } in
     ap as_written (c.put.ensures.rows key)
     ∙ written_over (is_same change.key key) row (found rows key)
     ∙ ap (λ (x : Change). cond (is_same x.key key) (Some (written c.args.epoch x)) (written_in rows key)) c.into_parts-key.ensures.change
@@ -55,7 +55,7 @@ returns-clause-rows c = λ key.
 pub returns-clause-ends : goal.returns-clause-ends
 returns-clause-ends c =
     let es = c.self.inside.epochs.entries in
-    let row = found c.self.inside.rows.rows c.into_parts-key.result.0.key in
+    let row = found c.self.inside.rows.rows.entries c.into_parts-key.result.0.key in
     let all : AllBy c.args.epoch es = subst (λ (w : NewerView). AllBy c.args.epoch w.epochs) (sym c.self.view_is) c.requires.ends in
     let left = subst (AllBy c.args.epoch) (sym (c.unlist.ensures.entries ∙ ap (λ o. without_place o es) c.place_in.ensures)) (by_without c.args.epoch row es all) in
     let le : c.args.epoch ≤ c.args.epoch = omega arith in

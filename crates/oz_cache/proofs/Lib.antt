@@ -1,6 +1,7 @@
-pub mod Rows
-pub mod Searches
+pub mod RowOrder
 pub mod Batches
 pub mod Newest
 pub mod Next
-pub mod Between
+pub mod Counting
+pub mod Ahead
+pub mod Links

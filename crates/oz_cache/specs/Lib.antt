@@ -1,3 +1,4 @@
 pub mod Cache
+pub mod Linked
 pub mod Places
 pub mod Waiting

@@ -1,83 +1,72 @@
--- For private calls: cached rows in order, and where keys stand among them.
-use Rattle.std.specs.Prelude.{◌≡◌, ℕ, ◌<◌, ◌≤◌, List, [], ◌∷◌, Option, None, Some, if◌then◌else◌, nat_lt, length, take}
-use Rattle.std.specs.Prelude.{drop, ◌+◌, ◌-◌, Bool, true, false}
-use Rattle.std.specs.List.{AllByRecursion, HoldsAt}
-use Rattle.std.specs.declared.cmp.Ordering.TheVariants.{Less, Equal, Greater}
+-- For private calls: what keys have above the tables.
+use Rattle.std.specs.Prelude.{◌≡◌, ℕ, List, [], ◌∷◌, Option, None, Some, IsSome, if◌then◌else◌, nat_lt, ◌+◌, ◌-◌, Bool, true, false}
 use Rattle.oz_rows.specs.declared.key.RowKey.{RowKey}
 use Rattle.oz_rows.specs.declared.operation.Change.{Change}
 use Rattle.oz_rows.specs.Order.{key_order}
 use Rattle.oz_rows.specs.declared.row.Row.{Row}
+use Rattle.oz_sorted.specs.declared.entry.Entry.{Entry}
+use Rattle.oz_sorted.specs.Sorted.{value_of}
 use Rattle.oz_rows.specs.RowMaps.{Rows, IsBelow, is_same}
-use Rattle.oz_cache.specs.declared.newer.CachedRow.{CachedRow}
+use Rattle.oz_cache.specs.declared.cached_rows.CachedRow.{CachedRow}
 use Rattle.oz_cache.specs.declared.batch.Batch.{Batch}
 
--- the cached rows, and for how many more there is room
-pub record NewerRows : Type 0 where
-  pub rows : List CachedRow
-  pub spare : ℕ
-
--- each key is below those behind it
-abbrev pub RowsRise : List CachedRow → Type 0
-RowsRise [] = Unit {0}
-RowsRise (row ∷ others) = AllByRecursion (λ other. IsBelow row.key other.key) others × RowsRise others
-
-abbrev pub AllBelow : RowKey → List CachedRow → Type 0
-AllBelow key rows = AllByRecursion (λ row. key_order row.key key ≡ Less) rows
-
-abbrev pub AllAbove : RowKey → List CachedRow → Type 0
-AllAbove key rows = AllByRecursion (λ row. key_order row.key key ≡ Greater) rows
+abbrev pub Entries : Type 0
+Entries = List (Entry RowKey CachedRow)
 
 -- the cached row of a key
-abbrev pub found : List CachedRow → RowKey → Option CachedRow
-found [] key = None
-found (row ∷ others) key = if is_same row.key key then Some row else found others key
+abbrev pub found : Entries → RowKey → Option CachedRow
+found rows key = value_of key_order rows key
 
--- the key is there, with lower keys before it and greater ones behind
-pub record IsAt (rows : List CachedRow) (key : RowKey) (place : ℕ) : Type 0 where
-  pub in_range : place < length rows
-  pub has_key : HoldsAt (λ row. key_order row.key key ≡ Equal) rows place
-  pub before : AllBelow key (take place rows)
-  pub after : AllAbove key (drop (place + 1) rows)
+-- what the last change made of a key: its epoch, and the row, or none where it was taken away
+pub record Written : Type 0 where
+  pub epoch : ℕ
+  pub row : Option Row
 
--- lower keys stand before the place, and greater ones from it on
-pub record IsGap (rows : List CachedRow) (key : RowKey) (place : ℕ) : Type 0 where
-  pub in_range : place ≤ length rows
-  pub before : AllBelow key (take place rows)
-  pub after : AllAbove key (drop place rows)
+abbrev pub written : ℕ → Change → Written
+written epoch change = record { epoch = epoch; row = change.row }
 
-abbrev pub cached_row : ℕ → Change → CachedRow
-cached_row epoch change = record { key = change.key; epoch = epoch; row = change.row }
+-- a cached row without its place
+abbrev pub written_by : CachedRow → Written
+written_by cached = record { epoch = cached.epoch; row = cached.row }
 
--- the cached row of a key after changes of one epoch
-abbrev pub after_changes : ℕ → List Change → RowKey → Option CachedRow → Option CachedRow
+abbrev pub as_written : Option CachedRow → Option Written
+as_written None = None
+as_written (Some cached) = Some (written_by cached)
+
+-- what the cached rows have of a key
+abbrev pub written_in : Entries → RowKey → Option Written
+written_in rows key = as_written (found rows key)
+
+-- the same after changes of one epoch
+abbrev pub after_changes : ℕ → List Change → RowKey → Option Written → Option Written
 after_changes epoch [] key before = before
 after_changes epoch (change ∷ changes) key before =
-    after_changes epoch changes key (if is_same change.key key then Some (cached_row epoch change) else before)
+    after_changes epoch changes key (if is_same change.key key then Some (written epoch change) else before)
 
--- the same after batches
-abbrev pub after_batches : List Batch → RowKey → Option CachedRow → Option CachedRow
+-- and after batches
+abbrev pub after_batches : List Batch → RowKey → Option Written → Option Written
 after_batches [] key before = before
 after_batches (batch ∷ batches) key before =
     after_batches batches key (after_changes batch.epoch batch.changes key before)
 
--- a cached row that an epoch after this one wrote
-abbrev pub if_later : ℕ → Option CachedRow → Option CachedRow
+-- what an epoch after this one wrote
+abbrev pub if_later : ℕ → Option Written → Option Written
 if_later epoch None = None
-if_later epoch (Some row) = if nat_lt epoch row.epoch then Some row else None
+if_later epoch (Some w) = if nat_lt epoch w.epoch then Some w else None
 
--- each key has the cached row that the batches make of none
-abbrev pub AreLastOf : List Batch → List CachedRow → Type 0
-AreLastOf batches rows = (key : RowKey) → found rows key ≡ after_batches batches key None
+-- the cached rows have of each key what the batches make of none
+abbrev pub AreLastOf : List Batch → Entries → Type 0
+AreLastOf batches rows = (key : RowKey) → written_in rows key ≡ after_batches batches key None
 
--- the key is one from a key on and below another
-abbrev pub IsWithin : RowKey → RowKey → RowKey → Type 0
-IsWithin from to key = (IsBelow key from → ⊥) × IsBelow key to
+-- the first cached row from a key on
+pub record IsFirst (cached : RowKey → Option CachedRow) (from at : RowKey) (row : CachedRow) : Type 0 where
+  pub its_row : cached at ≡ Some row
+  pub not_below : IsBelow at from → ⊥
+  pub least : (other : RowKey) → IsSome (cached other) → (IsBelow other from → ⊥) → IsBelow other at → ⊥
 
--- lower keys stand before the place, and none from it on
-pub record HasRank (rows : List CachedRow) (key : RowKey) (place : ℕ) : Type 0 where
-  pub in_range : place ≤ length rows
-  pub before : AllBelow key (take place rows)
-  pub after : AllByRecursion (λ row. IsBelow row.key key → ⊥) (drop place rows)
+-- there is none
+abbrev pub HasNone : (RowKey → Option CachedRow) → RowKey → Type 0
+HasNone cached from = (other : RowKey) → IsSome (cached other) → (IsBelow other from → ⊥) → ⊥
 
 -- a count where a row comes or goes
 abbrev pub counted_anew : ℕ → Bool → Bool → ℕ
@@ -92,5 +81,5 @@ over_row None row = row
 over_row (Some cached) row = cached.row
 
 -- the rows of tables with cached rows above them
-abbrev pub over_rows : List CachedRow → Rows → Rows
+abbrev pub over_rows : Entries → Rows → Rows
 over_rows cached rows key = over_row (found cached key) (rows key)

@@ -3,6 +3,7 @@
 
 mod batch;
 mod cached;
+mod cached_rows;
 mod newer;
 mod pending;
 mod prepared;

@@ -1,197 +1,162 @@
-//! The rows that stand above the tables, in the order of their keys.
+//! The cached rows, and the list of their epochs.
 
-ghost use Rattle.std.specs.Prelude.{◌≡◌, ◌+◌, ◌<◌, ◌≤◌, [], length, slice_set, insert, vec_len, vec_capacity};
-ghost use Rattle.std.specs.Prelude.{option_copied, Some, if◌then◌else◌, nat_lt, filter, IfOk, IfErr, OnOk};
-ghost use Rattle.std.specs.List.{AllByRecursion};
+ghost use Rattle.std.specs.Prelude.{◌≡◌, ◌+◌, ◌<◌, ◌≤◌, ℕ, [], length, false, Some};
+ghost use Rattle.std.specs.Prelude.{IsSome, IfSome, if◌then◌else◌, OnOk};
+ghost use Rattle.oz_epochs.specs.Epochs.{found as found_at};
 ghost use Rattle.oz_rows.specs.declared.key.RowKey.{RowKey as AnyKey};
-ghost use Rattle.oz_rows.specs.Order.{key_order};
-ghost use Rattle.oz_rows.specs.RowMaps.{is_same, IsBelow};
-ghost use Rattle.oz_cache.specs.Places.{RowsRise, AllAbove, IsAt, IsGap, HasRank, IsWithin, found, after_changes};
-ghost use Rattle.oz_cache.specs.Places.{if_later};
+ghost use Rattle.oz_rows.specs.RowMaps.{is_same};
+ghost use Rattle.oz_cache.specs.Places.{found, written, written_in, after_changes, if_later};
+ghost use Rattle.oz_cache.specs.Linked.{AreLinked, AllBy, place_of, without_place};
 
-use oz_epochs::Steps;
+use crate::cached_rows::{CachedRow, CachedRows};
+use crate::prepared::ListedChange;
+use oz_epochs::{EpochList, Place, Steps};
 use oz_fields::{List, OutOfMemory};
-use oz_rows::{Change, Row, RowKey};
+use oz_rows::{Change, RowKey};
 use std::alloc::Global;
-use std::cmp::Ordering;
 use std::marker::Model;
-use std::mem::replace;
 use std::sync::ledger::Ledger;
 
-/// What a key has above the tables: its row, or none where it was taken away. The epoch is that of
-/// the last change.
-#[derive(Debug, Drop)]
-pub struct CachedRow {
-    pub key: RowKey,
-    pub epoch: u64,
-    pub row: Option<Row>,
-}
-
-/// Cached rows, in the order of their keys.
-#[derive(Debug, Drop)]
+/// The cached rows, and a list with the epoch and the key of each of them.
+#[derive(Drop)]
 pub struct Newer {
-    rows: Vec<CachedRow>,
+    rows: CachedRows,
+    epochs: EpochList<RowKey>,
 }
 
 impl Model for Newer {
-    ghost use Rattle.std.specs.Prelude.{◌-◌, vec_len, vec_capacity};
-    ghost use Rattle.oz_cache.specs.Places.{NewerRows, RowsRise};
+    ghost use Rattle.std.specs.Prelude.{min};
+    ghost use Rattle.oz_cache.specs.Linked.{NewerView, AreListed};
 
-    ghost Value = { NewerRows };
+    ghost Value = { NewerView };
 
-    ghost view = { λ n. record { rows = n.rows.items; spare = vec_capacity n.rows - vec_len n.rows } };
+    ghost view = { λ n. record {
+      rows = n.rows.rows.entries;
+      epochs = n.epochs.entries;
+      spare = min n.rows.rows.spare n.epochs.spare;
+    } };
 
-    ghost invariant = { λ n. RowsRise n.rows.items };
+    ghost invariant = { λ n. AreListed n.rows.rows.entries n.epochs.entries };
 }
 
 impl Newer {
     pub fn new(alloc: Global) -> Newer
-        ensures { result.rows ≡ [] }
+        ensures rows { result.rows ≡ [] }
+        ensures epochs { result.epochs ≡ [] }
     {
         Newer {
-            rows: Vec::new(alloc),
+            rows: CachedRows::new(alloc),
+            epochs: EpochList::new(alloc),
         }
     }
 
-    pub fn find(&self, key: &RowKey) -> Option<&CachedRow>
-        ensures { option_copied result ≡ found self.now.rows key.now }
+    /// The cached rows.
+    pub fn rows(&self) -> &CachedRows
+        ensures { result.now.rows.entries ≡ self.now.rows }
     {
-        match self.position(key) {
-            Ok(at) => Some(&self.rows[at]),
-            Err(_at) => None,
-        }
+        &self.rows
     }
 
-    /// The rows of all greater keys.
-    pub fn above(&self, key: &RowKey) -> &[CachedRow]
-        ensures rise { RowsRise result.now }
-        ensures above { AllAbove key.now result.now }
-        ensures rows { (other : AnyKey) → IsBelow key.now other → found self.now.rows other ≡ found result.now other }
+    /// The list of epochs.
+    pub fn epochs(&self) -> &EpochList<RowKey>
+        ensures list { result.now.entries ≡ self.now.epochs }
+        ensures linked { AreLinked (found self.now.rows) self.now.epochs }
     {
-        match self.position(key) {
-            Ok(at) => &self.rows[at + 1..],
-            Err(at) => &self.rows[at..],
-        }
-    }
-
-    /// The rows of the keys from one on and below another.
-    pub fn between(&self, from: &RowKey, to: &RowKey) -> &[CachedRow]
-        ensures rise { RowsRise result.now }
-        ensures within { AllByRecursion (λ row. IsWithin from.now to.now row.key) result.now }
-        ensures rows { (key : AnyKey) → IsWithin from.now to.now key → found self.now.rows key ≡ found result.now key }
-    {
-        let first = self.rank(from);
-        let end = self.rank(to).max(first);
-        &self.rows[first..end]
+        &self.epochs
     }
 
     /// Makes room for so many changes.
-    pub fn reserve(&mut self, changes: usize) -> Result<(), OutOfMemory>
+    pub fn reserve(&mut self, alloc: Global, changes: usize) -> Result<(), OutOfMemory>
         ensures rows { self.new.rows ≡ self.old.rows }
+        ensures epochs { self.new.epochs ≡ self.old.epochs }
         ensures room { OnOk result (changes ≤ self.new.spare) }
         ensures kept { self.old.spare ≤ self.new.spare }
     {
-        self.rows.reserve(changes)?;
-        Ok(())
+        self.rows.reserve(alloc, changes)?;
+        self.epochs.reserve(alloc, changes)
     }
 
     /// Enters changes of one epoch in their order.
-    pub fn enter(&mut self, epoch: u64, changes: List<Change>)
-        requires { length changes ≤ self.old.spare }
-        ensures rows { (key : AnyKey) → found self.new.rows key
-            ≡ after_changes epoch changes key (found self.old.rows key) }
+    pub fn enter(&mut self, epoch: u64, changes: List<ListedChange>)
+        requires room { length changes ≤ self.old.spare }
+        requires ends { AllBy epoch self.old.epochs }
+        ensures rows { (key : AnyKey) → written_in self.new.rows key
+            ≡ after_changes epoch changes key (written_in self.old.rows key) }
+        ensures ends { AllBy epoch self.new.epochs }
         ensures spare { self.old.spare ≤ self.new.spare + length changes }
     {
         for change in changes {
-            let Change { key, row } = change;
-            self.put(CachedRow { key, epoch, row });
+            self.put(epoch, change);
         }
     }
 
-    /// Takes out what no later epoch wrote. Each row that is looked at is one step.
+    /// Takes out what no later epoch wrote. It takes one step more than it takes rows out.
     pub fn keep_after<L: Ledger>(&mut self, epoch: u64, steps: &mut Steps<L>)
-        ensures rows { (key : AnyKey) → found self.new.rows key ≡ if_later epoch (found self.old.rows key) }
-        ensures rise { RowsRise self.old.rows }
+        ensures rows { (key : AnyKey) → written_in self.new.rows key ≡ if_later epoch (written_in self.old.rows key) }
+        ensures ends { (limit : ℕ) → AllBy limit self.old.epochs → AllBy limit self.new.epochs }
         ensures spare { self.old.spare ≤ self.new.spare }
-        ensures steps { steps.new ≡ steps.old + length self.old.rows }
+        ensures steps { steps.new + length self.new.epochs ≡ steps.old + length self.old.epochs + 1 }
     {
-        keep_rows_after(&mut self.rows, epoch, steps);
+        while self.evict(epoch, steps) {}
     }
 
-    fn put(&mut self, row: CachedRow)
-        requires { 0 < self.old.spare }
-        ensures rows { (key : AnyKey) → found self.new.rows key
-            ≡ (if is_same row.key key then Some row else found self.old.rows key) }
+    /// Enters one change: the entry of its key leaves its place in the list, and comes to the end.
+    fn put(&mut self, epoch: u64, change: ListedChange)
+        requires room { 0 < self.old.spare }
+        requires ends { AllBy epoch self.old.epochs }
+        ensures rows { (key : AnyKey) → written_in self.new.rows key
+            ≡ (if is_same change.key key then Some (written epoch change) else written_in self.old.rows key) }
+        ensures ends { AllBy epoch self.new.epochs }
         ensures spare { self.old.spare ≤ self.new.spare + 1 }
     {
-        match self.position(&row.key) {
-            Ok(at) => write_over(&mut self.rows, at, row),
-            Err(at) => put_in(&mut self.rows, at, row),
-        }
+        let (Change { key, row }, listed) = change.into_parts();
+        unlist(&mut self.epochs, place_in(&self.rows, &key));
+        let place = self.epochs.push_back(epoch, listed);
+        self.rows.put(key, CachedRow { epoch, place, row });
     }
 
-    /// How many keys are below this one.
-    fn rank(&self, key: &RowKey) -> usize
-        ensures { HasRank self.now.rows key.now result }
+    /// Takes the row at the front of the list out, unless its epoch is later, and says whether it
+    /// did. It is one step.
+    fn evict<L: Ledger>(&mut self, epoch: u64, steps: &mut Steps<L>) -> bool
+        ensures rows { (key : AnyKey) → if_later epoch (written_in self.new.rows key)
+            ≡ if_later epoch (written_in self.old.rows key) }
+        ensures ends { (limit : ℕ) → AllBy limit self.old.epochs → AllBy limit self.new.epochs }
+        ensures spare { self.old.spare ≤ self.new.spare }
+        ensures evicted { length self.old.epochs ≡ length self.new.epochs + (if result then 1 else 0) }
+        ensures step { steps.new ≡ steps.old + 1 }
+        ensures all_later { result ≡ false → (key : AnyKey) → if_later epoch (written_in self.new.rows key)
+            ≡ written_in self.new.rows key }
     {
-        match self.position(key) {
-            Ok(at) => at,
-            Err(at) => at,
+        match self.epochs.pop_to(epoch, steps) {
+            Some((_epoch, key)) => {
+                self.rows.take(&key);
+                discard(key);
+                true
+            }
+            None => false,
         }
     }
+}
 
-    /// Where the key is, or else how many keys are below it.
-    fn position(&self, key: &RowKey) -> Result<usize, usize>
-        ensures found { IfOk result (IsAt self.now.rows key.now) }
-        ensures absent { IfErr result (IsGap self.now.rows key.now) }
-    {
-        self.rows.binary_search_by(|row| compared(row, key))
+/// Where the entry of a key stands, where it has a cached row.
+fn place_in(rows: &CachedRows, key: &RowKey) -> Option<Place>
+    ensures { result ≡ place_of (found rows.now.rows.entries key.now) }
+{
+    match rows.find(key) {
+        Some(cached) => Some(cached.place),
+        None => None,
     }
 }
 
-fn compared(row: &CachedRow, key: &RowKey) -> Ordering
-    ensures { result ≡ key_order row.now.key key.now }
+/// Takes the entry at a place out, where one is given.
+fn unlist(epochs: &mut EpochList<RowKey>, place: Option<Place>)
+    requires { IfSome place (λ place. IsSome (found_at place.slot epochs.old.entries)) }
+    ensures entries { epochs.new.entries ≡ without_place place epochs.old.entries }
+    ensures spare { epochs.old.spare ≤ epochs.new.spare }
 {
-    row.key.cmp(key)
-}
-
-/// Keeps the rows of later epochs, in their order.
-fn keep_rows_after<L: Ledger>(rows: &mut Vec<CachedRow>, epoch: u64, steps: &mut Steps<L>)
-    ensures items { rows.new.items ≡ filter (λ row. nat_lt epoch row.epoch) rows.old.items }
-    ensures len { vec_len rows.new ≤ vec_len rows.old }
-    ensures capacity { vec_capacity rows.new ≡ vec_capacity rows.old }
-    ensures steps { steps.new ≡ steps.old + vec_len rows.old }
-{
-    let mut kept = 0;
-    for at in 0..rows.len() {
-        steps.count();
-        if rows[at].epoch > epoch {
-            rows.swap(kept, at);
-            kept += 1;
-        }
+    if let Some(place) = place {
+        let _ = epochs.remove(place);
     }
-    rows.truncate(kept);
 }
 
-/// Puts a row in the place of another.
-fn write_over(rows: &mut Vec<CachedRow>, at: usize, row: CachedRow)
-    requires { at < vec_len rows.old }
-    ensures items { rows.new.items ≡ slice_set rows.old.items at row }
-    ensures len { vec_len rows.new ≡ vec_len rows.old }
-    ensures capacity { vec_capacity rows.new ≡ vec_capacity rows.old }
-{
-    discard(replace(&mut rows[at], row));
-}
-
-/// Puts a row between others. Its room was taken before.
-fn put_in(rows: &mut Vec<CachedRow>, at: usize, row: CachedRow)
-    requires place { at ≤ vec_len rows.old }
-    requires room { vec_len rows.old < vec_capacity rows.old }
-    ensures items { rows.new.items ≡ insert rows.old.items at row }
-    ensures len { vec_len rows.new ≡ vec_len rows.old + 1 }
-    ensures capacity { vec_capacity rows.old ≤ vec_capacity rows.new }
-{
-    rows.insert(at, row).unwrap();
-}
-
-fn discard(_row: CachedRow) {}
+fn discard(_key: RowKey) {}

@@ -1,39 +1,61 @@
-use Rattle.std.proofs.Common.{◌≡◌, [], ◌∷◌, ◌++◌, length, take, is_some, sym, ◌∙◌, ap, subst, arith, rules}
-use Rattle.std.proofs.Math.Seq.{take-length}
-use Rattle.oz_rows.specs.RowMaps.{row_of}
-use Rattle.oz_cache.specs.declared.newer.CachedRow.{CachedRow}
-use Rattle.oz_cache.specs.Places.{IsWithin, counted_anew}
-use Rattle.oz_cache.proofs.Between.{Counted, counts_begin, counts_on, counts_end, one_later, row_between, one_more_at_most}
+use Rattle.std.proofs.Common.{◌≡◌, ◌+◌, Some, None, is_some, sym, ◌∙◌, ap, subst, arith, rules}
+use mathlib.Core.Bool.{false≢true}
+use Rattle.std.specs.Ordering.{is_lt}
+use Rattle.oz_rows.specs.Order.{key_order}
+use Rattle.oz_rows.specs.laws.Order.{less_from_test}
+use Rattle.oz_rows.specs.RowMaps.{row_of, IsBelow}
+use Rattle.oz_cache.specs.Places.{found, counted_anew}
+use Rattle.oz_cache.proofs.Ahead.{count_above, count_ahead, ahead_first, ahead_next}
+use Rattle.oz_cache.proofs.Counting.{Answer, Counted, counts_begin, counts_on, counts_end, one_more_at_most}
 use Rattle.oz_cache.proofs.cached.count_with.Goals as goal
 
-pub loop-row-init : goal.loop-row-init
-loop-row-init c = record {
-  counted = counts_begin c.args.tables.now.rows c.args.from.now c.args.to.now c.count-count.result c.count-count.ensures.in_order c.count-count.ensures.count;
-  small = omega (arith, c.count-count.ensures.small);
-}
-
-pub loop-row-preserved : goal.loop-row-preserved
-loop-row-preserved c =
-    let tables = c.args.tables.now.rows in
+pub loop-next-init : goal.loop-next-init
+loop-next-init c =
+    let rows = c.args.cached.now.rows.entries in
     let from = c.args.from.now in
-    let to = c.args.to.now in
-    let cached = c.args.cached.now in
-    let i = c.loop-row.row-index in
-    let x = c.row-item.result in
-    let facts = row_between (λ (row : CachedRow). IsWithin from to row.key) cached i x c.requires.rise c.requires.within c.loop-row-test.true c.row-item.is in
-    let had : c.is_some.result ≡ is_some (row_of tables x.key) = search rules in
-    let has : c.is_some-in-loop-row.result ≡ is_some x.row = c.is_some-in-loop-row.ensures in
-    let count_is : c.count_after-count.result ≡ counted_anew c.loop-row.count (is_some (row_of tables x.key)) (is_some x.row) = c.count_after-count.ensures ∙ (λ j. counted_anew c.loop-row.count (had j) (has j)) in
-    let next = counts_on tables from to (take i cached) x c.loop-row.count facts.0 facts.1 c.loop-row.invariant.counted in
     record {
-      counted = subst (λ done. Counted tables from to done c.count_after-count.result) (one_later cached i x c.loop-row-test.true c.row-item.is) (subst (Counted tables from to (take i cached ++ x ∷ [])) (sym count_is) next);
-      small = omega (arith, count_is, one_more_at_most c.loop-row.count (is_some (row_of tables x.key)) (is_some x.row), c.loop-row.invariant.small);
+      counted = counts_begin c.args.tables.now.rows (found rows) from c.args.to.now c.count-count.result c.count-count.ensures.in_order c.count-count.ensures.count c.first_from-next.result c.first_from-next.ensures;
+      small = omega (arith, ahead_first rows from c.first_from-next.result c.first_from-next.ensures, c.count-count.ensures.small);
     }
 
-pub returns : goal.returns
-returns c =
+pub loop-next-smaller : goal.loop-next-smaller
+loop-next-smaller c =
+    let rows = c.args.cached.now.rows.entries in
+    let key = c.in-Some.at.now in
+    let was : count_ahead c.loop-next.next rows ≡ 1 + count_above key rows = ap (λ n. count_ahead n rows) c.in-Some.is in
+    omega (arith, was, ahead_next rows key c.next-next.result c.next-next.ensures)
+
+pub loop-next-preserved : goal.loop-next-preserved
+loop-next-preserved c =
     let tables = c.args.tables.now.rows in
-    let cached = c.args.cached.now in
-    let whole : c.loop-row.row-index ≡ length cached = omega arith in
-    let all : take c.loop-row.row-index cached ≡ cached = ap (λ n. take n cached) whole ∙ take-length cached in
-    counts_end tables c.args.from.now c.args.to.now cached c.loop-row.count (subst (λ done. Counted tables c.args.from.now c.args.to.now done c.loop-row.count) all c.loop-row.invariant.counted)
+    let rows = c.args.cached.now.rows.entries in
+    let from = c.args.from.now in
+    let to = c.args.to.now in
+    let key = c.in-Some.at in
+    let x = c.in-Some.row in
+    let below : IsBelow key.now to = less_from_test (key_order key.now to) (sym c.is_below.ensures ∙ c.if-not-is_below.false) in
+    let had : c.is_some.result ≡ is_some (row_of tables key.now) = search rules in
+    let has : c.is_some-in-Some.result ≡ is_some x.now.row = c.is_some-in-Some.ensures in
+    let count_is : c.count_after-count.result ≡ counted_anew c.loop-next.count (is_some (row_of tables key.now)) (is_some x.now.row) = c.count_after-count.ensures ∙ (λ j. counted_anew c.loop-next.count (had j) (has j)) in
+    let now = subst (λ (n : Answer). Counted tables (found rows) from to n c.loop-next.count) c.in-Some.is c.loop-next.invariant.counted in
+    let next = counts_on tables (found rows) from to key x c.loop-next.count below now c.next-next.result c.next-next.ensures in
+    let was : count_ahead c.loop-next.next rows ≡ 1 + count_above key.now rows = ap (λ n. count_ahead n rows) c.in-Some.is in
+    record {
+      counted = subst (λ n. Counted tables (found rows) from to c.next-next.result n) (sym count_is) next;
+      small = omega (arith, count_is, one_more_at_most c.loop-next.count (is_some (row_of tables key.now)) (is_some x.now.row), was, ahead_next rows key.now c.next-next.result c.next-next.ensures, c.loop-next.invariant.small);
+    }
+
+pub returns-then-not-is_below : goal.returns-then-not-is_below
+returns-then-not-is_below c =
+    let tables = c.args.tables.now.rows in
+    let rows = c.args.cached.now.rows.entries in
+    let to = c.args.to.now in
+    let now = subst (λ (n : Answer). Counted tables (found rows) c.args.from.now to n c.loop-next.count) c.in-Some.is c.loop-next.invariant.counted in
+    counts_end tables (found rows) c.args.from.now to (Some (c.in-Some.at, c.in-Some.row)) c.loop-next.count (λ below. false≢true (sym (sym c.is_below.ensures ∙ c.if-not-is_below.true) ∙ ap is_lt below)) now
+
+pub returns-in_default : goal.returns-in_default
+returns-in_default c =
+    let tables = c.args.tables.now.rows in
+    let rows = c.args.cached.now.rows.entries in
+    let to = c.args.to.now in
+    counts_end tables (found rows) c.args.from.now to None c.loop-next.count tt (subst (λ (n : Answer). Counted tables (found rows) c.args.from.now to n c.loop-next.count) c.in_default.is c.loop-next.invariant.counted)

@@ -1,9 +1,14 @@
-use Rattle.std.proofs.Common.{◌+◌, ◌≤◌, ◌^◌, take}
-use Rattle.oz_cache.proofs.Between.{Counted}
+use Rattle.std.proofs.Common.{◌+◌, ◌<◌, ◌^◌, length}
+use Rattle.oz_cache.specs.Places.{found}
+use Rattle.oz_cache.proofs.Ahead.{count_ahead}
+use Rattle.oz_cache.proofs.Counting.{Counted}
 use Rattle.oz_cache.proofs.cached.count_with.Given as goal
 
-abbrev pub invariant-loop-row : goal.invariant-loop-row
-invariant-loop-row l = record {
-  counted : Counted l.tables.rows l.from l.to (take l.row-index l.cached) l.count;
-  small : l.count ≤ 2 ^ 63 + l.row-index;
+abbrev pub invariant-loop-next : goal.invariant-loop-next
+invariant-loop-next l = record {
+  counted : Counted l.tables.rows (found l.cached.rows.entries) l.from l.to l.next l.count;
+  small : l.count + count_ahead l.next l.cached.rows.entries < 2 ^ 63 + length l.cached.rows.entries;
 }
+
+abbrev pub decreases-loop-next : goal.decreases-loop-next
+decreases-loop-next l = count_ahead l.next l.cached.rows.entries

@@ -1,50 +1,57 @@
-use Rattle.std.proofs.Common.{◌+◌, drop, refl, sym, ◌∙◌, ap, subst, arith}
+use Rattle.std.proofs.Common.{◌≡◌, ◌+◌, refl, sym, ◌∙◌, ap, subst, arith}
 use mathlib.Core.Bool.{false≢true}
-use Rattle.oz_tables.specs.Tables.{TableView as Tables}
 use Rattle.oz_rows.specs.RowMaps.{row_of}
+use Rattle.oz_tables.specs.Tables.{TableView as Tables}
 use Rattle.oz_cache.specs.Cache.{CacheView, newest}
 use Rattle.oz_cache.specs.Places.{found, over_row}
 use Rattle.oz_cache.proofs.Newest.{newest_row}
-use Rattle.oz_cache.proofs.Next.{HasPassed, rest_at, tables_answer, is_first, next_is_cached, passes}
+use Rattle.oz_cache.proofs.Ahead.{count_above, count_ahead, ahead_next}
+use Rattle.oz_cache.proofs.Counting.{AnswersNext}
+use Rattle.oz_cache.proofs.Next.{tables_answer, is_first, next_is_cached, passes}
 use Rattle.oz_cache.proofs.cached.Cached.next.Goals as goal
 
-pub loop-cached-init : goal.loop-cached-init
-loop-cached-init c =
+pub loop-next-init : goal.loop-next-init
+loop-next-init c =
     let pending = c.self.inside.pending in
     let all = c.self.inside.newer.rows in
-    let above = c.above-cached-items.result.now in
+    let rows = c.rows-rows.result.now.rows.entries in
     record {
-      same_kind = refl;
-      not_below = λ q below. below;
-      passed = λ q is_above. is_above.above;
-      rise = c.above-cached-items.ensures.rise;
-      above = c.above-cached-items.ensures.above;
-      rows = λ q below.
+      passed = record { same_kind = refl; not_below = λ q below. below; passed = λ q is_above. is_above.above };
+      cached_next = c.next-next.ensures;
+      over = λ q.
           sym (ap (λ (w : CacheView). newest w q) c.self.view_is)
-          ∙ newest_row pending.batches all c.self.invariant q (row_of pending.durable.rows q)
-          ∙ ap (λ o. over_row o (row_of pending.durable.rows q)) (c.above-cached-items.ensures.rows q below)
-          ∙ ap (λ (t : Tables). over_row (found above q) (row_of t.rows q)) (sym c.tables-tables.ensures);
+          ∙ newest_row pending.batches all c.self.invariant.last q (row_of pending.durable.rows q)
+          ∙ ap (λ l. over_row (found l q) (row_of pending.durable.rows q)) (sym c.rows-rows.ensures)
+          ∙ ap (λ (t : Tables). over_row (found rows q) (row_of t.rows q)) (sym c.tables-tables.ensures);
+    }
+
+pub loop-next-smaller : goal.loop-next-smaller
+loop-next-smaller c =
+    let rows = c.rows-rows.result.now.rows.entries in
+    let at = c.in-Some.at.now in
+    let was : count_ahead c.loop-next.next rows ≡ 1 + count_above at rows = ap (λ n. count_ahead n rows) c.in-Some.is in
+    omega (arith, was, ahead_next rows at c.next-next-in-Some.result c.next-next-in-Some.ensures)
+
+pub loop-next-preserved : goal.loop-next-preserved
+loop-next-preserved c =
+    let cached = found c.rows-rows.result.now.rows.entries in
+    let first_cached = subst (AnswersNext cached c.loop-next.from.now) c.in-Some.is c.loop-next.invariant.cached_next in
+    let first = is_first (newest c.args.self.now) (row_of c.tables-tables.result.now.rows) (found c.rows-rows.result.now.rows.entries) c.loop-next.invariant.over c.args.key.now c.loop-next.from.now c.loop-next.invariant.passed c.in-Some.at.now c.in-Some.cached.now first_cached c.next-below.result c.next-below.ensures (c.comes_first.ensures.0 c.if-not-comes_first.false) in
+    record {
+      passed = passes (newest c.args.self.now) (row_of c.tables-tables.result.now.rows) (found c.rows-rows.result.now.rows.entries) c.loop-next.invariant.over c.args.key.now c.loop-next.from.now c.loop-next.invariant.passed c.in-Some.at.now c.in-Some.cached.now first_cached first c.in-None.is;
+      cached_next = c.next-next-in-Some.ensures;
+      over = c.loop-next.invariant.over;
     }
 
 pub returns-then-not-comes_first : goal.returns-then-not-comes_first
 returns-then-not-comes_first c =
-    let items = c.above-cached-items.result.now in
-    let rest = rest_at items c.loop-cached.cached-index c.cached-item.result (omega arith) c.cached-item.is in
-    let so = subst (λ l. HasPassed (newest c.args.self.now) (row_of c.tables-tables.result.now.rows) c.args.key.now c.loop-cached.from.now l) rest c.loop-cached.invariant in
-    tables_answer _ _ _ _ c.cached-item.result (drop (c.loop-cached.cached-index + 1) items) so c.next-below.result c.next-below.ensures (λ first. false≢true (sym c.if-not-comes_first.true ∙ c.comes_first.ensures.1 first))
+    let cached = found c.rows-rows.result.now.rows.entries in
+    let first_cached = subst (AnswersNext cached c.loop-next.from.now) c.in-Some.is c.loop-next.invariant.cached_next in
+    tables_answer (newest c.args.self.now) (row_of c.tables-tables.result.now.rows) (found c.rows-rows.result.now.rows.entries) c.loop-next.invariant.over c.args.key.now c.loop-next.from.now c.loop-next.invariant.passed c.in-Some.at.now c.in-Some.cached.now first_cached c.next-below.result c.next-below.ensures (λ first. false≢true (sym c.if-not-comes_first.true ∙ c.comes_first.ensures.1 first))
 
-pub returns-in-Some : goal.returns-in-Some
-returns-in-Some c =
-    let items = c.above-cached-items.result.now in
-    let rest = rest_at items c.loop-cached.cached-index c.cached-item.result (omega arith) c.cached-item.is in
-    let so = subst (λ l. HasPassed (newest c.args.self.now) (row_of c.tables-tables.result.now.rows) c.args.key.now c.loop-cached.from.now l) rest c.loop-cached.invariant in
-    let first = is_first _ _ _ _ c.cached-item.result (drop (c.loop-cached.cached-index + 1) items) so c.next-below.result c.next-below.ensures (c.comes_first.ensures.0 c.if-not-comes_first.false) in
-    next_is_cached _ _ _ _ c.cached-item.result (drop (c.loop-cached.cached-index + 1) items) so first c.in-Some.row c.in-Some.is
-
-pub loop-cached-preserved : goal.loop-cached-preserved
-loop-cached-preserved c =
-    let items = c.above-cached-items.result.now in
-    let rest = rest_at items c.loop-cached.cached-index c.cached-item.result (omega arith) c.cached-item.is in
-    let so = subst (λ l. HasPassed (newest c.args.self.now) (row_of c.tables-tables.result.now.rows) c.args.key.now c.loop-cached.from.now l) rest c.loop-cached.invariant in
-    let first = is_first _ _ _ _ c.cached-item.result (drop (c.loop-cached.cached-index + 1) items) so c.next-below.result c.next-below.ensures (c.comes_first.ensures.0 c.if-not-comes_first.false) in
-    passes _ _ _ _ c.cached-item.result (drop (c.loop-cached.cached-index + 1) items) so first c.in-None.is
+pub returns-in-Some-row : goal.returns-in-Some-row
+returns-in-Some-row c =
+    let cached = found c.rows-rows.result.now.rows.entries in
+    let first_cached = subst (AnswersNext cached c.loop-next.from.now) c.in-Some.is c.loop-next.invariant.cached_next in
+    let first = is_first (newest c.args.self.now) (row_of c.tables-tables.result.now.rows) (found c.rows-rows.result.now.rows.entries) c.loop-next.invariant.over c.args.key.now c.loop-next.from.now c.loop-next.invariant.passed c.in-Some.at.now c.in-Some.cached.now first_cached c.next-below.result c.next-below.ensures (c.comes_first.ensures.0 c.if-not-comes_first.false) in
+    next_is_cached (newest c.args.self.now) (row_of c.tables-tables.result.now.rows) (found c.rows-rows.result.now.rows.entries) c.loop-next.invariant.over c.args.key.now c.loop-next.from.now c.loop-next.invariant.passed c.in-Some.at.now c.in-Some.cached.now first_cached first c.in-Some-row.row c.in-Some-row.is

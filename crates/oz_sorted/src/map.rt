@@ -7,33 +7,37 @@ ghost use Rattle.oz_sorted.specs.Sorted.{value_of, is_same, KeysRise, IsNext, Ha
 ghost use Rattle.oz_sorted.specs.Counts.{IsCount};
 
 use crate::OutOfMemory;
-use crate::edits::{put_in, write_over, write_value};
 use crate::entry::Entry;
-use crate::search::{behind, position, rank};
+use crate::index::Index;
+use crate::place::Place;
 use std::alloc::Global;
 use std::marker::Model;
 
+/// No more entries than this, so that sums of two numbers of them fit.
 const GREATEST_SIZE: usize = (1 << 63) - 1;
 
 /// Values by their keys, in the order of the keys, with room reserved for further entries.
 #[derive(Debug, Drop)]
 pub struct SortedMap<K: Ord, V> {
-    entries: Vec<Entry<K, V>>,
+    index: Index<K, V>,
+    len: usize,
     spare: usize,
 }
 
 impl<K: Ord, V> Model for SortedMap<K, V> {
-    ghost use Rattle.std.specs.Prelude.{◌+◌, ◌^◌, ◌<◌, ◌≤◌, vec_len, vec_capacity};
+    ghost use Rattle.std.specs.Prelude.{◌≡◌, ◌+◌, ◌^◌, ◌<◌, length};
     ghost use Rattle.oz_sorted.specs.Sorted.{SortedEntries, KeysRise};
+    ghost use Rattle.oz_sorted.specs.Chunks.{joined, IsReserved};
 
     ghost Value = { SortedEntries K V };
 
-    ghost view = { λ m. record { entries = m.entries.items; spare = m.spare } };
+    ghost view = { λ m. record { entries = joined m.index.chunks; spare = m.spare } };
 
     ghost invariant = { λ m. record {
-      rise : KeysRise K.cmp m.entries.items;
-      room : vec_len m.entries + m.spare ≤ vec_capacity m.entries;
-      small : vec_len m.entries + m.spare < 2 ^ 63;
+      rise : KeysRise K.cmp (joined m.index.chunks);
+      counted : m.len ≡ length (joined m.index.chunks);
+      small : m.len + m.spare < 2 ^ 63;
+      reserved : IsReserved m.index m.spare;
     } };
 }
 
@@ -44,7 +48,8 @@ impl<K: Ord, V> SortedMap<K, V> {
         ensures spare { result.spare ≡ 0 }
     {
         SortedMap {
-            entries: Vec::new(alloc),
+            index: Index::new(alloc),
+            len: 0,
             spare: 0,
         }
     }
@@ -55,22 +60,22 @@ impl<K: Ord, V> SortedMap<K, V> {
         ensures small { result < 2 ^ 63 }
         ensures in_order { KeysRise K.cmp self.now.entries }
     {
-        self.entries.len()
+        self.len
     }
 
     pub fn is_empty(&self) -> bool
         ensures { IsTrue result ↔ (self.now.entries ≡ []) }
     {
-        self.entries.is_empty()
+        self.len == 0
     }
 
     /// The value of a key.
     pub fn get(&self, key: &K) -> Option<&V>
         ensures { option_copied result ≡ value_of K.cmp self.now.entries key.now }
     {
-        match position(self.entries.as_slice(), key) {
-            Ok(at) => Some(&self.entries[at].value),
-            Err(_at) => None,
+        match self.index.find(key) {
+            Ok(place) => Some(&self.index.entry_at(place)?.value),
+            Err(_place) => None,
         }
     }
 
@@ -80,7 +85,7 @@ impl<K: Ord, V> SortedMap<K, V> {
             (λ found. BeginsWith self.now.entries found.0.now found.1.now) }
         ensures in_order { KeysRise K.cmp self.now.entries }
     {
-        let entry = self.entries.first()?;
+        let entry = self.index.entry_at(Place { chunk: 0, at: 0 })?;
         Some((&entry.key, &entry.value))
     }
 
@@ -91,7 +96,7 @@ impl<K: Ord, V> SortedMap<K, V> {
             (λ found. IsNext K.cmp (value_of K.cmp self.now.entries) key.now found.0.now found.1.now) }
         ensures in_order { KeysRise K.cmp self.now.entries }
     {
-        let entry = self.entries.get(behind(self.entries.as_slice(), key))?;
+        let entry = self.index.entry_at(self.index.behind(key))?;
         Some((&entry.key, &entry.value))
     }
 
@@ -101,12 +106,11 @@ impl<K: Ord, V> SortedMap<K, V> {
         ensures small { result < 2 ^ 63 }
         ensures in_order { KeysRise K.cmp self.now.entries }
     {
-        let entries = self.entries.as_slice();
-        rank(entries, to).saturating_sub(rank(entries, from))
+        self.index.below(to).saturating_sub(self.index.below(from))
     }
 
     /// Makes room for so many entries more, where there is less.
-    pub fn reserve(&mut self, _alloc: Global, more: usize) -> Result<(), OutOfMemory>
+    pub fn reserve(&mut self, alloc: Global, more: usize) -> Result<(), OutOfMemory>
         ensures entries { self.new.entries ≡ self.old.entries }
         ensures room { OnOk result (more ≤ self.new.spare) }
         ensures kept { self.old.spare ≤ self.new.spare }
@@ -115,10 +119,10 @@ impl<K: Ord, V> SortedMap<K, V> {
         if more <= self.spare {
             return Ok(());
         }
-        if more > GREATEST_SIZE - self.entries.len() {
+        if more > GREATEST_SIZE - self.len {
             return Err(OutOfMemory);
         }
-        self.entries.reserve(more)?;
+        self.index.reserve(alloc, more)?;
         self.spare = more;
         Ok(())
     }
@@ -135,10 +139,11 @@ impl<K: Ord, V> SortedMap<K, V> {
         ensures spare { self.old.spare ≤ self.new.spare + 1 }
         ensures in_order { KeysRise K.cmp self.new.entries }
     {
-        match position(self.entries.as_slice(), &key) {
-            Ok(at) => Some(write_over(&mut self.entries, at, Entry { key, value })),
-            Err(at) => {
-                put_in(&mut self.entries, at, Entry { key, value });
+        match self.index.find(&key) {
+            Ok(place) => Some(self.index.write_over(place, Entry { key, value })),
+            Err(place) => {
+                self.index.put(place, Entry { key, value });
+                self.len += 1;
                 self.spare -= 1;
                 None
             }
@@ -156,9 +161,9 @@ impl<K: Ord, V> SortedMap<K, V> {
         ensures spare { self.new.spare ≡ self.old.spare }
         ensures in_order { KeysRise K.cmp self.new.entries }
     {
-        match position(self.entries.as_slice(), key) {
-            Ok(at) => Ok(write_value(&mut self.entries, at, value)),
-            Err(_at) => Err(value),
+        match self.index.find(key) {
+            Ok(place) => Ok(self.index.write_value(place, value)),
+            Err(_place) => Err(value),
         }
     }
 
@@ -172,12 +177,13 @@ impl<K: Ord, V> SortedMap<K, V> {
         ensures spare { self.old.spare ≤ self.new.spare }
         ensures in_order { KeysRise K.cmp self.new.entries }
     {
-        match position(self.entries.as_slice(), key) {
-            Ok(at) => {
-                let Entry { key, value } = self.entries.remove(at);
+        match self.index.find(key) {
+            Ok(place) => {
+                let Entry { key, value } = self.index.take(place);
+                self.len -= 1;
                 Some((key, value))
             }
-            Err(_at) => None,
+            Err(_place) => None,
         }
     }
 }

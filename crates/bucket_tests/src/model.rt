@@ -123,7 +123,7 @@ fn a_bucket_in_use_stays(rt: HostRuntime) -> Result<(), Fail> {
     let volume = named(rt.alloc(), "vol-a")?;
     for (bucket, code, count) in DELETED {
         let asked = request(rt.alloc(), Kind::DeleteBucket, "vol-a", bucket)?;
-        let (reply, left) = answer(rt.alloc(), &namespace, &asked)?;
+        let (reply, left) = answer(rt.alloc(), &namespace, &asked, Some((block(1, 1), 0)))?;
         assert!(rt; code_of(&reply) == code, "{bucket}");
         assert!(rt;
             left.volumes
@@ -138,7 +138,12 @@ fn a_bucket_in_use_stays(rt: HostRuntime) -> Result<(), Fail> {
 #[test]
 fn keys_sessions_and_snapshots_are_counted_apart(rt: HostRuntime) -> Result<(), Fail> {
     let asked = request(rt.alloc(), Kind::InfoBucket, "vol-a", "full")?;
-    let (reply, _) = answer(rt.alloc(), &shelf(rt.alloc())?, &asked)?;
+    let (reply, _) = answer(
+        rt.alloc(),
+        &shelf(rt.alloc())?,
+        &asked,
+        Some((block(1, 1), 0)),
+    )?;
     let Reply::Counts(counts) = &reply else {
         return Err(Fail::from("no counts"));
     };

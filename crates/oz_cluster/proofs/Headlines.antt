@@ -47,3 +47,12 @@ acknowledges opening story legal before behind seat client line answer is acknow
     in_time told.Unacknowledged h acknowledged some_memory = absurd (acknowledged refl)
     in_time told.ManagerStopped h acknowledged some_memory = h
     in_time told.OutOfMemory h acknowledged some_memory = absurd (some_memory refl)
+    in_time told.NoPipeline h acknowledged some_memory = h
+    in_time told.NoQuorum h acknowledged some_memory = h
+    in_time (told.NoReplica piece block) h acknowledged some_memory = h
+    in_time told.IdsSpent h acknowledged some_memory = h
+    in_time told.ScmStopped h acknowledged some_memory = h
+    in_time (told.Held dn) h acknowledged some_memory = h
+    in_time told.NoSuchNode h acknowledged some_memory = h
+    in_time (told.NodeHalted dn count) h acknowledged some_memory = h
+    in_time told.NotOpen h acknowledged some_memory = h

@@ -41,6 +41,9 @@ due_reply opening story line reply.Done h = (reply.Done, h, refl)
 due_reply opening story line (reply.Count count) h = (reply.Count count, h, refl)
 due_reply opening story line (reply.Counts counts) h = (reply.Counts counts, h, refl)
 due_reply opening story line (reply.Names names) h = (reply.Names names, h, refl)
+due_reply opening story line (reply.Session number) h = (reply.Session number, h, refl)
+due_reply opening story line (reply.Granted block pipeline) h = (reply.Granted block pipeline, h, refl)
+due_reply opening story line (reply.Pieces pieces) h = (reply.Pieces pieces, h, refl)
 due_reply opening story line (reply.Code code) h = (reply.Code code, h, refl)
 
 in_time_reply : (opening : Opening) (story : List Event) (line : ℕ) (answer : Reply) → line_index 1 line story ≤ durable_index opening story → IsInTime opening story 1 line (answer_of answer)
@@ -48,6 +51,9 @@ in_time_reply opening story line reply.Done h = h
 in_time_reply opening story line (reply.Count count) h = h
 in_time_reply opening story line (reply.Counts counts) h = h
 in_time_reply opening story line (reply.Names names) h = h
+in_time_reply opening story line (reply.Session number) h = h
+in_time_reply opening story line (reply.Granted block pipeline) h = h
+in_time_reply opening story line (reply.Pieces pieces) h = h
 in_time_reply opening story line (reply.Code code) h = h
 
 module _ (opening : Opening) (script : Script) (lines faults : ℕ) (line : Line) (there : IsLineOf script 1 (lines + 1) line) where

@@ -91,6 +91,15 @@ IsInTime opening story client line told.Unacknowledged =
     (line_index client line story ≤ durable_index opening story) ⊎ (halt_of Manager story ≢ None)
 IsInTime opening story client line told.ManagerStopped = line_index client line story ≤ durable_index opening story
 IsInTime opening story client line told.OutOfMemory = Unit {0}
+IsInTime opening story client line told.NoPipeline = line_index client line story ≤ durable_index opening story
+IsInTime opening story client line told.NoQuorum = line_index client line story ≤ durable_index opening story
+IsInTime opening story client line (told.NoReplica piece block) = line_index client line story ≤ durable_index opening story
+IsInTime opening story client line told.IdsSpent = line_index client line story ≤ durable_index opening story
+IsInTime opening story client line told.ScmStopped = line_index client line story ≤ durable_index opening story
+IsInTime opening story client line (told.Held dn) = line_index client line story ≤ durable_index opening story
+IsInTime opening story client line told.NoSuchNode = line_index client line story ≤ durable_index opening story
+IsInTime opening story client line (told.NodeHalted dn count) = line_index client line story ≤ durable_index opening story
+IsInTime opening story client line told.NotOpen = line_index client line story ≤ durable_index opening story
 
 -- A line is told once, in time.
 pub record ToldIsEnabled (opening : Opening) (story : List Event) (seat client line : ℕ)

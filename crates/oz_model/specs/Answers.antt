@@ -1,120 +1,125 @@
 -- What one thread replies to a request, and what it leaves.
-use Rattle.std.specs.Prelude.{◌≡◌, ℕ, Bool, not, ◌||◌, nat_lt, nat_le, List, [], ◌∷◌, length, Option, None, Some}
-use Rattle.std.specs.Prelude.{if◌then◌else◌}
-use Rattle.std.specs.FinMap.{empty, len, keys, insert, remove}
+use Rattle.std.specs.Prelude.{◌≡◌, ◌≢◌, ℕ, List, [], ◌++◌, map, length, Option, None, Some}
+use Rattle.std.specs.FinMap.{empty, len, keys, remove}
+use Rattle.oz_fields.specs.declared.block.Block.{Block}
 use Rattle.oz_names.specs.declared.code.Code.{Code}
-use Rattle.oz_names.specs.declared.code.Code.TheVariants.{VolumeNotFound, VolumeAlreadyExists, VolumeNotEmpty}
-use Rattle.oz_names.specs.declared.code.Code.TheVariants.{BucketNotFound, BucketAlreadyExists, BucketNotEmpty}
-use Rattle.oz_names.specs.declared.code.Code.TheVariants.{ContainsSnapshot, InvalidVolumeName, InvalidBucketName}
-use Rattle.oz_names.specs.declared.code.Code.TheVariants.{BucketLimit}
-use Rattle.oz_names.specs.declared.limits.TheConstants.{MOST_BUCKETS}
-use Rattle.oz_names.specs.Names.{is_volume_name}
 use Rattle.oz_namespace.specs.declared.namespace.Bucket.{Bucket}
 use Rattle.oz_namespace.specs.declared.namespace.Namespace.{Namespace}
-use Rattle.oz_namespace.specs.Namespace.{ByName, buckets_of, bucket_of, has_volume, has_bucket, new_bucket, with_volume}
-use Rattle.oz_namespace.specs.Namespace.{without_volume}
+use Rattle.oz_namespace.specs.declared.namespace.Snapshot.{Snapshot}
+use Rattle.oz_namespace.specs.Namespace.{new_bucket}
+use Rattle.oz_requests.specs.declared.reply.Counts.{Counts}
 use Rattle.oz_requests.specs.declared.reply.Reply.{Reply}
 use Rattle.oz_requests.specs.declared.reply.Reply.TheVariants as replies
 use Rattle.oz_requests.specs.declared.request.Request.{Request}
 use Rattle.oz_requests.specs.declared.request.Request.TheVariants.{CreateVolume, InfoVolume, DeleteVolume, CreateBucket}
-use Rattle.oz_requests.specs.declared.request.Request.TheVariants.{InfoBucket, DeleteBucket, ListBuckets}
+use Rattle.oz_requests.specs.declared.request.Request.TheVariants.{InfoBucket, DeleteBucket, ListBuckets, CreateKey}
+use Rattle.oz_requests.specs.declared.request.Request.TheVariants.{AllocateBlock, CommitKey, DeleteKey, RenameKey}
+use Rattle.oz_requests.specs.declared.request.Request.TheVariants.{LookupKey, ListKeys, ExpireOpen, CreateSnapshot}
+use Rattle.oz_requests.specs.declared.request.Request.TheVariants.{DeleteSnapshot, ListSnapshots, InfoSnapshot, Purge}
+use Rattle.oz_requests.specs.declared.request.Request.TheVariants.{MoveDeleted, PurgeSnapshot}
+use Rattle.oz_requests.specs.declared.request.Family.TheVariants.{Service}
+use Rattle.oz_requests.specs.Families.{family_of}
+use Rattle.oz_requests.specs.Names.{volume_in}
+use Rattle.oz_model.specs.declared.scope.Scope.{Scope}
+use Rattle.oz_model.specs.Scope.{scope_of, with_scope}
+use Rattle.oz_model.specs.Buckets.{buckets_in, bucket_in, with_buckets, with_bucket, next_number, with_number_drawn}
+use Rattle.oz_model.specs.Buckets.{pieces_in, session_blocks, with_session, granted_by, committed, with_keys, renamed}
+use Rattle.oz_model.specs.Buckets.{without_sessions, keys_in, with_snapshot, without_snapshot, listed}
+use Rattle.oz_model.specs.Refusals.{refusal}
 
--- the buckets of a volume, none where there is no such volume
-abbrev pub buckets_in : Option (ByName Bucket) → ByName Bucket
-buckets_in None = empty
-buckets_in (Some buckets) = buckets
+-- how many keys, sessions and snapshots a bucket has
+abbrev pub counts_of : Bucket → Counts
+counts_of bucket = record { keys = len bucket.keys; sessions = len bucket.sessions; snapshots = length bucket.snapshots }
 
-abbrev pub buckets_at : Namespace → List ℕ → ByName Bucket
-buckets_at namespace volume = buckets_in (buckets_of namespace volume)
-
--- a bucket, an empty one where there is no such bucket
-abbrev pub bucket_or_new : Option Bucket → Bucket
-bucket_or_new None = new_bucket
-bucket_or_new (Some bucket) = bucket
-
-abbrev pub bucket_at : Namespace → List ℕ → List ℕ → Bucket
-bucket_at namespace volume bucket = bucket_or_new (bucket_of namespace volume bucket)
-
--- the bucket has a key or a session
-abbrev pub is_in_use : Bucket → Bool
-is_in_use bucket = nat_lt 0 (len bucket.keys) || nat_lt 0 (len bucket.sessions)
-
--- a code, and whether it applies
-pub record Refusal : Type 0 where
-  pub applies : Bool
-  pub code : Code
-
-abbrev pub where_so : Bool → Code → Refusal
-where_so applies code = record { applies = applies; code = code }
-
--- the code of the first refusal that applies
-abbrev pub first_of : List Refusal → Option Code
-first_of [] = None
-first_of (refusal ∷ refusals) = if refusal.applies then Some refusal.code else first_of refusals
-
--- what is refused in each request on a volume, and on a bucket: a name that is none, and what isn't there
-abbrev pub bad_volume : List ℕ → Refusal
-bad_volume volume = where_so (not (is_volume_name volume)) InvalidVolumeName
-
-abbrev pub bad_bucket : List ℕ → Refusal
-bad_bucket bucket = where_so (not (is_volume_name bucket)) InvalidBucketName
-
-abbrev pub no_volume : Namespace → List ℕ → Refusal
-no_volume namespace volume = where_so (not (has_volume namespace volume)) VolumeNotFound
-
-abbrev pub no_bucket : Namespace → List ℕ → List ℕ → Refusal
-no_bucket namespace volume bucket = where_so (not (has_bucket namespace volume bucket)) BucketNotFound
-
--- The codes of each request, in the order in which they are tested.
-abbrev pub refusals : Namespace → Request → List Refusal
-refusals namespace (CreateVolume volume) = bad_volume volume
-    ∷ where_so (has_volume namespace volume) VolumeAlreadyExists ∷ []
-refusals namespace (InfoVolume volume) = bad_volume volume ∷ no_volume namespace volume ∷ []
-refusals namespace (DeleteVolume volume) = bad_volume volume ∷ no_volume namespace volume
-    ∷ where_so (nat_lt 0 (len (buckets_at namespace volume))) VolumeNotEmpty ∷ []
-refusals namespace (CreateBucket volume bucket) =
-    bad_volume volume ∷ bad_bucket bucket ∷ no_volume namespace volume
-    ∷ where_so (has_bucket namespace volume bucket) BucketAlreadyExists
-    ∷ where_so (nat_le MOST_BUCKETS (len (buckets_at namespace volume))) BucketLimit ∷ []
-refusals namespace (InfoBucket volume bucket) = bad_volume volume ∷ bad_bucket bucket ∷ no_volume namespace volume
-    ∷ no_bucket namespace volume bucket ∷ []
-refusals namespace (DeleteBucket volume bucket) =
-    bad_volume volume ∷ bad_bucket bucket ∷ no_volume namespace volume ∷ no_bucket namespace volume bucket
-    ∷ where_so (is_in_use (bucket_at namespace volume bucket)) BucketNotEmpty
-    ∷ where_so (nat_lt 0 (length (bucket_at namespace volume bucket).snapshots)) ContainsSnapshot ∷ []
-refusals namespace (ListBuckets volume) = bad_volume volume ∷ no_volume namespace volume ∷ []
-
--- The reply to each request that isn't refused.
-abbrev pub result_of : Namespace → Request → Reply
-result_of namespace (CreateVolume volume) = replies.Done
-result_of namespace (InfoVolume volume) = replies.Count (len (buckets_at namespace volume))
-result_of namespace (DeleteVolume volume) = replies.Done
-result_of namespace (CreateBucket volume bucket) = replies.Done
-result_of namespace (InfoBucket volume bucket) =
-    let it = bucket_at namespace volume bucket in
-    replies.Counts (record { keys = len it.keys; sessions = len it.sessions; snapshots = length it.snapshots })
-result_of namespace (DeleteBucket volume bucket) = replies.Done
-result_of namespace (ListBuckets volume) = replies.Names (keys (buckets_at namespace volume))
-
+-- the code of a refusal, or else this reply
 abbrev pub reply_from : Option Code → Reply → Reply
 reply_from None reply = reply
 reply_from (Some code) reply = replies.Code code
 
--- the reply of one thread to a request
-abbrev pub Answers : Namespace → Request → Reply → Type 0
-Answers namespace request reply = reply ≡ reply_from (first_of (refusals namespace request)) (result_of namespace request)
+-- The reply to each request, where it is refused with a code or isn't. Of a block any may be granted: which ones, the
+-- law of events decides.
+abbrev pub Replies : Option Code → Scope → Request → Reply → Type 0
+Replies refused scope (CreateVolume volume) reply = reply ≡ reply_from refused replies.Done
+Replies refused scope (InfoVolume volume) reply =
+    reply ≡ reply_from refused (replies.Count (len (buckets_in scope.buckets)))
+Replies refused scope (DeleteVolume volume) reply = reply ≡ reply_from refused replies.Done
+Replies refused scope (CreateBucket volume bucket) reply = reply ≡ reply_from refused replies.Done
+Replies refused scope (InfoBucket volume bucket) reply =
+    reply ≡ reply_from refused (replies.Counts (counts_of (bucket_in scope bucket)))
+Replies refused scope (DeleteBucket volume bucket) reply = reply ≡ reply_from refused replies.Done
+Replies refused scope (ListBuckets volume) reply =
+    reply ≡ reply_from refused (replies.Names (keys (buckets_in scope.buckets)))
+Replies refused scope (CreateKey volume bucket key) reply =
+    reply ≡ reply_from refused (replies.Session (next_number scope))
+Replies refused scope (AllocateBlock volume bucket key session exclude) reply =
+    (block : Block) × (pipeline : ℕ) × (reply ≡ reply_from refused (replies.Granted block pipeline))
+Replies refused scope (CommitKey volume bucket key session pieces) reply = reply ≡ reply_from refused replies.Done
+Replies refused scope (DeleteKey volume bucket key) reply = reply ≡ reply_from refused replies.Done
+Replies refused scope (RenameKey volume bucket key to) reply = reply ≡ reply_from refused replies.Done
+Replies refused scope (LookupKey volume bucket snapshot key) reply =
+    reply ≡ reply_from refused (replies.Pieces (pieces_in (keys_in (bucket_in scope bucket) snapshot) key))
+Replies refused scope (ListKeys volume bucket snapshot prefix start count) reply =
+    reply ≡ reply_from refused (replies.Names (listed (keys_in (bucket_in scope bucket) snapshot) prefix start count))
+Replies refused scope (ExpireOpen volume bucket) reply =
+    reply ≡ reply_from refused (replies.Count (len (bucket_in scope bucket).sessions))
+Replies refused scope (CreateSnapshot volume bucket snapshot) reply = reply ≡ reply_from refused replies.Done
+Replies refused scope (DeleteSnapshot volume bucket snapshot) reply = reply ≡ reply_from refused replies.Done
+Replies refused scope (ListSnapshots volume bucket) reply =
+    reply ≡ reply_from refused (replies.Names (map (λ (it : Snapshot). it.name) (bucket_in scope bucket).snapshots))
+Replies refused scope (InfoSnapshot volume bucket snapshot) reply =
+    reply ≡ reply_from refused (replies.Count (len (keys_in (bucket_in scope bucket) (Some snapshot))))
+Replies refused scope (Purge volume rows) reply = reply ≡ reply_from refused replies.Done
+Replies refused scope (MoveDeleted volume bucket number to) reply = reply ≡ reply_from refused replies.Done
+Replies refused scope (PurgeSnapshot volume bucket number) reply = reply ≡ reply_from refused replies.Done
 
--- What each request leaves that isn't refused.
-abbrev pub effect_of : Namespace → Request → Namespace
-effect_of namespace (CreateVolume volume) = with_volume namespace volume empty
-effect_of namespace (InfoVolume volume) = namespace
-effect_of namespace (DeleteVolume volume) = without_volume namespace volume
-effect_of namespace (CreateBucket volume bucket) = with_volume namespace volume (insert (buckets_at namespace volume) bucket new_bucket)
-effect_of namespace (InfoBucket volume bucket) = namespace
-effect_of namespace (DeleteBucket volume bucket) = with_volume namespace volume (remove (buckets_at namespace volume) bucket)
-effect_of namespace (ListBuckets volume) = namespace
+-- What each request leaves that isn't refused and had this reply. A service request leaves all as it was.
+abbrev pub left : Scope → Request → Reply → Scope
+left scope (CreateVolume volume) reply = with_buckets scope empty
+left scope (InfoVolume volume) reply = scope
+left scope (DeleteVolume volume) reply = record { buckets = None; drawn = scope.drawn }
+left scope (CreateBucket volume bucket) reply = with_bucket scope bucket new_bucket
+left scope (InfoBucket volume bucket) reply = scope
+left scope (DeleteBucket volume bucket) reply = with_buckets scope (remove (buckets_in scope.buckets) bucket)
+left scope (ListBuckets volume) reply = scope
+left scope (CreateKey volume bucket key) reply = with_number_drawn (with_bucket scope bucket
+    (with_session (bucket_in scope bucket) (next_number scope) key []))
+left scope (AllocateBlock volume bucket key session exclude) reply = with_bucket scope bucket
+    (with_session (bucket_in scope bucket) session key (session_blocks (bucket_in scope bucket) session ++ granted_by reply))
+left scope (CommitKey volume bucket key session pieces) reply =
+    with_bucket scope bucket (committed (bucket_in scope bucket) key session pieces)
+left scope (DeleteKey volume bucket key) reply = with_bucket scope bucket
+    (with_keys (bucket_in scope bucket) (remove (bucket_in scope bucket).keys key))
+left scope (RenameKey volume bucket key to) reply = with_bucket scope bucket
+    (with_keys (bucket_in scope bucket) (renamed (bucket_in scope bucket).keys key to))
+left scope (LookupKey volume bucket snapshot key) reply = scope
+left scope (ListKeys volume bucket snapshot prefix start count) reply = scope
+left scope (ExpireOpen volume bucket) reply = with_bucket scope bucket (without_sessions (bucket_in scope bucket))
+left scope (CreateSnapshot volume bucket snapshot) reply = with_number_drawn (with_bucket scope bucket
+    (with_snapshot (bucket_in scope bucket) snapshot))
+left scope (DeleteSnapshot volume bucket snapshot) reply = with_bucket scope bucket
+    (without_snapshot (bucket_in scope bucket) snapshot)
+left scope (ListSnapshots volume bucket) reply = scope
+left scope (InfoSnapshot volume bucket snapshot) reply = scope
+left scope (Purge volume rows) reply = scope
+left scope (MoveDeleted volume bucket number to) reply = scope
+left scope (PurgeSnapshot volume bucket number) reply = scope
 
 -- what a request leaves that had this reply: a refusal changes nothing
+abbrev pub scope_after : Scope → Request → Reply → Scope
+scope_after scope request (replies.Code code) = scope
+scope_after scope request reply = left scope request reply
+
+-- the reply of one thread to a request, and the namespace that it leaves
+abbrev pub AnswersIn : Scope → Request → Reply → Type 0
+AnswersIn scope request reply = Replies (refusal scope request) scope request reply
+
+abbrev pub Answers : Namespace → Request → Reply → Type 0
+Answers namespace request reply = AnswersIn (scope_of namespace (volume_in request)) request reply
+
 abbrev pub after : Namespace → Request → Reply → Namespace
-after namespace request (replies.Code code) = namespace
-after namespace request reply = effect_of namespace request
+after namespace request reply =
+    with_scope namespace (volume_in request) (scope_after (scope_of namespace (volume_in request)) request reply)
+
+-- Where a request leaves the namespace as it was, nothing is written; a service request alone may write then, too.
+abbrev pub WritesNothing : Namespace → Request → Reply → Type 0
+WritesNothing namespace request reply = (after namespace request reply ≡ namespace) × (family_of request ≢ Service)

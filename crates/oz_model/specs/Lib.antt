@@ -1,3 +1,9 @@
 pub mod Answers
+pub mod Buckets
 pub mod Gathered
+pub mod Grants
 pub mod Reach
+pub mod Refusals
+pub mod Scope
+pub mod Stripes
+pub mod laws

@@ -3,9 +3,20 @@
 #![tactic(auto)]
 
 mod answering;
-mod lookups;
+mod keys;
+mod laws;
 mod reaching;
+mod scope;
+mod sessions;
+mod snapshots;
+mod volumes;
+mod words;
 
 pub use answering::answer;
+pub use laws::{
+    a_refusal_or_a_service_request_changes_nothing, a_reply_rests_on_its_stripe,
+    names_are_tested_first,
+};
 pub use oz_namespace::{Bucket, NameMap, Namespace, NumberMap, Session, Snapshot};
 pub use reaching::reach;
+pub use scope::Scope;

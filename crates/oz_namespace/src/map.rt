@@ -131,6 +131,12 @@ impl<V> NumberMap<V> {
         }
     }
 
+    pub fn get(&self, number: u64) -> Option<&V>
+        ensures { option_copied result ≡ get self.now number }
+    {
+        value_of(&self.map, &number)
+    }
+
     /// How many numbers have a value.
     pub fn len(&self) -> usize
         ensures len { result ≡ len self.now }
@@ -155,6 +161,15 @@ impl<V> NumberMap<V> {
         ensures err { OnErr result (self.new ≡ self.old) }
     {
         put(&mut self.map, number, value)
+    }
+
+    /// Takes a number's value away. Where it has none nothing changes.
+    pub fn remove(&mut self, number: u64)
+    where
+        V: Drop,
+        ensures { self.new ≡ remove self.old number }
+    {
+        take_away(&mut self.map, &number);
     }
 }
 

@@ -1,6 +1,6 @@
 //! What the manager replies.
 
-use oz_fields::{List, Name};
+use oz_fields::{Block, List, Name, Piece};
 use oz_names::Code;
 
 /// How many keys, sessions and snapshots a bucket has.
@@ -21,6 +21,12 @@ pub enum Reply {
     Counts(Counts),
     /// Names in order.
     Names(List<Name>),
+    /// The number of the session that was opened.
+    Session(u64),
+    /// The block that was granted, and the number of the pipeline that holds its container.
+    Granted(Block, u8),
+    /// The pieces of a key, in order.
+    Pieces(List<Piece>),
     /// It is refused, and nothing changes.
     Code(Code),
 }

@@ -30,9 +30,9 @@ pub returns-clause-meets : goal.returns-clause-meets
 returns-clause-meets c =
     let named : name_fault c.args.request.now ≡ None = search rules in
     decided (newest c.args.cached.now) c.args.request.now c.in_ok-reply.reply c.recorded.result c.recorded.ensures.reply c.recorded.ensures.bytes c.recorded.ensures.changes
-    (λ namespace stand. meets (newest c.args.cached.now) namespace c.args.request.now c.in_ok-reply.reply named stand (c.in_ok-reply.ensures namespace stand))
+    (λ namespace stand. meets (newest c.args.cached.now) namespace c.args.request.now c.in_ok-reply.reply c.requires named stand (c.in_ok-reply.ensures namespace stand))
 
 pub returns-clause-size : goal.returns-clause-size
 returns-clause-size c =
     let named : name_fault c.args.request.now ≡ None = search rules in
-    sized c.args.request.now c.in_ok-reply.reply c.recorded.result c.recorded.ensures.bytes (few_bytes c.args.request.now c.in_ok-reply.reply named)
+    sized c.args.request.now c.in_ok-reply.reply c.recorded.result c.recorded.ensures.bytes (few_bytes c.args.request.now c.in_ok-reply.reply c.requires named)

@@ -1,0 +1,440 @@
+//! Each code of each request, with all before it in order passing.
+
+use crate::asked::Kind::*;
+use crate::asked::{PlaceRow, Row, Want};
+use crate::stories::{tell, tell_of};
+use oz_model::Namespace;
+use oz_names::Code;
+use std::test::Fail;
+
+/// A bucket with the key `k`, the session 2 on the key `m` with block 6, and the snapshot `day-1`.
+const BEFORE: [Row; 8] = [
+    (CreateVolume, "", "", 0, &[], Want::Done),
+    (CreateBucket, "", "", 0, &[], Want::Done),
+    (CreateKey, "k", "", 0, &[], Want::Session(1)),
+    (CommitKey, "k", "", 1, &[], Want::Done),
+    (CreateKey, "m", "", 0, &[], Want::Session(2)),
+    (InfoBucket, "", "", 0, &[], Want::Counts(1, 1, 0)),
+    (AllocateBlock, "m", "", 2, &[], Want::Granted(6)),
+    (CreateSnapshot, "day-1", "", 0, &[], Want::Done),
+];
+
+const PLACES: [PlaceRow; 11] = [
+    (
+        CreateVolume,
+        "V",
+        "B",
+        Want::Refused(Code::InvalidVolumeName),
+    ),
+    (InfoVolume, "V", "B", Want::Refused(Code::InvalidVolumeName)),
+    (
+        DeleteVolume,
+        "V",
+        "B",
+        Want::Refused(Code::InvalidVolumeName),
+    ),
+    (
+        ListBuckets,
+        "V",
+        "B",
+        Want::Refused(Code::InvalidVolumeName),
+    ),
+    (
+        CreateBucket,
+        "V",
+        "B",
+        Want::Refused(Code::InvalidVolumeName),
+    ),
+    (
+        CreateBucket,
+        "vol-z",
+        "B",
+        Want::Refused(Code::InvalidBucketName),
+    ),
+    (
+        InfoBucket,
+        "vol-z",
+        "B",
+        Want::Refused(Code::InvalidBucketName),
+    ),
+    (
+        DeleteBucket,
+        "vol-z",
+        "B",
+        Want::Refused(Code::InvalidBucketName),
+    ),
+    (
+        ExpireOpen,
+        "vol-z",
+        "B",
+        Want::Refused(Code::InvalidBucketName),
+    ),
+    (
+        ListSnapshots,
+        "vol-z",
+        "B",
+        Want::Refused(Code::InvalidBucketName),
+    ),
+    (
+        CreateSnapshot,
+        "vol-z",
+        "B",
+        Want::Refused(Code::InvalidBucketName),
+    ),
+];
+
+const NAMES: [Row; 9] = [
+    (
+        CreateSnapshot,
+        "S",
+        "",
+        0,
+        &[],
+        Want::Refused(Code::InvalidSnapshotName),
+    ),
+    (
+        InfoSnapshot,
+        "S",
+        "",
+        0,
+        &[],
+        Want::Refused(Code::InvalidSnapshotName),
+    ),
+    (
+        DeleteSnapshot,
+        "S",
+        "",
+        0,
+        &[],
+        Want::Refused(Code::InvalidSnapshotName),
+    ),
+    (
+        LookupInSnapshot,
+        "",
+        "S",
+        0,
+        &[],
+        Want::Refused(Code::InvalidSnapshotName),
+    ),
+    (
+        ListInSnapshot,
+        "",
+        "S",
+        0,
+        &[],
+        Want::Refused(Code::InvalidSnapshotName),
+    ),
+    (
+        LookupKey,
+        "",
+        "",
+        0,
+        &[],
+        Want::Refused(Code::InvalidKeyName),
+    ),
+    (
+        CreateKey,
+        ".snapshot",
+        "",
+        0,
+        &[],
+        Want::Refused(Code::InvalidKeyName),
+    ),
+    (
+        RenameKey,
+        "n",
+        "a b",
+        0,
+        &[],
+        Want::Refused(Code::InvalidKeyName),
+    ),
+    (
+        DeleteKey,
+        ".snapshot/k",
+        "",
+        0,
+        &[],
+        Want::Refused(Code::InvalidKeyName),
+    ),
+];
+
+const ABSENT: [PlaceRow; 19] = [
+    (InfoVolume, "vol-z", "", Want::Refused(Code::VolumeNotFound)),
+    (
+        DeleteVolume,
+        "vol-z",
+        "",
+        Want::Refused(Code::VolumeNotFound),
+    ),
+    (
+        ListBuckets,
+        "vol-z",
+        "",
+        Want::Refused(Code::VolumeNotFound),
+    ),
+    (
+        CreateBucket,
+        "vol-z",
+        "bk-a",
+        Want::Refused(Code::VolumeNotFound),
+    ),
+    (
+        CreateKey,
+        "vol-z",
+        "bk-a",
+        Want::Refused(Code::VolumeNotFound),
+    ),
+    (
+        InfoBucket,
+        "vol-a",
+        "bk-z",
+        Want::Refused(Code::BucketNotFound),
+    ),
+    (
+        DeleteBucket,
+        "vol-a",
+        "bk-z",
+        Want::Refused(Code::BucketNotFound),
+    ),
+    (
+        CreateKey,
+        "vol-a",
+        "bk-z",
+        Want::Refused(Code::BucketNotFound),
+    ),
+    (
+        AllocateBlock,
+        "vol-a",
+        "bk-z",
+        Want::Refused(Code::BucketNotFound),
+    ),
+    (
+        CommitKey,
+        "vol-a",
+        "bk-z",
+        Want::Refused(Code::BucketNotFound),
+    ),
+    (
+        DeleteKey,
+        "vol-a",
+        "bk-z",
+        Want::Refused(Code::BucketNotFound),
+    ),
+    (
+        RenameKey,
+        "vol-a",
+        "bk-z",
+        Want::Refused(Code::BucketNotFound),
+    ),
+    (
+        LookupKey,
+        "vol-a",
+        "bk-z",
+        Want::Refused(Code::BucketNotFound),
+    ),
+    (
+        ListKeys,
+        "vol-a",
+        "bk-z",
+        Want::Refused(Code::BucketNotFound),
+    ),
+    (
+        ExpireOpen,
+        "vol-a",
+        "bk-z",
+        Want::Refused(Code::BucketNotFound),
+    ),
+    (
+        CreateSnapshot,
+        "vol-a",
+        "bk-z",
+        Want::Refused(Code::BucketNotFound),
+    ),
+    (
+        DeleteSnapshot,
+        "vol-a",
+        "bk-z",
+        Want::Refused(Code::BucketNotFound),
+    ),
+    (
+        ListSnapshots,
+        "vol-a",
+        "bk-z",
+        Want::Refused(Code::BucketNotFound),
+    ),
+    (
+        InfoSnapshot,
+        "vol-a",
+        "bk-z",
+        Want::Refused(Code::BucketNotFound),
+    ),
+];
+
+const OWN: [Row; 23] = [
+    (
+        CreateVolume,
+        "",
+        "",
+        0,
+        &[],
+        Want::Refused(Code::VolumeAlreadyExists),
+    ),
+    (
+        DeleteVolume,
+        "",
+        "",
+        0,
+        &[],
+        Want::Refused(Code::VolumeNotEmpty),
+    ),
+    (
+        CreateBucket,
+        "",
+        "",
+        0,
+        &[],
+        Want::Refused(Code::BucketAlreadyExists),
+    ),
+    (
+        DeleteBucket,
+        "",
+        "",
+        0,
+        &[],
+        Want::Refused(Code::BucketNotEmpty),
+    ),
+    (
+        AllocateBlock,
+        "m",
+        "",
+        1,
+        &[],
+        Want::Refused(Code::KeyNotFound),
+    ),
+    (
+        AllocateBlock,
+        "k",
+        "",
+        2,
+        &[],
+        Want::Refused(Code::KeyNotFound),
+    ),
+    (
+        CommitKey,
+        "k",
+        "",
+        2,
+        &[6],
+        Want::Refused(Code::KeyNotFound),
+    ),
+    (
+        CommitKey,
+        "m",
+        "",
+        1,
+        &[6],
+        Want::Refused(Code::KeyNotFound),
+    ),
+    (
+        CommitKey,
+        "m",
+        "",
+        2,
+        &[7],
+        Want::Refused(Code::InvalidBlock),
+    ),
+    (
+        CommitKey,
+        "m",
+        "",
+        2,
+        &[6, 6],
+        Want::Refused(Code::InvalidBlock),
+    ),
+    (DeleteKey, "m", "", 0, &[], Want::Refused(Code::KeyNotFound)),
+    (
+        RenameKey,
+        "m",
+        "n",
+        0,
+        &[],
+        Want::Refused(Code::KeyNotFound),
+    ),
+    (
+        RenameKey,
+        "m",
+        "k",
+        0,
+        &[],
+        Want::Refused(Code::KeyNotFound),
+    ),
+    (
+        RenameKey,
+        "k",
+        "k",
+        0,
+        &[],
+        Want::Refused(Code::KeyAlreadyExists),
+    ),
+    (LookupKey, "m", "", 0, &[], Want::Refused(Code::KeyNotFound)),
+    (
+        LookupInSnapshot,
+        "m",
+        "day-1",
+        0,
+        &[],
+        Want::Refused(Code::KeyNotFound),
+    ),
+    (
+        LookupInSnapshot,
+        "m",
+        "day-2",
+        0,
+        &[],
+        Want::Refused(Code::SnapshotNotFound),
+    ),
+    (
+        ListInSnapshot,
+        "",
+        "day-2",
+        9,
+        &[],
+        Want::Refused(Code::SnapshotNotFound),
+    ),
+    (
+        CreateSnapshot,
+        "day-1",
+        "",
+        0,
+        &[],
+        Want::Refused(Code::SnapshotAlreadyExists),
+    ),
+    (
+        DeleteSnapshot,
+        "day-2",
+        "",
+        0,
+        &[],
+        Want::Refused(Code::SnapshotNotFound),
+    ),
+    (
+        InfoSnapshot,
+        "day-2",
+        "",
+        0,
+        &[],
+        Want::Refused(Code::SnapshotNotFound),
+    ),
+    (InfoBucket, "", "", 0, &[], Want::Counts(1, 1, 1)),
+    (CommitKey, "m", "", 2, &[6], Want::Done),
+];
+
+#[test]
+fn each_refusal_has_its_code(rt: HostRuntime) -> Result<(), Fail> {
+    let mut namespace = Namespace::new(rt.alloc());
+    tell(&rt, &mut namespace, &BEFORE)?;
+    tell_of(&rt, &mut namespace, &PLACES)?;
+    tell(&rt, &mut namespace, &NAMES)?;
+    tell_of(&rt, &mut namespace, &ABSENT)?;
+    tell(&rt, &mut namespace, &OWN)
+}

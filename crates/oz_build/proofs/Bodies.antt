@@ -8,7 +8,7 @@ use Rattle.oz_build.specs.declared.body.Step.{Step}
 use Rattle.oz_rows.specs.declared.entry.RowEntry.{RowEntry}
 use Rattle.oz_effects.specs.Build.{AllAreBased, NoneAtFault, IsNextBody, IsDamagedBody}
 use Rattle.oz_build.specs.Steps.{operations_of, AreLeft, BatchLeads, HeadRises, FirstAtFault}
-use Rattle.oz_build.proofs.Based.{based_after}
+use Rattle.oz_effects.specs.laws.Based.{based_after}
 
 operations_split : (earlier : List Step) (step : Step) (later : List Step) → operations_of (earlier ++ step ∷ later) ≡ operations_of earlier ++ step.operation ∷ operations_of later
 operations_split [] step later = refl

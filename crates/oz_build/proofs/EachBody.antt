@@ -24,7 +24,7 @@ use Rattle.oz_effects.specs.Build.{base_of, removes, IsOrphan, LeavesOne, AllAre
 use Rattle.oz_build.specs.Steps.{is_left}
 use Rattle.oz_rows.specs.laws.Changes.{become}
 use Rattle.oz_effects.specs.laws.Steps.{some_apart, some_inside, leads_rise}
-use Rattle.oz_build.proofs.Based.{based_after}
+use Rattle.oz_effects.specs.laws.Based.{based_after}
 use Rattle.oz_build.specs.laws.Lefts.{left_told}
 
 abbrev OperationRead : Type 0

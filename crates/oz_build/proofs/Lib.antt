@@ -2,7 +2,6 @@ pub mod FaultPlaces
 pub mod PartOrder
 pub mod Heads
 pub mod StepLists
-pub mod Based
 pub mod Bodies
 pub mod Journals
 pub mod OneThing

@@ -1,4 +1,5 @@
 pub mod Effects
 pub mod Build
 pub mod Batches
+pub mod Parts
 pub mod laws

@@ -1,8 +1,13 @@
-//! What operations change among rows, and which bytes are the batches and the bodies that make changes.
+//! What operations change among rows, which bytes are the batches and the bodies that make changes, and the rows of a
+//! bucket or a volume in any map of rows.
 #![tactic(auto)]
 
 mod batches;
+mod parts;
 
 pub use batches::{
-    a_batch_makes_a_body, a_put_is_a_batch, a_removal_is_a_batch, no_bytes_are_no_changes,
+    a_batch_makes_a_body, a_put_is_a_batch, a_removal_is_a_batch, batches_are_one_batch,
+    closed_sessions_are_a_batch, copied_keys_are_a_batch, dropped_keys_are_a_batch,
+    moved_rows_are_a_batch, no_bytes_are_no_changes,
 };
+pub use parts::{Part, RowRef, first_key, part_rows};

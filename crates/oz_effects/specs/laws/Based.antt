@@ -79,7 +79,7 @@ change key row = record { key = key; row = row }
 abbrev IsDerived : RowKey → Type 0
 IsDerived key = (5 ≤ kind_of key) × (kind_of key ≡ 6 → ⊥)
 
-abbrev IsWide : Operation → Type 0
+abbrev pub IsWide : Operation → Type 0
 IsWide (Put key row) = ⊥
 IsWide (Remove key) = ⊥
 IsWide operation = Unit {0}

@@ -1,6 +1,7 @@
 //! A chunk of entries.
 
-ghost use Rattle.std.specs.Prelude.{◌≡◌, ◌<◌, ◌≤◌, ◌↔◌, [], length, take, drop, insert, remove, slice_index_or, slice_set};
+ghost use Rattle.std.specs.Prelude.{◌≡◌, ◌<◌, ◌≤◌, [], length, take, drop, insert, remove, slice_index_or};
+ghost use Rattle.std.specs.Prelude.{slice_set};
 ghost use Rattle.std.specs.Prelude.{IfOk, IsTrue, vec_len, vec_capacity};
 ghost use Rattle.oz_sorted.specs.Chunks.{is_begun};
 

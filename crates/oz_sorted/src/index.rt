@@ -1,6 +1,7 @@
 //! The chunks in order, and spare ones.
 
-ghost use Rattle.std.specs.Prelude.{◌≡◌, ◌+◌, ◌-◌, ◌^◌, ◌<◌, ◌≤◌, ◌⊎◌, ℕ, suc, [], ◌∷◌, length, take, drop, insert, remove};
+ghost use Rattle.std.specs.Prelude.{◌≡◌, ◌+◌, ◌-◌, ◌^◌, ◌<◌, ◌≤◌, ◌⊎◌, ℕ, suc, [], ◌∷◌, length, take, drop};
+ghost use Rattle.std.specs.Prelude.{insert, remove};
 ghost use Rattle.std.specs.Prelude.{slice_get, slice_index_or, slice_set, option_copied, IfOk, IfErr, OnOk, OnErr};
 ghost use Rattle.oz_sorted.specs.Sorted.{KeysRise};
 ghost use Rattle.oz_sorted.specs.Places.{IsAt, IsGap, IsBehind, IsRank, AllBelow, AllAbove};

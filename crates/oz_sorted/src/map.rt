@@ -156,7 +156,8 @@ impl<K: Ord, V> SortedMap<K, V> {
         ensures old { IfOk result (λ old. value_of K.cmp self.old.entries key.now ≡ Some old) }
         ensures back { IfErr result (λ back. (value_of K.cmp self.old.entries key.now ≡ None) × (back ≡ value)) }
         ensures values { (other : K) → value_of K.cmp self.new.entries other
-            ≡ (if is_ok result && is_same K.cmp key.now other then Some value else value_of K.cmp self.old.entries other) }
+            ≡ (if is_ok result && is_same K.cmp key.now other then Some value
+            else value_of K.cmp self.old.entries other) }
         ensures len { length self.new.entries ≡ length self.old.entries }
         ensures spare { self.new.spare ≡ self.old.spare }
         ensures in_order { KeysRise K.cmp self.new.entries }

@@ -1,4 +1,6 @@
 //! Tests of what a script says.
 #![tactic(auto)]
 
+mod commands;
 mod grammar;
+mod lines;

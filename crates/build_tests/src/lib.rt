@@ -5,3 +5,4 @@ mod bodies;
 mod hex;
 mod kinds;
 mod load;
+mod walks;

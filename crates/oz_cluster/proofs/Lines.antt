@@ -8,13 +8,13 @@ use Rattle.oz_cluster.specs.declared.events.Event.{Event}
 use Rattle.oz_cluster.specs.declared.events.EventKind.TheVariants.{Ask, Decide, Swap, Flushed, Halt, Told}
 use Rattle.oz_cluster.specs.declared.events.Node.{Node}
 use Rattle.oz_cluster.specs.declared.events.Node.TheVariants.{Manager, Scm, Datanode}
-use Rattle.oz_requests.specs.declared.answer.Answer.{Answer}
-use Rattle.oz_requests.specs.declared.request.AskId.{AskId}
-use Rattle.oz_requests.specs.declared.reply.Reply.{Reply}
-use Rattle.oz_requests.specs.declared.request.Request.{Request}
+use Rattle.oz_bucket_requests.specs.declared.answer.Answer.{Answer}
+use Rattle.oz_bucket_requests.specs.declared.request.AskId.{AskId}
+use Rattle.oz_bucket_requests.specs.declared.reply.Reply.{Reply}
+use Rattle.oz_bucket_requests.specs.declared.request.Request.{Request}
 use Rattle.oz_script.specs.declared.grammar.Line.{Line}
 use Rattle.oz_script.specs.declared.grammar.Script.{Script}
-use Rattle.oz_model.specs.Answers.{Answers, after}
+use Rattle.oz_bucket_model.specs.Answers.{Answers, after}
 use Rattle.oz_cluster.specs.Fits.{FitsFrom, AfterIsTold, HasStarted, IsLineOf, IsDue, request_of, told_lines}
 use Rattle.oz_cluster.specs.Law.{IsLegal, IsInTime}
 use Rattle.oz_namespace.specs.declared.namespace.Namespace.{Namespace}

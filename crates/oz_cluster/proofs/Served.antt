@@ -1,18 +1,14 @@
 -- What serving one line leaves: of the script, of the law and of the disk.
-use Rattle.std.proofs.Common.{◌≡◌, ◌≢◌, ⊎_elim, ℕ, ◌+◌, ◌<◌, ◌≤◌, ◌^◌, Bool, true, false, List, [], ◌∷◌, ◌++◌, Option, None, Some, IfSome, refl, sym, ◌∙◌, subst, arith}
+use Rattle.std.proofs.Common.{◌≡◌, ⊎_elim, ℕ, ◌+◌, ◌<◌, ◌≤◌, ◌^◌, Bool, true, false, List, [], ◌∷◌, ◌++◌, Option, None, Some, IfSome, refl, sym, ◌∙◌, subst, arith}
 use Rattle.oz_world.specs.Disk.{Images, Seen, seen}
 use Rattle.oz_world.specs.Faults.{Rose}
 use Rattle.oz_journal.specs.Journal.{State}
 use Rattle.oz_world.specs.Moments.{Elapses}
-use Rattle.oz_model.specs.Answers.{after}
+use Rattle.oz_bucket_model.specs.Answers.{after}
 use Rattle.oz_namespace.specs.declared.namespace.Namespace.{Namespace}
 use Rattle.oz_om_bucket.specs.Meets.{Stand}
-use Rattle.oz_requests.specs.declared.answer.Answer.TheVariants as told
-use Rattle.oz_requests.specs.declared.reply.Reply.{Reply}
-use Rattle.oz_requests.specs.declared.request.Family.TheVariants.{Service}
-use Rattle.oz_requests.specs.Families.{family_of}
-use Rattle.oz_script.specs.declared.grammar.Command.{Command}
-use Rattle.oz_script.specs.declared.grammar.Command.TheVariants.{VolumeCreate, VolumeInfo, VolumeDelete, BucketCreate, BucketInfo, BucketDelete, BucketList}
+use Rattle.oz_bucket_requests.specs.declared.answer.Answer.TheVariants as told
+use Rattle.oz_bucket_requests.specs.declared.reply.Reply.{Reply}
 use Rattle.oz_script.specs.declared.grammar.Line.{Line}
 use Rattle.oz_script.specs.declared.grammar.Script.{Script}
 use Rattle.oz_rows.specs.RowMaps.{after_changes, Rows}
@@ -50,16 +46,6 @@ held_on opening story rows index first now later same held = record {
   keeps = λ none. subst (λ (t : Option (List ℕ)). Keeps t rows index) (sym same.contents) (held.keeps none);
   stops = λ at left from to image. held.stops at left from (omega (arith, to, same.time.moment)) ((same.time.images at left).0 image);
 }
-
--- no line asks a service request
-no_service : (command : Command) → family_of (request_of command) ≢ Service
-no_service (VolumeCreate volume) e = absurd cc
-no_service (VolumeInfo volume) e = absurd cc
-no_service (VolumeDelete volume) e = absurd cc
-no_service (BucketCreate volume bucket) e = absurd cc
-no_service (BucketInfo volume bucket) e = absurd cc
-no_service (BucketDelete volume bucket) e = absurd cc
-no_service (BucketList volume) e = absurd cc
 
 rows_are_same : (rows rows_after : Rows) → ((key : _) → rows_after key ≡ rows key) → rows_after ≡ rows
 rows_are_same rows rows_after same = λ i key. same key i
@@ -157,7 +143,7 @@ module _ (opening : Opening) (script : Script) (lines faults : ℕ) (line : Line
     rows_written = rows_are_same (after_changes writes.changes rows) rows_after writes.rows_are
 
     leads_written : (namespace : Namespace) → Stand rows namespace → Leads opening story namespace index → Leads opening decided_story (after namespace (request_of line.command) reply) (index + 1)
-    leads_written namespace stand leads = leads_decided opening script lines faults line there story index stopped now alone served writes.running (index + 1) reply batch (omega arith) namespace (writes.meets namespace stand).answers (λ ne. refl) (λ same. absurd (writes.some ((writes.meets namespace stand).keeps (same, no_service line.command)))) (λ none. absurd (writes.some_bytes none), λ e. absurd (omega (arith, e))) leads
+    leads_written namespace stand leads = leads_decided opening script lines faults line there story index stopped now alone served writes.running (index + 1) reply batch (omega arith) namespace (writes.meets namespace stand).answers (λ ne. refl) (λ same. absurd (writes.some ((writes.meets namespace stand).keeps same))) (λ none. absurd (writes.some_bytes none), λ e. absurd (omega (arith, e))) leads
 
     faults_later : faults ≤ later.faults
     faults_later = omega (arith, served.never_falls, writes.never_falls)

@@ -3,13 +3,13 @@ use Rattle.std.proofs.Common.{is_some, ◌≡◌, ◌≢◌, ◌↔◌, ℕ, ◌
 use Rattle.std.proofs.lemmas.Bool.{false≢true}
 use Rattle.oz_world.specs.Disk.{Seen}
 use Rattle.oz_world.specs.Faults.{Rose}
-use Rattle.oz_model.specs.Answers.{Answers, after}
+use Rattle.oz_bucket_model.specs.Answers.{Answers, after}
 use Rattle.oz_namespace.specs.declared.namespace.Namespace.{Namespace}
-use Rattle.oz_requests.specs.declared.answer.Answer.{Answer}
-use Rattle.oz_requests.specs.declared.answer.Answer.TheVariants as told
-use Rattle.oz_requests.specs.declared.reply.Reply.{Reply}
-use Rattle.oz_requests.specs.declared.reply.Reply.TheVariants as reply
-use Rattle.oz_requests.specs.declared.request.Request.{Request}
+use Rattle.oz_bucket_requests.specs.declared.answer.Answer.{Answer}
+use Rattle.oz_bucket_requests.specs.declared.answer.Answer.TheVariants as told
+use Rattle.oz_bucket_requests.specs.declared.reply.Reply.{Reply}
+use Rattle.oz_bucket_requests.specs.declared.reply.Reply.TheVariants as reply
+use Rattle.oz_bucket_requests.specs.declared.request.Request.{Request}
 use Rattle.oz_script.specs.declared.grammar.Line.{Line}
 use Rattle.oz_script.specs.declared.grammar.Script.{Script}
 use Rattle.oz_cluster.specs.declared.events.Event.{Event}
@@ -41,9 +41,6 @@ due_reply opening story line reply.Done h = (reply.Done, h, refl)
 due_reply opening story line (reply.Count count) h = (reply.Count count, h, refl)
 due_reply opening story line (reply.Counts counts) h = (reply.Counts counts, h, refl)
 due_reply opening story line (reply.Names names) h = (reply.Names names, h, refl)
-due_reply opening story line (reply.Session number) h = (reply.Session number, h, refl)
-due_reply opening story line (reply.Granted block pipeline) h = (reply.Granted block pipeline, h, refl)
-due_reply opening story line (reply.Pieces pieces) h = (reply.Pieces pieces, h, refl)
 due_reply opening story line (reply.Code code) h = (reply.Code code, h, refl)
 
 in_time_reply : (opening : Opening) (story : List Event) (line : ℕ) (answer : Reply) → line_index 1 line story ≤ durable_index opening story → IsInTime opening story 1 line (answer_of answer)
@@ -51,9 +48,6 @@ in_time_reply opening story line reply.Done h = h
 in_time_reply opening story line (reply.Count count) h = h
 in_time_reply opening story line (reply.Counts counts) h = h
 in_time_reply opening story line (reply.Names names) h = h
-in_time_reply opening story line (reply.Session number) h = h
-in_time_reply opening story line (reply.Granted block pipeline) h = h
-in_time_reply opening story line (reply.Pieces pieces) h = h
 in_time_reply opening story line (reply.Code code) h = h
 
 module _ (opening : Opening) (script : Script) (lines faults : ℕ) (line : Line) (there : IsLineOf script 1 (lines + 1) line) where

@@ -6,8 +6,8 @@ use Rattle.std.proofs.lemmas.List.Folds.{list_any-append}
 use Rattle.std.proofs.lemmas.List.Elements.{filter_map-append}
 use Rattle.std.specs.List.{AllByRecursion}
 use Rattle.oz_cluster.specs.declared.events.Event.{Event}
-use Rattle.oz_requests.specs.declared.request.AskId.{AskId}
-use Rattle.oz_requests.specs.declared.request.Request.{Request}
+use Rattle.oz_bucket_requests.specs.declared.request.AskId.{AskId}
+use Rattle.oz_bucket_requests.specs.declared.request.Request.{Request}
 use Rattle.oz_script.specs.declared.grammar.Script.{Script}
 use Rattle.oz_namespace.specs.declared.namespace.Namespace.{Namespace}
 use Rattle.oz_cluster.specs.declared.events.Node.{Node}

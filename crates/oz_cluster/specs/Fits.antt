@@ -6,14 +6,14 @@ use Rattle.oz_cluster.specs.declared.events.Event.{Event}
 use Rattle.oz_cluster.specs.declared.events.EventKind.{EventKind}
 use Rattle.oz_cluster.specs.declared.events.EventKind.TheVariants.{Ask, Decide, Swap, Flushed, Halt, Told}
 use Rattle.oz_cluster.specs.declared.events.Node.TheVariants.{Manager}
-use Rattle.oz_requests.specs.declared.answer.Answer.{Answer}
-use Rattle.oz_requests.specs.declared.answer.Answer.TheVariants as told
-use Rattle.oz_requests.specs.declared.reply.Reply.{Reply}
-use Rattle.oz_requests.specs.declared.reply.Reply.TheVariants as reply
-use Rattle.oz_requests.specs.declared.request.Request.{Request}
-use Rattle.oz_requests.specs.declared.request.Request.TheVariants.{CreateVolume, InfoVolume, DeleteVolume, CreateBucket}
-use Rattle.oz_requests.specs.declared.request.Request.TheVariants.{InfoBucket, DeleteBucket, ListBuckets}
-use Rattle.oz_requests.specs.declared.answer.Values.TheVariants as values
+use Rattle.oz_bucket_requests.specs.declared.answer.Answer.{Answer}
+use Rattle.oz_bucket_requests.specs.declared.answer.Answer.TheVariants as told
+use Rattle.oz_bucket_requests.specs.declared.reply.Reply.{Reply}
+use Rattle.oz_bucket_requests.specs.declared.reply.Reply.TheVariants as reply
+use Rattle.oz_bucket_requests.specs.declared.request.Request.{Request}
+use Rattle.oz_bucket_requests.specs.declared.request.Request.TheVariants.{CreateVolume, InfoVolume, DeleteVolume, CreateBucket}
+use Rattle.oz_bucket_requests.specs.declared.request.Request.TheVariants.{InfoBucket, DeleteBucket, ListBuckets}
+use Rattle.oz_bucket_requests.specs.declared.answer.Values.TheVariants as values
 use Rattle.oz_script.specs.declared.grammar.Command.{Command}
 use Rattle.oz_script.specs.declared.grammar.Command.TheVariants.{VolumeCreate, VolumeInfo, VolumeDelete, BucketCreate}
 use Rattle.oz_script.specs.declared.grammar.Command.TheVariants.{BucketInfo, BucketDelete, BucketList}
@@ -32,20 +32,17 @@ request_of (BucketInfo volume bucket) = InfoBucket volume bucket
 request_of (BucketDelete volume bucket) = DeleteBucket volume bucket
 request_of (BucketList volume) = ListBuckets volume
 
--- what a line is told whose last request had this reply; of a session, a block or pieces it isn't told the reply itself
+-- what a line is told whose request had this reply
 abbrev pub answer_of : Reply → Answer
 answer_of reply.Done = told.Ok values.Done
 answer_of (reply.Count count) = told.Ok (values.Buckets count)
 answer_of (reply.Counts counts) = told.Ok (values.Counts counts)
 answer_of (reply.Names names) = told.Ok (values.Names names)
-answer_of (reply.Session number) = told.Ok values.Done
-answer_of (reply.Granted block pipeline) = told.Ok values.Done
-answer_of (reply.Pieces pieces) = told.Ok values.Done
 answer_of (reply.Code code) = told.Code code
 
 -- The answer is what the line is to be told after this story: what its last Decide said; that this isn't acknowledged,
 -- where the manager halted before it was stable; that the manager had stopped, where the line asked only then. That
--- there is no memory it may always be told. What blocks and datanodes answer no line is told yet.
+-- there is no memory it may always be told.
 abbrev pub IsDue : Opening → List Event → ℕ → ℕ → Answer → Type 0
 IsDue opening story client line (told.Ok values) =
     (given : Reply) × (last_reply client line story ≡ Some given) × (told.Ok values ≡ answer_of given)
@@ -55,15 +52,6 @@ IsDue opening story client line told.Unacknowledged =
     (halt_of Manager story ≢ None) × (durable_index opening story < line_index client line story)
 IsDue opening story client line told.ManagerStopped = asked_late (is_of_line client line) story ≡ true
 IsDue opening story client line told.OutOfMemory = Unit {0}
-IsDue opening story client line told.NoPipeline = ⊥
-IsDue opening story client line told.NoQuorum = ⊥
-IsDue opening story client line (told.NoReplica piece block) = ⊥
-IsDue opening story client line told.IdsSpent = ⊥
-IsDue opening story client line told.ScmStopped = ⊥
-IsDue opening story client line (told.Held dn) = ⊥
-IsDue opening story client line told.NoSuchNode = ⊥
-IsDue opening story client line (told.NodeHalted dn count) = ⊥
-IsDue opening story client line told.NotOpen = ⊥
 
 -- the line that this line's `after` names was told
 abbrev pub AfterIsTold : List Event → Option (ℕ × ℕ) → Type 0

@@ -9,9 +9,9 @@ use Rattle.oz_journal.specs.Journal.{IsBeforeOrAfter}
 use Rattle.oz_world.specs.Moments.{Elapses, LeavesOnly}
 use Rattle.oz_namespace.specs.declared.namespace.Namespace.{Namespace}
 use Rattle.oz_om_bucket.specs.Meets.{Stand, Meets}
-use Rattle.oz_requests.specs.declared.answer.Answer.TheVariants as told
-use Rattle.oz_requests.specs.declared.reply.Reply.{Reply}
-use Rattle.oz_requests.specs.declared.request.Request.{Request}
+use Rattle.oz_bucket_requests.specs.declared.answer.Answer.TheVariants as told
+use Rattle.oz_bucket_requests.specs.declared.reply.Reply.{Reply}
+use Rattle.oz_bucket_requests.specs.declared.request.Request.{Request}
 use Rattle.oz_rows.specs.declared.operation.Change.{Change}
 use Rattle.oz_script.specs.declared.grammar.Line.{Line}
 use Rattle.oz_rows.specs.RowMaps.{after_changes, Rows}

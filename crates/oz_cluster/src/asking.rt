@@ -1,18 +1,16 @@
 //! From a line of a script to what it asks, and from a reply to what the line is told.
 
 ghost use Rattle.std.specs.Prelude.{◌≡◌, IfOk};
-ghost use Rattle.oz_requests.specs.Families.{family_of};
 ghost use Rattle.oz_cluster.specs.Fits.{request_of as request_said, answer_of as answer_due};
 
+use oz_bucket_requests::{Answer, Reply, Request, Values};
 use oz_fields::{Name, OutOfMemory, TryClone};
-use oz_requests::{Answer, Family, Reply, Request, Values};
 use oz_script::Command;
 use std::alloc::Global;
 
 /// What a line asks.
 pub fn request_of(alloc: Global, command: &Command) -> Result<Request, OutOfMemory>
-    ensures asks { IfOk result (λ request. request ≡ request_said command.now) }
-    ensures family { IfOk result (λ request. family_of request ≡ Family.Buckets) }
+    ensures { IfOk result (λ request. request ≡ request_said command.now) }
 {
     Ok(match command {
         Command::VolumeCreate { volume } => Request::CreateVolume {
@@ -51,7 +49,6 @@ pub fn answer_of(reply: Reply) -> Answer
         Reply::Count(count) => Answer::Ok(Values::Buckets(count)),
         Reply::Counts(counts) => Answer::Ok(Values::Counts(counts)),
         Reply::Names(names) => Answer::Ok(Values::Names(names)),
-        Reply::Session(_) | Reply::Granted(..) | Reply::Pieces(_) => Answer::Ok(Values::Done),
         Reply::Code(code) => Answer::Code(code),
     }
 }

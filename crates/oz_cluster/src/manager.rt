@@ -9,7 +9,7 @@ ghost use Rattle.oz_journal.specs.declared.frame.TheConstants.{LONGEST_FRAME};
 ghost use Rattle.oz_rows.specs.declared.operation.TheConstants.{LONGEST_OPERATION};
 ghost use Rattle.oz_journal.specs.Journal.{body_of};
 ghost use Rattle.oz_names.specs.Names.{stripe_of};
-ghost use Rattle.oz_requests.specs.Names.{volume_in};
+ghost use Rattle.oz_bucket_requests.specs.Names.{volume_in};
 ghost use Rattle.oz_rows.specs.RowMaps.{row_after, row_of};
 ghost use Rattle.oz_rows.specs.Operations.{IsIndex};
 ghost use Rattle.oz_cluster.specs.Body.{body_bytes};
@@ -19,13 +19,13 @@ ghost use Rattle.oz_cluster.specs.Steps.{ask_event, decide_event, swap_event, fl
 
 use crate::asking::{answer_of, request_of};
 use crate::events::{Event, EventKind, Node};
+use oz_bucket_requests::{Answer, AskId, Reply, Request};
 use oz_cache::{Cached, Prepared};
 use oz_epochs::Steps;
 use oz_fields::{List, OutOfMemory, TryClone};
 use oz_journal::{Frame, Journal};
 use oz_names::stripe_of as stripe_number;
 use oz_om_bucket::{Decision, decide};
-use oz_requests::{Answer, AskId, Reply, Request};
 use oz_rows::{Change, END_OF_INDEXES, put_head};
 use oz_script::Line;
 use oz_world::{Disk, Failed, Gate, Point};

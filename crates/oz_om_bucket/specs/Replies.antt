@@ -1,8 +1,8 @@
 -- What a reply over rows promises.
-use Rattle.oz_model.specs.Answers.{Answers}
+use Rattle.oz_bucket_model.specs.Answers.{Answers}
 use Rattle.oz_namespace.specs.declared.namespace.Namespace.{Namespace}
-use Rattle.oz_requests.specs.declared.reply.Reply.{Reply}
-use Rattle.oz_requests.specs.declared.request.Request.{Request}
+use Rattle.oz_bucket_requests.specs.declared.reply.Reply.{Reply}
+use Rattle.oz_bucket_requests.specs.declared.request.Request.{Request}
 use Rattle.oz_rows.specs.RowMaps.{Rows}
 use Rattle.oz_om_bucket.specs.Meets.{Stand}
 

@@ -2,11 +2,11 @@
 
 #[cfg(test)]
 mod tests {
+    use oz_bucket_requests::{Answer, AskId, Reply, Request, Values};
     use oz_cluster::events::{Event, EventKind};
     use oz_cluster::report;
     use oz_fields::{List, Name, OutOfMemory};
     use oz_names::Code;
-    use oz_requests::{Answer, AskId, Reply, Request, Values};
     use std::alloc::Global;
     use std::process::Abort;
     use std::test::Fail;

@@ -1,0 +1,4 @@
+mod Blocks
+mod Empty
+mod Members
+mod Reached

@@ -3,7 +3,7 @@
 ghost use Rattle.std.specs.Prelude.{◌≡◌, ◌<◌};
 
 use crate::draws::Draws;
-use crate::history::{Mark, changes_at, first_waiting, key_of, number_after, number_in, stripe_in};
+use crate::history::{Mark, changes_at, key_of, number_after, number_in, stripe_in};
 use oz_cache::Cached;
 use oz_epochs::Steps;
 use oz_fields::{Name, OutOfMemory};
@@ -77,30 +77,6 @@ fn assert_durable<R: Abort>(rt: &R, tables: &Tables, marks: &[Mark], flushed: u6
     }
 }
 
-/// The list of epochs begins with the mark that waits longest.
-fn assert_front<R: Abort>(rt: &R, cached: &Cached, marks: &[Mark], flushed: u64) {
-    let front = match cached.epochs().front() {
-        Some((epoch, RowKey::Stripe { stripe })) => Some((epoch, *stripe)),
-        _ => None,
-    };
-    assert!(rt; front == first_waiting(marks, flushed));
-}
-
-/// Flushes one epoch after another; so each entry of the list comes to its front, until there is none.
-fn drain<R: Abort, L: Ledger>(
-    rt: &R,
-    cached: &mut Cached,
-    marks: &[Mark],
-    flushed: u64,
-    steps: &mut Steps<L>,
-) {
-    for epoch in flushed..=cached.last_epoch() {
-        cached.flushed(epoch, steps);
-        assert_front(rt, cached, marks, epoch);
-    }
-    assert!(rt; cached.epochs().front().is_none());
-}
-
 /// 400 steps. Three in four enter, the others flush up to an epoch that may be any of the last ones,
 /// or one that is behind.
 fn play<R: Abort, L: Ledger>(rt: &R, alloc: Global, blank: Blank) -> Result<(), Fail>
@@ -123,11 +99,8 @@ fn play<R: Abort, L: Ledger>(rt: &R, alloc: Global, blank: Blank) -> Result<(), 
         }
         assert_newest(rt, &cached, &marks);
         assert_durable(rt, cached.durable(), &marks, flushed);
-        assert_front(rt, &cached, &marks, flushed);
     }
     assert!(rt; flushed > 100);
-    enter_some(alloc, &mut cached, &mut marks, &mut draws)?;
-    drain(rt, &mut cached, &marks, flushed, &mut steps);
     Ok(())
 }
 

@@ -63,17 +63,3 @@ pub fn stripe_in(answer: Option<(&RowKey, &Row)>) -> Option<(u8, u64)> {
         _ => None,
     }
 }
-
-/// The first mark after an epoch whose stripe has no later one.
-pub fn first_waiting(marks: &[Mark], flushed: u64) -> Option<(u64, u8)> {
-    for (at, mark) in marks.iter().enumerate() {
-        if mark.epoch > flushed && is_last(&marks[at + 1..], mark.stripe) {
-            return Some((mark.epoch, mark.stripe));
-        }
-    }
-    None
-}
-
-fn is_last(rest: &[Mark], stripe: u8) -> bool {
-    rest.iter().all(|mark| mark.stripe != stripe)
-}

@@ -9,5 +9,3 @@ mod draws;
 mod history;
 #[cfg(test)]
 mod load;
-#[cfg(test)]
-mod thousand;

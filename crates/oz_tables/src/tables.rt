@@ -118,6 +118,20 @@ impl Tables {
         self.last_index
     }
 
+    /// The rows stand in the order of their keys. It does nothing when it runs.
+    pub fn rows_are_in_order(&self)
+        ensures { KeysRise self.now.rows }
+    {
+        let _entries = &self.entries;
+    }
+
+    /// How many rows there are.
+    pub fn len(&self) -> usize
+        ensures { result ≡ length self.now.rows }
+    {
+        self.entries.len()
+    }
+
     /// All rows, in the order of their keys.
     pub fn rows(&self) -> &[RowEntry]
         ensures rows { result.now ≡ self.now.rows }

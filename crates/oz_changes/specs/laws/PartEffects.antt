@@ -15,8 +15,7 @@ use Rattle.oz_rows.specs.declared.entry.RowEntry.{RowEntry}
 use Rattle.oz_effects.specs.Effects.{copied, moved, dropped, closed, freed, has_block, is_in_a_key}
 use Rattle.oz_rows.specs.RowMaps.{row_of, is_same, put, is_bucket, is_block}
 use Rattle.oz_fields.specs.declared.block.Block.{Block}
-use Rattle.oz_fields.specs.declared.block.Piece.{Piece}
-use Rattle.oz_changes.specs.Steps.{in_bucket, moved_but, renamed_moved, freed_block, freed_if, has_open_block, is_in_a_session}
+use Rattle.oz_changes.specs.Steps.{in_bucket, moved_but, freed_block, freed_if, has_open_block, is_in_a_session}
 use Rattle.oz_effects.specs.Parts.{IsPart, part_order}
 use Rattle.oz_rows.specs.laws.Same.{same_is_one}
 use Rattle.oz_rows.specs.laws.Order.{itself}

@@ -1,6 +1,6 @@
 -- What a change of blocks and a wipe do, whatever comes of the call.
-use Rattle.std.specs.Prelude.{◌≡◌, ◌⊎◌, ℕ, ◌+◌, ◌≤◌, Bool, true, false, List, [], ◌∷◌, ◌++◌, Some, Result, Ok, Err, is_err}
-use Rattle.std.specs.Prelude.{IfSome, OnOk, OnErr, IfErr}
+use Rattle.std.specs.Prelude.{◌≡◌, ◌⊎◌, ℕ, ◌+◌, ◌≤◌, Bool, true, false, List, [], ◌∷◌, ◌++◌, Some, Result, Ok}
+use Rattle.std.specs.Prelude.{Err, is_err, IfSome, OnOk, OnErr, IfErr}
 use Rattle.oz_block.specs.Blocks.{State, node_in, StandsFor}
 use Rattle.oz_block.specs.declared.fault.BlockFault.{BlockFault}
 use Rattle.oz_block.specs.declared.fault.BlockFault.TheVariants.{Stopped, OutOfMemory}

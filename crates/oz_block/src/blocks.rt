@@ -170,8 +170,8 @@ impl<D: Disk> Blocks<D> {
         Ok(slots)
     }
 
-    /// Drops a replica: it is deleted, and its blocks are gone. Whoever calls this has seen that it holds none, since the
-    /// slots of such blocks aren't handed back.
+    /// Drops a replica: it is deleted, and its blocks are gone. Whoever calls this has seen that it holds none, since
+    /// the slots of such blocks aren't handed back.
     pub fn drop_container(&mut self, alloc: Global, container: u64) -> Result<(), BlockFault>
         ensures { Changes (entries.Drop container) self.old self.new
             (seen (D.told self.old.disk) (D.clock self.old.disk) (D.image self.old.disk) (D.faults self.old.disk))

@@ -6,7 +6,7 @@ ghost use Rattle.std.specs.List.Sorted.{IsStrictlyIncreasing};
 ghost use Rattle.oz_block.specs.Changes.{Changes, Wipes};
 ghost use Rattle.oz_entries.specs.declared.entry.Entry.TheVariants as entries;
 ghost use Rattle.oz_entries.specs.Held.{is_freed};
-ghost use Rattle.oz_entries.specs.Node.{MayFollow, names};
+ghost use Rattle.oz_entries.specs.Node.{MayFollow, names, is_used};
 ghost use Rattle.oz_journal.specs.Load.{IsLoadable, IsLeftAlone, loaded_at};
 ghost use Rattle.oz_world.specs.Disk.{seen, TellsAsBefore, IsStable};
 ghost use Rattle.oz_world.specs.Faults.{Rose};
@@ -115,6 +115,13 @@ impl<D: Disk> Blocks<D> {
         ensures { result ≡ (node_in self.now).greatest container }
     {
         self.held.greatest(container)
+    }
+
+    /// Whether a block that is held uses a slot.
+    pub fn is_used(&self, slot: u32) -> bool
+        ensures { result ≡ is_used (node_in self.now) slot }
+    {
+        self.held.is_used(slot)
     }
 
     /// Holds a block. Whoever calls this has made its bytes stable in its slots.

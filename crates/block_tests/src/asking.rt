@@ -1,9 +1,8 @@
 //! Changes that are asked for where they may follow.
 
-ghost use Rattle.std.specs.Prelude.{◌≡◌, ◌≤◌, ◌<◌, false};
+ghost use Rattle.std.specs.Prelude.{◌≡◌, false};
 ghost use Rattle.std.specs.Bool.{OnTrue};
 ghost use Rattle.oz_entries.specs.Node.{is_deleted as is_gone};
-ghost use Rattle.oz_fields.specs.declared.block.TheConstants.{GREATEST_BLOCK_NUMBER};
 
 use oz_block::{BlockFault, Blocks};
 use oz_container::State;

@@ -1,0 +1,7 @@
+//! Tests of the law of the whole store, and of the report of a story.
+#![tactic(auto)]
+
+#[cfg(test)]
+mod making;
+#[cfg(test)]
+mod report;

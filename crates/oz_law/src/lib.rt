@@ -2,15 +2,19 @@
 #![tactic(auto)]
 
 mod asks;
+mod blocks;
 mod containers;
+mod holders;
 mod journal;
+mod log;
 mod manager;
 mod nodes;
 mod scm;
 mod seats;
 mod turns;
 
-pub use containers::{ack_del_is_enabled, retire_is_enabled};
+pub use blocks::{bad_is_enabled, copy_is_enabled};
+pub use containers::{ack_del_is_enabled, log_is_enabled, retire_is_enabled};
 pub use journal::{flushed_is_enabled, halt_is_enabled, swap_is_enabled};
 pub use nodes::{
     close_command_is_enabled, down_is_enabled, start_is_enabled, stop_is_enabled, up_is_enabled,

@@ -2,6 +2,12 @@
 #![tactic(auto)]
 
 #[cfg(test)]
+mod deletion;
+#[cfg(test)]
+mod journal;
+#[cfg(test)]
 mod making;
+#[cfg(test)]
+mod nodes;
 #[cfg(test)]
 mod report;

@@ -1,6 +1,6 @@
 //! Reports beside texts that were written by hand.
 
-use crate::making::{BLOCK, ask, decide, event, named, told};
+use crate::making::{BLOCK, ID, ask, decide, event, named, put, told};
 use oz_container::State;
 use oz_core::{Event, EventKind, Node, PutRefusal};
 use oz_fields::{List, Name, OutOfMemory};
@@ -172,6 +172,66 @@ fn info(alloc: Global) -> Result<Request, OutOfMemory> {
     Ok(Request::InfoVolume {
         volume: Name::copy(alloc, b"vol1")?,
     })
+}
+
+fn create(alloc: Global) -> Result<Request, OutOfMemory> {
+    Ok(Request::CreateKey {
+        volume: Name::copy(alloc, b"vol1")?,
+        bucket: Name::copy(alloc, b"bk1")?,
+        key: Name::copy(alloc, b"k")?,
+    })
+}
+
+fn lookup(alloc: Global) -> Result<Request, OutOfMemory> {
+    Ok(Request::LookupKey {
+        volume: Name::copy(alloc, b"vol1")?,
+        bucket: Name::copy(alloc, b"bk1")?,
+        snapshot: None,
+        key: Name::copy(alloc, b"k")?,
+    })
+}
+
+/// A key is opened, its block put by three datanodes, and read; one of them is wiped, and the block is copied to it.
+#[test]
+fn a_key_is_written_and_read(rt: HostRuntime) -> Result<(), Fail> {
+    let alloc = rt.alloc();
+    let get = AskId { line: 2, ..ID };
+    let read = List::of(Vec::from_slice(alloc, b"abc")?);
+    let copy = EventKind::Copy {
+        source: 0,
+        target: 2,
+        block: BLOCK,
+    };
+    let story = [
+        ask(ID, create(alloc)?),
+        decide(alloc, ID, Reply::Session(1)),
+        put(0, BLOCK),
+        put(1, BLOCK),
+        put(2, BLOCK),
+        event(
+            2,
+            EventKind::Wrote {
+                block: BLOCK,
+                id: ID,
+            },
+        ),
+        told(1, 1, Answer::Ok(Values::Length(3))),
+        ask(get, lookup(alloc)?),
+        decide(alloc, get, Reply::Pieces(List::new(alloc))),
+        told(1, 2, Answer::Ok(Values::Bytes(read))),
+        event(6, EventKind::Wipe { dn: 2 }),
+        event(6, copy),
+        told(1, 3, Answer::Ok(Values::Done)),
+    ];
+    let wanted = "story 1\n\
+        d 1 1 1 CreateKey OK\n\
+        t 1 1 OK 3\n\
+        d 1 2 1 LookupKey OK\n\
+        t 1 2 OK 3 ba7816bf8f01cfea414140de5dae2223b00361a396177a9cb410ff61f20015ad\n\
+        t 1 3 OK\n\
+        end 3 of 3\n";
+    prints(&rt, 3, &story, wanted)?;
+    Ok(())
 }
 
 /// The service job's client is 65535.

@@ -3,7 +3,7 @@
 
 mod asks;
 mod blocks;
-mod containers;
+mod deletion;
 mod holders;
 mod journal;
 mod log;
@@ -14,7 +14,7 @@ mod seats;
 mod turns;
 
 pub use blocks::{bad_is_enabled, copy_is_enabled};
-pub use containers::{ack_del_is_enabled, log_is_enabled, retire_is_enabled};
+pub use deletion::{ack_del_is_enabled, log_is_enabled, retire_is_enabled};
 pub use journal::{flushed_is_enabled, halt_is_enabled, swap_is_enabled};
 pub use nodes::{
     close_command_is_enabled, down_is_enabled, start_is_enabled, stop_is_enabled, up_is_enabled,

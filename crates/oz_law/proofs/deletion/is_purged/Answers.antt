@@ -1,6 +1,6 @@
 use Rattle.std.proofs.Common.{sym, ◌∙◌}
 use Rattle.oz_law.proofs.Found.{purged-found, purged-finds}
-use Rattle.oz_law.proofs.containers.is_purged.Goals as goal
+use Rattle.oz_law.proofs.deletion.is_purged.Goals as goal
 
 pub returns : goal.returns
 returns c = (

@@ -86,6 +86,7 @@ pub fn is_named_or_own(story: &[Event], id: AskId, block: Block) -> bool
     is_named(story, id, block) || is_own(id)
 }
 
+/// Whether the datanode may find bad bytes of the block, for this ask.
 pub fn bad_is_enabled(
     opening: &Opening,
     story: &[Event],
@@ -162,6 +163,7 @@ fn has_put_or_copied(dn: u8, block: Block, story: &[Event]) -> bool
         .any(|event| puts_or_copies(dn, block, &event.kind))
 }
 
+/// Whether the block may be copied from one datanode to the other.
 pub fn copy_is_enabled(
     opening: &Opening,
     story: &[Event],

@@ -48,6 +48,7 @@ fn are_purged(story: &[Event], container: u64, locals: &[u64]) -> bool
     })
 }
 
+/// Whether the transaction of this number may be logged, with these local ids of the container.
 pub fn log_is_enabled(
     opening: &Opening,
     story: &[Event],
@@ -81,6 +82,7 @@ fn is_applied(dn: u8, number: u64, story: &[Event]) -> bool
     story.iter().any(|event| applies(dn, number, &event.kind))
 }
 
+/// Whether it may be noted that the datanode has applied the transaction.
 pub fn ack_del_is_enabled(
     alloc: Global,
     opening: &Opening,
@@ -100,6 +102,7 @@ pub fn ack_del_is_enabled(
     )
 }
 
+/// Whether the transaction may go out of the log.
 pub fn retire_is_enabled(
     alloc: Global,
     opening: &Opening,

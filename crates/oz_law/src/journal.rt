@@ -7,6 +7,7 @@ use crate::manager::{durable_index, flushed_moment, halt_of, last_index, swapped
 use crate::seats::{FLUSHER_SEAT, is_node_seat};
 use oz_core::{Event, Node, Opening};
 
+/// Whether the flusher may take what was decided up to this index.
 pub fn swap_is_enabled(opening: &Opening, story: &[Event], seat: u16, index: u64) -> bool
     ensures { IsTrue result ↔ SwapIsEnabled opening.now story.now seat index }
 {
@@ -27,6 +28,7 @@ fn is_later(earlier: Option<u64>, moment: u64) -> bool
     }
 }
 
+/// Whether what was taken may be stable, from this moment of the disk's clock on.
 pub fn flushed_is_enabled(
     opening: &Opening,
     story: &[Event],
@@ -43,6 +45,7 @@ pub fn flushed_is_enabled(
         && is_later(flushed_moment(story), moment)
 }
 
+/// Whether the node may halt, its disks having failed so often.
 pub fn halt_is_enabled(
     opening: &Opening,
     story: &[Event],

@@ -39,6 +39,7 @@ pub fn is_running(dn: u8, story: &[Event]) -> bool
     halt_of(Node::Datanode(dn), story).is_none() && is_started(dn, story)
 }
 
+/// Whether the datanode may be taken for up again.
 pub fn up_is_enabled(opening: &Opening, story: &[Event], seat: u16, dn: u8) -> bool
     ensures { IsTrue result ↔ UpIsEnabled opening.now story.now seat dn }
 {
@@ -48,6 +49,7 @@ pub fn up_is_enabled(opening: &Opening, story: &[Event], seat: u16, dn: u8) -> b
         && is_running(dn, story)
 }
 
+/// Whether it may be taken for down.
 pub fn down_is_enabled(opening: &Opening, story: &[Event], seat: u16, dn: u8) -> bool
     ensures { IsTrue result ↔ DownIsEnabled opening.now story.now seat dn }
 {
@@ -57,6 +59,7 @@ pub fn down_is_enabled(opening: &Opening, story: &[Event], seat: u16, dn: u8) ->
         && !is_running(dn, story)
 }
 
+/// Whether a line may stop the datanode.
 pub fn stop_is_enabled(opening: &Opening, story: &[Event], seat: u16, dn: u8) -> bool
     ensures { IsTrue result ↔ StopIsEnabled opening.now story.now seat dn }
 {
@@ -65,6 +68,7 @@ pub fn stop_is_enabled(opening: &Opening, story: &[Event], seat: u16, dn: u8) ->
         && is_running(dn, story)
 }
 
+/// Whether a line may start it again.
 pub fn start_is_enabled(opening: &Opening, story: &[Event], seat: u16, dn: u8) -> bool
     ensures { IsTrue result ↔ StartIsEnabled opening.now story.now seat dn }
 {
@@ -73,6 +77,7 @@ pub fn start_is_enabled(opening: &Opening, story: &[Event], seat: u16, dn: u8) -
         && !is_running(dn, story)
 }
 
+/// Whether a line may take away what it holds.
 pub fn wipe_is_enabled(opening: &Opening, story: &[Event], seat: u16, dn: u8) -> bool
     ensures { IsTrue result ↔ WipeIsEnabled opening.now story.now seat dn }
 {
@@ -105,6 +110,7 @@ fn was_not_open(container: Option<&Container>) -> bool
     }
 }
 
+/// Whether the datanode may close its replica of the container.
 pub fn close_command_is_enabled(
     opening: &Opening,
     story: &[Event],

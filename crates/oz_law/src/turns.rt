@@ -20,6 +20,7 @@ fn is_in_time(opening: &Opening, story: &[Event], client: u16, line: u16, answer
     }
 }
 
+/// Whether the line may be told this answer.
 pub fn told_is_enabled(
     opening: &Opening,
     story: &[Event],

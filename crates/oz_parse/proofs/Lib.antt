@@ -1,0 +1,4 @@
+mod Counting
+mod Finds
+mod Parses
+mod Steps

@@ -1,5 +1,6 @@
 -- For private calls: which lines are marked, since the lines of a client lead to them.
-use Rattle.std.specs.Prelude.{◌≡◌, ℕ, ◌+◌, ◌*◌, ◌<◌, ◌≤◌, ◌⊎◌, min, Bool, true, false, not, List, length, count_by, Contains, Option, None, Some}
+use Rattle.std.specs.Prelude.{◌≡◌, ℕ, ◌+◌, ◌*◌, ◌<◌, ◌≤◌, ◌⊎◌, min, Bool, true, false, not}
+use Rattle.std.specs.Prelude.{List, length, count_by, Contains, Option, None, Some}
 use Rattle.std.specs.List.{slice_index_or}
 use Rattle.oz_circles.specs.declared.waits.Waits.{Waits}
 use Rattle.oz_circles.specs.Circles.{LeadsTo, ComesBack}

@@ -25,8 +25,8 @@ pub fn first_circle(alloc: Global, lines: &[Waits]) -> Result<Option<usize>, All
     Ok(first)
 }
 
-/// The first line of a client that comes back to itself. An earlier line of the client is one to which a later leads,
-/// so the lines to which any of them led are marked once for all.
+/// The first line of a client that comes back to itself. A later line of the client leads to each earlier one, and so
+/// to all that is marked: none of that is gone to again.
 fn first_of(alloc: Global, lines: &[Waits], client: u16) -> Result<Option<usize>, AllocError>
     requires { AreChained lines.now }
     ensures { IfOk result (λ found. IsFirstOf lines.now client found) }

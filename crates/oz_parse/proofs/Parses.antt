@@ -1,10 +1,12 @@
 -- What was read and tested is the answer, and there is one.
-use Rattle.std.proofs.Common.{◌≡◌, ℕ, zero, suc, ◌<◌, List, [], ◌∷◌, length, Option, Some, None, Result, Ok, Err, refl, sym, ap, subst, ◌∙◌, arith, inl, inr}
-use Rattle.std.specs.Prelude.{◌⊎◌, not, slice_index}
-use Rattle.std.specs.List.{slice_get}
+use Rattle.std.proofs.Common.{◌≡◌, ℕ, zero, suc, ◌<◌, ◌≤◌, get_or, List, [], ◌∷◌, length, Option, Some, None, Result, Ok, Err, refl, sym, ap, subst, ◌∙◌, arith, inl, inr}
+use Rattle.std.specs.Prelude.{◌⊎◌, not, nat_lt, Bool, true, false, cond, slice_index}
+use Rattle.std.specs.List.{slice_get, position_or_len, AllPass}
 use Rattle.std.specs.Option.{IsSomeAnd}
 use Rattle.std.proofs.lemmas.Option.{slice_get_within, slice_get-get_or, same_Some, none-some}
 use Rattle.std.proofs.lemmas.List.Quantifiers.{position-Some}
+use Rattle.std.proofs.lemmas.List.Sums.{prefix_len_passes}
+use Rattle.std.proofs.lemmas.Bool.{ltb-false}
 use Rattle.oz_circles.specs.Circles.{Leads, ComesBack, IsFirstBack}
 use Rattle.oz_lines.specs.declared.fault.Cause.{Cause}
 use Rattle.oz_lines.specs.declared.fault.ScriptFault.{ScriptFault}
@@ -106,3 +108,18 @@ later_fault bytes placed circle line fault e long first none some is =
     let found : IsFaultAt placed line Later (Err (At (slice_index placed.places line) Later)) = (slice_index placed.places line, slice_get-get_or placed.places line 0 (omega (arith, within, long)), refl) in
     gives_at bytes (slice_index placed.places line) Later fault is
     (parsed bytes placed (Err (At (slice_index placed.places line) Later)) None (Some line) e first_none some found)
+
+none_past : (at len : ℕ) (below : Bool) → nat_lt at len ≡ below → cond below (Some at) None ≡ None → len ≤ at
+none_past at len true e h = absurd (cc)
+none_past at len false e h = ltb-false at len e
+
+not_not : (b : Bool) → not (not b) ≡ true → b ≡ true
+not_not true e = refl
+not_not false e = e
+
+-- where no line isn't served, each is
+pub all_served : (lines : List Line) → later_index lines ≡ None → AllPass is_served lines
+all_served lines none = λ (k : ℕ) (d : Line) (lt : k < length lines).
+    let at = position_or_len (λ (l : Line). not (is_served l)) lines in
+    let past = none_past at (length lines) (nat_lt at (length lines)) refl none in
+    not_not (is_served (get_or lines k d)) (prefix_len_passes (λ (l : Line). not (not (is_served l))) lines k d (omega (arith, past, lt)))

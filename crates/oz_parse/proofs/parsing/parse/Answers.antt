@@ -1,5 +1,5 @@
-use Rattle.std.proofs.Common.{arith}
-use Rattle.oz_parse.proofs.Parses.{circle_fault, later_fault, first_within}
+use Rattle.std.proofs.Common.{◌∙◌, sym, arith}
+use Rattle.oz_parse.proofs.Parses.{all_served, circle_fault, later_fault, first_within}
 use Rattle.oz_parse.proofs.parsing.parse.Goals as goal
 
 pub fault_at-requires : goal.fault_at-requires
@@ -14,3 +14,6 @@ returns-in-Some-clause-exact c =
 pub returns-in-Some-later_index-clause-exact : goal.returns-in-Some-later_index-clause-exact
 returns-in-Some-later_index-clause-exact c =
     later_fault c.args.bytes.now c.in_ok-script.field-0 c.in_ok-line.field-0 c.in-Some-later_index.line c.fault_at-in-Some-later_index.result c.in_ok-script.ensures.exact c.in_ok-script.ensures.places c.in_ok-line.ensures c.in_default.is c.in-Some-later_index.ensures c.fault_at-in-Some-later_index.ensures
+
+pub returns-clause-served : goal.returns-clause-served
+returns-clause-served c = all_served c.in_ok-script.field-0.script.lines (sym c.later_index.ensures ∙ c.in_default-later_index.is)

@@ -1,10 +1,10 @@
 use crate::asked::{Kind, request};
 use crate::shelf::{full, shelf};
-use oz_bucket_requests::Reply;
 use oz_cache::Cached;
 use oz_fields::OutOfMemory;
 use oz_names::Code;
 use oz_om_bucket::{Decision, decide};
+use oz_requests::Reply;
 use std::alloc::Global;
 use std::test::Fail;
 

@@ -1,10 +1,10 @@
 //! A namespace with keys, sessions and snapshots.
 
 use crate::asked::{Kind, request};
-use oz_bucket_model::{Bucket, NameMap, Namespace, Session, Snapshot, answer, reach};
-use oz_bucket_requests::Reply;
 use oz_fields::{Block, List, Name, OutOfMemory, Piece};
+use oz_model::{Bucket, NameMap, Namespace, Session, Snapshot, answer, reach};
 use oz_names::Code;
+use oz_requests::{Counts, Reply};
 use std::alloc::Global;
 use std::test::Fail;
 
@@ -123,7 +123,7 @@ fn a_bucket_in_use_stays(rt: HostRuntime) -> Result<(), Fail> {
     let volume = named(rt.alloc(), "vol-a")?;
     for (bucket, code, count) in DELETED {
         let asked = request(rt.alloc(), Kind::DeleteBucket, "vol-a", bucket)?;
-        let (reply, left) = answer(rt.alloc(), &namespace, &asked)?;
+        let (reply, left) = answer(rt.alloc(), &namespace, &asked, Some((block(1, 1), 0)))?;
         assert!(rt; code_of(&reply) == code, "{bucket}");
         assert!(rt;
             left.volumes
@@ -135,11 +135,24 @@ fn a_bucket_in_use_stays(rt: HostRuntime) -> Result<(), Fail> {
     Ok(())
 }
 
+fn counts_in(reply: &Reply) -> Option<Counts> {
+    match reply {
+        Reply::Counts(counts) => Some(*counts),
+        _ => None,
+    }
+}
+
+/// What is counted of the bucket `full`.
+fn counted(alloc: Global) -> Result<Option<Counts>, OutOfMemory> {
+    let namespace = shelf(alloc)?;
+    let asked = request(alloc, Kind::InfoBucket, "vol-a", "full")?;
+    let (reply, _left) = answer(alloc, &namespace, &asked, Some((block(1, 1), 0)))?;
+    Ok(counts_in(&reply))
+}
+
 #[test]
 fn keys_sessions_and_snapshots_are_counted_apart(rt: HostRuntime) -> Result<(), Fail> {
-    let asked = request(rt.alloc(), Kind::InfoBucket, "vol-a", "full")?;
-    let (reply, _) = answer(rt.alloc(), &shelf(rt.alloc())?, &asked)?;
-    let Reply::Counts(counts) = &reply else {
+    let Some(counts) = counted(rt.alloc())? else {
         return Err(Fail::from("no counts"));
     };
     assert!(rt; (counts.keys, counts.sessions, counts.snapshots) == (1, 2, 1));

@@ -1,13 +1,14 @@
 //! Random requests, decided over rows and answered by one thread over a namespace.
-ghost use Rattle.std.specs.Prelude.{◌≡◌, ◌<◌};
+ghost use Rattle.std.specs.Prelude.{◌≡◌, ◌<◌, IfOk};
+ghost use Rattle.oz_requests.specs.Families.{family_of};
 
 use crate::asked::{Kind, request};
-use oz_bucket_model::{Namespace, answer};
-use oz_bucket_requests::{Reply, Request};
 use oz_cache::Cached;
 use oz_epochs::Steps;
-use oz_fields::{List, Name, OutOfMemory, TryClone};
+use oz_fields::{Block, List, Name, OutOfMemory, TryClone};
+use oz_model::{Namespace, answer};
 use oz_om_bucket::{Decision, decide};
+use oz_requests::{Family, Reply, Request};
 use oz_rows::{Change, RowKey};
 use oz_tables::Tables;
 use rand_core::utils::NextWord;
@@ -33,6 +34,12 @@ const KINDS: [Kind; 12] = [
     Kind::ListBuckets,
 ];
 
+/// A block for a grant, which none of these requests asks for.
+const NONE_ASKED: Block = Block {
+    container: 1,
+    local: 1,
+};
+
 const VOLUMES: [&str; 5] = ["vol-a", "vol-b", "vol-c", "vol-a", "No"];
 
 const BUCKETS: [&str; 5] = ["bk-c", "bk-a", "bk-d", "bk-b", "-"];
@@ -42,7 +49,9 @@ fn one_of(words: &mut Pcg32, names: &[&'static str; 5]) -> &'static str {
     names[(words.next_word() % 5) as usize]
 }
 
-fn drawn(alloc: Global, words: &mut Pcg32) -> Result<Request, OutOfMemory> {
+fn drawn(alloc: Global, words: &mut Pcg32) -> Result<Request, OutOfMemory>
+    ensures { IfOk result (λ request. family_of request ≡ Family.Buckets) }
+{
     let kind = KINDS[(words.next_word() % 12) as usize];
     let volume = one_of(words, &VOLUMES);
     let bucket = one_of(words, &BUCKETS);
@@ -165,8 +174,10 @@ fn answer_alike(
     namespace: &mut Namespace,
     request: &Request,
     reply: &Reply,
-) -> Result<bool, OutOfMemory> {
-    let (answered, left) = answer(alloc, namespace, request)?;
+) -> Result<bool, OutOfMemory>
+    requires { family_of request.now ≡ Family.Buckets }
+{
+    let (answered, left) = answer(alloc, namespace, request, Some((NONE_ASKED, 0)))?;
     *namespace = left;
     Ok(is_same(reply, &answered))
 }
@@ -179,7 +190,9 @@ fn try_one<R: Abort>(
     cached: &mut Cached,
     namespace: &mut Namespace,
     request: &Request,
-) -> Result<bool, Fail> {
+) -> Result<bool, Fail>
+    requires { family_of request.now ≡ Family.Buckets }
+{
     let Decision { reply, changes, .. } = decide(alloc, cached, request)?;
     assert!(rt; answer_alike(alloc, namespace, request, &reply)?);
     let changed = enter_changes(alloc, cached, changes)?;

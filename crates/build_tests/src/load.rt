@@ -97,7 +97,7 @@ fn empty_bodies(alloc: Global) -> Result<Vec<Body>, OutOfMemory> {
 /// The last index and the number of rows.
 fn size_of(alloc: Global, bodies: &[Body]) -> Result<(u64, usize), BuildFault> {
     let tables = build(alloc, bodies)?;
-    Ok((tables.last_index(), tables.rows().len()))
+    Ok((tables.last_index(), tables.len()))
 }
 
 #[cfg(test)]

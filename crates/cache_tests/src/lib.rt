@@ -9,3 +9,5 @@ mod draws;
 mod history;
 #[cfg(test)]
 mod load;
+#[cfg(test)]
+mod thousand;

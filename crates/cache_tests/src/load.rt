@@ -52,9 +52,9 @@ fn come_and_go<R: Abort, L: Ledger>(rt: &R, alloc: Global, blank: Blank) -> Resu
     let mut steps = Steps::<L>::start(blank);
     let mut cached = Cached::over(alloc, Tables::new(alloc));
     enter_all(alloc, &mut cached, &mut steps, true)?;
-    assert!(rt; cached.durable().rows().len() == 4_096);
+    assert!(rt; cached.durable().len() == 4_096);
     enter_all(alloc, &mut cached, &mut steps, false)?;
-    assert!(rt; cached.durable().rows().is_empty());
+    assert!(rt; cached.durable().len() == 0);
     assert!(rt; cached.last_epoch() == 2);
     Ok(())
 }

@@ -1,5 +1,4 @@
 pub mod FaultPlaces
-pub mod PartOrder
 pub mod Heads
 pub mod StepLists
 pub mod Bodies

@@ -1,19 +1,13 @@
 -- For private calls: what the single steps of building make and find.
-use Rattle.std.specs.Prelude.{◌≡◌, ℕ, Bool, true, false, not, ◌&&◌, ◌==◌, ◌+◌, ◌-◌, ◌<◌, ◌≤◌, ◌⊎◌, List, [], ◌∷◌, ◌++◌}
-use Rattle.std.specs.Prelude.{length, map, Option, None, Some, is_some, Ok, Err, if◌then◌else◌}
-use Rattle.std.specs.List.{flat_map, list_any}
-use Rattle.std.specs.Ordering.{nat_cmp, ordering_then}
-use Rattle.std.specs.declared.cmp.Ordering.{Ordering}
-use Rattle.std.specs.BTreeSet.{BTreeSet, contains}
-use Rattle.oz_fields.specs.declared.block.Block.{Block}
+use Rattle.std.specs.Prelude.{◌≡◌, ℕ, Bool, true, false, not, ◌&&◌, ◌+◌, ◌-◌, ◌<◌, ◌≤◌, ◌⊎◌, List, [], ◌∷◌, ◌++◌}
+use Rattle.std.specs.Prelude.{length, map, Option, None, Some, Ok, Err}
+use Rattle.std.specs.List.{list_any}
 use Rattle.oz_rows.specs.declared.fault.ReadFault.{ReadFault}
 use Rattle.oz_rows.specs.declared.fault.ReadFault.TheVariants as reads
 use Rattle.oz_rows.specs.declared.key.RowKey.{RowKey}
-use Rattle.oz_rows.specs.declared.key.RowKey.TheVariants as keys
 use Rattle.oz_rows.specs.declared.row.Row.{Row}
 use Rattle.oz_rows.specs.declared.row.Row.TheVariants as rows
 use Rattle.oz_rows.specs.declared.row.SnapshotState.TheVariants.{Live}
-use Rattle.oz_rows.specs.declared.operation.Change.{Change}
 use Rattle.oz_rows.specs.declared.operation.Operation.{Operation}
 use Rattle.oz_rows.specs.declared.operation.Operation.TheVariants.{Remove}
 use Rattle.oz_rows.specs.declared.operation.Operations.{Operations}
@@ -24,8 +18,9 @@ use Rattle.oz_rows.specs.declared.entry.RowEntry.{RowEntry}
 use Rattle.oz_build.specs.declared.fault.BuildFault.{BuildFault}
 use Rattle.oz_build.specs.declared.fault.BuildFault.TheVariants as faults
 use Rattle.oz_tables.specs.Tables.{TableView}
-use Rattle.oz_rows.specs.RowMaps.{row_of, is_same, gone, put, is_bucket}
+use Rattle.oz_rows.specs.RowMaps.{row_of, is_same}
 use Rattle.oz_effects.specs.Effects.{Leads}
+use Rattle.oz_effects.specs.Parts.{IsPart}
 use Rattle.oz_effects.specs.Build.{base_of, puts, IsAtFault, NoneAtFault, IsNextBody}
 
 -- a fault of reading, as a place in a body
@@ -117,28 +112,9 @@ stands_on base entry = is_needed base (base_of entry.key entry.row)
 abbrev pub is_left : List Operation → RowKey → RowEntry → Bool
 is_left items base entry = stands_on base entry && not (list_any (puts entry.key) items)
 
--- a renamed row of one owner goes to another, unless that one's stays
-abbrev pub renamed_moved : List RowEntry → List ℕ → List ℕ → ℕ → ℕ → ℕ → Row → List Change
-renamed_moved all volume bucket from to local row =
-    gone (keys.Renamed volume bucket from local)
-    ∷ (if from == 0 && is_some (row_of all (keys.Renamed volume bucket to local)) then []
-    else put (keys.Renamed volume bucket to local) row ∷ [])
-
--- a block that does not pass a test gets a deleted row of its own
-abbrev pub freed_block : (Block → Bool) → List ℕ → List ℕ → List ℕ → Block → List Change
-freed_block is_kept volume bucket key block =
-    if is_kept block then [] else put (keys.Deleted volume bucket 0 key block.local) (rows.Deleted (block ∷ [])) ∷ []
-
--- so does each such block of an open row of the bucket
-abbrev pub freed_but : (Block → Bool) → List ℕ → List ℕ → RowKey → Row → List Change
-freed_but is_kept volume bucket (keys.Open of_volume of_bucket key number) (rows.Open blocks) =
-    if is_bucket volume bucket of_volume of_bucket then flat_map (freed_block is_kept volume bucket key) blocks else []
-freed_but is_kept volume bucket key row = []
-
--- blocks in the order of their containers, and then of their own numbers
-abbrev pub block_order : Block → Block → Ordering
-block_order a b = ordering_then (nat_cmp a.container b.container) (nat_cmp a.local b.local)
-
--- the set has the block
-abbrev pub holds : BTreeSet Block → Block → Bool
-holds kept block = contains block_order kept block
+-- whether one of the rows of a part is
+pub record IsLeftAmong (all : List RowEntry) (front : List (List ℕ)) (items : List Operation) (base : RowKey)
+    (found : Bool) : Type 0 where
+  pub part : List RowEntry
+  pub is : IsPart all front part
+  pub told : found ≡ list_any (is_left items base) part

@@ -7,8 +7,8 @@ ghost use Rattle.oz_effects.specs.Effects.{IsPossible, operation_changes as chan
 ghost use Rattle.oz_effects.specs.Build.{AllAreBased, HeadFails, IsDamagedBody};
 ghost use Rattle.oz_build.specs.Steps.{Follows, RemovesNothing, BatchLeads, BatchStops, HeadRises, IfLeft};
 
-use crate::effects::operation_changes;
 use crate::needs::first_at_fault;
+use oz_changes::operation_changes;
 use oz_fields::OutOfMemory;
 use oz_rows::{Operation, ReadFault, head_of, operation_of};
 use oz_tables::Tables;
@@ -99,7 +99,8 @@ fn perform(alloc: Global, tables: &mut Tables, operation: &Operation) -> Result<
 {
     let changes = operation_changes(alloc, tables, operation)?;
     tables.reserve(alloc, changes.len())?;
+    tables.rows_are_in_order();
     tables.enter_all(changes);
-    let _in_order = tables.rows();
+    tables.rows_are_in_order();
     Ok(())
 }

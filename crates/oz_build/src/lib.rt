@@ -3,11 +3,9 @@
 
 mod body;
 mod building;
-mod effects;
 mod fault;
 mod laws;
 mod needs;
-mod parts;
 
 pub use building::build;
 pub use fault::BuildFault;

@@ -4,16 +4,17 @@ ghost use Rattle.std.specs.Prelude.{◌≡◌, [], ◌∷◌, ◌&&◌, ◌⊎�
 ghost use Rattle.std.specs.Prelude.{MatchBool};
 ghost use Rattle.std.specs.List.{list_any};
 ghost use Rattle.oz_rows.specs.declared.key.RowKey.{RowKey as AnyKey};
-ghost use Rattle.oz_rows.specs.RowMaps.{is_same, KeysRise};
+ghost use Rattle.oz_rows.specs.RowMaps.{is_same};
 ghost use Rattle.oz_effects.specs.Build.{base_of as needed_by, puts as is_put_by, removes as is_removed_by, IsOrphan};
 ghost use Rattle.oz_effects.specs.Build.{LeavesOne, IsAtFault, NoneAtFault};
 ghost use Rattle.oz_build.specs.Steps.{operations_of, FirstAtFault, stands_on as does_stand_on, is_left as does_leave};
-ghost use Rattle.oz_build.specs.Steps.{is_live as is_live_row};
+ghost use Rattle.oz_build.specs.Steps.{is_live as is_live_row, IsLeftAmong};
+ghost use Rattle.oz_effects.specs.Parts.{front_of};
 
 use crate::body::Step;
-use crate::parts::{bucket_rows, buckets_of};
+use oz_effects::{Part, RowRef, first_key, part_rows};
 use oz_fields::{Name, OutOfMemory};
-use oz_rows::{Operation, Row, RowEntry, RowKey, SnapshotState};
+use oz_rows::{Operation, Row, RowKey, SnapshotState};
 use oz_tables::Tables;
 use std::alloc::Global;
 
@@ -49,7 +50,7 @@ fn is_at_fault(
 {
     match operation {
         Operation::Put { key, .. } => is_orphan(alloc, tables, key),
-        Operation::Remove { key } => Ok(is_last_to_leave(tables, steps, later, key)),
+        Operation::Remove { key } => is_last_to_leave(alloc, tables, steps, later, key),
         _ => Ok(false),
     }
 }
@@ -87,15 +88,21 @@ fn base_of(alloc: Global, key: &RowKey, row: &Row) -> Result<Option<RowKey>, Out
 }
 
 /// Whether no later operation removes this row, and a row needs it that none of them all put.
-fn is_last_to_leave(tables: &Tables, steps: &[Step], later: &[Step], base: &RowKey) -> bool
+fn is_last_to_leave(
+    alloc: Global,
+    tables: &Tables,
+    steps: &[Step],
+    later: &[Step],
+    base: &RowKey,
+) -> Result<bool, OutOfMemory>
     ensures { let leaves = LeavesOne tables.now.rows (operations_of steps.now) base.now
         × (list_any (is_removed_by base.now) (operations_of later.now) ≡ false) in
-        MatchBool result leaves (leaves → ⊥) }
+        IfOk result (λ found. MatchBool found leaves (leaves → ⊥)) }
 {
-    if !leaves_orphan(tables, steps, base) {
-        return false;
+    if !leaves_orphan(alloc, tables, steps, base)? {
+        return Ok(false);
     }
-    !is_removed(later, base)
+    Ok(!is_removed(later, base))
 }
 
 /// Whether one of the operations removes the row.
@@ -121,67 +128,94 @@ fn removes(operation: &Operation, key: &RowKey) -> bool
 }
 
 /// Whether a row needs this one that isn't there, and none of the operations put it.
-fn leaves_orphan(tables: &Tables, steps: &[Step], base: &RowKey) -> bool
+fn leaves_orphan(
+    alloc: Global,
+    tables: &Tables,
+    steps: &[Step],
+    base: &RowKey,
+) -> Result<bool, OutOfMemory>
     ensures { let leaves = LeavesOne tables.now.rows (operations_of steps.now) base.now in
-        MatchBool result leaves (leaves → ⊥) }
+        IfOk result (λ found. MatchBool found leaves (leaves → ⊥)) }
 {
     if tables.get(base).is_some() {
-        return false;
+        return Ok(false);
     }
+    tables.rows_are_in_order();
     match base {
-        RowKey::Volume { volume } => is_bucket_left(tables.rows(), steps, base, volume),
+        RowKey::Volume { volume } => is_bucket_left(alloc, tables, steps, base, volume),
         RowKey::Bucket { volume, bucket } => is_content_left(
-            tables.rows(),
-            steps,
-            base,
-            volume,
-            bucket,
+            alloc, tables, steps, base, volume, bucket,
         ),
-        _ => false,
+        _ => Ok(false),
     }
 }
 
 /// The same of the buckets of a volume.
-fn is_bucket_left(rows: &[RowEntry], steps: &[Step], base: &RowKey, volume: &Name) -> bool
-    requires in_order { KeysRise rows.now }
-    requires base { base.now ≡ AnyKey.Volume volume.now }
-    ensures { result ≡ list_any (does_leave (operations_of steps.now) base.now) rows.now }
+fn is_bucket_left(
+    alloc: Global,
+    tables: &Tables,
+    steps: &[Step],
+    base: &RowKey,
+    volume: &Name,
+) -> Result<bool, OutOfMemory>
+    requires { base.now ≡ AnyKey.Volume volume.now }
+    ensures { IfOk result (λ found. found
+        ≡ list_any (does_leave (operations_of steps.now) base.now) tables.now.rows) }
 {
-    is_one_left(buckets_of(rows, volume), steps, base)
+    let none = Name::copy(alloc, b"")?;
+    let found = is_part_left(alloc, tables, Part::Buckets, steps, base, volume, &none)?;
+    Ok(found)
 }
 
 /// The same of the keys, the open keys and the snapshots of a bucket.
 fn is_content_left(
-    rows: &[RowEntry],
+    alloc: Global,
+    tables: &Tables,
     steps: &[Step],
     base: &RowKey,
     volume: &Name,
     bucket: &Name,
-) -> bool
-    requires in_order { KeysRise rows.now }
-    requires base { base.now ≡ AnyKey.Bucket volume.now bucket.now }
-    ensures { result ≡ list_any (does_leave (operations_of steps.now) base.now) rows.now }
+) -> Result<bool, OutOfMemory>
+    requires { base.now ≡ AnyKey.Bucket volume.now bucket.now }
+    ensures { IfOk result (λ found. found
+        ≡ list_any (does_leave (operations_of steps.now) base.now) tables.now.rows) }
 {
-    let keys = is_one_left(bucket_rows(rows, 3, volume, bucket), steps, base);
-    let sessions = is_one_left(bucket_rows(rows, 4, volume, bucket), steps, base);
-    let snapshots = is_one_left(bucket_rows(rows, 6, volume, bucket), steps, base);
-    if keys || sessions {
-        return true;
-    }
-    snapshots
+    let keys = is_part_left(alloc, tables, Part::Keys, steps, base, volume, bucket)?;
+    let sessions = is_part_left(alloc, tables, Part::Sessions, steps, base, volume, bucket)?;
+    let snapshots = is_part_left(alloc, tables, Part::Snapshots, steps, base, volume, bucket)?;
+    Ok(keys | sessions | snapshots)
+}
+
+/// The same of the rows of a part.
+fn is_part_left(
+    alloc: Global,
+    tables: &Tables,
+    part: Part,
+    steps: &[Step],
+    base: &RowKey,
+    volume: &Name,
+    bucket: &Name,
+) -> Result<bool, OutOfMemory>
+    ensures { IfOk result (IsLeftAmong tables.now.rows (front_of part volume.now bucket.now)
+        (operations_of steps.now) base.now) }
+{
+    tables.rows_are_in_order();
+    let start = first_key(alloc, part, volume, bucket)?;
+    let rows = part_rows(alloc, tables, part, volume, bucket, &start)?;
+    Ok(is_one_left(rows.as_slice(), steps, base))
 }
 
 /// Whether one of the rows needs this one, and none of the operations put it.
-fn is_one_left(rows: &[RowEntry], steps: &[Step], base: &RowKey) -> bool
+fn is_one_left(rows: &[RowRef], steps: &[Step], base: &RowKey) -> bool
     ensures { result ≡ list_any (does_leave (operations_of steps.now) base.now) rows.now }
 {
     rows.iter().any(|entry| is_left(entry, steps, base))
 }
 
-fn is_left(entry: &RowEntry, steps: &[Step], base: &RowKey) -> bool
+fn is_left(entry: &RowRef, steps: &[Step], base: &RowKey) -> bool
     ensures { result ≡ does_leave (operations_of steps.now) base.now entry.now }
 {
-    stands_on(entry, base) && !is_put(steps, &entry.key)
+    stands_on(entry, base) && !is_put(steps, entry.key)
 }
 
 fn is_put(steps: &[Step], key: &RowKey) -> bool
@@ -206,14 +240,14 @@ fn puts(operation: &Operation, key: &RowKey) -> bool
 }
 
 /// Whether the row needs the other one.
-fn stands_on(entry: &RowEntry, base: &RowKey) -> bool
+fn stands_on(entry: &RowRef, base: &RowKey) -> bool
     ensures { result ≡ does_stand_on base.now entry.now }
 {
-    match &entry.key {
+    match entry.key {
         RowKey::Bucket { volume, .. } => is_volume(volume, base),
         RowKey::Key { volume, bucket, .. } => is_bucket(volume, bucket, base),
         RowKey::Open { volume, bucket, .. } => is_bucket(volume, bucket, base),
-        RowKey::Snapshot { volume, bucket, .. } => is_live(&entry.row)
+        RowKey::Snapshot { volume, bucket, .. } => is_live(entry.row)
             && is_bucket(volume, bucket, base),
         _ => false,
     }

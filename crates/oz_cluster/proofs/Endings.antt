@@ -10,9 +10,9 @@ use Rattle.oz_cluster.specs.declared.opening.OpenFault.{OpenFault}
 use Rattle.oz_cluster.specs.declared.opening.OpenFault.TheVariants as fault
 use Rattle.oz_cluster.specs.declared.stop.Stop.{Stop}
 use Rattle.oz_cluster.specs.declared.stop.Stop.TheVariants.{Words, Read, Script, Disk, Damaged, OutOfMemory}
-use Rattle.oz_script.specs.declared.grammar.Cause.{Cause}
-use Rattle.oz_script.specs.declared.grammar.Script.{Script as Lines}
-use Rattle.oz_script.specs.declared.grammar.ScriptFault.TheVariants.{At}
+use Rattle.oz_lines.specs.declared.fault.Cause.{Cause}
+use Rattle.oz_lines.specs.declared.script.Script.{Script as Lines}
+use Rattle.oz_lines.specs.declared.fault.ScriptFault.TheVariants.{At}
 use Rattle.oz_cluster.specs.declared.status.Status.{Status}
 use Rattle.oz_cluster.specs.declared.status.Status.TheVariants as ends
 use Rattle.oz_namespace.specs.declared.namespace.Namespace.{Namespace}
@@ -35,7 +35,10 @@ use Rattle.oz_cluster.specs.Opens.{Loads, IsCoherent, IsDamagedDisk, Keeps, Stan
 use Rattle.oz_cluster.specs.Quiet.{IsServed, IsRight, IsHeld, IsLoaded}
 use Rattle.oz_cluster.specs.Stopped.{status_of, text_of, IsScript, IsScriptOf, IsSo, Reads, Says, IsUntouched, IsAtMostLoaded, Spares, IsStopped}
 use Rattle.oz_cluster.specs.Report.{report_of}
-use Rattle.oz_script.specs.Script.{script_of, IsNumbered}
+use Rattle.oz_lines.specs.Numbered.{IsNumbered}
+use Rattle.oz_lines.specs.Served.{later_index}
+use Rattle.oz_script.specs.Parsing.{ParsesTo}
+use Rattle.oz_script.specs.laws.OneAnswer.{one_answer}
 use Rattle.oz_cluster.specs.StatusCauses.{HasBegun, IsFaultOf, StatusCauses}
 use Rattle.oz_cluster.specs.Statuses.{status_number}
 use Rattle.oz_cluster.specs.Stops.{StopsHold}
@@ -45,7 +48,7 @@ use Rattle.oz_cluster.specs.Words.{IsRun}
 use Rattle.oz_cluster.proofs.Exact.{run_has_no_fault}
 use Rattle.oz_cluster.proofs.Held.{coherent as coherent_rows}
 use Rattle.oz_cluster.proofs.Headlines.{replies, asks, acknowledges}
-use Rattle.oz_cluster.proofs.Runs.{fits_so_far, tells_all}
+use Rattle.oz_cluster.proofs.Runs.{fits_so_far, tells_all, plain_lines}
 use Rattle.oz_cluster.proofs.Serving.{none_there, some_there}
 
 if_all : (told : Option (List ℕ)) (P : List ℕ → Type 0) → ((bytes : List ℕ) → told ≡ Some bytes → P bytes) → IfSome told P
@@ -119,16 +122,16 @@ no_script_and_fault : (text : List ℕ) (line : ℕ) (cause : Cause) (left : Opt
 no_script_and_fault text line cause None is wrong script = absurd (cc is)
 no_script_and_fault text line cause (Some other) is wrong script =
     let same : other ≡ text = cc is in
-    let good : script_of (take script_limit text) ≡ Ok script.0 = subst (λ (t : List ℕ). script_of (take script_limit t) ≡ Ok script.0) same script.1 in
-    absurd (cc (sym wrong ∙ good))
+    let good : ParsesTo (take script_limit text) (Ok script.0) = subst (λ (t : List ℕ). ParsesTo (take script_limit t) (Ok script.0)) same script.1 in
+    absurd (cc (one_answer (take script_limit text) (Err (At line cause)) (Ok script.0) wrong good))
 
-some_fault : (left : Option (List ℕ)) (line : ℕ) (cause : Cause) → IfSome left (λ text. script_of (take script_limit text) ≡ Err (At line cause)) → IfSome left (λ text. (line : ℕ) × (cause : Cause) × IsFaultOf text line cause)
+some_fault : (left : Option (List ℕ)) (line : ℕ) (cause : Cause) → IfSome left (λ text. ParsesTo (take script_limit text) (Err (At line cause))) → IfSome left (λ text. (line : ℕ) × (cause : Cause) × IsFaultOf text line cause)
 some_fault None line cause h = tt
 some_fault (Some text) line cause h = (line, cause, h)
 
-fault_and_script : (left : Option (List ℕ)) (text : List ℕ) (line : ℕ) (cause : Cause) → left ≡ Some text → IfSome left (λ text. script_of (take script_limit text) ≡ Err (At line cause)) → IsScript left → ⊥
+fault_and_script : (left : Option (List ℕ)) (text : List ℕ) (line : ℕ) (cause : Cause) → left ≡ Some text → IfSome left (λ text. ParsesTo (take script_limit text) (Err (At line cause))) → IsScript left → ⊥
 fault_and_script None text line cause is wrong script = absurd (cc is)
-fault_and_script (Some other) text line cause is wrong script = absurd (cc (sym wrong ∙ script.1))
+fault_and_script (Some other) text line cause is wrong script = absurd (cc (one_answer (take script_limit other) (Err (At line cause)) (Ok script.0) wrong script.1))
 
 some_damage : (told : Option (List ℕ)) (offset : ℕ) → IfSome told (λ bytes. IsDamagedDisk bytes offset) → IfSome told (λ bytes. (offset : ℕ) × IsDamagedDisk bytes offset)
 some_damage None offset h = tt
@@ -311,7 +314,7 @@ loading_keeps disk bytes loaded last middle image is spans time moment left from
     (cases_lt disk.clock moment)
 
 module _ (words : List (List ℕ)) (left left_after : Option (List ℕ)) (disk_before loaded disk_after : Seen) (faults_before faults_after : Node → ℕ) (first_faults : disk_before.faults ≡ faults_before Manager) (last_faults : disk_after.faults ≡ faults_after Manager) (before after : Option (List ℕ)) (sink_rose : Type 0) (all : List RowEntry) (first : ℕ) (rows : Rows) (script : Lines) (lines : ℕ) (story : List Event) (rows_after : Rows) (index : ℕ) (stopped : Bool) (status : Status)
-    (given : IsRun words) (parsed : IsScriptOf left script) (read : IsReadThrough left left_after) (numbered : IsNumbered script) (loads : IfSome disk_before.told (λ bytes. Loads bytes all first)) (few : lines ≤ length script.lines)
+    (given : IsRun words) (parsed : IsScriptOf left script) (read : IsReadThrough left left_after) (numbered : IsNumbered script) (no_later : later_index script.lines ≡ None) (loads : IfSome disk_before.told (λ bytes. Loads bytes all first)) (few : lines ≤ length script.lines)
     (rows_are : row_of all ≡ rows) (fit : (key : RowKey) (row : Row) → rows key ≡ Some row → RowFits key row)
     (keeps : IfSome disk_before.told (λ bytes. Keeps loaded.told rows first)) (stable : (bytes : List ℕ) → loaded.told ≡ Some bytes → IsStable loaded.image loaded.clock bytes) (ended : IfSome disk_before.told (λ bytes. loaded.clock ≡ loaded_at disk_before.clock bytes))
     (spans : IfSome disk_before.told (λ bytes. IsLoadable bytes (disk_before.image disk_before.clock) → Spans IsLeftAlone disk_before.clock loaded.clock disk_before.image loaded.image)) (falls : disk_before.faults ≤ loaded.faults)
@@ -324,7 +327,7 @@ module _ (words : List (List ℕ)) (left left_after : Option (List ℕ)) (disk_b
   plain = served nothing
 
   told_all : status ≢ ends.OutOfMemory → AllAreTold script story
-  told_all ne = ⊎_elim (λ none. absurd (ne none)) (λ last. tells_all (record { namespace = nothing; index = first }) script lines loaded.faults story index stopped disk_after numbered.in_order last plain) all_served
+  told_all ne = ⊎_elim (λ none. absurd (ne none)) (λ last. tells_all (record { namespace = nothing; index = first }) script lines loaded.faults story index stopped disk_after (plain_lines script numbered no_later) last plain) all_served
 
   module _ (namespace : Namespace) (coherent : IsCoherent all namespace) where
     abbrev opening : Opening
@@ -345,7 +348,7 @@ module _ (words : List (List ℕ)) (left left_after : Option (List ℕ)) (disk_b
         let legal = (right namespace stand).legal in
         record {
           printed = printed;
-          one_history = (legal, fits_so_far opening script lines loaded.faults story index stopped disk_after numbered.in_order few (served namespace));
+          one_history = (legal, fits_so_far opening script lines loaded.faults story index stopped disk_after (plain_lines script numbered no_later) few (served namespace));
           all_told = told_all;
           at_that_point = replies opening story legal;
           after_all_seen = asks opening script story (served namespace).fits;

@@ -1,5 +1,5 @@
 -- What rules out what: words that are a run, and a disk that opens.
-use Rattle.std.proofs.Common.{◌≡◌, ⊎_elim, inl, inr, ℕ, ◌+◌, ◌≤◌, List, [], Some, length, take, drop, refl, sym, ◌∙◌, ap, subst, arith, slice_get}
+use Rattle.std.proofs.Common.{◌≡◌, ⊎_elim, inl, inr, ℕ, ◌≤◌, List, [], Some, length, take, drop, refl, sym, ◌∙◌, ap, subst, arith, slice_get}
 use Rattle.std.proofs.lemmas.List.{take-append-drop}
 use Rattle.oz_journal.specs.Grammar.{IsJournal, IsDamagedAt, places}
 use Rattle.oz_namespace.specs.declared.namespace.Namespace.{Namespace}

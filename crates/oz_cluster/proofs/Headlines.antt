@@ -3,9 +3,9 @@ use Rattle.std.proofs.Common.{◌≡◌, ◌≢◌, ℕ, ◌-◌, ◌≤◌, tru
 use Rattle.std.proofs.lemmas.List.{append-nil}
 use Rattle.oz_cluster.specs.declared.events.Event.{Event}
 use Rattle.oz_cluster.specs.declared.events.EventKind.TheVariants.{Ask, Decide, Told}
-use Rattle.oz_bucket_requests.specs.declared.answer.Answer.{Answer}
-use Rattle.oz_bucket_requests.specs.declared.answer.Answer.TheVariants as told
-use Rattle.oz_script.specs.declared.grammar.Script.{Script}
+use Rattle.oz_requests.specs.declared.answer.Answer.{Answer}
+use Rattle.oz_requests.specs.declared.answer.Answer.TheVariants as told
+use Rattle.oz_lines.specs.declared.script.Script.{Script}
 use Rattle.oz_cluster.specs.Fits.{EventFits, FitsFrom}
 use Rattle.oz_cluster.specs.Headline.{RepliesAreOneThreads, AsksAfterTold, ToldIsStable}
 use Rattle.oz_cluster.specs.Law.{IsEnabled, IsInTime, IsLegalFrom, IsLegal}
@@ -47,3 +47,12 @@ acknowledges opening story legal before behind seat client line answer is acknow
     in_time told.Unacknowledged h acknowledged some_memory = absurd (acknowledged refl)
     in_time told.ManagerStopped h acknowledged some_memory = h
     in_time told.OutOfMemory h acknowledged some_memory = absurd (some_memory refl)
+    in_time told.NoPipeline h acknowledged some_memory = h
+    in_time told.NoQuorum h acknowledged some_memory = h
+    in_time (told.NoReplica piece block) h acknowledged some_memory = h
+    in_time told.IdsSpent h acknowledged some_memory = h
+    in_time told.ScmStopped h acknowledged some_memory = h
+    in_time (told.Held dn) h acknowledged some_memory = h
+    in_time told.NoSuchNode h acknowledged some_memory = h
+    in_time (told.NodeHalted dn count) h acknowledged some_memory = h
+    in_time told.NotOpen h acknowledged some_memory = h

@@ -5,12 +5,12 @@ use Rattle.oz_world.specs.Disk.{Seen}
 use Rattle.oz_journal.specs.Grammar.{IsJournal, TellsBodies}
 use Rattle.oz_journal.specs.Journal.{IsBeforeOrAfter}
 use Rattle.oz_world.specs.Moments.{Elapses, LeavesOnly}
-use Rattle.oz_bucket_model.specs.Answers.{after}
+use Rattle.oz_model.specs.Answers.{after}
 use Rattle.oz_namespace.specs.declared.namespace.Namespace.{Namespace}
 use Rattle.oz_om_bucket.specs.Meets.{Stand, Meets}
-use Rattle.oz_bucket_requests.specs.declared.answer.Answer.{Answer}
-use Rattle.oz_bucket_requests.specs.declared.reply.Reply.{Reply}
-use Rattle.oz_bucket_requests.specs.declared.request.Request.{Request}
+use Rattle.oz_requests.specs.declared.answer.Answer.{Answer}
+use Rattle.oz_requests.specs.declared.reply.Reply.{Reply}
+use Rattle.oz_requests.specs.declared.request.Request.{Request}
 use Rattle.oz_rows.specs.declared.operation.Change.{Change}
 use Rattle.oz_rows.specs.declared.entry.RowEntry.{RowEntry}
 use Rattle.oz_rows.specs.RowMaps.{AreRows, Rows, row_of, after_changes}

@@ -8,13 +8,13 @@ use Rattle.oz_cluster.specs.declared.events.Event.{Event}
 use Rattle.oz_cluster.specs.declared.events.EventKind.TheVariants.{Ask, Decide, Swap, Flushed, Halt, Told}
 use Rattle.oz_cluster.specs.declared.events.Node.{Node}
 use Rattle.oz_cluster.specs.declared.events.Node.TheVariants.{Manager, Scm, Datanode}
-use Rattle.oz_bucket_requests.specs.declared.answer.Answer.{Answer}
-use Rattle.oz_bucket_requests.specs.declared.request.AskId.{AskId}
-use Rattle.oz_bucket_requests.specs.declared.reply.Reply.{Reply}
-use Rattle.oz_bucket_requests.specs.declared.request.Request.{Request}
-use Rattle.oz_script.specs.declared.grammar.Line.{Line}
-use Rattle.oz_script.specs.declared.grammar.Script.{Script}
-use Rattle.oz_bucket_model.specs.Answers.{Answers, after}
+use Rattle.oz_requests.specs.declared.answer.Answer.{Answer}
+use Rattle.oz_requests.specs.declared.request.AskId.{AskId}
+use Rattle.oz_requests.specs.declared.reply.Reply.{Reply}
+use Rattle.oz_requests.specs.declared.request.Request.{Request}
+use Rattle.oz_lines.specs.declared.script.Line.{Line}
+use Rattle.oz_lines.specs.declared.script.Script.{Script}
+use Rattle.oz_model.specs.Answers.{Answers, after}
 use Rattle.oz_cluster.specs.Fits.{FitsFrom, AfterIsTold, HasStarted, IsLineOf, IsDue, request_of, told_lines}
 use Rattle.oz_cluster.specs.Law.{IsLegal, IsInTime}
 use Rattle.oz_namespace.specs.declared.namespace.Namespace.{Namespace}
@@ -158,12 +158,9 @@ stays story event lines line open_request late reply own silent course = record 
   others = λ client ne. told_lines-push client story event ∙ (ap (λ (l : List ℕ). told_lines client story ++ l) (silent.no_line client) ∙ (append-nil _ ∙ course.others client ne));
 }
 
-module _ (opening : Opening) (script : Script) (lines : ℕ) (line : Line) (there : IsLineOf script 1 (lines + 1) line) (story : List Event) where
+module _ (opening : Opening) (script : Script) (lines : ℕ) (line : Line) (there : IsLineOf script 1 (lines + 1) line) (request : Request) (asks : request_of line.command ≡ Some request) (story : List Event) where
   abbrev id : AskId
   id = first_ask 1 (lines + 1)
-
-  abbrev request : Request
-  request = request_of line.command
 
   -- the next line asks
   module _ (index : ℕ) (halt : Option ℕ) (quiet : IsQuiet opening story lines index halt) (alone : line.after ≡ None) where
@@ -195,7 +192,7 @@ module _ (opening : Opening) (script : Script) (lines : ℕ) (line : Line) (ther
         })) leads
 
     pub ask_fits : FitsFrom opening script [] story → FitsFrom opening script [] (story ++ ask ∷ [])
-    ask_fits fits = fits-push opening script story ask fits (line, there, has_started, refl, refl)
+    ask_fits fits = fits-push opening script story ask fits (line, there, has_started, refl, asks)
 
     pub ask_course : Course (story ++ ask ∷ []) lines line (Some request) (is_some halt) (last_reply 1 (lines + 1) story) 0
     ask_course = record {

@@ -1,5 +1,5 @@
 -- The rows of an empty store are sound.
-use Rattle.std.proofs.Common.{◌≡◌, ℕ, List, [], ◌∷◌, Option, Some, None, arith}
+use Rattle.std.proofs.Common.{ℕ, List, [], ◌∷◌, Option, Some, None, arith}
 use Rattle.std.proofs.lemmas.Bool.{false≢true}
 use Rattle.oz_sound.specs.Sound.{AtMost, IsUsing, IsSound}
 use Rattle.oz_rows.specs.RowMaps.{row_of}

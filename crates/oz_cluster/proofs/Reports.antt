@@ -14,11 +14,11 @@ use Rattle.oz_cluster.specs.declared.events.Event.{Event}
 use Rattle.oz_cluster.specs.declared.events.EventKind.{EventKind}
 use Rattle.oz_cluster.specs.declared.events.EventKind.TheVariants.{Ask, Decide, Swap, Flushed, Halt, Told}
 use Rattle.oz_cluster.specs.declared.events.Node.{Node}
-use Rattle.oz_bucket_requests.specs.declared.answer.Answer.{Answer}
-use Rattle.oz_bucket_requests.specs.declared.request.AskId.{AskId}
-use Rattle.oz_bucket_requests.specs.declared.reply.Reply.{Reply}
-use Rattle.oz_bucket_requests.specs.declared.request.Request.{Request}
-use Rattle.oz_bucket_requests.specs.contracts.request.AskIdOrd.TheImpl as ask_id_order
+use Rattle.oz_requests.specs.declared.answer.Answer.{Answer}
+use Rattle.oz_requests.specs.declared.request.AskId.{AskId}
+use Rattle.oz_requests.specs.declared.reply.Reply.{Reply}
+use Rattle.oz_requests.specs.declared.request.Request.{Request}
+use Rattle.oz_requests.specs.contracts.request.AskIdOrd.TheImpl as ask_id_order
 use Rattle.oz_cluster.specs.Story.{is_id, pending, pending_after}
 use Rattle.oz_cluster.specs.Report.{service_client, decide_text, halt_text, told_text, event_text, lines_from, is_told_kind, told_count}
 use Rattle.oz_cluster.proofs.Stories.{pending-push}

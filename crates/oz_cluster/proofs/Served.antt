@@ -1,16 +1,21 @@
 -- What serving one line leaves: of the script, of the law and of the disk.
-use Rattle.std.proofs.Common.{◌≡◌, ⊎_elim, ℕ, ◌+◌, ◌<◌, ◌≤◌, ◌^◌, Bool, true, false, List, [], ◌∷◌, ◌++◌, Option, None, Some, IfSome, refl, sym, ◌∙◌, subst, arith}
+use Rattle.std.proofs.Common.{◌≡◌, ◌≢◌, ⊎_elim, ℕ, ◌+◌, ◌<◌, ◌≤◌, ◌^◌, Bool, true, false, List, [], ◌∷◌, ◌++◌, Option, None, Some, IfSome, refl, sym, ◌∙◌, subst, arith}
 use Rattle.oz_world.specs.Disk.{Images, Seen, seen}
 use Rattle.oz_world.specs.Faults.{Rose}
 use Rattle.oz_journal.specs.Journal.{State}
 use Rattle.oz_world.specs.Moments.{Elapses}
-use Rattle.oz_bucket_model.specs.Answers.{after}
+use Rattle.oz_model.specs.Answers.{after}
 use Rattle.oz_namespace.specs.declared.namespace.Namespace.{Namespace}
 use Rattle.oz_om_bucket.specs.Meets.{Stand}
-use Rattle.oz_bucket_requests.specs.declared.answer.Answer.TheVariants as told
-use Rattle.oz_bucket_requests.specs.declared.reply.Reply.{Reply}
-use Rattle.oz_script.specs.declared.grammar.Line.{Line}
-use Rattle.oz_script.specs.declared.grammar.Script.{Script}
+use Rattle.oz_requests.specs.declared.answer.Answer.TheVariants as told
+use Rattle.oz_requests.specs.declared.reply.Reply.{Reply}
+use Rattle.oz_requests.specs.declared.request.Family.TheVariants.{Service, Buckets}
+use Rattle.oz_requests.specs.declared.request.Request.{Request}
+use Rattle.oz_requests.specs.Families.{family_of}
+use Rattle.oz_command.specs.declared.command.Command.{Command}
+use Rattle.oz_command.specs.declared.command.Command.TheVariants.{VolumeCreate, VolumeInfo, VolumeDelete, BucketCreate, BucketInfo, BucketDelete, BucketList}
+use Rattle.oz_lines.specs.declared.script.Line.{Line}
+use Rattle.oz_lines.specs.declared.script.Script.{Script}
 use Rattle.oz_rows.specs.RowMaps.{after_changes, Rows}
 use Rattle.oz_sound.specs.laws.Oneness.{one_namespace}
 use Rattle.oz_cluster.specs.declared.events.Event.{Event}
@@ -47,10 +52,26 @@ held_on opening story rows index first now later same held = record {
   stops = λ at left from to image. held.stops at left from (omega (arith, to, same.time.moment)) ((same.time.images at left).0 image);
 }
 
+-- no line asks a service request
+asks_buckets : (command : Command) → IfSome (request_of command) (λ asked. family_of asked ≡ Buckets)
+asks_buckets (VolumeCreate volume) = refl
+asks_buckets (VolumeInfo volume) = refl
+asks_buckets (VolumeDelete volume) = refl
+asks_buckets (BucketCreate volume bucket) = refl
+asks_buckets (BucketInfo volume bucket) = refl
+asks_buckets (BucketDelete volume bucket) = refl
+asks_buckets (BucketList volume) = refl
+asks_buckets command = tt
+
+no_service : (command : Command) (request : Request) → request_of command ≡ Some request → family_of request ≢ Service
+no_service command request asks service =
+    let family : family_of request ≡ Buckets = subst (λ (o : Option Request). IfSome o (λ asked. family_of asked ≡ Buckets)) asks (asks_buckets command) in
+    absurd (cc (sym family ∙ service))
+
 rows_are_same : (rows rows_after : Rows) → ((key : _) → rows_after key ≡ rows key) → rows_after ≡ rows
 rows_are_same rows rows_after same = λ i key. same key i
 
-module _ (opening : Opening) (script : Script) (lines faults : ℕ) (line : Line) (there : IsLineOf script 1 (lines + 1) line) (alone : line.after ≡ None) (rows rows_after : Rows) (story story_after : List Event) (index index_after : ℕ) (stopped stopped_after : Bool) (now later : Seen) (served : IsServed opening script lines faults story index stopped now) where
+module _ (opening : Opening) (script : Script) (lines faults : ℕ) (line : Line) (there : IsLineOf script 1 (lines + 1) line) (request : Request) (asks : request_of line.command ≡ Some request) (alone : line.after ≡ None) (rows rows_after : Rows) (story story_after : List Event) (index index_after : ℕ) (stopped stopped_after : Bool) (now later : Seen) (served : IsServed opening script lines faults story index stopped now) where
   -- the same of values that are equal
   served_as : (s : List Event) (i : ℕ) (b : Bool) → story_after ≡ s → index_after ≡ i → stopped_after ≡ b → IsServed opening script (lines + 1) faults s i b later → IsServed opening script (lines + 1) faults story_after index_after stopped_after later
   served_as s i b is_s is_i is_b it =
@@ -74,81 +95,81 @@ module _ (opening : Opening) (script : Script) (lines faults : ℕ) (line : Line
   leads_of right = (right.namespace, right.stand, record { stands_for = right.stands_for; kept = right.kept; legal = right.legal })
 
   -- the manager had halted
-  module _ (away : TurnsAway line rows rows_after story story_after index index_after stopped stopped_after now later) where
+  module _ (away : TurnsAway line request rows rows_after story story_after index index_after stopped stopped_after now later) where
     abbrev away_story : List Event
-    away_story = (story ++ ask_event 1 (lines + 1) (request_of line.command) ∷ []) ++ told_event 1 (lines + 1) told.ManagerStopped ∷ []
+    away_story = (story ++ ask_event 1 (lines + 1) request ∷ []) ++ told_event 1 (lines + 1) told.ManagerStopped ∷ []
 
     is_away : story_after ≡ away_story
-    is_away = away.story_is ∙ (λ i. (story ++ ask_event (there.of_client i) (there.of_number i) (request_of line.command) ∷ []) ++ told_event (there.of_client i) (there.of_number i) told.ManagerStopped ∷ [])
+    is_away = away.story_is ∙ (λ i. (story ++ ask_event (there.of_client i) (there.of_number i) request ∷ []) ++ told_event (there.of_client i) (there.of_number i) told.ManagerStopped ∷ [])
 
     away_is_served : IsServed opening script (lines + 1) faults away_story index stopped now
-    away_is_served = away_served opening script lines faults line there story index stopped now alone served away.was_stopped
+    away_is_served = away_served opening script lines faults line there request asks story index stopped now alone served away.was_stopped
 
     away_step : IsServed opening script (lines + 1) faults story_after index_after stopped_after later
     away_step = served_as away_story index stopped is_away away.stays.index_is away.stays.stopped_is (served_on opening script (lines + 1) faults away_story index stopped now later away.stays.untouched away_is_served)
 
     away_right : IsRight opening story rows index → IsRight opening story_after rows_after index_after
-    away_right right = let led = leads_of right in right_as away_story rows index led.0 is_away (rows_are_same rows rows_after away.stays.rows_are) away.stays.index_is led.1 (away_leads opening script lines faults line there story index stopped now alone served led.0 led.2)
+    away_right right = let led = leads_of right in right_as away_story rows index led.0 is_away (rows_are_same rows rows_after away.stays.rows_are) away.stays.index_is led.1 (away_leads opening script lines faults line there request asks story index stopped now alone served led.0 led.2)
 
     away_held : (first : ℕ) → IsHeld opening story rows index first now → IsHeld opening story_after rows_after index_after first later
     away_held first held = held_as first away_story rows index is_away (rows_are_same rows rows_after away.stays.rows_are) away.stays.index_is
         (held_on opening away_story rows index first now later away.stays.untouched
-        (held_away opening story rows index first now held 1 (lines + 1) (request_of line.command) told.ManagerStopped (some_there _ (away_is_served.halted ∙ away.was_stopped))))
+        (held_away opening story rows index first now held 1 (lines + 1) request told.ManagerStopped (some_there _ (away_is_served.halted ∙ away.was_stopped))))
 
   -- nothing changed
-  module _ (kept : ChangesNothing line rows rows_after story story_after index index_after stopped stopped_after now later) where
+  module _ (kept : ChangesNothing line request rows rows_after story story_after index index_after stopped stopped_after now later) where
     abbrev kept_story : List Event
-    kept_story = ((story ++ ask_event 1 (lines + 1) (request_of line.command) ∷ []) ++ decide_event 1 (lines + 1) (request_of line.command) index kept.reply [] ∷ []) ++ told_event 1 (lines + 1) (answer_of kept.reply) ∷ []
+    kept_story = ((story ++ ask_event 1 (lines + 1) request ∷ []) ++ decide_event 1 (lines + 1) request index kept.reply [] ∷ []) ++ told_event 1 (lines + 1) (answer_of kept.reply) ∷ []
 
     is_kept : story_after ≡ kept_story
-    is_kept = kept.story_is ∙ (λ i. ((story ++ ask_event (there.of_client i) (there.of_number i) (request_of line.command) ∷ []) ++ decide_event (there.of_client i) (there.of_number i) (request_of line.command) index kept.reply [] ∷ []) ++ told_event (there.of_client i) (there.of_number i) (answer_of kept.reply) ∷ [])
+    is_kept = kept.story_is ∙ (λ i. ((story ++ ask_event (there.of_client i) (there.of_number i) request ∷ []) ++ decide_event (there.of_client i) (there.of_number i) request index kept.reply [] ∷ []) ++ told_event (there.of_client i) (there.of_number i) (answer_of kept.reply) ∷ [])
 
     kept_step : IsServed opening script (lines + 1) faults story_after index_after stopped_after later
     kept_step = served_as kept_story index stopped is_kept kept.stays.index_is kept.stays.stopped_is (served_on opening script (lines + 1) faults kept_story index stopped now later kept.stays.untouched
-        (kept_served opening script lines faults line there story index stopped now alone served kept.running index kept.reply [] (omega arith) refl))
+        (kept_served opening script lines faults line there request asks story index stopped now alone served kept.running index kept.reply [] (omega arith) refl))
 
     -- the rows stand for one namespace alone
-    nothing_changes : (namespace : Namespace) → Stand rows namespace → after namespace (request_of line.command) kept.reply ≡ namespace
+    nothing_changes : (namespace : Namespace) → Stand rows namespace → after namespace request kept.reply ≡ namespace
     nothing_changes namespace stand = one_namespace rows _ namespace (kept.meets namespace stand).leads.stands stand.stands
 
-    kept_decided : (namespace : Namespace) → Stand rows namespace → Leads opening story namespace index → Leads opening ((story ++ ask_event 1 (lines + 1) (request_of line.command) ∷ []) ++ decide_event 1 (lines + 1) (request_of line.command) index kept.reply [] ∷ []) namespace index
-    kept_decided namespace stand leads = subst (λ (n : Namespace). Leads opening ((story ++ ask_event 1 (lines + 1) (request_of line.command) ∷ []) ++ decide_event 1 (lines + 1) (request_of line.command) index kept.reply [] ∷ []) n index) (nothing_changes namespace stand)
-        (leads_decided opening script lines faults line there story index stopped now alone served kept.running index kept.reply [] (omega arith) namespace (kept.meets namespace stand).answers (λ ne. absurd (ne (nothing_changes namespace stand))) (λ _. refl) (λ _. refl, λ _. refl) leads)
+    kept_decided : (namespace : Namespace) → Stand rows namespace → Leads opening story namespace index → Leads opening ((story ++ ask_event 1 (lines + 1) request ∷ []) ++ decide_event 1 (lines + 1) request index kept.reply [] ∷ []) namespace index
+    kept_decided namespace stand leads = subst (λ (n : Namespace). Leads opening ((story ++ ask_event 1 (lines + 1) request ∷ []) ++ decide_event 1 (lines + 1) request index kept.reply [] ∷ []) n index) (nothing_changes namespace stand)
+        (leads_decided opening script lines faults line there request asks story index stopped now alone served kept.running index kept.reply [] (omega arith) namespace (kept.meets namespace stand).answers (λ ne. absurd (ne (nothing_changes namespace stand))) (λ _. refl) (λ _. refl, λ _. refl) leads)
 
     kept_right : IsRight opening story rows index → IsRight opening story_after rows_after index_after
     kept_right right = let led = leads_of right in right_as kept_story rows index led.0 is_kept (rows_are_same rows rows_after kept.stays.rows_are) kept.stays.index_is led.1
-        (kept_leads opening script lines faults line there story index stopped now alone served kept.running index kept.reply [] (omega arith) refl led.0 (kept_decided led.0 led.1 led.2))
+        (kept_leads opening script lines faults line there request asks story index stopped now alone served kept.running index kept.reply [] (omega arith) refl led.0 (kept_decided led.0 led.1 led.2))
 
     kept_held : (first : ℕ) → IsRight opening story rows index → IsHeld opening story rows index first now → IsHeld opening story_after rows_after index_after first later
     kept_held first right held = let led = leads_of right in held_as first kept_story rows index is_kept (rows_are_same rows rows_after kept.stays.rows_are) kept.stays.index_is
         (held_on opening kept_story rows index first now later kept.stays.untouched
-        (held_kept opening story rows index first now held 1 (lines + 1) (request_of line.command) led.0 index index _
-        (sums_running opening script lines faults line there story index stopped now alone served kept.running)
-        (leads_asked opening script lines faults line there story index stopped now alone served led.0 led.2)
-        (course_running opening script lines faults line there story index stopped now alone served kept.running).waiting
-        (no_halt opening script lines faults line there story index stopped now alone served kept.running) kept.reply [] (answer_of kept.reply) (nothing_changes led.0 led.1)))
+        (held_kept opening story rows index first now held 1 (lines + 1) request led.0 index index _
+        (sums_running opening script lines faults line there request asks story index stopped now alone served kept.running)
+        (leads_asked opening script lines faults line there request asks story index stopped now alone served led.0 led.2)
+        (course_running opening script lines faults line there request asks story index stopped now alone served kept.running).waiting
+        (no_halt opening script lines faults line there request asks story index stopped now alone served kept.running) kept.reply [] (answer_of kept.reply) (nothing_changes led.0 led.1)))
 
   -- a batch is written
-  module _ (reply : Reply) (batch : List ℕ) (writes : Writes line rows rows_after index index_after stopped now later reply batch) where
+  module _ (reply : Reply) (batch : List ℕ) (writes : Writes line request rows rows_after index index_after stopped now later reply batch) where
     abbrev decided_story : List Event
-    decided_story = (story ++ ask_event 1 (lines + 1) (request_of line.command) ∷ []) ++ decide_event 1 (lines + 1) (request_of line.command) (index + 1) reply batch ∷ []
+    decided_story = (story ++ ask_event 1 (lines + 1) request ∷ []) ++ decide_event 1 (lines + 1) request (index + 1) reply batch ∷ []
 
     abbrev taken_story : List Event
     taken_story = decided_story ++ swap_event (index + 1) ∷ []
 
-    is_taken : taken line story (index + 1) reply batch ≡ taken_story
-    is_taken = λ i. ((story ++ ask_event (there.of_client i) (there.of_number i) (request_of line.command) ∷ []) ++ decide_event (there.of_client i) (there.of_number i) (request_of line.command) (index + 1) reply batch ∷ []) ++ swap_event (index + 1) ∷ []
+    is_taken : taken line request story (index + 1) reply batch ≡ taken_story
+    is_taken = λ i. ((story ++ ask_event (there.of_client i) (there.of_number i) request ∷ []) ++ decide_event (there.of_client i) (there.of_number i) request (index + 1) reply batch ∷ []) ++ swap_event (index + 1) ∷ []
 
     rows_written : rows_after ≡ after_changes writes.changes rows
     rows_written = rows_are_same (after_changes writes.changes rows) rows_after writes.rows_are
 
-    leads_written : (namespace : Namespace) → Stand rows namespace → Leads opening story namespace index → Leads opening decided_story (after namespace (request_of line.command) reply) (index + 1)
-    leads_written namespace stand leads = leads_decided opening script lines faults line there story index stopped now alone served writes.running (index + 1) reply batch (omega arith) namespace (writes.meets namespace stand).answers (λ ne. refl) (λ same. absurd (writes.some ((writes.meets namespace stand).keeps same))) (λ none. absurd (writes.some_bytes none), λ e. absurd (omega (arith, e))) leads
+    leads_written : (namespace : Namespace) → Stand rows namespace → Leads opening story namespace index → Leads opening decided_story (after namespace request reply) (index + 1)
+    leads_written namespace stand leads = leads_decided opening script lines faults line there request asks story index stopped now alone served writes.running (index + 1) reply batch (omega arith) namespace (writes.meets namespace stand).answers (λ ne. refl) (λ same. absurd (writes.some ((writes.meets namespace stand).keeps (same, no_service line.command request asks)))) (λ none. absurd (writes.some_bytes none), λ e. absurd (omega (arith, e))) leads
 
     faults_later : faults ≤ later.faults
     faults_later = omega (arith, served.never_falls, writes.never_falls)
 
-  module _ (made : IsMade line rows rows_after story story_after index index_after stopped stopped_after now later) where
+  module _ (made : IsMade line request rows rows_after story story_after index index_after stopped stopped_after now later) where
     abbrev made_story : List Event
     made_story = (taken_story made.reply made.batch made.writes ++ flushed_event (index + 1) later.clock ∷ []) ++ told_event 1 (lines + 1) (answer_of made.reply) ∷ []
 
@@ -157,24 +178,24 @@ module _ (opening : Opening) (script : Script) (lines faults : ℕ) (line : Line
 
     made_step : IsServed opening script (lines + 1) faults story_after index_after stopped_after later
     made_step = served_as made_story (index + 1) false is_made made.writes.index_is made.stopped_is
-        (made_served opening script lines faults line there story index stopped now alone served made.writes.running (index + 1) made.reply made.batch (omega arith) (omega arith) later (faults_later made.reply made.batch made.writes) made.goes)
+        (made_served opening script lines faults line there request asks story index stopped now alone served made.writes.running (index + 1) made.reply made.batch (omega arith) (omega arith) later (faults_later made.reply made.batch made.writes) made.goes)
 
     made_right : IsRight opening story rows index → IsRight opening story_after rows_after index_after
-    made_right right = let led = leads_of right in right_as made_story (after_changes made.writes.changes rows) (index + 1) (after led.0 (request_of line.command) made.reply) is_made (rows_written made.reply made.batch made.writes) made.writes.index_is (made.writes.meets led.0 led.1).leads
-        (made_leads opening script lines faults line there story index stopped now alone served made.writes.running (index + 1) made.reply made.batch (omega arith) (omega arith) later (faults_later made.reply made.batch made.writes) made.goes _ (leads_written made.reply made.batch made.writes led.0 led.1 led.2))
+    made_right right = let led = leads_of right in right_as made_story (after_changes made.writes.changes rows) (index + 1) (after led.0 request made.reply) is_made (rows_written made.reply made.batch made.writes) made.writes.index_is (made.writes.meets led.0 led.1).leads
+        (made_leads opening script lines faults line there request asks story index stopped now alone served made.writes.running (index + 1) made.reply made.batch (omega arith) (omega arith) later (faults_later made.reply made.batch made.writes) made.goes _ (leads_written made.reply made.batch made.writes led.0 led.1 led.2))
 
     made_held : (first : ℕ) → index + 1 < 2 ^ 63 → IsRight opening story rows index → IsHeld opening story rows index first now → IsHeld opening story_after rows_after index_after first later
     made_held first below right held = let led = leads_of right in held_as first made_story rows_after (index + 1) is_made refl made.writes.index_is
-        (held_made opening story rows index first now held 1 (lines + 1) (request_of line.command) led.0 index index _
-        (sums_running opening script lines faults line there story index stopped now alone served made.writes.running)
-        (leads_asked opening script lines faults line there story index stopped now alone served led.0 led.2)
-        (course_running opening script lines faults line there story index stopped now alone served made.writes.running).waiting
-        (no_halt opening script lines faults line there story index stopped now alone served made.writes.running) made.reply made.batch made.writes.changes rows_after later led.1 (made.writes.meets led.0 led.1) made.writes.rows_are below
-        (sums_decided opening script lines faults line there story index stopped now alone served made.writes.running (index + 1) made.reply made.batch (omega arith))
+        (held_made opening story rows index first now held 1 (lines + 1) request led.0 index index _
+        (sums_running opening script lines faults line there request asks story index stopped now alone served made.writes.running)
+        (leads_asked opening script lines faults line there request asks story index stopped now alone served led.0 led.2)
+        (course_running opening script lines faults line there request asks story index stopped now alone served made.writes.running).waiting
+        (no_halt opening script lines faults line there request asks story index stopped now alone served made.writes.running) made.reply made.batch made.writes.changes rows_after later led.1 (made.writes.meets led.0 led.1) made.writes.rows_are below
+        (sums_decided opening script lines faults line there request asks story index stopped now alone served made.writes.running (index + 1) made.reply made.batch (omega arith))
         (leads_written made.reply made.batch made.writes led.0 led.1 led.2)
         made.writes.time made.writes.moments (answer_of made.reply) made.appended made.acknowledged made.goes)
 
-  module _ (halts : Halts line rows rows_after story story_after index index_after stopped stopped_after now later) where
+  module _ (halts : Halts line request rows rows_after story story_after index index_after stopped stopped_after now later) where
     abbrev halted_story : List Event
     halted_story = (taken_story halts.reply halts.batch halts.writes ++ halt_event later.faults ∷ []) ++ told_event 1 (lines + 1) told.Unacknowledged ∷ []
 
@@ -185,28 +206,28 @@ module _ (opening : Opening) (script : Script) (lines faults : ℕ) (line : Line
     rose_later = omega (arith, served.never_falls, halts.rose)
 
     halted_is_served : IsServed opening script (lines + 1) faults halted_story (index + 1) true later
-    halted_is_served = halted_served opening script lines faults line there story index stopped now alone served halts.writes.running (index + 1) halts.reply halts.batch (omega arith) (omega arith) later (faults_later halts.reply halts.batch halts.writes) halts.writes.time.later rose_later
+    halted_is_served = halted_served opening script lines faults line there request asks story index stopped now alone served halts.writes.running (index + 1) halts.reply halts.batch (omega arith) (omega arith) later (faults_later halts.reply halts.batch halts.writes) halts.writes.time.later rose_later
 
     halted_step : IsServed opening script (lines + 1) faults story_after index_after stopped_after later
     halted_step = served_as halted_story (index + 1) true is_halted halts.writes.index_is halts.stopped_is halted_is_served
 
     halted_right : IsRight opening story rows index → IsRight opening story_after rows_after index_after
-    halted_right right = let led = leads_of right in right_as halted_story (after_changes halts.writes.changes rows) (index + 1) (after led.0 (request_of line.command) halts.reply) is_halted (rows_written halts.reply halts.batch halts.writes) halts.writes.index_is (halts.writes.meets led.0 led.1).leads
-        (halted_leads opening script lines faults line there story index stopped now alone served halts.writes.running (index + 1) halts.reply halts.batch (omega arith) (omega arith) later (faults_later halts.reply halts.batch halts.writes) halts.writes.time.later rose_later _ (leads_written halts.reply halts.batch halts.writes led.0 led.1 led.2))
+    halted_right right = let led = leads_of right in right_as halted_story (after_changes halts.writes.changes rows) (index + 1) (after led.0 request halts.reply) is_halted (rows_written halts.reply halts.batch halts.writes) halts.writes.index_is (halts.writes.meets led.0 led.1).leads
+        (halted_leads opening script lines faults line there request asks story index stopped now alone served halts.writes.running (index + 1) halts.reply halts.batch (omega arith) (omega arith) later (faults_later halts.reply halts.batch halts.writes) halts.writes.time.later rose_later _ (leads_written halts.reply halts.batch halts.writes led.0 led.1 led.2))
 
     halted_held : (first : ℕ) → index + 1 < 2 ^ 63 → IsRight opening story rows index → IsHeld opening story rows index first now → IsHeld opening story_after rows_after index_after first later
     halted_held first below right held = let led = leads_of right in held_as first halted_story rows_after (index + 1) is_halted refl halts.writes.index_is
-        (held_halted opening story rows index first now held 1 (lines + 1) (request_of line.command) led.0 index index _
-        (sums_running opening script lines faults line there story index stopped now alone served halts.writes.running)
-        (leads_asked opening script lines faults line there story index stopped now alone served led.0 led.2)
-        (course_running opening script lines faults line there story index stopped now alone served halts.writes.running).waiting
-        (no_halt opening script lines faults line there story index stopped now alone served halts.writes.running) halts.reply halts.batch halts.writes.changes rows_after later led.1 (halts.writes.meets led.0 led.1) halts.writes.rows_are below
-        (sums_decided opening script lines faults line there story index stopped now alone served halts.writes.running (index + 1) halts.reply halts.batch (omega arith))
+        (held_halted opening story rows index first now held 1 (lines + 1) request led.0 index index _
+        (sums_running opening script lines faults line there request asks story index stopped now alone served halts.writes.running)
+        (leads_asked opening script lines faults line there request asks story index stopped now alone served led.0 led.2)
+        (course_running opening script lines faults line there request asks story index stopped now alone served halts.writes.running).waiting
+        (no_halt opening script lines faults line there request asks story index stopped now alone served halts.writes.running) halts.reply halts.batch halts.writes.changes rows_after later led.1 (halts.writes.meets led.0 led.1) halts.writes.rows_are below
+        (sums_decided opening script lines faults line there request asks story index stopped now alone served halts.writes.running (index + 1) halts.reply halts.batch (omega arith))
         (leads_written halts.reply halts.batch halts.writes led.0 led.1 led.2)
         halts.writes.time halts.writes.moments told.Unacknowledged later.faults (some_there _ halted_is_served.halted))
 
   -- whatever serving did
-  module _ (did : Serves line rows rows_after story story_after index index_after stopped stopped_after now later) where
+  module _ (did : Serves line request rows rows_after story story_after index index_after stopped stopped_after now later) where
     pub step_served : IsServed opening script (lines + 1) faults story_after index_after stopped_after later
     step_served = ⊎_elim away_step (⊎_elim kept_step (⊎_elim made_step halted_step)) did
 
@@ -222,8 +243,8 @@ stands_still : (now later : Seen) → IsUntouched now later → Elapses now.cloc
 stands_still now later same = record { later = omega (arith, same.time.moment); kept = λ t left le. same.time.images t left }
 
 -- time goes on
-pub step_time : (line : Line) (rows rows_after : Rows) (story story_after : List Event) (index index_after : ℕ) (stopped stopped_after : Bool) (now later : Seen) → Serves line rows rows_after story story_after index index_after stopped stopped_after now later → Elapses now.clock later.clock now.image later.image
-step_time line rows rows_after story story_after index index_after stopped stopped_after now later did = ⊎_elim
+pub step_time : (line : Line) (request : Request) (rows rows_after : Rows) (story story_after : List Event) (index index_after : ℕ) (stopped stopped_after : Bool) (now later : Seen) → Serves line request rows rows_after story story_after index index_after stopped stopped_after now later → Elapses now.clock later.clock now.image later.image
+step_time line request rows rows_after story story_after index index_after stopped stopped_after now later did = ⊎_elim
     (λ away. stands_still now later away.stays.untouched)
     (⊎_elim (λ kept. stands_still now later kept.stays.untouched) (⊎_elim (λ made. made.writes.time) (λ halts. halts.writes.time)))
     did

@@ -6,9 +6,9 @@ use Rattle.std.proofs.lemmas.List.Folds.{list_any-append}
 use Rattle.std.proofs.lemmas.List.Elements.{filter_map-append}
 use Rattle.std.specs.List.{AllByRecursion}
 use Rattle.oz_cluster.specs.declared.events.Event.{Event}
-use Rattle.oz_bucket_requests.specs.declared.request.AskId.{AskId}
-use Rattle.oz_bucket_requests.specs.declared.request.Request.{Request}
-use Rattle.oz_script.specs.declared.grammar.Script.{Script}
+use Rattle.oz_requests.specs.declared.request.AskId.{AskId}
+use Rattle.oz_requests.specs.declared.request.Request.{Request}
+use Rattle.oz_lines.specs.declared.script.Script.{Script}
 use Rattle.oz_namespace.specs.declared.namespace.Namespace.{Namespace}
 use Rattle.oz_cluster.specs.declared.events.Node.{Node}
 use Rattle.oz_cluster.specs.Story.{Opening, halt_after, halt_of, late_step, late_from, asked_late, kept_step, kept_from, kept_namespace, asks, is_asked, tells, is_told, pending_after, pending, decided_after, last_index, swapped_after, swapped_index, flushed_after, durable_index, moment_after, flushed_moment, replied_after, last_reply, line_index_after, line_index, namespace_step, namespace_from, namespace_of}

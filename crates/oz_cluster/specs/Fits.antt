@@ -6,43 +6,62 @@ use Rattle.oz_cluster.specs.declared.events.Event.{Event}
 use Rattle.oz_cluster.specs.declared.events.EventKind.{EventKind}
 use Rattle.oz_cluster.specs.declared.events.EventKind.TheVariants.{Ask, Decide, Swap, Flushed, Halt, Told}
 use Rattle.oz_cluster.specs.declared.events.Node.TheVariants.{Manager}
-use Rattle.oz_bucket_requests.specs.declared.answer.Answer.{Answer}
-use Rattle.oz_bucket_requests.specs.declared.answer.Answer.TheVariants as told
-use Rattle.oz_bucket_requests.specs.declared.reply.Reply.{Reply}
-use Rattle.oz_bucket_requests.specs.declared.reply.Reply.TheVariants as reply
-use Rattle.oz_bucket_requests.specs.declared.request.Request.{Request}
-use Rattle.oz_bucket_requests.specs.declared.request.Request.TheVariants.{CreateVolume, InfoVolume, DeleteVolume, CreateBucket}
-use Rattle.oz_bucket_requests.specs.declared.request.Request.TheVariants.{InfoBucket, DeleteBucket, ListBuckets}
-use Rattle.oz_bucket_requests.specs.declared.answer.Values.TheVariants as values
-use Rattle.oz_script.specs.declared.grammar.Command.{Command}
-use Rattle.oz_script.specs.declared.grammar.Command.TheVariants.{VolumeCreate, VolumeInfo, VolumeDelete, BucketCreate}
-use Rattle.oz_script.specs.declared.grammar.Command.TheVariants.{BucketInfo, BucketDelete, BucketList}
-use Rattle.oz_script.specs.declared.grammar.Line.{Line}
-use Rattle.oz_script.specs.declared.grammar.Script.{Script}
+use Rattle.oz_requests.specs.declared.answer.Answer.{Answer}
+use Rattle.oz_requests.specs.declared.answer.Answer.TheVariants as told
+use Rattle.oz_requests.specs.declared.reply.Reply.{Reply}
+use Rattle.oz_requests.specs.declared.reply.Reply.TheVariants as reply
+use Rattle.oz_requests.specs.declared.request.Request.{Request}
+use Rattle.oz_requests.specs.declared.request.Request.TheVariants.{CreateVolume, InfoVolume, DeleteVolume, CreateBucket}
+use Rattle.oz_requests.specs.declared.request.Request.TheVariants.{InfoBucket, DeleteBucket, ListBuckets}
+use Rattle.oz_requests.specs.declared.answer.Values.TheVariants as values
+use Rattle.oz_command.specs.declared.command.Command.{Command}
+use Rattle.oz_command.specs.declared.command.Command.TheVariants.{VolumeCreate, VolumeInfo, VolumeDelete, BucketCreate}
+use Rattle.oz_command.specs.declared.command.Command.TheVariants.{BucketInfo, BucketDelete, BucketList, KeyPut, KeyOpen}
+use Rattle.oz_command.specs.declared.command.Command.TheVariants.{KeyCommit, KeyGet, KeyDelete, KeyRename, KeyList}
+use Rattle.oz_command.specs.declared.command.Command.TheVariants.{KeyExpire, SnapshotCreate, SnapshotDelete, SnapshotInfo}
+use Rattle.oz_command.specs.declared.command.Command.TheVariants.{SnapshotList, Admin}
+use Rattle.oz_lines.specs.declared.script.Line.{Line}
+use Rattle.oz_lines.specs.declared.script.Script.{Script}
 use Rattle.oz_cluster.specs.Story.{Opening, is_of_line, is_told, last_reply, line_index, durable_index, halt_of}
 use Rattle.oz_cluster.specs.Story.{asked_late}
 
--- the one request of a line
-abbrev pub request_of : Command → Request
-request_of (VolumeCreate volume) = CreateVolume volume
-request_of (VolumeInfo volume) = InfoVolume volume
-request_of (VolumeDelete volume) = DeleteVolume volume
-request_of (BucketCreate volume bucket) = CreateBucket volume bucket
-request_of (BucketInfo volume bucket) = InfoBucket volume bucket
-request_of (BucketDelete volume bucket) = DeleteBucket volume bucket
-request_of (BucketList volume) = ListBuckets volume
+-- the one request of a line; a line whose command isn't served yet asks nothing
+abbrev pub request_of : Command → Option Request
+request_of (VolumeCreate volume) = Some (CreateVolume volume)
+request_of (VolumeInfo volume) = Some (InfoVolume volume)
+request_of (VolumeDelete volume) = Some (DeleteVolume volume)
+request_of (BucketCreate volume bucket) = Some (CreateBucket volume bucket)
+request_of (BucketInfo volume bucket) = Some (InfoBucket volume bucket)
+request_of (BucketDelete volume bucket) = Some (DeleteBucket volume bucket)
+request_of (BucketList volume) = Some (ListBuckets volume)
+request_of (KeyPut volume bucket key payload) = None
+request_of (KeyOpen label volume bucket key payload) = None
+request_of (KeyCommit label) = None
+request_of (KeyGet volume bucket snapshot key) = None
+request_of (KeyDelete volume bucket key) = None
+request_of (KeyRename volume bucket key to) = None
+request_of (KeyList volume bucket snapshot prefix start count) = None
+request_of (KeyExpire volume bucket) = None
+request_of (SnapshotCreate volume bucket snapshot) = None
+request_of (SnapshotDelete volume bucket snapshot) = None
+request_of (SnapshotInfo volume bucket snapshot) = None
+request_of (SnapshotList volume bucket) = None
+request_of (Admin command) = None
 
--- what a line is told whose request had this reply
+-- what a line is told whose last request had this reply; of a session, a block or pieces it isn't told the reply itself
 abbrev pub answer_of : Reply → Answer
 answer_of reply.Done = told.Ok values.Done
 answer_of (reply.Count count) = told.Ok (values.Buckets count)
 answer_of (reply.Counts counts) = told.Ok (values.Counts counts)
 answer_of (reply.Names names) = told.Ok (values.Names names)
+answer_of (reply.Session number) = told.Ok values.Done
+answer_of (reply.Granted block pipeline) = told.Ok values.Done
+answer_of (reply.Pieces pieces) = told.Ok values.Done
 answer_of (reply.Code code) = told.Code code
 
 -- The answer is what the line is to be told after this story: what its last Decide said; that this isn't acknowledged,
 -- where the manager halted before it was stable; that the manager had stopped, where the line asked only then. That
--- there is no memory it may always be told.
+-- there is no memory it may always be told. What blocks and datanodes answer no line is told yet.
 abbrev pub IsDue : Opening → List Event → ℕ → ℕ → Answer → Type 0
 IsDue opening story client line (told.Ok values) =
     (given : Reply) × (last_reply client line story ≡ Some given) × (told.Ok values ≡ answer_of given)
@@ -52,6 +71,15 @@ IsDue opening story client line told.Unacknowledged =
     (halt_of Manager story ≢ None) × (durable_index opening story < line_index client line story)
 IsDue opening story client line told.ManagerStopped = asked_late (is_of_line client line) story ≡ true
 IsDue opening story client line told.OutOfMemory = Unit {0}
+IsDue opening story client line told.NoPipeline = ⊥
+IsDue opening story client line told.NoQuorum = ⊥
+IsDue opening story client line (told.NoReplica piece block) = ⊥
+IsDue opening story client line told.IdsSpent = ⊥
+IsDue opening story client line told.ScmStopped = ⊥
+IsDue opening story client line (told.Held dn) = ⊥
+IsDue opening story client line told.NoSuchNode = ⊥
+IsDue opening story client line (told.NodeHalted dn count) = ⊥
+IsDue opening story client line told.NotOpen = ⊥
 
 -- the line that this line's `after` names was told
 abbrev pub AfterIsTold : List Event → Option (ℕ × ℕ) → Type 0
@@ -75,7 +103,7 @@ pub record IsLineOf (script : Script) (client number : ℕ) (line : Line) : Type
 abbrev pub EventFits : Opening → Script → List Event → EventKind → Type 0
 EventFits opening script story (Ask id request) =
     (line : Line) × IsLineOf script id.client id.line line × HasStarted story line × (id.step ≡ 1)
-    × (request ≡ request_of line.command)
+    × (request_of line.command ≡ Some request)
 EventFits opening script story (Decide id index answer batch) = Unit {0}
 EventFits opening script story (Swap index) = Unit {0}
 EventFits opening script story (Flushed index moment) = Unit {0}

@@ -11,15 +11,15 @@ use Rattle.oz_cluster.specs.declared.events.Event.{Event}
 use Rattle.oz_cluster.specs.declared.events.EventKind.TheVariants.{Ask, Decide, Told}
 use Rattle.oz_cluster.specs.declared.events.Node.{Node}
 use Rattle.oz_cluster.specs.declared.events.Node.TheVariants.{Manager}
-use Rattle.oz_bucket_requests.specs.declared.answer.Answer.{Answer}
-use Rattle.oz_bucket_requests.specs.declared.answer.Answer.TheVariants as told
-use Rattle.oz_bucket_requests.specs.declared.request.AskId.{AskId}
-use Rattle.oz_bucket_requests.specs.declared.reply.Reply.{Reply}
-use Rattle.oz_bucket_requests.specs.declared.request.Request.{Request}
-use Rattle.oz_script.specs.declared.grammar.Script.{Script}
+use Rattle.oz_requests.specs.declared.answer.Answer.{Answer}
+use Rattle.oz_requests.specs.declared.answer.Answer.TheVariants as told
+use Rattle.oz_requests.specs.declared.request.AskId.{AskId}
+use Rattle.oz_requests.specs.declared.reply.Reply.{Reply}
+use Rattle.oz_requests.specs.declared.request.Request.{Request}
+use Rattle.oz_lines.specs.declared.script.Script.{Script}
 use Rattle.oz_cluster.specs.declared.status.Status.{Status}
 use Rattle.oz_cluster.specs.declared.status.Status.TheVariants as ends
-use Rattle.oz_bucket_model.specs.Answers.{Answers}
+use Rattle.oz_model.specs.Answers.{Answers}
 use Rattle.oz_cluster.specs.Fits.{Fits, AllAreTold}
 use Rattle.oz_cluster.specs.Law.{IsLegal}
 use Rattle.oz_cluster.specs.Opens.{Loads, IsCoherent, StandsAs}

@@ -5,14 +5,14 @@ use Rattle.oz_cluster.specs.declared.events.EventKind.{EventKind}
 use Rattle.oz_cluster.specs.declared.events.EventKind.TheVariants.{Ask, Decide, Swap, Flushed, Halt, Told}
 use Rattle.oz_cluster.specs.declared.events.Node.{Node}
 use Rattle.oz_cluster.specs.declared.events.Node.TheVariants.{Manager, Scm, Datanode}
-use Rattle.oz_bucket_requests.specs.declared.request.AskId.{AskId}
-use Rattle.oz_bucket_requests.specs.declared.answer.Answer.{Answer}
-use Rattle.oz_bucket_requests.specs.declared.answer.Answer.TheVariants as told
-use Rattle.oz_bucket_requests.specs.declared.request.Request.{Request}
-use Rattle.oz_bucket_requests.specs.declared.reply.Reply.{Reply}
+use Rattle.oz_requests.specs.declared.request.AskId.{AskId}
+use Rattle.oz_requests.specs.declared.answer.Answer.{Answer}
+use Rattle.oz_requests.specs.declared.answer.Answer.TheVariants as told
+use Rattle.oz_requests.specs.declared.request.Request.{Request}
+use Rattle.oz_requests.specs.declared.reply.Reply.{Reply}
 use Rattle.oz_names.specs.Names.{stripe_of}
-use Rattle.oz_bucket_model.specs.Answers.{Answers, after}
-use Rattle.oz_bucket_requests.specs.Names.{volume_in}
+use Rattle.oz_model.specs.Answers.{Answers, after}
+use Rattle.oz_requests.specs.Names.{volume_in}
 use Rattle.oz_cluster.specs.Story.{Opening, is_asked, is_id, is_of_line, is_told, halt_of, asked_late, pending}
 use Rattle.oz_cluster.specs.Story.{last_index, swapped_index, durable_index, flushed_moment, line_index, namespace_of}
 
@@ -91,6 +91,15 @@ IsInTime opening story client line told.Unacknowledged =
     (line_index client line story ≤ durable_index opening story) ⊎ (halt_of Manager story ≢ None)
 IsInTime opening story client line told.ManagerStopped = line_index client line story ≤ durable_index opening story
 IsInTime opening story client line told.OutOfMemory = Unit {0}
+IsInTime opening story client line told.NoPipeline = line_index client line story ≤ durable_index opening story
+IsInTime opening story client line told.NoQuorum = line_index client line story ≤ durable_index opening story
+IsInTime opening story client line (told.NoReplica piece block) = line_index client line story ≤ durable_index opening story
+IsInTime opening story client line told.IdsSpent = line_index client line story ≤ durable_index opening story
+IsInTime opening story client line told.ScmStopped = line_index client line story ≤ durable_index opening story
+IsInTime opening story client line (told.Held dn) = line_index client line story ≤ durable_index opening story
+IsInTime opening story client line told.NoSuchNode = line_index client line story ≤ durable_index opening story
+IsInTime opening story client line (told.NodeHalted dn count) = line_index client line story ≤ durable_index opening story
+IsInTime opening story client line told.NotOpen = line_index client line story ≤ durable_index opening story
 
 -- A line is told once, in time.
 pub record ToldIsEnabled (opening : Opening) (story : List Event) (seat client line : ℕ)

@@ -10,8 +10,8 @@ use Rattle.oz_world.specs.Faults.{Rose}
 use Rattle.oz_cluster.specs.declared.events.Event.{Event}
 use Rattle.oz_cluster.specs.declared.events.Node.{Node}
 use Rattle.oz_cluster.specs.declared.events.Node.TheVariants.{Manager}
-use Rattle.oz_bucket_requests.specs.declared.request.AskId.{AskId}
-use Rattle.oz_script.specs.declared.grammar.Script.{Script}
+use Rattle.oz_requests.specs.declared.request.AskId.{AskId}
+use Rattle.oz_lines.specs.declared.script.Script.{Script}
 use Rattle.oz_cluster.specs.Fits.{FitsFrom, told_lines}
 use Rattle.oz_cluster.specs.Law.{IsLegal}
 use Rattle.oz_namespace.specs.declared.namespace.Namespace.{Namespace}

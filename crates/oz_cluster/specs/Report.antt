@@ -1,5 +1,5 @@
 -- The text that a run prints.
-use Rattle.std.specs.Prelude.{ℕ, Bool, true, false, ◌==◌, List, [], ◌∷◌, ◌++◌, codes, decimal, count_by, length, Option}
+use Rattle.std.specs.Prelude.{ℕ, Bool, true, false, ◌==◌, List, [], ◌∷◌, ◌++◌, codes, decimal, count_by, length, slice_index, Option}
 use Rattle.std.specs.Prelude.{None, Some, if◌then◌else◌}
 use Rattle.std.specs.List.{flat_map}
 use Rattle.oz_cluster.specs.declared.events.Event.{Event}
@@ -7,16 +7,20 @@ use Rattle.oz_cluster.specs.declared.events.EventKind.{EventKind}
 use Rattle.oz_cluster.specs.declared.events.EventKind.TheVariants.{Ask, Decide, Swap, Flushed, Halt, Told}
 use Rattle.oz_cluster.specs.declared.events.Node.{Node}
 use Rattle.oz_cluster.specs.declared.events.Node.TheVariants.{Manager, Scm, Datanode}
-use Rattle.oz_bucket_requests.specs.declared.answer.Answer.{Answer}
-use Rattle.oz_bucket_requests.specs.declared.answer.Answer.TheVariants as told
-use Rattle.oz_bucket_requests.specs.declared.request.AskId.{AskId}
-use Rattle.oz_bucket_requests.specs.declared.reply.Counts.{Counts}
-use Rattle.oz_bucket_requests.specs.declared.reply.Reply.{Reply}
-use Rattle.oz_bucket_requests.specs.declared.reply.Reply.TheVariants as reply
-use Rattle.oz_bucket_requests.specs.declared.request.Request.{Request}
-use Rattle.oz_bucket_requests.specs.declared.request.Request.TheVariants.{CreateVolume, InfoVolume, DeleteVolume, CreateBucket}
-use Rattle.oz_bucket_requests.specs.declared.request.Request.TheVariants.{InfoBucket, DeleteBucket, ListBuckets}
-use Rattle.oz_bucket_requests.specs.declared.answer.Values.TheVariants as values
+use Rattle.oz_requests.specs.declared.answer.Answer.{Answer}
+use Rattle.oz_requests.specs.declared.answer.Answer.TheVariants as told
+use Rattle.oz_requests.specs.declared.request.AskId.{AskId}
+use Rattle.oz_requests.specs.declared.reply.Counts.{Counts}
+use Rattle.oz_requests.specs.declared.reply.Reply.{Reply}
+use Rattle.oz_requests.specs.declared.reply.Reply.TheVariants as reply
+use Rattle.oz_requests.specs.declared.request.Request.{Request}
+use Rattle.oz_requests.specs.declared.request.Request.TheVariants.{CreateVolume, InfoVolume, DeleteVolume, CreateBucket}
+use Rattle.oz_requests.specs.declared.request.Request.TheVariants.{InfoBucket, DeleteBucket, ListBuckets, CreateKey}
+use Rattle.oz_requests.specs.declared.request.Request.TheVariants.{AllocateBlock, CommitKey, DeleteKey, RenameKey}
+use Rattle.oz_requests.specs.declared.request.Request.TheVariants.{LookupKey, ListKeys, ExpireOpen, CreateSnapshot}
+use Rattle.oz_requests.specs.declared.request.Request.TheVariants.{DeleteSnapshot, ListSnapshots, InfoSnapshot, Purge}
+use Rattle.oz_requests.specs.declared.request.Request.TheVariants.{MoveDeleted, PurgeSnapshot}
+use Rattle.oz_requests.specs.declared.answer.Values.TheVariants as values
 use Rattle.oz_names.specs.Codes.{code_text}
 use Rattle.oz_cluster.specs.Story.{pending}
 
@@ -34,6 +38,21 @@ request_text (Some (CreateBucket volume bucket)) = codes "CreateBucket"
 request_text (Some (InfoBucket volume bucket)) = codes "InfoBucket"
 request_text (Some (DeleteBucket volume bucket)) = codes "DeleteBucket"
 request_text (Some (ListBuckets volume)) = codes "ListBuckets"
+request_text (Some (CreateKey volume bucket key)) = codes "CreateKey"
+request_text (Some (AllocateBlock volume bucket key session exclude)) = codes "AllocateBlock"
+request_text (Some (CommitKey volume bucket key session pieces)) = codes "CommitKey"
+request_text (Some (DeleteKey volume bucket key)) = codes "DeleteKey"
+request_text (Some (RenameKey volume bucket key to)) = codes "RenameKey"
+request_text (Some (LookupKey volume bucket snapshot key)) = codes "LookupKey"
+request_text (Some (ListKeys volume bucket snapshot prefix start count)) = codes "ListKeys"
+request_text (Some (ExpireOpen volume bucket)) = codes "ExpireOpen"
+request_text (Some (CreateSnapshot volume bucket snapshot)) = codes "CreateSnapshot"
+request_text (Some (DeleteSnapshot volume bucket snapshot)) = codes "DeleteSnapshot"
+request_text (Some (ListSnapshots volume bucket)) = codes "ListSnapshots"
+request_text (Some (InfoSnapshot volume bucket snapshot)) = codes "InfoSnapshot"
+request_text (Some (Purge volume rows)) = codes "Purge"
+request_text (Some (MoveDeleted volume bucket number to)) = codes "MoveDeleted"
+request_text (Some (PurgeSnapshot volume bucket number)) = codes "PurgeSnapshot"
 
 -- a reply; what it counts is told and not printed here
 abbrev pub reply_text : Reply → List ℕ
@@ -41,6 +60,9 @@ reply_text reply.Done = codes "OK"
 reply_text (reply.Count count) = codes "OK"
 reply_text (reply.Counts counts) = codes "OK"
 reply_text (reply.Names names) = codes "OK"
+reply_text (reply.Session number) = codes "OK"
+reply_text (reply.Granted block pipeline) = codes "OK"
+reply_text (reply.Pieces pieces) = codes "OK"
 reply_text (reply.Code code) = code_text code
 
 -- how many keys, sessions and snapshots a bucket has
@@ -53,16 +75,37 @@ counts_text counts =
 abbrev pub list_text : List (List ℕ) → List ℕ
 list_text names = codes "OK " ++ decimal (length names) ++ flat_map (λ name. codes " " ++ name) names
 
--- what a line is told
+-- how many containers are in each state
+abbrev pub states_text : List ℕ → List ℕ
+states_text counts =
+    codes "OK open " ++ decimal (slice_index counts 0) ++ codes " closing " ++ decimal (slice_index counts 1)
+    ++ codes " quasi_closed " ++ decimal (slice_index counts 2) ++ codes " closed " ++ decimal (slice_index counts 3)
+    ++ codes " deleting " ++ decimal (slice_index counts 4) ++ codes " deleted " ++ decimal (slice_index counts 5)
+
+-- what a line is told; no line is told bytes yet, so that their digest isn't printed
 abbrev pub answer_text : Answer → List ℕ
 answer_text (told.Ok values.Done) = codes "OK"
+answer_text (told.Ok (values.Length length)) = codes "OK " ++ decimal length
+answer_text (told.Ok (values.Bytes bytes)) = codes "OK " ++ decimal (length bytes)
 answer_text (told.Ok (values.Buckets count)) = codes "OK buckets " ++ decimal count
 answer_text (told.Ok (values.Counts counts)) = counts_text counts
+answer_text (told.Ok (values.Sessions count)) = codes "OK " ++ decimal count
+answer_text (told.Ok (values.Keys count)) = codes "OK keys " ++ decimal count
 answer_text (told.Ok (values.Names names)) = list_text names
+answer_text (told.Ok (values.States counts)) = states_text counts
 answer_text (told.Code code) = code_text code
 answer_text told.Unacknowledged = codes "UNACKNOWLEDGED"
 answer_text told.ManagerStopped = codes "MANAGER_STOPPED"
 answer_text told.OutOfMemory = codes "OUT_OF_MEMORY"
+answer_text told.NoPipeline = codes "NO_PIPELINE"
+answer_text told.NoQuorum = codes "NO_QUORUM"
+answer_text (told.NoReplica piece block) = codes "NO_REPLICA piece " ++ decimal piece
+answer_text told.IdsSpent = codes "IDS_SPENT"
+answer_text told.ScmStopped = codes "SCM_STOPPED"
+answer_text (told.Held dn) = codes "HELD dn " ++ decimal dn
+answer_text told.NoSuchNode = codes "NO_SUCH_NODE"
+answer_text (told.NodeHalted dn count) = codes "NODE_HALTED dn " ++ decimal dn ++ codes " count " ++ decimal count
+answer_text told.NotOpen = codes "NOT_OPEN"
 
 -- the line of a Decide: its client, line and step, the request and the reply
 abbrev pub decide_text : AskId → Option Request → Reply → List ℕ

@@ -9,30 +9,30 @@ use Rattle.oz_journal.specs.Journal.{IsBeforeOrAfter}
 use Rattle.oz_world.specs.Moments.{Elapses, LeavesOnly}
 use Rattle.oz_namespace.specs.declared.namespace.Namespace.{Namespace}
 use Rattle.oz_om_bucket.specs.Meets.{Stand, Meets}
-use Rattle.oz_bucket_requests.specs.declared.answer.Answer.TheVariants as told
-use Rattle.oz_bucket_requests.specs.declared.reply.Reply.{Reply}
-use Rattle.oz_bucket_requests.specs.declared.request.Request.{Request}
+use Rattle.oz_requests.specs.declared.answer.Answer.TheVariants as told
+use Rattle.oz_requests.specs.declared.reply.Reply.{Reply}
+use Rattle.oz_requests.specs.declared.request.Request.{Request}
 use Rattle.oz_rows.specs.declared.operation.Change.{Change}
-use Rattle.oz_script.specs.declared.grammar.Line.{Line}
+use Rattle.oz_lines.specs.declared.script.Line.{Line}
 use Rattle.oz_rows.specs.RowMaps.{after_changes, Rows}
 use Rattle.oz_cluster.specs.declared.events.Event.{Event}
-use Rattle.oz_cluster.specs.Fits.{request_of, answer_of}
+use Rattle.oz_cluster.specs.Fits.{answer_of}
 use Rattle.oz_cluster.specs.Stopped.{IsUntouched}
 use Rattle.oz_cluster.specs.Body.{body_bytes}
 use Rattle.oz_cluster.specs.Steps.{ask_event, decide_event, swap_event, flushed_event, halt_event, told_event}
 
 -- the line asks
-abbrev pub asked : Line → List Event → List Event
-asked line story = story ++ ask_event line.client line.number (request_of line.command) ∷ []
+abbrev pub asked : Line → Request → List Event → List Event
+asked line request story = story ++ ask_event line.client line.number request ∷ []
 
 -- what it asked is decided
-abbrev pub decided : Line → List Event → ℕ → Reply → List ℕ → List Event
-decided line story index reply batch =
-    asked line story ++ decide_event line.client line.number (request_of line.command) index reply batch ∷ []
+abbrev pub decided : Line → Request → List Event → ℕ → Reply → List ℕ → List Event
+decided line request story index reply batch =
+    asked line request story ++ decide_event line.client line.number request index reply batch ∷ []
 
 -- and is taken to be written
-abbrev pub taken : Line → List Event → ℕ → Reply → List ℕ → List Event
-taken line story index reply batch = decided line story index reply batch ++ swap_event index ∷ []
+abbrev pub taken : Line → Request → List Event → ℕ → Reply → List ℕ → List Event
+taken line request story index reply batch = decided line request story index reply batch ++ swap_event index ∷ []
 
 -- a decision over rows meets what one thread does
 abbrev pub MeetsAll : Rows → Request → Reply → List ℕ → List Change → Type 0
@@ -48,30 +48,30 @@ pub record StaysAsItWas (rows rows_after : Rows) (index index_after : ℕ) (stop
   pub untouched : IsUntouched now later
 
 -- the manager had halted, and the line is told so
-pub record TurnsAway (line : Line) (rows rows_after : Rows) (story story_after : List Event) (index index_after : ℕ)
+pub record TurnsAway (line : Line) (request : Request) (rows rows_after : Rows) (story story_after : List Event) (index index_after : ℕ)
     (stopped stopped_after : Bool) (now later : Seen) : Type 0 where
   pub was_stopped : stopped ≡ true
-  pub story_is : story_after ≡ asked line story ++ told_event line.client line.number told.ManagerStopped ∷ []
+  pub story_is : story_after ≡ asked line request story ++ told_event line.client line.number told.ManagerStopped ∷ []
   pub stays : StaysAsItWas rows rows_after index index_after stopped stopped_after now later
 
 -- the line is decided and told, and nothing changes
-pub record ChangesNothing (line : Line) (rows rows_after : Rows) (story story_after : List Event)
+pub record ChangesNothing (line : Line) (request : Request) (rows rows_after : Rows) (story story_after : List Event)
     (index index_after : ℕ) (stopped stopped_after : Bool) (now later : Seen) : Type 0 where
   pub running : stopped ≡ false
   pub reply : Reply
-  pub meets : MeetsAll rows (request_of line.command) reply [] []
-  pub story_is : story_after ≡ decided line story index reply []
+  pub meets : MeetsAll rows request reply [] []
+  pub story_is : story_after ≡ decided line request story index reply []
       ++ told_event line.client line.number (answer_of reply) ∷ []
   pub stays : StaysAsItWas rows rows_after index index_after stopped stopped_after now later
 
 -- the line is decided, and the batch of its changes is written as the next body
-pub record Writes (line : Line) (rows rows_after : Rows) (index index_after : ℕ) (stopped : Bool) (now later : Seen)
+pub record Writes (line : Line) (request : Request) (rows rows_after : Rows) (index index_after : ℕ) (stopped : Bool) (now later : Seen)
     (reply : Reply) (batch : List ℕ) : Type 0 where
   pub running : stopped ≡ false
   pub changes : List Change
   pub some : changes ≢ []
   pub some_bytes : batch ≢ []
-  pub meets : MeetsAll rows (request_of line.command) reply batch changes
+  pub meets : MeetsAll rows request reply batch changes
   pub rows_are : (key : _) → rows_after key ≡ after_changes changes rows key
   pub index_is : index_after ≡ index + 1
   pub never_falls : now.faults ≤ later.faults
@@ -80,12 +80,12 @@ pub record Writes (line : Line) (rows rows_after : Rows) (index index_after : �
       → LeavesOnly (IsBeforeOrAfter bodies (body_bytes (index + 1) batch)) now.clock later.clock later.image
 
 -- it is stable, and the line is told its reply
-pub record IsMade (line : Line) (rows rows_after : Rows) (story story_after : List Event) (index index_after : ℕ)
+pub record IsMade (line : Line) (request : Request) (rows rows_after : Rows) (story story_after : List Event) (index index_after : ℕ)
     (stopped stopped_after : Bool) (now later : Seen) : Type 0 where
   pub reply : Reply
   pub batch : List ℕ
-  pub writes : Writes line rows rows_after index index_after stopped now later reply batch
-  pub story_is : story_after ≡ (taken line story (index + 1) reply batch ++ flushed_event (index + 1) later.clock ∷ [])
+  pub writes : Writes line request rows rows_after index index_after stopped now later reply batch
+  pub story_is : story_after ≡ (taken line request story (index + 1) reply batch ++ flushed_event (index + 1) later.clock ∷ [])
       ++ told_event line.client line.number (answer_of reply) ∷ []
   pub stopped_is : stopped_after ≡ false
   pub goes : now.clock < later.clock
@@ -95,20 +95,20 @@ pub record IsMade (line : Line) (rows rows_after : Rows) (story story_after : Li
       → later.image later.clock left → IsJournal left (bodies ++ body_bytes (index + 1) batch ∷ [])
 
 -- the disk failed, the manager halts, and the line is told that this isn't acknowledged
-pub record Halts (line : Line) (rows rows_after : Rows) (story story_after : List Event) (index index_after : ℕ)
+pub record Halts (line : Line) (request : Request) (rows rows_after : Rows) (story story_after : List Event) (index index_after : ℕ)
     (stopped stopped_after : Bool) (now later : Seen) : Type 0 where
   pub reply : Reply
   pub batch : List ℕ
-  pub writes : Writes line rows rows_after index index_after stopped now later reply batch
-  pub story_is : story_after ≡ (taken line story (index + 1) reply batch ++ halt_event later.faults ∷ [])
+  pub writes : Writes line request rows rows_after index index_after stopped now later reply batch
+  pub story_is : story_after ≡ (taken line request story (index + 1) reply batch ++ halt_event later.faults ∷ [])
       ++ told_event line.client line.number told.Unacknowledged ∷ []
   pub stopped_is : stopped_after ≡ true
   pub rose : Rose now.faults later.faults
 
 -- one of these
-abbrev pub Serves : Line → Rows → Rows → List Event → List Event → ℕ → ℕ → Bool → Bool → Seen → Seen → Type 0
-Serves line rows rows_after story story_after index index_after stopped stopped_after now later =
-    TurnsAway line rows rows_after story story_after index index_after stopped stopped_after now later
-    ⊎ (ChangesNothing line rows rows_after story story_after index index_after stopped stopped_after now later
-    ⊎ (IsMade line rows rows_after story story_after index index_after stopped stopped_after now later
-    ⊎ Halts line rows rows_after story story_after index index_after stopped stopped_after now later))
+abbrev pub Serves : Line → Request → Rows → Rows → List Event → List Event → ℕ → ℕ → Bool → Bool → Seen → Seen → Type 0
+Serves line request rows rows_after story story_after index index_after stopped stopped_after now later =
+    TurnsAway line request rows rows_after story story_after index index_after stopped stopped_after now later
+    ⊎ (ChangesNothing line request rows rows_after story story_after index index_after stopped stopped_after now later
+    ⊎ (IsMade line request rows rows_after story story_after index index_after stopped stopped_after now later
+    ⊎ Halts line request rows rows_after story story_after index index_after stopped stopped_after now later))

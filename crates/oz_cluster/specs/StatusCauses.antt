@@ -1,11 +1,11 @@
 -- Why a run ends with each status, and with which status a wrong word, a wrong script and a wrong disk end it.
 use Rattle.std.specs.Prelude.{◌≡◌, ◌⊎◌, ℕ, ◌≤◌, List, take, Option, Some, Err, IfSome}
-use Rattle.oz_script.specs.declared.grammar.Cause.{Cause}
-use Rattle.oz_script.specs.declared.grammar.ScriptFault.TheVariants.{At}
+use Rattle.oz_lines.specs.declared.fault.Cause.{Cause}
+use Rattle.oz_lines.specs.declared.fault.ScriptFault.TheVariants.{At}
 use Rattle.oz_rows.specs.declared.entry.RowEntry.{RowEntry}
 use Rattle.oz_cluster.specs.Opens.{Loads, IsDamagedDisk}
 use Rattle.oz_cluster.specs.Stopped.{IsScript}
-use Rattle.oz_script.specs.Script.{script_of}
+use Rattle.oz_script.specs.Parsing.{ParsesTo}
 use Rattle.oz_cluster.specs.Streams.{script_limit}
 use Rattle.oz_cluster.specs.Words.{IsRun, IsFirstFault}
 
@@ -17,7 +17,7 @@ pub record HasBegun (words : List (List ℕ)) (left disk : Option (List ℕ)) : 
 
 -- the first fault of what a source has left
 abbrev pub IsFaultOf : List ℕ → ℕ → Cause → Type 0
-IsFaultOf text line cause = script_of (take script_limit text) ≡ Err (At line cause)
+IsFaultOf text line cause = ParsesTo (take script_limit text) (Err (At line cause))
 
 -- With 1, 2 and 6 the script, the words or the disk were wrong. 3, 4 and 5 come only where the source, the sink or the
 -- disk counted a fault. Wrong words end with 2, a wrong script with 1 where it could be read, and a wrong disk with 6

@@ -5,11 +5,11 @@ use Rattle.std.specs.Prelude.{ℕ, List}
 use Rattle.oz_cluster.specs.declared.events.Event.{Event}
 use Rattle.oz_cluster.specs.declared.events.EventKind.TheVariants.{Ask, Decide, Swap, Flushed, Halt, Told}
 use Rattle.oz_cluster.specs.declared.events.Node.TheVariants.{Manager}
-use Rattle.oz_bucket_requests.specs.declared.answer.Answer.{Answer}
-use Rattle.oz_bucket_requests.specs.declared.request.AskId.{AskId}
-use Rattle.oz_bucket_requests.specs.declared.reply.Reply.{Reply}
-use Rattle.oz_bucket_requests.specs.declared.request.Request.{Request}
-use Rattle.oz_bucket_requests.specs.Names.{volume_in}
+use Rattle.oz_requests.specs.declared.answer.Answer.{Answer}
+use Rattle.oz_requests.specs.declared.request.AskId.{AskId}
+use Rattle.oz_requests.specs.declared.reply.Reply.{Reply}
+use Rattle.oz_requests.specs.declared.request.Request.{Request}
+use Rattle.oz_requests.specs.Names.{volume_in}
 use Rattle.oz_cluster.specs.Law.{caller_seat, flusher_seat, stripe_seat}
 use Rattle.oz_names.specs.Names.{stripe_of}
 

@@ -8,14 +8,14 @@ use Rattle.oz_world.specs.Faults.{Rose}
 use Rattle.oz_journal.specs.Load.{IsLoadable, IsLeftAlone}
 use Rattle.oz_world.specs.Moments.{Spans}
 use Rattle.oz_cluster.specs.declared.events.Event.{Event}
-use Rattle.oz_script.specs.declared.grammar.Script.{Script as Lines}
-use Rattle.oz_script.specs.declared.grammar.ScriptFault.TheVariants.{At}
+use Rattle.oz_lines.specs.declared.script.Script.{Script as Lines}
+use Rattle.oz_lines.specs.declared.fault.ScriptFault.TheVariants.{At}
 use Rattle.oz_cluster.specs.declared.status.Status.{Status}
 use Rattle.oz_cluster.specs.declared.status.Status.TheVariants as status
-use Rattle.oz_script.specs.Causes.{cause_text}
+use Rattle.oz_lines.specs.Causes.{cause_text}
 use Rattle.oz_cluster.specs.Opens.{IsDamagedDisk}
 use Rattle.oz_cluster.specs.Report.{words_fault, script_fault, damaged_manager, disk_fault, read_fault, memory_fault}
-use Rattle.oz_script.specs.Script.{script_of}
+use Rattle.oz_script.specs.Parsing.{ParsesTo}
 use Rattle.oz_cluster.specs.Streams.{script_limit, TakesUpTo, IsReadThrough, HoldsPrefix}
 use Rattle.oz_cluster.specs.Words.{IsRun, IsFirstFault}
 
@@ -39,7 +39,7 @@ text_of OutOfMemory = memory_fault
 
 -- the script that is read from what a source has left
 abbrev pub IsScriptOf : Option (List ℕ) → Lines → Type 0
-IsScriptOf left script = IfSome left (λ text. script_of (take script_limit text) ≡ Ok script)
+IsScriptOf left script = IfSome left (λ text. ParsesTo (take script_limit text) (Ok script))
 
 -- what is left is a script
 abbrev pub IsScript : Option (List ℕ) → Type 0
@@ -48,7 +48,7 @@ IsScript left = (script : Lines) × IsScriptOf left script
 -- what the words, the script and the manager's disk were where this stopped the run, and whose count of faults rose
 abbrev pub IsSo : List (List ℕ) → Option (List ℕ) → Option (List ℕ) → Type 0 → Type 0 → Stop → Type 0
 IsSo words left disk source_rose disk_rose (Script line cause) =
-    IsRun words × IfSome left (λ text. script_of (take script_limit text) ≡ Err (At line cause))
+    IsRun words × IfSome left (λ text. ParsesTo (take script_limit text) (Err (At line cause)))
 IsSo words left disk source_rose disk_rose (Words place) = IsFirstFault words place
 IsSo words left disk source_rose disk_rose Read = IsRun words × source_rose
 IsSo words left disk source_rose disk_rose Disk = IsRun words × IsScript left × disk_rose

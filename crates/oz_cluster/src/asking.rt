@@ -1,16 +1,19 @@
 //! From a line of a script to what it asks, and from a reply to what the line is told.
 
-ghost use Rattle.std.specs.Prelude.{◌≡◌, IfOk};
+ghost use Rattle.std.specs.Prelude.{◌≡◌, IfOk, IsSome, Some};
+ghost use Rattle.oz_requests.specs.Families.{family_of};
 ghost use Rattle.oz_cluster.specs.Fits.{request_of as request_said, answer_of as answer_due};
 
-use oz_bucket_requests::{Answer, Reply, Request, Values};
+use oz_command::Command;
 use oz_fields::{Name, OutOfMemory, TryClone};
-use oz_script::Command;
+use oz_requests::{Answer, Family, Reply, Request, Values};
 use std::alloc::Global;
 
-/// What a line asks.
+/// What a line asks whose command is served.
 pub fn request_of(alloc: Global, command: &Command) -> Result<Request, OutOfMemory>
-    ensures { IfOk result (λ request. request ≡ request_said command.now) }
+    requires { IsSome (request_said command.now) }
+    ensures asks { IfOk result (λ request. request_said command.now ≡ Some request) }
+    ensures family { IfOk result (λ request. family_of request ≡ Family.Buckets) }
 {
     Ok(match command {
         Command::VolumeCreate { volume } => Request::CreateVolume {
@@ -37,6 +40,19 @@ pub fn request_of(alloc: Global, command: &Command) -> Result<Request, OutOfMemo
             volume: volume.try_clone(alloc)?,
             bucket: bucket.try_clone(alloc)?,
         },
+        Command::KeyPut { .. }
+        | Command::KeyOpen { .. }
+        | Command::KeyCommit { .. }
+        | Command::KeyGet { .. }
+        | Command::KeyDelete { .. }
+        | Command::KeyRename { .. }
+        | Command::KeyList { .. }
+        | Command::KeyExpire { .. }
+        | Command::SnapshotCreate { .. }
+        | Command::SnapshotDelete { .. }
+        | Command::SnapshotInfo { .. }
+        | Command::SnapshotList { .. }
+        | Command::Admin(_) => unreachable!(),
     })
 }
 
@@ -49,6 +65,7 @@ pub fn answer_of(reply: Reply) -> Answer
         Reply::Count(count) => Answer::Ok(Values::Buckets(count)),
         Reply::Counts(counts) => Answer::Ok(Values::Counts(counts)),
         Reply::Names(names) => Answer::Ok(Values::Names(names)),
+        Reply::Session(_) | Reply::Granted(..) | Reply::Pieces(_) => Answer::Ok(Values::Done),
         Reply::Code(code) => Answer::Code(code),
     }
 }

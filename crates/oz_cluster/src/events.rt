@@ -1,7 +1,7 @@
 //! What happens in a run, one event after another.
 
-use oz_bucket_requests::{Answer, AskId, Reply, Request};
 use oz_fields::List;
+use oz_requests::{Answer, AskId, Reply, Request};
 
 /// One thing that happened, and the number of the seat that gave it.
 #[derive(Debug, Drop)]

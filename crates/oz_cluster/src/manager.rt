@@ -1,7 +1,7 @@
 //! The manager: it decides what a line asks, makes it stable, and tells the line.
 
-ghost use Rattle.std.specs.Prelude.{List as Items, ◌≡◌, ◌≤◌, ◌<◌, ◌+◌, ◌^◌, ◌++◌, [], ◌∷◌, ℕ, false, length, vec_len};
-ghost use Rattle.std.specs.Prelude.{vec_capacity, is_err, IfOk, OnOk, OnErr, IsErr};
+ghost use Rattle.std.specs.Prelude.{List as Items, ◌≡◌, ◌≢◌, ◌↔◌, ◌≤◌, ◌<◌, ◌+◌, ◌^◌, ◌++◌, [], ◌∷◌, ℕ, false, length, vec_len};
+ghost use Rattle.std.specs.Prelude.{vec_capacity, is_err, IfOk, OnOk, OnErr, IsErr, IsSome, Some};
 ghost use Rattle.oz_world.specs.Disk.{seen};
 ghost use Rattle.oz_cache.specs.Cache.{batched_changes, epoch_after, last_epoch, later, newest, up_to};
 ghost use Rattle.oz_journal.specs.Appends.{Appends};
@@ -9,25 +9,28 @@ ghost use Rattle.oz_journal.specs.declared.frame.TheConstants.{LONGEST_FRAME};
 ghost use Rattle.oz_rows.specs.declared.operation.TheConstants.{LONGEST_OPERATION};
 ghost use Rattle.oz_journal.specs.Journal.{body_of};
 ghost use Rattle.oz_names.specs.Names.{stripe_of};
-ghost use Rattle.oz_bucket_requests.specs.Names.{volume_in};
+ghost use Rattle.oz_requests.specs.Families.{family_of};
+ghost use Rattle.oz_requests.specs.Names.{volume_in};
+ghost use Rattle.oz_requests.specs.declared.request.Request.{Request as AnyRequest};
 ghost use Rattle.oz_rows.specs.RowMaps.{row_after, row_of};
 ghost use Rattle.oz_rows.specs.Operations.{IsIndex};
 ghost use Rattle.oz_cluster.specs.Body.{body_bytes};
 ghost use Rattle.oz_cluster.specs.Law.{stripe_seat};
-ghost use Rattle.oz_cluster.specs.Serves.{Serves};
+ghost use Rattle.oz_cluster.specs.Fits.{request_of as request_said};
+ghost use Rattle.oz_cluster.specs.Serves.{MeetsAll, Serves};
 ghost use Rattle.oz_cluster.specs.Steps.{ask_event, decide_event, swap_event, flushed_event, halt_event, told_event};
 
 use crate::asking::{answer_of, request_of};
 use crate::events::{Event, EventKind, Node};
-use oz_bucket_requests::{Answer, AskId, Reply, Request};
 use oz_cache::{Cached, Prepared};
 use oz_epochs::Steps;
 use oz_fields::{List, OutOfMemory, TryClone};
 use oz_journal::{Frame, Journal};
+use oz_lines::Line;
 use oz_names::stripe_of as stripe_number;
 use oz_om_bucket::{Decision, decide};
+use oz_requests::{Answer, AskId, Family, Reply, Request};
 use oz_rows::{Change, END_OF_INDEXES, put_head};
-use oz_script::Line;
 use oz_world::{Disk, Failed, Gate, Point};
 use std::alloc::{AllocError, Global};
 use std::marker::Brand;
@@ -295,7 +298,73 @@ impl<D: Disk> Manager<D> {
         line: &Line,
     ) -> Result<(), OutOfMemory>
         requires index { last_epoch self.old.rows < END_OF_INDEXES }
-        ensures serves { OnOk result (Serves line.now (newest self.old.rows) (newest self.new.rows)
+        requires asks { IsSome (request_said line.now.command) }
+        ensures serves { OnOk result ((request : AnyRequest) → request_said line.now.command ≡ Some request →
+            Serves line.now request (newest self.old.rows) (newest self.new.rows)
+            self.old.story.items self.new.story.items (last_epoch self.old.rows) (last_epoch self.new.rows)
+            self.old.journal.stopped self.new.journal.stopped
+            (seen (D.told self.old.journal.disk) (D.clock self.old.journal.disk)
+            (D.image self.old.journal.disk) (D.faults self.old.journal.disk))
+            (seen (D.told self.new.journal.disk) (D.clock self.new.journal.disk)
+            (D.image self.new.journal.disk) (D.faults self.new.journal.disk))) }
+        ensures settled { IsSettled self.old → IsSettled self.new }
+        ensures unserved { IsErr result → IsUnchanged self.old self.new }
+        ensures index { last_epoch self.new.rows < END_OF_INDEXES }
+    {
+        let request = request_of(alloc, &line.command)?;
+        self.serve_request(rt, alloc, gate, line, request)
+    }
+
+    /// Serves a line that asks this.
+    fn serve_request<R: Wait, G: Gate>(
+        &mut self,
+        rt: &R,
+        alloc: Global,
+        gate: &G,
+        line: &Line,
+        request: Request,
+    ) -> Result<(), OutOfMemory>
+        requires index { last_epoch self.old.rows < END_OF_INDEXES }
+        requires family { family_of request ≡ Family.Buckets }
+        ensures serves { OnOk result (Serves line.now request (newest self.old.rows) (newest self.new.rows)
+            self.old.story.items self.new.story.items (last_epoch self.old.rows) (last_epoch self.new.rows)
+            self.old.journal.stopped self.new.journal.stopped
+            (seen (D.told self.old.journal.disk) (D.clock self.old.journal.disk)
+            (D.image self.old.journal.disk) (D.faults self.old.journal.disk))
+            (seen (D.told self.new.journal.disk) (D.clock self.new.journal.disk)
+            (D.image self.new.journal.disk) (D.faults self.new.journal.disk))) }
+        ensures settled { IsSettled self.old → IsSettled self.new }
+        ensures unserved { IsErr result → IsUnchanged self.old self.new }
+        ensures index { last_epoch self.new.rows < END_OF_INDEXES }
+    {
+        self.story.reserve(5)?;
+        if self.journal.stopped() {
+            self.turn_away(line.client, line.number, request);
+            return Ok(());
+        }
+        let decision = decide(alloc, &self.rows, &request)?;
+        if decision.bytes.items().is_empty() {
+            self.tell_at_once(alloc, line, request, decision)
+        } else {
+            self.write_down(rt, alloc, gate, line, request, decision)
+        }
+    }
+
+    /// Tells a line what was decided for it, where nothing changes. The room for three events was taken before.
+    fn tell_at_once(
+        &mut self,
+        alloc: Global,
+        line: &Line,
+        request: Request,
+        decision: Decision,
+    ) -> Result<(), OutOfMemory>
+        requires index { last_epoch self.old.rows < END_OF_INDEXES }
+        requires room { vec_len self.old.story + 3 ≤ vec_capacity self.old.story }
+        requires running { self.old.journal.stopped ≡ false }
+        requires meets { MeetsAll (newest self.old.rows) request decision.reply decision.bytes decision.changes }
+        requires recorded { (decision.bytes ≡ []) ↔ (decision.changes ≡ []) }
+        requires nothing { decision.bytes ≡ [] }
+        ensures serves { OnOk result (Serves line.now request (newest self.old.rows) (newest self.new.rows)
             self.old.story.items self.new.story.items (last_epoch self.old.rows) (last_epoch self.new.rows)
             self.old.journal.stopped self.new.journal.stopped
             (seen (D.told self.old.journal.disk) (D.clock self.old.journal.disk)
@@ -307,24 +376,49 @@ impl<D: Disk> Manager<D> {
         ensures index { last_epoch self.new.rows < END_OF_INDEXES }
     {
         let (client, number) = (line.client, line.number);
-        let request = request_of(alloc, &line.command)?;
-        self.story.reserve(5)?;
-        if self.journal.stopped() {
-            self.turn_away(client, number, request);
-            return Ok(());
-        }
+        let Decision { reply, bytes, .. } = decision;
+        let answer = answer_of(reply.try_clone(alloc)?);
+        let index = self.rows.last_epoch();
+        self.record_decision(client, number, request, index, reply, bytes);
+        self.tell(client, number, answer);
+        Ok(())
+    }
+
+    /// Makes stable what was decided for a line, and tells it. The room for five events was taken before.
+    fn write_down<R: Wait, G: Gate>(
+        &mut self,
+        rt: &R,
+        alloc: Global,
+        gate: &G,
+        line: &Line,
+        request: Request,
+        decision: Decision,
+    ) -> Result<(), OutOfMemory>
+        requires index { last_epoch self.old.rows < END_OF_INDEXES }
+        requires room { vec_len self.old.story + 5 ≤ vec_capacity self.old.story }
+        requires running { self.old.journal.stopped ≡ false }
+        requires meets { MeetsAll (newest self.old.rows) request decision.reply decision.bytes decision.changes }
+        requires recorded { (decision.bytes ≡ []) ↔ (decision.changes ≡ []) }
+        requires size { length decision.bytes ≤ LONGEST_OPERATION }
+        requires some { decision.bytes ≢ [] }
+        ensures serves { OnOk result (Serves line.now request (newest self.old.rows) (newest self.new.rows)
+            self.old.story.items self.new.story.items (last_epoch self.old.rows) (last_epoch self.new.rows)
+            self.old.journal.stopped self.new.journal.stopped
+            (seen (D.told self.old.journal.disk) (D.clock self.old.journal.disk)
+            (D.image self.old.journal.disk) (D.faults self.old.journal.disk))
+            (seen (D.told self.new.journal.disk) (D.clock self.new.journal.disk)
+            (D.image self.new.journal.disk) (D.faults self.new.journal.disk))) }
+        ensures settled { IsSettled self.old → IsSettled self.new }
+        ensures unserved { IsErr result → IsUnchanged self.old self.new }
+        ensures index { last_epoch self.new.rows < END_OF_INDEXES }
+    {
+        let (client, number) = (line.client, line.number);
         let Decision {
             reply,
             bytes,
             changes,
-        } = decide(alloc, &self.rows, &request)?;
+        } = decision;
         let answer = answer_of(reply.try_clone(alloc)?);
-        if bytes.items().is_empty() {
-            let index = self.rows.last_epoch();
-            self.record_decision(client, number, request, index, reply, bytes);
-            self.tell(client, number, answer);
-            return Ok(());
-        }
         let Planned {
             index,
             batch,
@@ -332,14 +426,53 @@ impl<D: Disk> Manager<D> {
             rows,
         } = self.plan(alloc, bytes, changes)?;
         self.record_decision(client, number, request, index, reply, batch);
-        note(&mut self.story, FLUSHER_SEAT, EventKind::Swap { index });
-        self.rows.enter(index, rows);
-        let Ok(()) = self.flush(rt, gate, index, frame) else {
+        let Ok(()) = self.make_stable(rt, gate, index, frame, rows) else {
             self.tell(client, number, Answer::Unacknowledged);
             return Ok(());
         };
-        settle(&mut self.rows, index);
         self.tell(client, number, answer);
+        Ok(())
+    }
+
+    /// Enters the rows of a decision, and writes its body. The room for two events was taken before.
+    fn make_stable<R: Wait, G: Gate>(
+        &mut self,
+        rt: &R,
+        gate: &G,
+        index: u64,
+        frame: Vec<u8>,
+        rows: Prepared,
+    ) -> Result<(), Failed>
+        requires room { vec_len self.old.story + 2 ≤ vec_capacity self.old.story }
+        requires running { self.old.journal.stopped ≡ false }
+        requires next { index ≡ last_epoch self.old.rows + 1 }
+        requires limit { index < END_OF_INDEXES }
+        requires spare { length rows ≤ self.old.rows.spare }
+        requires least { 5 ≤ length frame.items }
+        requires most { length frame.items ≤ LONGEST_FRAME }
+        ensures flushed { OnOk result (self.new.story.items ≡ (self.old.story.items
+            ++ swap_event index ∷ [])
+            ++ flushed_event index (D.clock self.new.journal.disk) ∷ []) }
+        ensures halted { OnErr result (self.new.story.items ≡ (self.old.story.items
+            ++ swap_event index ∷ [])
+            ++ halt_event (D.faults self.new.journal.disk) ∷ []) }
+        ensures room { vec_len self.new.story ≡ vec_len self.old.story + 2 }
+        ensures capacity { vec_capacity self.old.story ≤ vec_capacity self.new.story }
+        ensures rows { (key : _) → newest self.new.rows key ≡ row_after rows key (newest self.old.rows key) }
+        ensures last { last_epoch self.new.rows ≡ index }
+        ensures stopped { self.new.journal.stopped ≡ is_err result }
+        ensures settled { IsSettled self.old → IsSettled self.new }
+        ensures appended { Appends (body_of frame.items)
+            (seen (D.told self.old.journal.disk) (D.clock self.old.journal.disk) (D.image self.old.journal.disk)
+            (D.faults self.old.journal.disk))
+            (seen (D.told self.new.journal.disk) (D.clock self.new.journal.disk) (D.image self.new.journal.disk)
+            (D.faults self.new.journal.disk))
+            result }
+    {
+        note(&mut self.story, FLUSHER_SEAT, EventKind::Swap { index });
+        self.rows.enter(index, rows);
+        self.flush(rt, gate, index, frame)?;
+        settle(&mut self.rows, index);
         Ok(())
     }
 }

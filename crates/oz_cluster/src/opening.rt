@@ -11,6 +11,7 @@ ghost use Rattle.oz_journal.specs.Load.{IsLoadable, IsLeftAlone, loaded_at};
 ghost use Rattle.oz_world.specs.Moments.{Elapses, Spans};
 ghost use Rattle.oz_rows.specs.declared.key.RowKey.{RowKey as AnyKey};
 ghost use Rattle.oz_rows.specs.declared.row.Row.{Row as AnyRow};
+ghost use Rattle.oz_rows.specs.RowMaps.{KeysRise};
 ghost use Rattle.oz_rows.specs.Rows.{RowFits};
 ghost use Rattle.oz_effects.specs.Build.{Builds, FailsAt};
 ghost use Rattle.oz_cluster.specs.OpenFaults.{as_open};
@@ -61,6 +62,7 @@ fn tables_of(alloc: Global, bodies: &[Body]) -> Result<Tables, OpenFault>
     requires places { places_in bodies.now ≡ places 0 (bodies_in bodies.now) }
     requires ends { length (records (bodies_in bodies.now)) < 2 ^ 64 }
     ensures built { IfOk result (λ tables. Builds (bodies_in bodies.now) tables.rows tables.last_index) }
+    ensures in_order { IfOk result (λ tables. KeysRise tables.rows) }
     ensures index { IfOk result (λ tables. tables.last_index < END_OF_INDEXES) }
     ensures damaged { IfErr result (λ fault. (offset : ℕ) → fault ≡ OpenFault.Damaged offset →
         IsFaultIn (bodies_in bodies.now) offset) }
@@ -68,7 +70,10 @@ fn tables_of(alloc: Global, bodies: &[Body]) -> Result<Tables, OpenFault>
 {
     bodies_make_one_thing();
     match build(alloc, bodies) {
-        Ok(tables) => Ok(tables),
+        Ok(tables) => {
+            tables.rows_are_in_order();
+            Ok(tables)
+        }
         Err(BuildFault::Damaged { body, at }) => {
             let Some(damaged) = bodies.get(body) else {
                 unreachable!()

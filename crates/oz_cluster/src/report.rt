@@ -1,13 +1,13 @@
 //! The texts that a run writes.
 
-ghost use Rattle.std.specs.Prelude.{◌≡◌, ◌++◌, IfOk, OnOk, option_copied};
+ghost use Rattle.std.specs.Prelude.{◌≡◌, ◌++◌, IfOk, OnOk, Some, decimal, option_copied};
 ghost use Rattle.oz_cluster.specs.Report.{report_of, decide_text, halt_text, node_text, told_text, answer_text};
-ghost use Rattle.oz_cluster.specs.Report.{counts_text, list_text, request_text, reply_text, words_fault, script_fault};
+ghost use Rattle.oz_cluster.specs.Report.{counts_text, states_text, list_text, request_text, reply_text, words_fault, script_fault};
 ghost use Rattle.oz_cluster.specs.Report.{damaged_manager, disk_fault, read_fault, memory_fault};
 
 use crate::events::{Event, EventKind, Node};
-use oz_bucket_requests::{Answer, AskId, Counts, Reply, Request, Values};
 use oz_fields::{Name, OutOfMemory};
+use oz_requests::{Answer, AskId, Counts, Reply, Request, Values};
 use std::alloc::Global;
 use std::collections::BTreeMap;
 
@@ -112,17 +112,71 @@ fn push_answer(alloc: Global, out: &mut Vec<u8>, answer: &Answer) -> Result<(), 
     ensures { OnOk result (out.new.items ≡ out.old.items ++ answer_text answer.now) }
 {
     match answer {
-        Answer::Ok(Values::Done) => push_text(out, "OK"),
-        Answer::Ok(Values::Buckets(count)) => {
-            push_text(out, &format!(in alloc; "OK buckets {count}")?)
-        }
-        Answer::Ok(Values::Counts(counts)) => push_counts(alloc, out, *counts),
-        Answer::Ok(Values::Names(names)) => push_names(alloc, out, names.items()),
+        Answer::Ok(values) => push_values(alloc, out, values),
         Answer::Code(code) => push_text(out, code.text()),
+        Answer::NoReplica { piece, .. } => {
+            push_text(out, &format!(in alloc; "NO_REPLICA piece {piece}")?)
+        }
+        Answer::Held { dn } => push_number(alloc, out, "HELD dn ", u64::from(*dn)),
+        Answer::NodeHalted { dn, count } => push_halted(alloc, out, *dn, *count),
         Answer::Unacknowledged => push_text(out, "UNACKNOWLEDGED"),
         Answer::ManagerStopped => push_text(out, "MANAGER_STOPPED"),
         Answer::OutOfMemory => push_text(out, "OUT_OF_MEMORY"),
+        Answer::NoPipeline => push_text(out, "NO_PIPELINE"),
+        Answer::NoQuorum => push_text(out, "NO_QUORUM"),
+        Answer::IdsSpent => push_text(out, "IDS_SPENT"),
+        Answer::ScmStopped => push_text(out, "SCM_STOPPED"),
+        Answer::NoSuchNode => push_text(out, "NO_SUCH_NODE"),
+        Answer::NotOpen => push_text(out, "NOT_OPEN"),
     }
+}
+
+/// A number behind these words.
+fn push_number(
+    alloc: Global,
+    out: &mut Vec<u8>,
+    words: &str,
+    number: u64,
+) -> Result<(), OutOfMemory>
+    ensures { OnOk result (out.new.items ≡ out.old.items ++ words.now ++ decimal number) }
+{
+    push_text(out, words)?;
+    push_text(out, &format!(in alloc; "{number}")?)
+}
+
+fn push_halted(alloc: Global, out: &mut Vec<u8>, dn: u8, count: u64) -> Result<(), OutOfMemory>
+    ensures { OnOk result (out.new.items ≡ out.old.items ++ answer_text (Answer.NodeHalted dn count)) }
+{
+    push_number(alloc, out, "NODE_HALTED dn ", u64::from(dn))?;
+    push_number(alloc, out, " count ", count)
+}
+
+fn push_values(alloc: Global, out: &mut Vec<u8>, values: &Values) -> Result<(), OutOfMemory>
+    ensures { OnOk result (out.new.items ≡ out.old.items ++ answer_text (Answer.Ok values.now)) }
+{
+    match values {
+        Values::Done => push_text(out, "OK"),
+        Values::Length(length) => push_number(alloc, out, "OK ", *length),
+        Values::Bytes(bytes) => push_number(alloc, out, "OK ", bytes.len() as u64),
+        Values::Buckets(count) => push_number(alloc, out, "OK buckets ", u64::from(*count)),
+        Values::Counts(counts) => push_counts(alloc, out, *counts),
+        Values::Sessions(count) => push_number(alloc, out, "OK ", u64::from(*count)),
+        Values::Keys(count) => push_number(alloc, out, "OK keys ", u64::from(*count)),
+        Values::Names(names) => push_names(alloc, out, names.items()),
+        Values::States(counts) => push_states(alloc, out, *counts),
+    }
+}
+
+fn push_states(alloc: Global, out: &mut Vec<u8>, counts: [u32; 6]) -> Result<(), OutOfMemory>
+    ensures { OnOk result (out.new.items ≡ out.old.items ++ states_text counts) }
+{
+    let [open, closing, quasi_closed, closed, deleting, deleted] = counts;
+    push_number(alloc, out, "OK open ", u64::from(open))?;
+    push_number(alloc, out, " closing ", u64::from(closing))?;
+    push_number(alloc, out, " quasi_closed ", u64::from(quasi_closed))?;
+    push_number(alloc, out, " closed ", u64::from(closed))?;
+    push_number(alloc, out, " deleting ", u64::from(deleting))?;
+    push_number(alloc, out, " deleted ", u64::from(deleted))
 }
 
 fn push_counts(alloc: Global, out: &mut Vec<u8>, counts: Counts) -> Result<(), OutOfMemory>
@@ -156,13 +210,36 @@ fn request_text(request: Option<&Request>) -> &'static str
 {
     match request {
         None => "",
-        Some(Request::CreateVolume { .. }) => "CreateVolume",
-        Some(Request::InfoVolume { .. }) => "InfoVolume",
-        Some(Request::DeleteVolume { .. }) => "DeleteVolume",
-        Some(Request::CreateBucket { .. }) => "CreateBucket",
-        Some(Request::InfoBucket { .. }) => "InfoBucket",
-        Some(Request::DeleteBucket { .. }) => "DeleteBucket",
-        Some(Request::ListBuckets { .. }) => "ListBuckets",
+        Some(request) => request_name(request),
+    }
+}
+
+fn request_name(request: &Request) -> &'static str
+    ensures { result.now ≡ request_text (Some request.now) }
+{
+    match request {
+        Request::CreateVolume { .. } => "CreateVolume",
+        Request::InfoVolume { .. } => "InfoVolume",
+        Request::DeleteVolume { .. } => "DeleteVolume",
+        Request::CreateBucket { .. } => "CreateBucket",
+        Request::InfoBucket { .. } => "InfoBucket",
+        Request::DeleteBucket { .. } => "DeleteBucket",
+        Request::ListBuckets { .. } => "ListBuckets",
+        Request::CreateKey { .. } => "CreateKey",
+        Request::AllocateBlock { .. } => "AllocateBlock",
+        Request::CommitKey { .. } => "CommitKey",
+        Request::DeleteKey { .. } => "DeleteKey",
+        Request::RenameKey { .. } => "RenameKey",
+        Request::LookupKey { .. } => "LookupKey",
+        Request::ListKeys { .. } => "ListKeys",
+        Request::ExpireOpen { .. } => "ExpireOpen",
+        Request::CreateSnapshot { .. } => "CreateSnapshot",
+        Request::DeleteSnapshot { .. } => "DeleteSnapshot",
+        Request::ListSnapshots { .. } => "ListSnapshots",
+        Request::InfoSnapshot { .. } => "InfoSnapshot",
+        Request::Purge { .. } => "Purge",
+        Request::MoveDeleted { .. } => "MoveDeleted",
+        Request::PurgeSnapshot { .. } => "PurgeSnapshot",
     }
 }
 
@@ -170,7 +247,13 @@ fn reply_text(reply: &Reply) -> &'static str
     ensures { result.now ≡ reply_text reply.now }
 {
     match reply {
-        Reply::Done | Reply::Count(_) | Reply::Counts(_) | Reply::Names(_) => "OK",
+        Reply::Done
+        | Reply::Count(_)
+        | Reply::Counts(_)
+        | Reply::Names(_)
+        | Reply::Session(_)
+        | Reply::Granted(..)
+        | Reply::Pieces(_) => "OK",
         Reply::Code(code) => code.text(),
     }
 }

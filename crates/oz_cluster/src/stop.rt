@@ -1,11 +1,12 @@
 //! What stops a run before its work, and how the run says so.
 
-ghost use Rattle.std.specs.Prelude.{◌≡◌, ◌⊎◌, ◌≤◌, ℕ, List as Items, Option, map, IfOk, IfErr};
+ghost use Rattle.std.specs.Prelude.{◌≡◌, ◌⊎◌, ◌≤◌, ℕ, List as Items, Option, None, map, IfOk, IfErr};
 ghost use Rattle.std.specs.String.{string_bytes};
 ghost use Rattle.oz_world.specs.Faults.{Rose};
 ghost use Rattle.oz_cluster.specs.declared.stop.Stop.{Stop};
 ghost use Rattle.oz_cluster.specs.Stopped.{status_of, text_of, IsScriptOf, IsSo, Reads, Says};
-ghost use Rattle.oz_script.specs.Script.{IsNumbered};
+ghost use Rattle.oz_lines.specs.Numbered.{IsNumbered};
+ghost use Rattle.oz_lines.specs.Served.{later_index};
 ghost use Rattle.oz_cluster.specs.Streams.{script_limit, TakesUpTo, IsReadThrough};
 ghost use Rattle.oz_cluster.specs.Words.{IsRun};
 
@@ -14,7 +15,8 @@ use crate::status::Status;
 use crate::streams::{ReadFault, read_script, write_all};
 use crate::words::read_words;
 use oz_fields::OutOfMemory;
-use oz_script::{Cause, Script, ScriptFault, parse};
+use oz_lines::{Cause, Script, ScriptFault};
+use oz_script::parse;
 use oz_world::{Sink, Source};
 use std::alloc::Global;
 
@@ -92,6 +94,7 @@ pub fn begin<S: Source>(alloc: Global, words: &[String], source: &mut S) -> Resu
     ensures words { IfOk result (λ _. IsRun (map string_bytes words.now)) }
     ensures script { IfOk result (IsScriptOf (S.left source.old)) }
     ensures numbered { IfOk result IsNumbered }
+    ensures served { IfOk result (λ script. later_index script.lines ≡ None) }
     ensures so { IfErr result (λ stop. (disk : Option (Items ℕ)) →
         IsSo (map string_bytes words.now) (S.left source.old) disk (Rose (S.faults source.old) (S.faults source.new))
         ⊥ stop) }

@@ -7,7 +7,7 @@ ghost use Rattle.oz_world.specs.Faults.{Rose, HasCause};
 ghost use Rattle.oz_cluster.specs.Streams.{script_limit, TakesUpTo, IsReadThrough, HoldsPrefix};
 
 use oz_fields::OutOfMemory;
-use oz_script::MOST_BYTES;
+use oz_lines::MOST_BYTES;
 use oz_world::{Failed, Sink, Source};
 use std::alloc::Global;
 

@@ -1,19 +1,20 @@
 //! Serving all lines of a script.
 
-ghost use Rattle.std.specs.Prelude.{◌≡◌, ◌≤◌, ◌<◌, ◌^◌, [], ℕ, false, length, OnOk};
+ghost use Rattle.std.specs.Prelude.{◌≡◌, ◌≤◌, ◌<◌, ◌^◌, [], ℕ, false, length, None, OnOk};
 ghost use Rattle.oz_rows.specs.declared.operation.TheConstants.{END_OF_INDEXES};
 ghost use Rattle.oz_world.specs.Disk.{seen};
 ghost use Rattle.oz_cache.specs.Cache.{newest, last_epoch};
 ghost use Rattle.oz_world.specs.Moments.{Elapses};
 ghost use Rattle.oz_namespace.specs.declared.namespace.Namespace.{Namespace as AnyNamespace};
 ghost use Rattle.oz_om_bucket.specs.Meets.{Stand};
-ghost use Rattle.oz_script.specs.Script.{IsNumbered};
+ghost use Rattle.oz_lines.specs.Numbered.{IsNumbered};
+ghost use Rattle.oz_lines.specs.Served.{later_index};
 ghost use Rattle.oz_cluster.specs.Manager.{IsSettled};
 ghost use Rattle.oz_cluster.specs.Quiet.{IsLoaded, IsServed, IsRight, IsHeld};
 
 use crate::manager::Manager;
 use oz_fields::OutOfMemory;
-use oz_script::Script;
+use oz_lines::Script;
 use oz_world::{Disk, Gate};
 use std::alloc::Global;
 use std::sync::Wait;
@@ -27,6 +28,7 @@ pub fn serve_all<R: Wait, D: Disk, G: Gate>(
     manager: &mut Manager<D>,
 ) -> Result<(), OutOfMemory>
     requires numbered { IsNumbered script.now }
+    requires served { later_index script.now.lines ≡ None }
     requires unserved { manager.old.story.items ≡ [] }
     requires running { manager.old.journal.stopped ≡ false }
     requires index { last_epoch manager.old.rows < END_OF_INDEXES }

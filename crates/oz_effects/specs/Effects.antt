@@ -51,12 +51,13 @@ closed volume bucket (keys.Open of_volume of_bucket key number) =
 closed volume bucket key = []
 
 -- a key row has the block
-abbrev pub has_block : Block → Row → Bool
-has_block block (rows.Key made pieces) = list_any (λ (piece : Piece). is_block block piece.block) pieces
-has_block block row = false
+abbrev pub has_block : Block → RowKey → Row → Bool
+has_block block (keys.Key volume bucket key) (rows.Key made pieces) =
+    list_any (λ (piece : Piece). is_block block piece.block) pieces
+has_block block key row = false
 
 abbrev pub is_in_a_key : List RowEntry → Block → Bool
-is_in_a_key all block = list_any (λ (entry : RowEntry). has_block block entry.row) all
+is_in_a_key all block = list_any (λ (entry : RowEntry). has_block block entry.key entry.row) all
 
 -- each block of an open row of the bucket that stands in no key row gets a deleted row of its own
 abbrev pub freed : List RowEntry → List ℕ → List ℕ → RowKey → Row → List Change

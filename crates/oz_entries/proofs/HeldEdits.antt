@@ -24,7 +24,7 @@ pub none_of : {X : Type 0} (o : Option X) → is_some o ≡ false → o ≡ None
 none_of None is = refl
 none_of (Some x) is = absurd (false≢true (sym is))
 
-pub put_same : (held : HeldView) (block : Block) (row : BlockRow) (rows : List (Block × BlockRow)) (users : List (Option Block)) → length held.users ≡ 16384 → HaveFreeSlots (is_used (node_of held)) row.chunks
+pub put_same : (held : HeldView) (block : Block) (row : BlockRow) (rows : List (Block × Option BlockRow)) (users : List (Option Block)) → length held.users ≡ 16384 → HaveFreeSlots (is_used (node_of held)) row.chunks
     → ((other : Block) → row_of rows other ≡ cond (is_same_block block other) (Some row) (row_of held.rows other)) → length users ≡ length held.users
     → ((slot : ℕ) → slot < length held.users → user_of users slot ≡ cond (any_in row.chunks slot) (Some block) (user_of held.users slot))
     → AreSame (with_row block row (node_of held)) (node_of (record { rows = rows; replicas = held.replicas; users = users }))
@@ -44,7 +44,7 @@ put_same held block row rows users size free rows_are count taken = record {
   by slot beyond none true is = absurd (omega (arith, beyond, slots_below (is_used (node_of held)) row.chunks free slot (sym is)))
   by slot beyond none false is = none
 
-pub forget_same : (held : HeldView) (block : Block) (row : Option BlockRow) (rows : List (Block × BlockRow)) (users : List (Option Block)) → IsSound (node_of held) → row ≡ row_of held.rows block
+pub forget_same : (held : HeldView) (block : Block) (row : Option BlockRow) (rows : List (Block × Option BlockRow)) (users : List (Option Block)) → IsSound (node_of held) → row ≡ row_of held.rows block
     → ((other : Block) → row_of rows other ≡ cond (is_same_block block other) None (row_of held.rows other))
     → ((slot : ℕ) → user_of users slot ≡ cond (row_has row slot) None (user_of held.users slot))
     → AreSame (without (is_same_block block) (node_of held)) (node_of (record { rows = rows; replicas = held.replicas; users = users }))
@@ -55,7 +55,7 @@ forget_same held block row rows users sound is rows_are free = record {
   users = λ slot. free slot ∙ (ap (λ (o : Option BlockRow). cond (row_has o slot) None (user_of held.users slot)) is ∙ released block (node_of held) sound slot);
 }
 
-pub outside_same : (held : HeldView) (container : ℕ) (rows : List (Block × BlockRow)) (users : List (Option Block))
+pub outside_same : (held : HeldView) (container : ℕ) (rows : List (Block × Option BlockRow)) (users : List (Option Block))
     → ((other : Block) → row_of rows other ≡ cond (is_in container other) None (row_of held.rows other))
     → ((slot : ℕ) → user_of users slot ≡ unless_gone (is_in container) (user_of held.users slot))
     → AreSame (without (is_in container) (node_of held)) (node_of (record { rows = rows; replicas = held.replicas; users = users }))

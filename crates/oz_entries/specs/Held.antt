@@ -13,10 +13,10 @@ use Rattle.oz_entries.specs.declared.row.Chunk.{Chunk}
 use Rattle.oz_entries.specs.declared.replica.Replica.{Replica}
 use Rattle.oz_entries.specs.Node.{Node, is_same_block, has_slot}
 
--- the rows in the order of their blocks, the replicas that were named in that of their containers, and for each slot
--- the block that uses it
+-- the rows in the order of their blocks, nothing where there is only room for one, the replicas that were named in the
+-- order of their containers, and for each slot the block that uses it
 pub record HeldView : Type 0 where
-  pub rows : List (Block × BlockRow)
+  pub rows : List (Block × Option BlockRow)
   pub replicas : List (ℕ × Replica)
   pub users : List (Option Block)
 
@@ -24,8 +24,11 @@ pub record HeldView : Type 0 where
 abbrev pub block_order : Block → Block → Ordering
 block_order a b = ordering_then (nat_cmp a.container b.container) (nat_cmp a.local b.local)
 
-abbrev pub row_of : List (Block × BlockRow) → Block → Option BlockRow
-row_of rows block = lookup (λ other. is_eq (block_order block other)) rows
+abbrev pub place_of : List (Block × Option BlockRow) → Block → Option (Option BlockRow)
+place_of rows block = lookup (λ other. is_eq (block_order block other)) rows
+
+abbrev pub row_of : List (Block × Option BlockRow) → Block → Option BlockRow
+row_of rows block = option_map_or (λ (row : Option BlockRow). row) (place_of rows block) None
 
 abbrev pub replica_of : List (ℕ × Replica) → ℕ → Option Replica
 replica_of replicas container = lookup (λ other. is_eq (nat_cmp container other)) replicas
@@ -54,6 +57,10 @@ node_of held = record {
 abbrev pub IsNamed : HeldView → ℕ → Type 0
 IsNamed held container = is_some (replica_of held.replicas container) ≡ true
 
+-- there is room for the block's row
+abbrev pub HasRoom : HeldView → Block → Type 0
+HasRoom held block = is_some (place_of held.rows block) ≡ true
+
 -- two nodes hold the same
 pub record AreSame (node other : Node) : Type 0 where
   pub rows : (block : Block) → other.rows block ≡ node.rows block
@@ -68,6 +75,11 @@ belongs_to (Some user) block = is_same_block block user
 abbrev pub row_has : Option BlockRow → ℕ → Bool
 row_has None slot = false
 row_has (Some row) slot = has_slot row slot
+
+-- the slot is that of a block that goes
+abbrev pub is_freed : (Block → Bool) → Option Block → Bool
+is_freed is_gone None = false
+is_freed is_gone (Some block) = is_gone block
 
 -- a block uses the slots of its row, and no other slots are used
 abbrev pub IsSound : Node → Type 0

@@ -90,7 +90,9 @@ fn apply_put(alloc: Global, held: &mut Held, block: Block, row: BlockRow) -> Res
     requires { MayFollow (node_of held.old) (Entry.Put block row) }
     ensures { OnOk result (node_of held.new ≡ after_entry (Entry.Put block row) (node_of held.old)) }
 {
-    held.put(alloc, block, row)
+    held.make_room(alloc, block)?;
+    held.put(block, row);
+    Ok(())
 }
 
 fn apply_state(

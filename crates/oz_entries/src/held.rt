@@ -1,15 +1,18 @@
 //! What a datanode holds, in memory.
 
-ghost use Rattle.std.specs.Prelude.{◌≡◌, ◌<◌, ◌^◌, ℕ, true, false};
-ghost use Rattle.std.specs.Prelude.{None, option_copied, IfOk, OnOk, OnErr, if◌then◌else◌};
+ghost use Rattle.std.specs.Prelude.{◌≡◌, ◌↔◌, ◌<◌, ◌^◌, ℕ, true, false, IsTrue, Contains};
+ghost use Rattle.std.specs.Prelude.{None, option_copied, IfOk, OnOk, if◌then◌else◌};
+ghost use Rattle.std.specs.List.Sorted.{IsStrictlyIncreasing};
 ghost use Rattle.oz_entries.specs.Node.{empty_node, is_held, is_used, is_same_block, is_in, without, with_row};
 ghost use Rattle.oz_entries.specs.Node.{with_state, with_number, names_some, HaveFreeSlots};
-ghost use Rattle.oz_entries.specs.Held.{node_of, AreSame, IsSound, IsNamed};
+ghost use Rattle.oz_entries.specs.Held.{node_of, AreSame, IsSound, IsNamed, HasRoom, is_freed};
 
-use crate::maps::{change, drop_rows, insert_row, name, replica_at, row_at, take_row};
+use crate::maps::{
+    Rows, change, drop_rows, give_row, make_room, name, replica_at, row_at, take_row,
+};
 use crate::replica::Replica;
 use crate::row::BlockRow;
-use crate::users::{no_users, release_container, release_row, take_slots};
+use crate::users::{no_users, release_all, release_container, release_row, slots_of, take_slots};
 use oz_container::State;
 use oz_fields::{Block, OutOfMemory};
 use std::alloc::Global;
@@ -19,7 +22,7 @@ use std::marker::Model;
 /// The rows of the blocks that are held, the replicas that were named, and which block uses which slot.
 #[derive(Drop)]
 pub struct Held {
-    rows: BTreeMap<Block, BlockRow>,
+    rows: Rows,
     replicas: BTreeMap<u64, Replica>,
     users: Vec<Option<Block>>,
 }
@@ -87,17 +90,23 @@ impl Held {
         }
     }
 
-    /// Gives a row to a block that isn't held. Where memory runs out nothing changes.
-    pub fn put(&mut self, alloc: Global, block: Block, row: BlockRow) -> Result<(), OutOfMemory>
+    /// Makes the room that a block's row takes. It stands for the same.
+    pub fn make_room(&mut self, _alloc: Global, block: Block) -> Result<(), OutOfMemory>
+        ensures room { OnOk result (HasRoom self.new block) }
+        ensures same { AreSame (node_of self.old) (node_of self.new) }
+    {
+        make_room(&mut self.rows, block)
+    }
+
+    /// Gives a row to a block that isn't held.
+    pub fn put(&mut self, block: Block, row: BlockRow)
+        requires room { HasRoom self.old block }
         requires absent { is_held (node_of self.old) block ≡ false }
         requires free { HaveFreeSlots (is_used (node_of self.old)) row.chunks }
-        ensures ok { OnOk result (AreSame (with_row block row (node_of self.old)) (node_of self.new)) }
-        ensures err { OnErr result (AreSame (node_of self.old) (node_of self.new)) }
+        ensures { AreSame (with_row block row (node_of self.old)) (node_of self.new) }
     {
-        let chunks = Vec::from_slice(alloc, row.chunks.items())?;
-        insert_row(&mut self.rows, block, row)?;
-        take_slots(&mut self.users, block, &chunks);
-        Ok(())
+        take_slots(&mut self.users, block, row.chunks.items());
+        give_row(&mut self.rows, block, row);
     }
 
     /// Takes a block's row away, if it has one.
@@ -129,6 +138,29 @@ impl Held {
     {
         drop_rows(&mut self.rows, container);
         release_container(&mut self.users, container);
+    }
+
+    /// Takes everything away.
+    pub fn clear(&mut self)
+        ensures { AreSame empty_node (node_of self.new) }
+    {
+        self.rows.clear();
+        self.replicas.clear();
+        release_all(&mut self.users);
+    }
+
+    /// The slots of blocks of one container, by their own numbers.
+    pub fn slots_of(
+        &self,
+        alloc: Global,
+        container: u64,
+        locals: &[u64],
+    ) -> Result<Vec<u32>, OutOfMemory>
+        ensures each { IfOk result (λ slots. (slot : ℕ) → Contains slots.items slot
+            ↔ IsTrue (is_freed (names_some container locals.now) ((node_of self.now).users slot))) }
+        ensures rising { IfOk result (λ slots. IsStrictlyIncreasing slots.items) }
+    {
+        slots_of(alloc, &self.users, container, locals)
     }
 
     /// Makes the room that a change of a replica takes. It stands for the same.

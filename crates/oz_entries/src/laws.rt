@@ -1,6 +1,6 @@
 //! What holds of all entries.
 
-ghost use Rattle.std.specs.Prelude.{◌≡◌, ◌++◌, ◌∷◌, [], ℕ, List, Ok};
+ghost use Rattle.std.specs.Prelude.{◌≡◌, ◌≤◌, ◌++◌, ◌∷◌, [], ℕ, List, Ok, Some, length, slice_get};
 ghost use Rattle.oz_fields.specs.Field.{AreBytes};
 ghost use Rattle.oz_entries.specs.declared.entry.Entry.{Entry as AnyEntry};
 ghost use Rattle.oz_entries.specs.Build.{Makes, FailsAt};
@@ -19,12 +19,16 @@ pub fn an_entry_has_one_spelling()
         MayFollow before entry × (bytes ≡ entry_bytes entry ++ rest) }
 {}
 
-/// The bodies of a journal make one thing, or are damaged, and not both.
+/// The bodies of a journal make one thing, or are damaged at one place, which lies in one of them, and not both.
 pub fn bodies_make_one_node()
     ensures one_node { (bodies : List (List ℕ)) (node other : Node) →
         Makes bodies node → Makes bodies other → node ≡ other }
     ensures not_both { (bodies : List (List ℕ)) (node : Node) (count place : ℕ) →
         Makes bodies node → FailsAt bodies count place → ⊥ }
+    ensures one_fault { (bodies : List (List ℕ)) (count place other at : ℕ) →
+        FailsAt bodies count place → FailsAt bodies other at → (count ≡ other) × (place ≡ at) }
+    ensures within { (bodies : List (List ℕ)) (count place : ℕ) → FailsAt bodies count place →
+        (body : List ℕ) × (slice_get bodies count ≡ Some body) × (place ≤ length body) }
 {}
 
 /// An entry that may follow makes one body more.

@@ -1,7 +1,7 @@
 //! The maps in which rows and replicas are kept.
 
-ghost use Rattle.std.specs.Prelude.{◌≡◌, ◌==◌, ℕ, None, Some, true, is_some, option_copied, OnOk, OnErr, if◌then◌else◌};
-ghost use Rattle.oz_entries.specs.Held.{row_of, replica_of, state_in, greatest_in};
+ghost use Rattle.std.specs.Prelude.{◌≡◌, ◌==◌, ℕ, None, Some, true, is_some, option_copied, OnOk, if◌then◌else◌};
+ghost use Rattle.oz_entries.specs.Held.{place_of, row_of, replica_of, state_in, greatest_in};
 ghost use Rattle.oz_entries.specs.Node.{is_same_block, is_in};
 ghost use Rattle.oz_fields.specs.declared.block.Block.{Block as AnyBlock};
 
@@ -11,37 +11,55 @@ use oz_container::State;
 use oz_fields::{Block, OutOfMemory};
 use std::collections::BTreeMap;
 
-pub(crate) fn row_at<'m>(rows: &'m BTreeMap<Block, BlockRow>, block: &Block) -> Option<&'m BlockRow>
+/// The rows of blocks, None where there is only room for one.
+pub(crate) type Rows = BTreeMap<Block, Option<BlockRow>>;
+
+pub(crate) fn row_at<'m>(rows: &'m Rows, block: &Block) -> Option<&'m BlockRow>
     ensures { option_copied result ≡ row_of rows.now.entries block.now }
 {
-    rows.get(block)
+    match rows.get(block) {
+        Some(Some(row)) => Some(row),
+        _ => None,
+    }
 }
 
-/// Where memory runs out nothing changes.
-pub(crate) fn insert_row(
-    rows: &mut BTreeMap<Block, BlockRow>,
-    block: Block,
-    row: BlockRow,
-) -> Result<(), OutOfMemory>
-    ensures ok { OnOk result ((other : AnyBlock) → row_of rows.new.entries other
-        ≡ (if is_same_block block other then Some row else row_of rows.old.entries other)) }
-    ensures err { OnErr result (rows.new.entries ≡ rows.old.entries) }
+/// Makes room for a block's row, so that it can be given one later without memory. It stands for the same.
+pub(crate) fn make_room(rows: &mut Rows, block: Block) -> Result<(), OutOfMemory>
+    ensures room { OnOk result (is_some (place_of rows.new.entries block) ≡ true) }
+    ensures rows { (other : AnyBlock) → row_of rows.new.entries other ≡ row_of rows.old.entries other }
 {
-    rows.insert(block, row)?;
-    Ok(())
+    match rows.get(&block) {
+        Some(_) => Ok(()),
+        None => {
+            rows.insert(block, None)?;
+            Ok(())
+        }
+    }
+}
+
+/// Gives a row to a block for which there is room.
+pub(crate) fn give_row(rows: &mut Rows, block: Block, row: BlockRow)
+    requires { is_some (place_of rows.old.entries block) ≡ true }
+    ensures { (other : AnyBlock) → row_of rows.new.entries other
+        ≡ (if is_same_block block other then Some row else row_of rows.old.entries other) }
+{
+    let _ = rows.insert(block, Some(row));
 }
 
 /// The row that a block had, which is gone.
-pub(crate) fn take_row(rows: &mut BTreeMap<Block, BlockRow>, block: &Block) -> Option<BlockRow>
+pub(crate) fn take_row(rows: &mut Rows, block: &Block) -> Option<BlockRow>
     ensures taken { result ≡ row_of rows.old.entries block.now }
     ensures gone { (other : AnyBlock) → row_of rows.new.entries other
         ≡ (if is_same_block block.now other then None else row_of rows.old.entries other) }
 {
-    rows.remove(block)
+    match rows.remove(block) {
+        Some(row) => row,
+        None => None,
+    }
 }
 
 /// The rows of a container's blocks are gone.
-pub(crate) fn drop_rows(rows: &mut BTreeMap<Block, BlockRow>, container: u64)
+pub(crate) fn drop_rows(rows: &mut Rows, container: u64)
     ensures { (other : AnyBlock) → row_of rows.new.entries other
         ≡ (if is_in container other then None else row_of rows.old.entries other) }
 {

@@ -1,8 +1,11 @@
 //! Which block uses which slot.
 
-ghost use Rattle.std.specs.Prelude.{◌≡◌, ◌<◌, ◌==◌, ℕ, None, Some, false, length, IfOk, if◌then◌else◌};
-ghost use Rattle.oz_entries.specs.Held.{user_of, any_in, row_has};
-ghost use Rattle.oz_entries.specs.Node.{unless_gone, is_in};
+ghost use Rattle.std.specs.Prelude.{◌≡◌, ◌↔◌, ◌<◌, ◌≤◌, ◌==◌, ◌++◌, ◌∷◌, [], ℕ, None, Some, false, length, IfOk, OnOk};
+ghost use Rattle.std.specs.Prelude.{IsTrue, Contains, if◌then◌else◌};
+ghost use Rattle.std.specs.List.{list_any};
+ghost use Rattle.std.specs.List.Sorted.{IsStrictlyIncreasing};
+ghost use Rattle.oz_entries.specs.Held.{user_of, any_in, row_has, is_freed as is_user_freed};
+ghost use Rattle.oz_entries.specs.Node.{unless_gone, is_in, names_some};
 
 use crate::row::{BlockRow, Chunk};
 use oz_chunk::SLOTS;
@@ -66,6 +69,58 @@ fn set_user(users: &mut Vec<Option<Block>>, slot: u32, user: Option<Block>)
     if slot < users.len() {
         users[slot] = user;
     }
+}
+
+/// Sets all slots free.
+pub(crate) fn release_all(users: &mut Vec<Option<Block>>)
+    ensures count { length users.new.items ≡ length users.old.items }
+    ensures none { (slot : ℕ) → user_of users.new.items slot ≡ None }
+{
+    users.fill(None);
+}
+
+/// The slots of blocks of one container, by their own numbers. Each stands once.
+pub(crate) fn slots_of(
+    alloc: Global,
+    users: &[Option<Block>],
+    container: u64,
+    locals: &[u64],
+) -> Result<Vec<u32>, OutOfMemory>
+    requires { length users.now ≤ SLOTS }
+    ensures each { IfOk result (λ slots. (slot : ℕ) → Contains slots.items slot
+        ↔ IsTrue (is_user_freed (names_some container locals.now) (user_of users.now slot))) }
+    ensures rising { IfOk result (λ slots. IsStrictlyIncreasing slots.items) }
+{
+    let mut slots = Vec::new(alloc);
+    for slot in 0..users.len() {
+        let is_one = is_freed(user_at(users, slot), container, locals);
+        push_if(&mut slots, slot as u32, is_one)?;
+    }
+    Ok(slots)
+}
+
+fn is_freed(user: Option<Block>, container: u64, locals: &[u64]) -> bool
+    ensures { result ≡ is_user_freed (names_some container locals.now) user }
+{
+    match user {
+        Some(block) => container == block.container && is_among(block.local, locals),
+        None => false,
+    }
+}
+
+fn is_among(local: u64, locals: &[u64]) -> bool
+    ensures { result ≡ list_any (λ other. other == local) locals.now }
+{
+    locals.iter().any(|other| *other == local)
+}
+
+fn push_if(slots: &mut Vec<u32>, slot: u32, is_one: bool) -> Result<(), OutOfMemory>
+    ensures { OnOk result (slots.new.items ≡ slots.old.items ++ (if is_one then slot ∷ [] else [])) }
+{
+    if is_one {
+        slots.push(slot)?;
+    }
+    Ok(())
 }
 
 /// Sets the slots of a container's blocks free.

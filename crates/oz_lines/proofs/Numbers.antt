@@ -5,7 +5,7 @@ use Rattle.std.specs.List.{list_all, zip}
 use Rattle.std.specs.Option.{ok_or}
 use Rattle.std.specs.Str.Lines.{lines}
 use Rattle.std.proofs.lemmas.Bool.{eqb-true, ltb-true, and_parts}
-use Rattle.std.proofs.lemmas.List.{append-nil, length-append}
+use Rattle.std.proofs.lemmas.List.{append-nil, length-append, length-map}
 use Rattle.std.proofs.lemmas.List.Sums.{sum_by-append}
 use Rattle.oz_command.specs.Words.{is_blank, is_visible, words}
 use Rattle.oz_lines.specs.declared.drafting.Draft.{Draft}
@@ -154,3 +154,16 @@ pub numbered-read : (bytes : List ℕ) (draft : Draft) (result : Result PlacedSc
     → MatchResult result (λ placed. placed_of draft ≡ Ok placed) (λ fault. Fails fault (placed_of draft)) → IfOk result (λ placed. IsNumbered placed.script)
 numbered-read bytes draft (Ok placed) e is = numbered-placed draft placed (numbered-draft bytes draft e) is
 numbered-read bytes draft (Err fault) e is = tt
+
+placed-each : (draft : Draft) (placed : PlacedScript) → DraftNumbered draft → placed_of draft ≡ Ok placed → length placed.places ≡ length placed.script.lines
+unfolding placed_of
+placed-each draft placed n e =
+    let a = bind_ok (afters_of draft draft.entries) (λ afters. let r : Result PlacedScript ScriptFault = Ok (record { script = record { clients = draft.clients; lines = made draft.entries afters }; places = map (λ entry. entry.place) draft.entries }) in r) placed e in
+    let same : record { script = record { clients = draft.clients; lines = made draft.entries a.0 }; places = map (λ entry. entry.place) draft.entries } ≡ placed = cc in
+    let m = numbered-made draft draft.entries [] [] a.0 n.in_order a.1 (λ client. refl) in
+    subst (λ (p : PlacedScript). length p.places ≡ length p.script.lines) same (length-map draft.entries (λ (entry : Entry). entry.place) ∙ sym m.1)
+
+pub placed-read : (bytes : List ℕ) (draft : Draft) (result : Result PlacedScript ScriptFault) → draft_of bytes ≡ Ok draft
+    → MatchResult result (λ placed. placed_of draft ≡ Ok placed) (λ fault. Fails fault (placed_of draft)) → IfOk result (λ placed. length placed.places ≡ length placed.script.lines)
+placed-read bytes draft (Ok placed) e is = placed-each draft placed (numbered-draft bytes draft e) is
+placed-read bytes draft (Err fault) e is = tt

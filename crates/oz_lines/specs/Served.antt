@@ -1,6 +1,6 @@
 -- Which lines are served today.
-use Rattle.std.specs.Prelude.{ℕ, ◌==◌, ◌&&◌, Bool, true, false, not, is_none, List, Option, None, Some}
-use Rattle.std.specs.List.{position, slice_get}
+use Rattle.std.specs.Prelude.{ℕ, ◌==◌, ◌&&◌, Bool, true, false, not, is_none, List, Option}
+use Rattle.std.specs.List.{position}
 use Rattle.oz_command.specs.declared.command.Command.{Command}
 use Rattle.oz_command.specs.declared.command.Command.TheVariants.{VolumeCreate, VolumeDelete, VolumeInfo, BucketCreate}
 use Rattle.oz_command.specs.declared.command.Command.TheVariants.{BucketDelete, BucketInfo, BucketList, KeyPut, KeyOpen}
@@ -8,7 +8,6 @@ use Rattle.oz_command.specs.declared.command.Command.TheVariants.{KeyCommit, Key
 use Rattle.oz_command.specs.declared.command.Command.TheVariants.{KeyExpire, SnapshotCreate, SnapshotDelete, SnapshotInfo}
 use Rattle.oz_command.specs.declared.command.Command.TheVariants.{SnapshotList, Admin}
 use Rattle.oz_lines.specs.declared.script.Line.{Line}
-use Rattle.oz_lines.specs.declared.script.PlacedScript.{PlacedScript}
 
 -- the command is served
 abbrev pub is_served_command : Command → Bool
@@ -37,13 +36,6 @@ is_served_command (Admin command) = false
 abbrev pub is_served : Line → Bool
 is_served line = is_served_command line.command && line.client == 1 && is_none line.after
 
--- which line is the first that isn't served, counted from 0, and its place in the text
+-- which line is the first that isn't served, counted from 0
 abbrev pub later_index : List Line → Option ℕ
 later_index lines = position (λ line. not (is_served line)) lines
-
-abbrev pub place_at : List ℕ → Option ℕ → Option ℕ
-place_at places None = None
-place_at places (Some index) = slice_get places index
-
-abbrev pub later_place : PlacedScript → Option ℕ
-later_place placed = place_at placed.places (later_index placed.script.lines)

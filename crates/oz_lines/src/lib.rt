@@ -11,4 +11,4 @@ pub use drafting::{Draft, Entry, MOST_BYTES, MOST_CLIENTS, MOST_LINES};
 pub use fault::{Cause, ScriptFault};
 pub use said::{GREATEST_AFTER, Said};
 pub use script::{Line, PlacedScript, Script, read_lines};
-pub use served::{is_served, later_place};
+pub use served::{is_served, later_index};

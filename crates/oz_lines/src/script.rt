@@ -1,6 +1,6 @@
 //! Scripts, and the lines for which their lines wait.
 
-ghost use Rattle.std.specs.Prelude.{◌≡◌, map, IfOk, MatchResult};
+ghost use Rattle.std.specs.Prelude.{◌≡◌, length, map, IfOk, MatchResult};
 ghost use Rattle.std.specs.List.{zip};
 ghost use Rattle.oz_lines.specs.Drafts.{Fails};
 ghost use Rattle.oz_lines.specs.Numbered.{IsNumbered};
@@ -44,6 +44,7 @@ pub fn read_lines(alloc: Global, bytes: &[u8]) -> Result<PlacedScript, ScriptFau
     ensures exact { MatchResult result (λ placed. read_of bytes.now ≡ Ok placed)
         (λ fault. Fails fault (read_of bytes.now)) }
     ensures numbered { IfOk result (λ placed. IsNumbered placed.script) }
+    ensures places { IfOk result (λ placed. length placed.places ≡ length placed.script.lines) }
 {
     let drafting = draft_of(alloc, bytes)?;
     placed_of(alloc, drafting)

@@ -1,23 +1,14 @@
 //! Which lines are served today.
 
 ghost use Rattle.std.specs.Prelude.{◌≡◌};
-ghost use Rattle.oz_lines.specs.Served.{is_served, is_served_command, later_index, later_place};
+ghost use Rattle.oz_lines.specs.Served.{is_served, is_served_command, later_index};
 
-use crate::script::{Line, PlacedScript};
+use crate::script::Line;
 use oz_command::Command;
 use oz_fields::List;
 
-/// The place of the first line that isn't served yet, if there is one.
-pub fn later_place(placed: &PlacedScript) -> Option<u64>
-    ensures { result ≡ later_place placed.now }
-{
-    let Some(index) = later_index(&placed.script.lines) else {
-        return None;
-    };
-    placed.places.items().get(index).copied()
-}
-
-fn later_index(lines: &List<Line>) -> Option<usize>
+/// Which line is the first that isn't served yet, counted from 0, if there is one.
+pub fn later_index(lines: &List<Line>) -> Option<usize>
     ensures { result ≡ later_index lines.now }
 {
     lines.iter().position(|line| !is_served(line))

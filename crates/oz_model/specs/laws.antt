@@ -2,6 +2,7 @@
 pub mod Codes
 pub mod Grants
 pub mod Order
+pub mod Reaches
 pub mod Scopes
 pub mod Service
 pub mod Stripes

@@ -1,6 +1,8 @@
 //! What follows from the definitions, for whoever stands on them.
 
-ghost use Rattle.std.specs.Prelude.{◌≡◌, ◌≢◌, ℕ, List, Some};
+ghost use Rattle.std.specs.Prelude.{◌≡◌, ◌≢◌, ◌⊎◌, ℕ, List, Some};
+ghost use Rattle.std.specs.List.{Contains};
+ghost use Rattle.oz_fields.specs.declared.block.Block.{Block as AnyBlock};
 ghost use Rattle.oz_names.specs.declared.code.Code.{Code as AnyCode};
 ghost use Rattle.oz_names.specs.Names.{stripe_of};
 ghost use Rattle.oz_namespace.specs.declared.namespace.Namespace.{Namespace as AnyNamespace};
@@ -10,6 +12,8 @@ ghost use Rattle.oz_requests.specs.declared.request.Request.{Request as AnyReque
 ghost use Rattle.oz_requests.specs.Families.{family_of};
 ghost use Rattle.oz_requests.specs.Names.{name_fault, volume_in};
 ghost use Rattle.oz_model.specs.Answers.{Answers, after};
+ghost use Rattle.oz_model.specs.Buckets.{granted_by};
+ghost use Rattle.oz_model.specs.Reach.{IsReached};
 ghost use Rattle.oz_model.specs.Stripes.{AgreeOn};
 
 use oz_requests::{Family, Reply};
@@ -43,4 +47,11 @@ pub fn a_refusal_or_a_service_request_changes_nothing()
 pub fn names_are_tested_first()
     ensures { (namespace : AnyNamespace) (request : AnyRequest) (reply : AnyReply) (code : AnyCode) →
         name_fault request ≡ Some code → Answers namespace request reply → reply ≡ Reply.Code code }
+{}
+
+/// No block comes into reach but the one that a request grants.
+pub fn only_a_granted_block_comes_into_reach()
+    ensures { (namespace : AnyNamespace) (request : AnyRequest) (reply : AnyReply) (block : AnyBlock) →
+        Answers namespace request reply → IsReached (after namespace request reply) block →
+        IsReached namespace block ⊎ Contains (granted_by reply) block }
 {}

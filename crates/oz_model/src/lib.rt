@@ -15,7 +15,7 @@ mod words;
 pub use answering::answer;
 pub use laws::{
     a_refusal_or_a_service_request_changes_nothing, a_reply_rests_on_its_stripe,
-    names_are_tested_first,
+    names_are_tested_first, only_a_granted_block_comes_into_reach,
 };
 pub use oz_namespace::{Bucket, NameMap, Namespace, NumberMap, Session, Snapshot};
 pub use reaching::reach;

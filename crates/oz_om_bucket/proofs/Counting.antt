@@ -12,7 +12,7 @@ use Rattle.oz_namespace.specs.declared.namespace.Bucket.{Bucket}
 use Rattle.oz_namespace.specs.declared.namespace.Namespace.{Namespace}
 use Rattle.oz_namespace.specs.declared.namespace.Session.{Session}
 use Rattle.oz_namespace.specs.Namespace.{ByName, buckets_of, bucket_of, session_of}
-use Rattle.oz_bucket_model.specs.Answers.{buckets_at, bucket_at, bucket_or_new}
+use Rattle.oz_model.specs.Buckets.{buckets_at, bucket_at, bucket_or_new}
 use Rattle.oz_rows.specs.declared.key.RowKey.{RowKey}
 use Rattle.oz_rows.specs.declared.key.RowKey.TheVariants as keys
 use Rattle.oz_rows.specs.declared.row.Row.{Row}

@@ -9,7 +9,7 @@ use Rattle.oz_namespace.specs.declared.namespace.Bucket.{Bucket}
 use Rattle.oz_namespace.specs.declared.namespace.Namespace.{Namespace}
 use Rattle.oz_namespace.specs.declared.namespace.Snapshot.{Snapshot}
 use Rattle.oz_namespace.specs.Namespace.{bucket_of, snapshots_in}
-use Rattle.oz_bucket_model.specs.Answers.{bucket_at, bucket_or_new}
+use Rattle.oz_model.specs.Buckets.{bucket_at, bucket_or_new}
 use Rattle.oz_rows.specs.declared.key.RowKey.{RowKey}
 use Rattle.oz_rows.specs.declared.key.RowKey.TheVariants as keys
 use Rattle.oz_rows.specs.declared.row.Row.{Row}

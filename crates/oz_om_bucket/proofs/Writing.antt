@@ -13,10 +13,12 @@ use Rattle.oz_names.specs.Names.{IsVolumeName, IsBucketName}
 use Rattle.oz_namespace.specs.declared.namespace.Bucket.{Bucket}
 use Rattle.oz_namespace.specs.declared.namespace.Namespace.{Namespace}
 use Rattle.oz_namespace.specs.declared.namespace.Snapshot.{Snapshot}
-use Rattle.oz_namespace.specs.Namespace.{ByName, has_volume, has_bucket, buckets_of, bucket_of, with_volume, new_bucket}
-use Rattle.oz_bucket_model.specs.Answers.{Refusal, first_of, refusals, effect_of, buckets_at, bucket_at, buckets_in, bucket_or_new}
-use Rattle.oz_bucket_requests.specs.declared.request.Request.{Request}
-use Rattle.oz_bucket_requests.specs.declared.request.Request.TheVariants.{CreateVolume, DeleteVolume, CreateBucket, DeleteBucket}
+use Rattle.oz_namespace.specs.Namespace.{ByName, has_volume, has_bucket, buckets_of, bucket_of, with_volume, without_volume, new_bucket}
+use Rattle.oz_model.specs.Buckets.{buckets_at, bucket_at, buckets_in, bucket_or_new}
+use Rattle.oz_model.specs.Refusals.{Refusal, first_of, refusals}
+use Rattle.oz_model.specs.Scope.{scope_of}
+use Rattle.oz_requests.specs.declared.request.Request.{Request}
+use Rattle.oz_requests.specs.declared.request.Request.TheVariants.{CreateVolume, DeleteVolume, CreateBucket, DeleteBucket}
 use Rattle.oz_rows.specs.declared.key.RowKey.{RowKey}
 use Rattle.oz_rows.specs.declared.key.RowKey.TheVariants as keys
 use Rattle.oz_rows.specs.declared.row.Row.{Row}
@@ -37,6 +39,14 @@ use Rattle.oz_sound.specs.laws.BucketChanges.{is_name, one_name, itself, same_bu
 use Rattle.oz_om_bucket.specs.Meets.{Stand}
 use Rattle.oz_om_bucket.specs.Records.{changes_for, bytes_for}
 use Rattle.oz_om_bucket.proofs.Rising.{each_in_turn, len_keys}
+
+-- what each request on volumes and buckets leaves that isn't refused
+abbrev pub effect_of : Namespace → Request → Namespace
+effect_of namespace (CreateVolume v) = with_volume namespace v empty
+effect_of namespace (DeleteVolume v) = without_volume namespace v
+effect_of namespace (CreateBucket v b) = with_volume namespace v (insert (buckets_at namespace v) b new_bucket)
+effect_of namespace (DeleteBucket v b) = with_volume namespace v (remove (buckets_at namespace v) b)
+effect_of namespace request = namespace
 
 -- what a request leads to that isn't refused
 pub record Writes (all : Rows) (namespace : Namespace) (request : Request) : Type 0 where
@@ -164,9 +174,9 @@ module _ (all : Rows) (namespace : Namespace) (stand : Stand all namespace) wher
   sound_replaced key row agree fits buckets =
       sound_again all (replaced all key row) agree (λ q r low e. bare_row q r low (stand.fit q r e).1) (λ q r low e. bare_row q r low (fit_replaced all key row fits stand.fit q r e).1) buckets stand.sound
 
-  pub creates_volume : (v : List ℕ) → IsVolumeName v → first_of (refusals namespace (CreateVolume v)) ≡ None → Writes all namespace (CreateVolume v)
+  pub creates_volume : (v : List ℕ) → IsVolumeName v → first_of (refusals (scope_of namespace v) (CreateVolume v)) ≡ None → Writes all namespace (CreateVolume v)
   creates_volume v fits none =
-      let missing : has_volume namespace v ≡ false = (passed (refusals namespace (CreateVolume v)) none).1.0 in
+      let missing : has_volume namespace v ≡ false = (passed (refusals (scope_of namespace v) (CreateVolume v)) none).1.0 in
       let row_fits : (r : Row) → Some rows.Volume ≡ Some r → RowFits (keys.Volume v) r = λ r e. subst (RowFits (keys.Volume v)) (same_Some _ r e) (fits, tt) in
       record {
         batch = put_is_batch all (keys.Volume v) rows.Volume (fits, tt) (λ base e. absurd (some_apart (sym e)));
@@ -188,9 +198,9 @@ module _ (all : Rows) (namespace : Namespace) (stand : Stand all namespace) wher
   found : (v b : List ℕ) → bucket_of namespace v b ≡ get (buckets_at namespace v) b
   found v b = looked_up (buckets_of namespace v) b
 
-  pub deletes_volume : (v : List ℕ) → IsVolumeName v → first_of (refusals namespace (DeleteVolume v)) ≡ None → Writes all namespace (DeleteVolume v)
+  pub deletes_volume : (v : List ℕ) → IsVolumeName v → first_of (refusals (scope_of namespace v) (DeleteVolume v)) ≡ None → Writes all namespace (DeleteVolume v)
   deletes_volume v fits none =
-      let tests = passed (refusals namespace (DeleteVolume v)) none in
+      let tests = passed (refusals (scope_of namespace v) (DeleteVolume v)) none in
       let there : has_volume namespace v ≡ true = not_false _ tests.1.0 in
       let emptied : buckets_at namespace v ≡ empty = empty_of_len (buckets_at namespace v) (none_in _ tests.1.1.0) in
       let no_buckets : (b : List ℕ) → has_bucket namespace v b ≡ false = λ b. ap is_some (found v b) ∙ ap (λ (m : ByName Bucket). is_some (get m b)) emptied ∙ ap is_some (get-empty (slice_cmp nat_cmp) b) in
@@ -226,9 +236,9 @@ module _ (all : Rows) (namespace : Namespace) (stand : Stand all namespace) wher
       let size = no_longer is_name one_name items (keys_in m) differ (each_in_turn _ _ member items some) in
       omega (arith, size, len_keys (slice_cmp nat_cmp) nat_list_cmp_total (λ x y e. one_name x y (ap is_eq e)) m, few)
 
-  pub creates_bucket : (v b : List ℕ) → IsVolumeName v → IsBucketName b → first_of (refusals namespace (CreateBucket v b)) ≡ None → Writes all namespace (CreateBucket v b)
+  pub creates_bucket : (v b : List ℕ) → IsVolumeName v → IsBucketName b → first_of (refusals (scope_of namespace v) (CreateBucket v b)) ≡ None → Writes all namespace (CreateBucket v b)
   creates_bucket v b fits fits' none =
-      let tests = passed (refusals namespace (CreateBucket v b)) none in
+      let tests = passed (refusals (scope_of namespace v) (CreateBucket v b)) none in
       let there : has_volume namespace v ≡ true = not_false _ tests.1.1.0 in
       let missing : has_bucket namespace v b ≡ false = tests.1.1.1.0 in
       let room : len (buckets_at namespace v) < 1024 = under _ _ tests.1.1.1.1.0 in
@@ -273,9 +283,9 @@ module _ (all : Rows) (namespace : Namespace) (stand : Stand all namespace) wher
       let snapshots = stand.stands.snapshots v b in
       no_numbers all v b snapshots.numbers _ snapshots.each (sym seen.snapshots) n (snapshots.every n (name, previous, e))
 
-  pub deletes_bucket : (v b : List ℕ) → IsVolumeName v → IsBucketName b → first_of (refusals namespace (DeleteBucket v b)) ≡ None → Writes all namespace (DeleteBucket v b)
+  pub deletes_bucket : (v b : List ℕ) → IsVolumeName v → IsBucketName b → first_of (refusals (scope_of namespace v) (DeleteBucket v b)) ≡ None → Writes all namespace (DeleteBucket v b)
   deletes_bucket v b fits fits' none =
-      let tests = passed (refusals namespace (DeleteBucket v b)) none in
+      let tests = passed (refusals (scope_of namespace v) (DeleteBucket v b)) none in
       let there : has_volume namespace v ≡ true = not_false _ tests.1.1.0 in
       let had : has_bucket namespace v b ≡ true = not_false _ tests.1.1.1.0 in
       let unused = neither _ _ tests.1.1.1.1.0 in

@@ -1,9 +1,9 @@
 -- What a decision promises of the rows that it was made on.
 use Rattle.std.specs.Prelude.{◌≡◌, ℕ, List, [], Some}
-use Rattle.oz_bucket_model.specs.Answers.{Answers, after}
+use Rattle.oz_model.specs.Answers.{Answers, after, WritesNothing}
 use Rattle.oz_namespace.specs.declared.namespace.Namespace.{Namespace}
-use Rattle.oz_bucket_requests.specs.declared.reply.Reply.{Reply}
-use Rattle.oz_bucket_requests.specs.declared.request.Request.{Request}
+use Rattle.oz_requests.specs.declared.reply.Reply.{Reply}
+use Rattle.oz_requests.specs.declared.request.Request.{Request}
 use Rattle.oz_rows.specs.declared.key.RowKey.{RowKey}
 use Rattle.oz_rows.specs.declared.row.Row.{Row}
 use Rattle.oz_rows.specs.declared.operation.Change.{Change}
@@ -20,9 +20,9 @@ pub record Stand (rows : Rows) (namespace : Namespace) : Type 0 where
   pub sound : IsSound rows
 
 -- The reply is that of one thread. The bytes are the batch of the changes, which lead to rows that stand for what one
--- thread leaves. Where that is what was there, nothing changes.
+-- thread leaves. Where that is what was there, nothing changes; but for a service request, which may change rows then.
 pub record Meets (rows : Rows) (namespace : Namespace) (request : Request) (reply : Reply) (bytes : List ℕ) (changes : List Change) : Type 0 where
   pub answers : Answers namespace request reply
   pub batch : IsBatchOf rows bytes changes
   pub leads : Stand (after_changes changes rows) (after namespace request reply)
-  pub keeps : after namespace request reply ≡ namespace → changes ≡ []
+  pub keeps : WritesNothing namespace request reply → changes ≡ []

@@ -1,10 +1,15 @@
--- What a request records that isn't refused: one row that is put or goes.
+-- What a request on volumes and buckets records that isn't refused: one row that is put or goes. No other request is
+-- decided here.
 use Rattle.std.specs.Prelude.{ℕ, List, [], ◌∷◌}
-use Rattle.oz_bucket_requests.specs.declared.reply.Reply.{Reply}
-use Rattle.oz_bucket_requests.specs.declared.reply.Reply.TheVariants as replies
-use Rattle.oz_bucket_requests.specs.declared.request.Request.{Request}
-use Rattle.oz_bucket_requests.specs.declared.request.Request.TheVariants.{CreateVolume, InfoVolume, DeleteVolume, CreateBucket}
-use Rattle.oz_bucket_requests.specs.declared.request.Request.TheVariants.{InfoBucket, DeleteBucket, ListBuckets}
+use Rattle.oz_requests.specs.declared.reply.Reply.{Reply}
+use Rattle.oz_requests.specs.declared.reply.Reply.TheVariants as replies
+use Rattle.oz_requests.specs.declared.request.Request.{Request}
+use Rattle.oz_requests.specs.declared.request.Request.TheVariants.{CreateVolume, InfoVolume, DeleteVolume, CreateBucket}
+use Rattle.oz_requests.specs.declared.request.Request.TheVariants.{InfoBucket, DeleteBucket, ListBuckets, CreateKey}
+use Rattle.oz_requests.specs.declared.request.Request.TheVariants.{AllocateBlock, CommitKey, DeleteKey, RenameKey}
+use Rattle.oz_requests.specs.declared.request.Request.TheVariants.{LookupKey, ListKeys, ExpireOpen, CreateSnapshot}
+use Rattle.oz_requests.specs.declared.request.Request.TheVariants.{DeleteSnapshot, ListSnapshots, InfoSnapshot, Purge}
+use Rattle.oz_requests.specs.declared.request.Request.TheVariants.{MoveDeleted, PurgeSnapshot}
 use Rattle.oz_rows.specs.declared.key.RowKey.TheVariants as keys
 use Rattle.oz_rows.specs.declared.row.Row.TheVariants as rows
 use Rattle.oz_rows.specs.declared.operation.Change.{Change}
@@ -19,6 +24,21 @@ changes_for (DeleteBucket volume bucket) = gone (keys.Bucket volume bucket) ∷ 
 changes_for (InfoVolume volume) = []
 changes_for (InfoBucket volume bucket) = []
 changes_for (ListBuckets volume) = []
+changes_for (CreateKey volume bucket key) = []
+changes_for (AllocateBlock volume bucket key session exclude) = []
+changes_for (CommitKey volume bucket key session pieces) = []
+changes_for (DeleteKey volume bucket key) = []
+changes_for (RenameKey volume bucket key to) = []
+changes_for (LookupKey volume bucket snapshot key) = []
+changes_for (ListKeys volume bucket snapshot prefix start count) = []
+changes_for (ExpireOpen volume bucket) = []
+changes_for (CreateSnapshot volume bucket snapshot) = []
+changes_for (DeleteSnapshot volume bucket snapshot) = []
+changes_for (ListSnapshots volume bucket) = []
+changes_for (InfoSnapshot volume bucket snapshot) = []
+changes_for (Purge volume rows) = []
+changes_for (MoveDeleted volume bucket number to) = []
+changes_for (PurgeSnapshot volume bucket number) = []
 
 -- nothing where the reply is a code
 abbrev pub recorded_changes : Request → Reply → List Change
@@ -34,6 +54,21 @@ bytes_for (DeleteBucket volume bucket) = 2 ∷ key_bytes (keys.Bucket volume buc
 bytes_for (InfoVolume volume) = []
 bytes_for (InfoBucket volume bucket) = []
 bytes_for (ListBuckets volume) = []
+bytes_for (CreateKey volume bucket key) = []
+bytes_for (AllocateBlock volume bucket key session exclude) = []
+bytes_for (CommitKey volume bucket key session pieces) = []
+bytes_for (DeleteKey volume bucket key) = []
+bytes_for (RenameKey volume bucket key to) = []
+bytes_for (LookupKey volume bucket snapshot key) = []
+bytes_for (ListKeys volume bucket snapshot prefix start count) = []
+bytes_for (ExpireOpen volume bucket) = []
+bytes_for (CreateSnapshot volume bucket snapshot) = []
+bytes_for (DeleteSnapshot volume bucket snapshot) = []
+bytes_for (ListSnapshots volume bucket) = []
+bytes_for (InfoSnapshot volume bucket snapshot) = []
+bytes_for (Purge volume rows) = []
+bytes_for (MoveDeleted volume bucket number to) = []
+bytes_for (PurgeSnapshot volume bucket number) = []
 
 abbrev pub recorded_bytes : Request → Reply → List ℕ
 recorded_bytes request (replies.Code code) = []

@@ -2,17 +2,19 @@
 
 ghost use Rattle.std.specs.Prelude.{◌≡◌, [], ◌∷◌, true, IfOk};
 ghost use Rattle.oz_cache.specs.Cache.{newest};
-ghost use Rattle.oz_bucket_model.specs.Answers.{first_of, no_volume, no_bucket, is_in_use, bucket_at};
+ghost use Rattle.oz_model.specs.Buckets.{is_in_use, bucket_at};
+ghost use Rattle.oz_model.specs.Refusals.{first_of, no_volume, no_bucket};
+ghost use Rattle.oz_model.specs.Scope.{scope_of};
 ghost use Rattle.oz_names.specs.Names.{is_volume_name};
 ghost use Rattle.oz_om_bucket.specs.Replies.{IsReply, ShowsThat};
 
 use crate::lookups::{
     bucket_count, has_bucket, has_volume, key_count, session_count, snapshot_count,
 };
-use oz_bucket_requests::{Counts, Reply, Request};
 use oz_cache::Cached;
 use oz_fields::{Name, OutOfMemory};
 use oz_names::{Code, MOST_BUCKETS};
+use oz_requests::{Counts, Reply, Request};
 use std::alloc::Global;
 
 pub(crate) fn create_bucket(
@@ -88,7 +90,7 @@ fn missing(
     volume: &Name,
     bucket: &Name,
 ) -> Result<Option<Code>, OutOfMemory>
-    ensures { IfOk result (λ code. ShowsThat (newest cached.now) (λ namespace. code ≡ first_of (no_volume namespace volume.now ∷ no_bucket namespace volume.now bucket.now ∷ []))) }
+    ensures { IfOk result (λ code. ShowsThat (newest cached.now) (λ namespace. code ≡ first_of (no_volume (scope_of namespace volume.now) ∷ no_bucket (scope_of namespace volume.now) bucket.now ∷ []))) }
 {
     if !has_volume(alloc, cached, volume)? {
         return Ok(Some(Code::VolumeNotFound));

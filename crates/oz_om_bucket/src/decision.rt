@@ -2,8 +2,8 @@
 
 ghost use Rattle.std.specs.Prelude.{◌≡◌, []};
 
-use oz_bucket_requests::Reply;
 use oz_fields::List;
+use oz_requests::Reply;
 use oz_rows::Change;
 use std::alloc::Global;
 

@@ -3,7 +3,7 @@
 ghost use Rattle.std.specs.Prelude.{◌≡◌, ◌<◌, ◌^◌, ◌∷◌, ◌++◌, [], ℕ, length, is_some, IfOk};
 ghost use Rattle.std.specs.FinMap.{len, keys};
 ghost use Rattle.oz_cache.specs.Cache.{newest};
-ghost use Rattle.oz_bucket_model.specs.Answers.{buckets_at, bucket_at};
+ghost use Rattle.oz_model.specs.Buckets.{buckets_at, bucket_at};
 ghost use Rattle.oz_rows.specs.Counts.{IsCount};
 ghost use Rattle.oz_om_bucket.specs.Replies.{ShowsThat};
 

@@ -1,14 +1,15 @@
 //! What a request records among the rows.
 
 ghost use Rattle.std.specs.Prelude.{◌≡◌, ◌∷◌, [], None, IfOk};
-ghost use Rattle.oz_bucket_requests.specs.Names.{name_fault};
+ghost use Rattle.oz_requests.specs.Families.{family_of};
+ghost use Rattle.oz_requests.specs.Names.{name_fault};
 ghost use Rattle.oz_rows.specs.Rows.{RowFits, KeyFits, row_bytes, key_bytes};
 ghost use Rattle.oz_rows.specs.RowMaps.{put, gone};
 ghost use Rattle.oz_om_bucket.specs.Records.{recorded_changes, recorded_bytes};
 
 use crate::decision::{Decision, unchanged};
-use oz_bucket_requests::{Reply, Request};
 use oz_fields::{List, OutOfMemory};
+use oz_requests::{Family, Reply, Request};
 use oz_rows::{Change, Row, RowKey, put_removal, put_row};
 use std::alloc::Global;
 
@@ -18,7 +19,8 @@ pub(crate) fn recorded(
     request: &Request,
     reply: Reply,
 ) -> Result<Decision, OutOfMemory>
-    requires { name_fault request.now ≡ None }
+    requires family { family_of request.now ≡ Family.Buckets }
+    requires named { name_fault request.now ≡ None }
     ensures reply { IfOk result (λ decision. decision.reply ≡ reply) }
     ensures bytes { IfOk result (λ decision. decision.bytes ≡ recorded_bytes request.now reply) }
     ensures changes { IfOk result (λ decision. decision.changes ≡ recorded_changes request.now reply) }
@@ -47,6 +49,7 @@ pub(crate) fn recorded(
         Request::InfoVolume { .. } | Request::InfoBucket { .. } | Request::ListBuckets { .. } => {
             Ok(unchanged(alloc, reply))
         }
+        _ => unreachable!(),
     }
 }
 

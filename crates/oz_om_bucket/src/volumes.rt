@@ -6,10 +6,10 @@ ghost use Rattle.oz_names.specs.Names.{is_volume_name};
 ghost use Rattle.oz_om_bucket.specs.Replies.{IsReply};
 
 use crate::lookups::{bucket_count, bucket_names, has_volume};
-use oz_bucket_requests::{Reply, Request};
 use oz_cache::Cached;
 use oz_fields::{Name, OutOfMemory};
 use oz_names::Code;
+use oz_requests::{Reply, Request};
 use std::alloc::Global;
 
 pub(crate) fn create_volume(

@@ -1,3 +1,4 @@
-mod Parts
-mod PlainTexts
-mod ScriptSteps
+mod Counting
+mod Finds
+mod Parses
+mod Steps

@@ -1,4 +1,4 @@
-pub mod Causes
-pub mod Commands
-pub mod PlainScript
-pub mod Script
+pub mod Finding
+pub mod Parsing
+pub mod Waiting
+pub mod laws

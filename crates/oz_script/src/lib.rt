@@ -1,9 +1,10 @@
-//! Scripts: what their bytes say, or the first fault in them.
+//! The reading of a whole script.
 #![tactic(auto)]
 
-mod grammar;
+mod laws;
+mod parsing;
+mod waiting;
 
-pub use grammar::{
-    Cause, Command, LONGEST_CLIENT, Line, MOST_BYTES, MOST_LINES, Script, ScriptFault, parse,
-    plain_text_is_read,
-};
+pub use laws::each_text_has_one_answer;
+pub use parsing::parse;
+pub use waiting::first_back;

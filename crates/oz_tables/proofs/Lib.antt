@@ -1,4 +1,1 @@
-pub mod Searches
-pub mod Edits
-pub mod Following
-pub mod Ranks
+pub mod Views

@@ -1,42 +1,34 @@
 //! The rows of a manager, as one map in the order of their keys.
 
-ghost use Rattle.std.specs.Prelude.{◌≡◌, ◌+◌, ◌^◌, ◌<◌, ◌≤◌, [], length, slice_set, insert, vec_len, vec_capacity};
-ghost use Rattle.std.specs.Prelude.{option_copied, None, Some, if◌then◌else◌, MatchOption, IfOk, IfErr, IsOk, OnOk};
-ghost use Rattle.std.specs.Prelude.{OnErr};
+ghost use Rattle.std.specs.Prelude.{◌≡◌, ◌+◌, ◌^◌, ◌<◌, ◌≤◌, [], length};
+ghost use Rattle.std.specs.Prelude.{option_copied, None, Some, if◌then◌else◌, MatchOption, IsOk, OnOk};
 ghost use Rattle.oz_rows.specs.declared.key.RowKey.{RowKey as AnyKey};
-ghost use Rattle.oz_rows.specs.Order.{key_order};
 ghost use Rattle.oz_rows.specs.RowMaps.{row_of, row_after, row_after_one, is_same, KeysRise, IsNext, HasNoNext};
-ghost use Rattle.oz_tables.specs.Places.{IsAt, IsGap, IsBehind, IsRank};
 ghost use Rattle.oz_rows.specs.Counts.{IsCount};
 
 use oz_fields::OutOfMemory;
-use oz_rows::{Change, Row, RowEntry, RowKey, RowMap};
+use oz_rows::{Change, Row, RowKey, RowMap};
+use oz_sorted::SortedMap;
 use std::alloc::Global;
-use std::cmp::Ordering;
 use std::marker::Model;
-use std::mem::replace;
 
 /// Rows by their keys, and the index of the last transaction that they stand for.
 #[derive(Debug, Drop)]
 pub struct Tables {
-    entries: Vec<RowEntry>,
+    entries: SortedMap<RowKey, Row>,
     last_index: u64,
 }
 
 impl Model for Tables {
-    ghost use Rattle.std.specs.Prelude.{◌-◌, vec_len, vec_capacity};
-    ghost use Rattle.oz_tables.specs.Tables.{TableView};
-    ghost use Rattle.oz_rows.specs.RowMaps.{KeysRise};
+    ghost use Rattle.oz_tables.specs.Tables.{TableView, rows_in};
 
     ghost Value = { TableView };
 
     ghost view = { λ t. record {
-      rows = t.entries.items;
+      rows = rows_in t.entries.entries;
       last_index = t.last_index;
-      spare = vec_capacity t.entries - vec_len t.entries;
+      spare = t.entries.spare;
     } };
-
-    ghost invariant = { λ t. KeysRise t.entries.items };
 }
 
 impl Tables {
@@ -46,7 +38,7 @@ impl Tables {
         ensures last_index { result.last_index ≡ 0 }
     {
         Tables {
-            entries: Vec::new(alloc),
+            entries: SortedMap::new(alloc),
             last_index: 0,
         }
     }
@@ -55,10 +47,7 @@ impl Tables {
     pub fn get(&self, key: &RowKey) -> Option<&Row>
         ensures { option_copied result ≡ row_of self.now.rows key.now }
     {
-        match self.position(key) {
-            Ok(at) => Some(&self.entries[at].row),
-            Err(_at) => None,
-        }
+        self.entries.get(key)
     }
 
     /// The least key above this one that is of the same kind, and its row. The key itself may have
@@ -68,33 +57,32 @@ impl Tables {
             (HasNoNext (row_of self.now.rows) key.now)
             (λ found. IsNext (row_of self.now.rows) key.now found.0.now found.1.now) }
     {
-        let entry = self.entries.get(self.behind(key))?;
-        if entry.key.kind() == key.kind() {
-            Some((&entry.key, &entry.row))
+        let (found, row) = self.entries.next(key)?;
+        if found.kind() == key.kind() {
+            Some((found, row))
         } else {
             None
         }
     }
 
-    /// How many keys from one on and below another have a row. It takes two searches by halving.
+    /// How many keys from one on and below another have a row.
     pub fn count(&self, from: &RowKey, to: &RowKey) -> usize
         ensures count { IsCount (row_of self.now.rows) from.now to.now result }
         ensures small { result < 2 ^ 63 }
         ensures in_order { KeysRise self.now.rows }
     {
-        self.rank(to).saturating_sub(self.rank(from))
+        self.entries.count(from, to)
     }
 
     /// Makes room for so many changes.
-    pub fn reserve(&mut self, _alloc: Global, changes: usize) -> Result<(), OutOfMemory>
+    pub fn reserve(&mut self, alloc: Global, changes: usize) -> Result<(), OutOfMemory>
         ensures rows { self.new.rows ≡ self.old.rows }
         ensures last_index { self.new.last_index ≡ self.old.last_index }
         ensures room { OnOk result (changes ≤ self.new.spare) }
         ensures kept { self.old.spare ≤ self.new.spare }
         ensures succeeds { changes ≤ self.old.spare → IsOk result }
     {
-        self.entries.reserve(changes)?;
-        Ok(())
+        self.entries.reserve(alloc, changes)
     }
 
     /// Applies changes in their order, and sets the index. It takes no memory. To take away a row
@@ -118,12 +106,18 @@ impl Tables {
         self.last_index
     }
 
-    /// All rows, in the order of their keys.
-    pub fn rows(&self) -> &[RowEntry]
-        ensures rows { result.now ≡ self.now.rows }
-        ensures in_order { KeysRise result.now }
+    /// The rows stand in the order of their keys. It does nothing when it runs.
+    pub fn rows_are_in_order(&self)
+        ensures { KeysRise self.now.rows }
     {
-        self.entries.as_slice()
+        let _rows = self.entries.len();
+    }
+
+    /// How many rows there are.
+    pub fn len(&self) -> usize
+        ensures { result ≡ length self.now.rows }
+    {
+        self.entries.len()
     }
 
     /// Applies changes in their order, the index left as it is.
@@ -168,10 +162,7 @@ impl Tables {
         ensures last_index { self.new.last_index ≡ self.old.last_index }
         ensures spare { self.old.spare ≤ self.new.spare + 1 }
     {
-        match self.position(&key) {
-            Ok(at) => write_over(&mut self.entries, at, RowEntry { key, row }),
-            Err(at) => put_in(&mut self.entries, at, RowEntry { key, row }),
-        }
+        self.entries.insert(key, row);
     }
 
     fn take_away(&mut self, key: &RowKey)
@@ -180,36 +171,7 @@ impl Tables {
         ensures last_index { self.new.last_index ≡ self.old.last_index }
         ensures spare { self.old.spare ≤ self.new.spare }
     {
-        match self.position(key) {
-            Ok(at) => discard(self.entries.remove(at)),
-            Err(_at) => {}
-        }
-    }
-
-    /// Where the key is, or else how many keys are below it.
-    fn position(&self, key: &RowKey) -> Result<usize, usize>
-        ensures found { IfOk result (IsAt self.now.rows key.now) }
-        ensures absent { IfErr result (IsGap self.now.rows key.now) }
-    {
-        self.entries.binary_search_by(|entry| compared(entry, key))
-    }
-
-    /// How many keys are not above this one.
-    fn behind(&self, key: &RowKey) -> usize
-        ensures { IsBehind self.now.rows key.now result }
-    {
-        self.entries
-            .partition_point(|entry| compared(entry, key).is_le())
-    }
-
-    /// How many keys are below this one.
-    fn rank(&self, key: &RowKey) -> usize
-        ensures in_order { KeysRise self.now.rows }
-        ensures rank { IsRank self.now.rows key.now result }
-        ensures small { result < 2 ^ 63 }
-    {
-        self.entries
-            .partition_point(|entry| compared(entry, key).is_lt())
+        self.entries.remove(key);
     }
 }
 
@@ -224,32 +186,3 @@ impl RowMap for Tables {
         Tables::next(self, key)
     }
 }
-
-fn compared(entry: &RowEntry, key: &RowKey) -> Ordering
-    ensures { result ≡ key_order entry.now.key key.now }
-{
-    entry.key.cmp(key)
-}
-
-/// Puts an entry in the place of another.
-fn write_over(entries: &mut Vec<RowEntry>, at: usize, entry: RowEntry)
-    requires { at < vec_len entries.old }
-    ensures items { entries.new.items ≡ slice_set entries.old.items at entry }
-    ensures len { vec_len entries.new ≡ vec_len entries.old }
-    ensures capacity { vec_capacity entries.new ≡ vec_capacity entries.old }
-{
-    discard(replace(&mut entries[at], entry));
-}
-
-/// Puts an entry between others. Its room was taken before.
-fn put_in(entries: &mut Vec<RowEntry>, at: usize, entry: RowEntry)
-    requires place { at ≤ vec_len entries.old }
-    requires room { vec_len entries.old < vec_capacity entries.old }
-    ensures items { entries.new.items ≡ insert entries.old.items at entry }
-    ensures len { vec_len entries.new ≡ vec_len entries.old + 1 }
-    ensures capacity { vec_capacity entries.old ≤ vec_capacity entries.new }
-{
-    entries.insert(at, entry).unwrap();
-}
-
-fn discard(_entry: RowEntry) {}

@@ -3,8 +3,8 @@
 #[cfg(test)]
 mod tests {
     use crate::memory_run::{NEVER, runs};
+    use oz_lines::MOST_LINES;
     use oz_names::{LONGEST_NAME, MOST_BUCKETS};
-    use oz_script::MOST_LINES;
     use oz_world::OutOfMemory;
     use std::alloc::Global;
     use std::test::Fail;

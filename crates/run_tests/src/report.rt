@@ -2,35 +2,70 @@
 
 #[cfg(test)]
 mod tests {
-    use oz_bucket_requests::{Answer, AskId, Reply, Request, Values};
     use oz_cluster::events::{Event, EventKind};
     use oz_cluster::report;
     use oz_fields::{List, Name, OutOfMemory};
     use oz_names::Code;
+    use oz_requests::{Answer, AskId, Reply, Request, Values};
     use std::alloc::Global;
     use std::process::Abort;
     use std::test::Fail;
 
-    fn create(alloc: Global, client: u16, line: u16, step: u16) -> Result<Event, OutOfMemory> {
-        let volume = Name::copy(alloc, b"vol1")?;
-        Ok(Event {
+    /// What a decision and a line's answer say.
+    #[derive(Clone, Copy)]
+    enum Said {
+        Done,
+        Buckets(u32),
+        Code(Code),
+        OutOfMemory,
+    }
+
+    /// An event by the client, the line and the step that it is of.
+    #[derive(Clone, Copy)]
+    enum Step {
+        Create(u16, u16, u16),
+        Info(u16, u16, u16),
+        Decide(u16, u16, u16, Said),
+        Swap,
+        Flushed,
+        Told(u16, u16, Said),
+    }
+
+    fn ask(client: u16, line: u16, step: u16, request: Request) -> Event {
+        Event {
             seat: 2,
             kind: EventKind::Ask {
                 id: AskId { client, line, step },
-                request: Request::CreateVolume { volume },
+                request,
             },
-        })
+        }
+    }
+
+    fn create(alloc: Global, client: u16, line: u16, step: u16) -> Result<Event, OutOfMemory> {
+        let volume = Name::copy(alloc, b"vol1")?;
+        Ok(ask(client, line, step, Request::CreateVolume { volume }))
     }
 
     fn info(alloc: Global, client: u16, line: u16, step: u16) -> Result<Event, OutOfMemory> {
         let volume = Name::copy(alloc, b"vol1")?;
-        Ok(Event {
-            seat: 2,
-            kind: EventKind::Ask {
-                id: AskId { client, line, step },
-                request: Request::InfoVolume { volume },
-            },
-        })
+        Ok(ask(client, line, step, Request::InfoVolume { volume }))
+    }
+
+    fn reply_of(said: Said) -> Reply {
+        match said {
+            Said::Done | Said::OutOfMemory => Reply::Done,
+            Said::Buckets(count) => Reply::Count(count),
+            Said::Code(code) => Reply::Code(code),
+        }
+    }
+
+    fn answer_of(said: Said) -> Answer {
+        match said {
+            Said::Done => Answer::Ok(Values::Done),
+            Said::Buckets(count) => Answer::Ok(Values::Buckets(count)),
+            Said::Code(code) => Answer::Code(code),
+            Said::OutOfMemory => Answer::OutOfMemory,
+        }
     }
 
     fn decide(alloc: Global, client: u16, line: u16, step: u16, reply: Reply) -> Event {
@@ -73,13 +108,35 @@ mod tests {
         }
     }
 
+    fn event(alloc: Global, step: Step) -> Result<Event, OutOfMemory> {
+        match step {
+            Step::Create(client, line, step) => create(alloc, client, line, step),
+            Step::Info(client, line, step) => info(alloc, client, line, step),
+            Step::Decide(client, line, step, said) => {
+                Ok(decide(alloc, client, line, step, reply_of(said)))
+            }
+            Step::Swap => Ok(swap()),
+            Step::Flushed => Ok(flushed()),
+            Step::Told(client, line, said) => Ok(told(client, line, answer_of(said))),
+        }
+    }
+
+    fn story_of(alloc: Global, steps: &[Step]) -> Result<Vec<Event>, OutOfMemory> {
+        let mut story = Vec::new(alloc);
+        for step in steps {
+            story.push(event(alloc, *step)?)?;
+        }
+        Ok(story)
+    }
+
     fn prints<R: Abort + AllocGlobal>(
         rt: &R,
         lines: u64,
-        story: &[Event],
+        steps: &[Step],
         wanted: &str,
     ) -> Result<(), OutOfMemory> {
-        let text = report::text(rt.alloc(), lines, story)?;
+        let story = story_of(rt.alloc(), steps)?;
+        let text = report::text(rt.alloc(), lines, &story)?;
         assert!(rt; text.as_slice() == wanted.as_bytes(), "{wanted}");
         Ok(())
     }
@@ -92,16 +149,15 @@ mod tests {
 
     #[test]
     fn a_second_volume_of_one_name_is_refused(rt: HostRuntime) -> Result<(), Fail> {
-        let alloc = rt.alloc();
         let story = [
-            create(alloc, 1, 1, 1)?,
-            decide(alloc, 1, 1, 1, Reply::Done),
-            swap(),
-            flushed(),
-            told(1, 1, Answer::Ok(Values::Done)),
-            create(alloc, 1, 2, 1)?,
-            decide(alloc, 1, 2, 1, Reply::Code(Code::VolumeAlreadyExists)),
-            told(1, 2, Answer::Code(Code::VolumeAlreadyExists)),
+            Step::Create(1, 1, 1),
+            Step::Decide(1, 1, 1, Said::Done),
+            Step::Swap,
+            Step::Flushed,
+            Step::Told(1, 1, Said::Done),
+            Step::Create(1, 2, 1),
+            Step::Decide(1, 2, 1, Said::Code(Code::VolumeAlreadyExists)),
+            Step::Told(1, 2, Said::Code(Code::VolumeAlreadyExists)),
         ];
         let wanted = "story 1\n\
             d 1 1 1 CreateVolume OK\n\
@@ -115,17 +171,16 @@ mod tests {
 
     #[test]
     fn a_volume_is_asked_about(rt: HostRuntime) -> Result<(), Fail> {
-        let alloc = rt.alloc();
         let story = [
-            info(alloc, 1, 2, 1)?,
-            decide(alloc, 1, 2, 1, Reply::Count(0)),
-            told(1, 2, Answer::Ok(Values::Buckets(0))),
-            info(alloc, 1, 3, 1)?,
-            decide(alloc, 1, 3, 1, Reply::Code(Code::VolumeNotFound)),
-            told(1, 3, Answer::Code(Code::VolumeNotFound)),
-            info(alloc, 1, 4, 1)?,
-            decide(alloc, 1, 4, 1, Reply::Code(Code::InvalidVolumeName)),
-            told(1, 4, Answer::OutOfMemory),
+            Step::Info(1, 2, 1),
+            Step::Decide(1, 2, 1, Said::Buckets(0)),
+            Step::Told(1, 2, Said::Buckets(0)),
+            Step::Info(1, 3, 1),
+            Step::Decide(1, 3, 1, Said::Code(Code::VolumeNotFound)),
+            Step::Told(1, 3, Said::Code(Code::VolumeNotFound)),
+            Step::Info(1, 4, 1),
+            Step::Decide(1, 4, 1, Said::Code(Code::InvalidVolumeName)),
+            Step::Told(1, 4, Said::OutOfMemory),
         ];
         let wanted = "story 1\n\
             d 1 2 1 InfoVolume OK\n\
@@ -141,11 +196,10 @@ mod tests {
 
     #[test]
     fn numbers_at_their_edges(rt: HostRuntime) -> Result<(), Fail> {
-        let alloc = rt.alloc();
         let story = [
-            create(alloc, 65534, 0, 10)?,
-            decide(alloc, 65534, 0, 10, Reply::Done),
-            told(65535, 65535, Answer::Ok(Values::Buckets(4294967295))),
+            Step::Create(65534, 0, 10),
+            Step::Decide(65534, 0, 10, Said::Done),
+            Step::Told(65535, 65535, Said::Buckets(4294967295)),
         ];
         let wanted = "story 1\n\
             d 65534 0 10 CreateVolume OK\n\
@@ -157,10 +211,9 @@ mod tests {
 
     #[test]
     fn what_no_line_asked_is_not_printed(rt: HostRuntime) -> Result<(), Fail> {
-        let alloc = rt.alloc();
         let story = [
-            create(alloc, 65535, 0, 0)?,
-            decide(alloc, 65535, 0, 0, Reply::Done),
+            Step::Create(65535, 0, 0),
+            Step::Decide(65535, 0, 0, Said::Done),
         ];
         prints(&rt, 1, &story, "story 1\nend 0 of 1\n")?;
         Ok(())
@@ -168,16 +221,15 @@ mod tests {
 
     #[test]
     fn two_clients_ask_in_between_one_another(rt: HostRuntime) -> Result<(), Fail> {
-        let alloc = rt.alloc();
         let story = [
-            create(alloc, 1, 1, 1)?,
-            info(alloc, 2, 1, 1)?,
-            info(alloc, 1, 1, 2)?,
-            decide(alloc, 2, 1, 1, Reply::Count(0)),
-            decide(alloc, 1, 1, 1, Reply::Done),
-            told(2, 1, Answer::Ok(Values::Buckets(0))),
-            decide(alloc, 1, 1, 2, Reply::Count(0)),
-            told(1, 1, Answer::Ok(Values::Done)),
+            Step::Create(1, 1, 1),
+            Step::Info(2, 1, 1),
+            Step::Info(1, 1, 2),
+            Step::Decide(2, 1, 1, Said::Buckets(0)),
+            Step::Decide(1, 1, 1, Said::Done),
+            Step::Told(2, 1, Said::Buckets(0)),
+            Step::Decide(1, 1, 2, Said::Buckets(0)),
+            Step::Told(1, 1, Said::Done),
         ];
         let wanted = "story 1\n\
             d 2 1 1 InfoVolume OK\n\
@@ -192,12 +244,11 @@ mod tests {
 
     #[test]
     fn a_reply_to_nothing_has_no_request(rt: HostRuntime) -> Result<(), Fail> {
-        let alloc = rt.alloc();
         let story = [
-            create(alloc, 1, 1, 1)?,
-            info(alloc, 1, 1, 1)?,
-            decide(alloc, 1, 1, 1, Reply::Done),
-            decide(alloc, 1, 1, 1, Reply::Done),
+            Step::Create(1, 1, 1),
+            Step::Info(1, 1, 1),
+            Step::Decide(1, 1, 1, Said::Done),
+            Step::Decide(1, 1, 1, Said::Done),
         ];
         let wanted = "story 1\n\
             d 1 1 1 InfoVolume OK\n\

@@ -136,7 +136,13 @@ mod tests {
         for (script, text) in [
             ("a volume create v", "script 1 form\n"),
             ("a volume create /vol1\n\n#\nx\n", "script 4 form\n"),
-            ("a volume create /v\nb volume info /v\n", "script 2 form\n"),
+            ("a volume create /v\nb volume info /v\n", "script 2 later\n"),
+            ("a volume create /v\na key get /v/b/k\n", "script 2 later\n"),
+            (
+                "a after b 1 volume info /v\nb after a 1 volume info /v\n",
+                "script 1 circle\n",
+            ),
+            ("a after b 1 volume info /v\n", "script 1 after\n"),
         ] {
             let script = script.as_bytes();
             leaves(&rt, "run,.", script, &[], NEVER, (1, text, &[]))?;

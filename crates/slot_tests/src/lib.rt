@@ -5,3 +5,5 @@
 mod entries;
 #[cfg(test)]
 mod slots;
+#[cfg(test)]
+mod writing;

@@ -25,13 +25,13 @@ use Rattle.oz_rows.specs.declared.entry.RowEntry.{RowEntry}
 use Rattle.oz_rows.specs.RowMaps.{row_of, is_same, KeysRise}
 use Rattle.oz_effects.specs.Build.{base_of, puts, LeavesOne, IsAtFault, NoneAtFault}
 use Rattle.oz_build.specs.Steps.{operations_of, FirstAtFault, is_needed, stands_on, is_left}
-use Rattle.oz_build.specs.Parts.{IsPart, part_order}
+use Rattle.oz_effects.specs.Parts.{IsPart, part_order}
 use Rattle.oz_rows.specs.laws.Order.{itself}
 use Rattle.oz_rows.specs.laws.Same.{same_is_one}
 use Rattle.oz_rows.specs.laws.Following.{found_over}
 use Rattle.oz_rows.specs.laws.Splits.{parts_at}
-use Rattle.oz_build.specs.laws.PartLists.{any_part}
-use Rattle.oz_build.specs.laws.PartEffects.{in_bucket}
+use Rattle.oz_changes.specs.laws.PartLists.{any_part}
+use Rattle.oz_changes.specs.Steps.{in_bucket}
 
 pub any_map : {X Y : Type 0} (f : X → Y) (p : Y → Bool) (xs : List X) → list_any p (map f xs) ≡ list_any (λ x. p (f x)) xs
 any_map f p [] = refl
@@ -258,5 +258,9 @@ module _ (l : List RowEntry) (items : List Operation) (volume bucket : List ℕ)
       subst (λ (base : RowKey). list_any (is_left items base) l ≡ (list_any (is_left items base) own || (list_any (is_left items base) sessions || list_any (is_left items base) snapshots))) (sym is_base)
       (bucket_left own sessions snapshots is_own are_sessions are_snapshots)
 
-pub all_told : (whole a b c x y z : Bool) → whole ≡ (a || (b || c)) → x ≡ a → y ≡ b → z ≡ c → x ≡ false → y ≡ false → z ≡ whole
-all_told whole a b c x y z e is_a is_b is_c no_a no_b = is_c ∙ sym (e ∙ ap (λ (t : Bool). t || (b || c)) (sym is_a ∙ no_a) ∙ ap (λ (t : Bool). t || c) (sym is_b ∙ no_b))
+pub all_told : (whole a b c x y z : Bool) → whole ≡ (a || (b || c)) → x ≡ a → y ≡ b → z ≡ c → ((x || y) || z) ≡ whole
+all_told whole a b c x y z e is_a is_b is_c = ap (λ (t : Bool). (t || y) || z) is_a ∙ ap (λ (t : Bool). (a || t) || z) is_b ∙ ap (λ (t : Bool). (a || b) || t) is_c ∙ regroup a ∙ sym e
+  where
+    regroup : (a : Bool) → ((a || b) || c) ≡ (a || (b || c))
+    regroup true = refl
+    regroup false = refl

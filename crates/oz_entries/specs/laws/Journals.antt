@@ -1,5 +1,5 @@
 -- Bodies one after another.
-use Rattle.std.proofs.Common.{◌≡◌, ℕ, Option, None, Some, is_some, false, Result, zero, suc, ◌<◌, ◌≤◌, ◌-◌, List, [], ◌∷◌, ◌++◌, length, take, drop, get_or, refl, sym, ◌∙◌, ap, subst, arith}
+use Rattle.std.proofs.Common.{◌≡◌, ℕ, Option, None, Some, is_some, false, Result, zero, suc, ◌<◌, ◌≤◌, ◌-◌, List, [], ◌∷◌, ◌++◌, length, take, drop, get_or, refl, sym, ◌∙◌, ap, subst, arith, slice_get, Ok, Err}
 use Rattle.std.proofs.lemmas.Bool.{false≢true}
 use Rattle.std.proofs.lemmas.List.{append-nil}
 use Rattle.oz_journal.specs.declared.body.Body.{Body}
@@ -99,6 +99,36 @@ not_both (bytes ∷ bodies) before after zero place (one, is, makes) fails =
     absurd (omega (arith, over.0))
 not_both (bytes ∷ bodies) before after (suc count) place (one, is, makes) (two, too, fails) =
     not_both bodies (after_entry one before) after count place makes (subst (λ (e : Entry). FailsFrom (after_entry e before) bodies count place) (one_entry before bytes two one too is) fails)
+
+-- a body that may follow isn't damaged
+no_damage : (node : Node) (bytes : List ℕ) (entry : Entry) (place : ℕ) → IsNext node bytes entry → IsDamagedBody node bytes place → ⊥
+no_damage node bytes entry place next damaged =
+    let over : EntryEnds bytes place (as_read (entry, [])) = subst (λ (read : Result (Entry × List ℕ) ℕ). EntryEnds bytes place read) (next_again node bytes entry next) damaged in
+    absurd (omega (arith, over.0))
+
+one_place : (bytes : List ℕ) (place at : ℕ) (read : Result (Entry × List ℕ) ℕ) → EntryEnds bytes place read → EntryEnds bytes at read → place ≡ at
+one_place bytes place at (Ok found) one two = one.1 ∙ sym two.1
+one_place bytes place at (Err left) one two = one ∙ sym two
+
+pub one_fault : (bodies : List (List ℕ)) (before : Node) (count place other at : ℕ) → FailsFrom before bodies count place → FailsFrom before bodies other at → (count ≡ other) × (place ≡ at)
+unfolding FailsFrom
+one_fault [] before count place other at one two = absurd one
+one_fault (bytes ∷ bodies) before zero place zero at one two = (refl, one_place bytes place at (entry_at before bytes) one two)
+one_fault (bytes ∷ bodies) before zero place (suc other) at one (entry, is, fails) = absurd (no_damage before bytes entry place is one)
+one_fault (bytes ∷ bodies) before (suc count) place zero at (entry, is, fails) two = absurd (no_damage before bytes entry at is two)
+one_fault (bytes ∷ bodies) before (suc count) place (suc other) at (entry, is, fails) (second, too, more) =
+    let same = one_fault bodies (after_entry entry before) count place other at fails (subst (λ (e : Entry). FailsFrom (after_entry e before) bodies other at) (one_entry before bytes second entry too is) more) in
+    (ap suc same.0, same.1)
+
+ends_within : (bytes : List ℕ) (place : ℕ) (read : Result (Entry × List ℕ) ℕ) → EntryEnds bytes place read → place ≤ length bytes
+ends_within bytes place (Ok found) ends = omega (arith, ends.1)
+ends_within bytes place (Err left) ends = omega (arith, ends)
+
+pub fault_within : (bodies : List (List ℕ)) (before : Node) (count place : ℕ) → FailsFrom before bodies count place → (body : List ℕ) × (slice_get bodies count ≡ Some body) × (place ≤ length body)
+unfolding FailsFrom
+fault_within [] before count place fails = absurd fails
+fault_within (bytes ∷ bodies) before zero place fails = (bytes, refl, ends_within bytes place (entry_at before bytes) fails)
+fault_within (bytes ∷ bodies) before (suc count) place (entry, is, fails) = fault_within bodies (after_entry entry before) count place fails
 
 -- a block uses the slots of its row alone
 sound_after : (node : Node) (entry : Entry) → IsSound node → MayFollow node entry → IsSound (after_entry entry node)

@@ -1,5 +1,5 @@
 -- No request but one grants a block.
-use Rattle.std.proofs.Common.{◌≡◌, ◌≢◌, ◌∙◌, ℕ, List, [], ◌∷◌, Option, None, Some, refl, sym, ap, subst}
+use Rattle.std.proofs.Common.{◌≡◌, ◌≢◌, ◌∙◌, ℕ, [], Option, None, Some, refl, sym, ap, subst}
 use Rattle.oz_fields.specs.declared.block.Block.{Block}
 use Rattle.oz_names.specs.declared.code.Code.{Code}
 use Rattle.oz_requests.specs.declared.reply.Reply.{Reply}

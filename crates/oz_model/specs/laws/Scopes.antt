@@ -14,7 +14,6 @@ use Rattle.oz_namespace.specs.Namespace.{ByName, with_volume, without_volume}
 use Rattle.oz_requests.specs.declared.reply.Reply.{Reply}
 use Rattle.oz_requests.specs.declared.request.Request.{Request}
 use Rattle.oz_requests.specs.Names.{volume_in}
-use Rattle.oz_model.specs.declared.scope.Scope.{Scope}
 use Rattle.oz_model.specs.Scope.{drawn_in, scope_of, volumes_with, with_scope}
 use Rattle.oz_model.specs.Answers.{scope_after, after}
 
@@ -56,4 +55,5 @@ is_gone namespace volume = λ i. record {
 
 -- a request whose scope stays leaves all as it was
 pub stays : (namespace : Namespace) (request : Request) (reply : Reply) → scope_after (scope_of namespace (volume_in request)) request reply ≡ scope_of namespace (volume_in request) → after namespace request reply ≡ namespace
+unfolding after
 stays namespace request reply same = ap (with_scope namespace (volume_in request)) same ∙ same_scope namespace (volume_in request)

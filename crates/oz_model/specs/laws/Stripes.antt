@@ -63,6 +63,7 @@ scopes_agree one other volume agree = λ i. record { buckets = agree.volumes vol
     drawn = sym (unwrap_or-slice_get one.stripes (stripe_of volume) 0) ∙ ap (λ o. unwrap_or o 0) agree.drawn ∙ unwrap_or-slice_get other.stripes (stripe_of volume) 0
 
 pub replies_agree : (one other : Namespace) (request : Request) (reply : Reply) → AgreeOn (stripe_of (volume_in request)) one other → Answers one request reply → Answers other request reply
+unfolding Answers
 replies_agree one other request reply agree answers = subst (λ (scope : Scope). AnswersIn scope request reply) (scopes_agree one other (volume_in request) agree) answers
 
 with_alike : (one other : Namespace) (volume : List ℕ) (scope : Scope) → AgreeOn (stripe_of volume) one other → AgreeOn (stripe_of volume) (with_scope one volume scope) (with_scope other volume scope)
@@ -72,12 +73,14 @@ with_alike one other volume scope agree = record {
 }
 
 pub left_agree : (one other : Namespace) (request : Request) (reply : Reply) → AgreeOn (stripe_of (volume_in request)) one other → AgreeOn (stripe_of (volume_in request)) (after one request reply) (after other request reply)
+unfolding after
 left_agree one other request reply agree =
     let volume = volume_in request in
     subst (λ (scope : Scope). AgreeOn (stripe_of volume) (after one request reply) (with_scope other volume (scope_after scope request reply))) (scopes_agree one other volume agree)
     (with_alike one other volume (scope_after (scope_of one volume) request reply) agree)
 
 pub elsewhere : (namespace : Namespace) (request : Request) (reply : Reply) (stripe : ℕ) → stripe ≢ stripe_of (volume_in request) → AgreeOn stripe (after namespace request reply) namespace
+unfolding after
 elsewhere namespace request reply stripe apart =
     let volume = volume_in request in
     let scope = scope_after (scope_of namespace volume) request reply in
@@ -87,4 +90,5 @@ elsewhere namespace request reply stripe apart =
     }
 
 pub other_volumes : (namespace : Namespace) (request : Request) (reply : Reply) (volume : List ℕ) → volume ≢ volume_in request → buckets_of (after namespace request reply) volume ≡ buckets_of namespace volume
+unfolding after
 other_volumes namespace request reply volume apart = others_stay namespace.volumes (volume_in request) (scope_after (scope_of namespace (volume_in request)) request reply).buckets volume apart

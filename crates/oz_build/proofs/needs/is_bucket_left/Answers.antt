@@ -8,6 +8,6 @@ use Rattle.oz_build.proofs.needs.is_bucket_left.Goals as goal
 pub returns : goal.returns
 returns c =
     let items = operations_of c.args.steps.now in
-    let rows = c.args.rows.now in
-    let part = c.buckets_of.result.now in
-    c.is_one_left.ensures ∙ sym (subst (λ (base : RowKey). list_any (is_left items base) rows ≡ list_any (is_left items base) part) (sym c.requires.base) (volume_left rows part items c.args.volume.now c.buckets_of.ensures))
+    let rows = c.args.tables.now.rows in
+    let among = c.in_ok-found.ensures in
+    among.told ∙ sym (subst (λ (base : RowKey). list_any (is_left items base) rows ≡ list_any (is_left items base) among.part) (sym c.requires) (volume_left rows among.part items c.args.volume.now among.is))

@@ -4,6 +4,8 @@ use Rattle.oz_build.proofs.needs.is_content_left.Goals as goal
 
 pub returns : goal.returns
 returns c =
-    all_told _ _ _ _ _ _ _
-    (content_left c.args.rows.now (operations_of c.args.steps.now) c.args.volume.now c.args.bucket.now c.args.base.now c.bucket_rows.result.now c.bucket_rows-2.result.now c.bucket_rows-3.result.now c.requires.base c.bucket_rows.ensures c.bucket_rows-2.ensures c.bucket_rows-3.ensures)
-    c.is_one_left-keys.ensures c.is_one_left-sessions.ensures c.is_one_left-snapshots.ensures c.if-keys.false c.if-sessions.false
+    let own = c.in_ok-keys.ensures in
+    let open_keys = c.in_ok-sessions.ensures in
+    let snapshots = c.in_ok-snapshots.ensures in
+    let left = content_left c.args.tables.now.rows (operations_of c.args.steps.now) c.args.volume.now c.args.bucket.now c.args.base.now own.part open_keys.part snapshots.part c.requires own.is open_keys.is snapshots.is in
+    all_told _ _ _ _ _ _ _ left own.told open_keys.told snapshots.told

@@ -81,7 +81,7 @@ returns-clause-one_run g c =
     (faults_of g.D.Disk.faults c.args.disks) (faults_of g.D.Disk.faults after) refl refl
     (g.K.Sink.held c.args.out.now) (g.K.Sink.held c.finish-status.new.out) rose
     first.rows.durable.rows (last_epoch first.rows) (newest first.rows) script served.0 last.story.items (newest last.rows) (last_epoch last.rows) last.journal.stopped c.finish-status.result
-    c.in-Ok.ensures.words c.in-Ok.ensures.script c.in-Ok.ensures.through c.in-Ok.ensures.numbered (loads_as (g.D.Disk.told disk) first.rows.durable.rows first.rows.durable.last_index (last_epoch first.rows) (ap (epoch_after first.rows.durable.last_index) (sym c.in-Ok-open.ensures.fresh)) c.in-Ok-open.ensures.loads) served.1
+    c.in-Ok.ensures.words c.in-Ok.ensures.script c.in-Ok.ensures.through c.in-Ok.ensures.numbered c.in-Ok.ensures.served (loads_as (g.D.Disk.told disk) first.rows.durable.rows first.rows.durable.last_index (last_epoch first.rows) (ap (epoch_after first.rows.durable.last_index) (sym c.in-Ok-open.ensures.fresh)) c.in-Ok-open.ensures.loads) served.1
     rows_are c.in-Ok-open.ensures.fit
     c.in-Ok-open.ensures.keeps c.in-Ok-open.ensures.stable c.in-Ok-open.ensures.ended c.in-Ok-open.ensures.moments c.in-Ok-open.ensures.never_falls
     served.3 c.serve_all-worked.ensures.right c.serve_all-worked.ensures.held c.serve_all-worked.ensures.time

@@ -1,14 +1,14 @@
-use Rattle.std.proofs.Common.{◌≡◌, ◌<◌, Bool, false, List, length, get_or, refl, sym, ap, subst, arith, rules}
+use Rattle.std.proofs.Common.{◌≡◌, ◌<◌, Bool, false, List, length, get_or, is_some, refl, sym, ap, subst, arith, rules}
 use Rattle.oz_world.specs.Disk.{seen}
 use Rattle.oz_cache.specs.Cache.{newest, last_epoch}
 use Rattle.oz_namespace.specs.declared.namespace.Namespace.{Namespace}
-use Rattle.oz_script.specs.declared.grammar.Line.{Line}
+use Rattle.oz_lines.specs.declared.script.Line.{Line}
 use Rattle.oz_cluster.specs.declared.events.Event.{Event}
 use Rattle.oz_cluster.specs.Quiet.{IsServed, IsRight, IsHeld}
 use Rattle.oz_cluster.specs.Story.{Opening}
 use Rattle.oz_cluster.proofs.Held.{held_first}
 use Rattle.oz_cluster.proofs.Later.{still, later_still}
-use Rattle.oz_cluster.proofs.Runs.{begins, sums_first, leads_first, line_there, waits_for_none}
+use Rattle.oz_cluster.proofs.Runs.{begins, sums_first, leads_first, line_there, waits_for_none, plain_lines, line_asks}
 use Rattle.oz_cluster.proofs.Served.{step_served, step_right, step_held, step_time, served_same, right_same, held_same}
 use Rattle.oz_cluster.proofs.work.serve_all.Goals as goal
 
@@ -28,6 +28,16 @@ loop-line-init g c =
       time = still _ _;
     }
 
+pub serve-requires-clause-asks : goal.serve-requires-clause-asks
+serve-requires-clause-asks g c =
+    let script = c.args.script.now in
+    let i = c.loop-line.line-index in
+    let line = c.line-item.result in
+    let lt : i < length script.lines = subst (λ (lines : List Line). i < length lines) c.items-line-items.ensures c.loop-line-test.true in
+    let is : line ≡ get_or script.lines i line = subst (λ (lines : List Line). line ≡ get_or lines i line) c.items-line-items.ensures c.line-item.is in
+    let asked = line_asks script i line c.requires.served lt is in
+    ap is_some asked.1
+
 pub loop-line-preserved : goal.loop-line-preserved
 loop-line-preserved g c =
     let manager = c.args.manager.now in
@@ -37,16 +47,17 @@ loop-line-preserved g c =
     let line = c.line-item.result in
     let lt : i < length script.lines = subst (λ (lines : List Line). i < length lines) c.items-line-items.ensures c.loop-line-test.true in
     let is : line ≡ get_or script.lines i line = subst (λ (lines : List Line). line ≡ get_or lines i line) c.items-line-items.ensures c.line-item.is in
-    let there = line_there script i line c.requires.numbered.in_order lt is in
-    let alone = waits_for_none script i line c.requires.numbered.in_order lt is in
-    let did = c.in_ok-serve.ensures.serves in
+    let there = line_there script i line (plain_lines script c.requires.numbered c.requires.served) lt is in
+    let alone = waits_for_none script i line (plain_lines script c.requires.numbered c.requires.served) lt is in
+    let asked = line_asks script i line c.requires.served lt is in
+    let did = c.in_ok-serve.ensures.serves asked.0 asked.1 in
     record {
       below = c.serve.ensures.index;
       settled = λ settled. c.serve.ensures.settled (c.loop-line.invariant.settled settled);
-      served = λ namespace. step_served (opening namespace) script i _ line there alone _ _ _ _ _ _ _ _ _ _ (c.loop-line.invariant.served namespace) did;
-      right = λ namespace stand. step_right (opening namespace) script i _ line there alone _ _ _ _ _ _ _ _ _ _ (c.loop-line.invariant.served namespace) did (c.loop-line.invariant.right namespace stand);
-      held = λ namespace stand loaded. step_held (opening namespace) script i _ line there alone _ _ _ _ _ _ _ _ _ _ (c.loop-line.invariant.served namespace) did _ c.serve.ensures.index (c.loop-line.invariant.right namespace stand) (c.loop-line.invariant.held namespace stand loaded);
-      time = later_still _ _ _ _ _ _ c.loop-line.invariant.time (step_time _ _ _ _ _ _ _ _ _ _ _ did);
+      served = λ namespace. step_served (opening namespace) script i _ line there asked.0 asked.1 alone _ _ _ _ _ _ _ _ _ _ (c.loop-line.invariant.served namespace) did;
+      right = λ namespace stand. step_right (opening namespace) script i _ line there asked.0 asked.1 alone _ _ _ _ _ _ _ _ _ _ (c.loop-line.invariant.served namespace) did (c.loop-line.invariant.right namespace stand);
+      held = λ namespace stand loaded. step_held (opening namespace) script i _ line there asked.0 asked.1 alone _ _ _ _ _ _ _ _ _ _ (c.loop-line.invariant.served namespace) did _ c.serve.ensures.index (c.loop-line.invariant.right namespace stand) (c.loop-line.invariant.held namespace stand loaded);
+      time = later_still _ _ _ _ _ _ c.loop-line.invariant.time (step_time _ _ _ _ _ _ _ _ _ _ _ _ did);
     }
 
 pub returns-in_err-serve-clause-served : goal.returns-in_err-serve-clause-served

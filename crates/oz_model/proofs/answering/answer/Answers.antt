@@ -1,11 +1,12 @@
-use Rattle.std.proofs.Common.{◌≡◌, ◌∙◌, subst, sym, ap}
+use Rattle.std.proofs.Common.{◌≡◌, ◌∙◌, subst, ap}
 use Rattle.oz_requests.specs.Names.{volume_in}
 use Rattle.oz_model.specs.declared.scope.Scope.{Scope}
-use Rattle.oz_model.specs.Answers.{AnswersIn, scope_after}
+use Rattle.oz_model.specs.Answers.{Answers, AnswersIn, after, scope_after}
 use Rattle.oz_model.specs.Scope.{scope_of, with_scope}
 use Rattle.oz_model.proofs.answering.answer.Goals as goal
 
 pub returns-clause-reply : goal.returns-clause-reply
+unfolding Answers
 returns-clause-reply c =
     let namespace = c.args.namespace.now in
     let request = c.args.request.now in
@@ -14,6 +15,7 @@ returns-clause-reply c =
     subst (λ (scope : Scope). AnswersIn scope request reply) is c.in_ok-answered.ensures.reply
 
 pub returns-clause-left : goal.returns-clause-left
+unfolding after
 returns-clause-left c =
     let namespace = c.args.namespace.now in
     let request = c.args.request.now in

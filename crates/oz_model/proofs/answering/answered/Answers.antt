@@ -1,4 +1,4 @@
-use Rattle.std.proofs.Common.{◌≡◌, ◌∙◌, Option, None, Some, IfOk, subst, sym, ap, rules}
+use Rattle.std.proofs.Common.{◌≡◌, ◌∙◌, Option, None, IfOk, subst, sym, ap, rules}
 use Rattle.oz_names.specs.declared.code.Code.{Code}
 use Rattle.oz_requests.specs.Names.{name_fault}
 use Rattle.oz_model.specs.Answers.{AnswersIn, Replies}

@@ -1,9 +1,10 @@
 use Rattle.std.proofs.Common.{◌≡◌, ◌≤◌, length, Result, Ok, Err, IfOk, None, sym, ◌∙◌, rules}
 use Rattle.oz_cache.specs.Cache.{newest}
-use Rattle.oz_bucket_requests.specs.Names.{name_fault}
+use Rattle.oz_model.specs.Answers.{Answers}
+use Rattle.oz_requests.specs.Names.{name_fault}
 use Rattle.oz_namespace.specs.declared.namespace.Namespace.{Namespace}
-use Rattle.oz_bucket_requests.specs.declared.reply.Reply.{Reply}
-use Rattle.oz_bucket_requests.specs.declared.request.Request.{Request}
+use Rattle.oz_requests.specs.declared.reply.Reply.{Reply}
+use Rattle.oz_requests.specs.declared.request.Request.{Request}
 use Rattle.oz_rows.specs.RowMaps.{Rows}
 use Rattle.oz_om_bucket.specs.declared.decision.Decision.{Decision}
 use Rattle.oz_om_bucket.specs.Meets.{Stand, Meets}
@@ -27,12 +28,13 @@ returns-in-Some-clause-meets c =
     rw (made.reply, made.bytes, made.changes) (λ namespace stand. refused (newest c.args.cached.now) namespace c.args.request.now c.in-Some.code (sym c.name_fault.ensures ∙ c.in-Some.is) stand)
 
 pub returns-clause-meets : goal.returns-clause-meets
+unfolding Answers
 returns-clause-meets c =
     let named : name_fault c.args.request.now ≡ None = search rules in
     decided (newest c.args.cached.now) c.args.request.now c.in_ok-reply.reply c.recorded.result c.recorded.ensures.reply c.recorded.ensures.bytes c.recorded.ensures.changes
-    (λ namespace stand. meets (newest c.args.cached.now) namespace c.args.request.now c.in_ok-reply.reply named stand (c.in_ok-reply.ensures namespace stand))
+    (λ namespace stand. meets (newest c.args.cached.now) namespace c.args.request.now c.in_ok-reply.reply c.requires named stand (c.in_ok-reply.ensures namespace stand))
 
 pub returns-clause-size : goal.returns-clause-size
 returns-clause-size c =
     let named : name_fault c.args.request.now ≡ None = search rules in
-    sized c.args.request.now c.in_ok-reply.reply c.recorded.result c.recorded.ensures.bytes (few_bytes c.args.request.now c.in_ok-reply.reply named)
+    sized c.args.request.now c.in_ok-reply.reply c.recorded.result c.recorded.ensures.bytes (few_bytes c.args.request.now c.in_ok-reply.reply c.requires named)

@@ -1,7 +1,7 @@
 use Rattle.std.proofs.Common.{◌≡◌, [], List, ℕ, None, Result, Ok, Err, IfOk, map, sym, ◌∙◌, ap, subst}
 use Rattle.std.specs.FinMap.{keys as keys_in}
 use Rattle.oz_cache.specs.Cache.{newest}
-use Rattle.oz_bucket_model.specs.Answers.{buckets_at}
+use Rattle.oz_model.specs.Buckets.{buckets_at}
 use Rattle.oz_namespace.specs.declared.namespace.Namespace.{Namespace}
 use Rattle.oz_rows.specs.declared.key.RowKey.{RowKey}
 use Rattle.oz_rows.specs.declared.key.RowKey.TheVariants as keys

@@ -1,33 +1,36 @@
-use Rattle.std.proofs.Common.{◌≡◌, ◌<◌, ◌≤◌, length, get_or, sym, ap, subst, rules}
+use Rattle.std.proofs.Common.{◌∙◌, ap, subst, rules}
+use Rattle.std.specs.declared.cmp.Ordering.{Ordering}
+use Rattle.oz_rows.specs.declared.key.RowKey.{RowKey}
+use Rattle.oz_rows.specs.RowMaps.{Rows, row_of, IsNext, HasNoNext}
+use Rattle.oz_sorted.specs.Sorted as map
 use Rattle.oz_tables.specs.Tables.{TableView}
-use Rattle.oz_rows.specs.RowMaps.{row_of, IsNext, HasNoNext}
-use Rattle.oz_tables.specs.Places.{IsBehind}
-use Rattle.oz_tables.proofs.Following.{none_behind, is_next, other_kind}
+use Rattle.oz_tables.proofs.Views.{same_order, rows_are, none_next, is_next, other_kind}
 use Rattle.oz_tables.proofs.tables.Tables.next.Goals as goal
 
-pub returns-in_err-entry : goal.returns-in_err-entry
-returns-in_err-entry c =
-    let same = ap (λ (t : TableView). t.rows) c.self.view_is in
-    let behind = subst (λ rows. IsBehind rows c.args.key.now c.behind.result) (sym same) c.behind.ensures in
-    let past : length c.self.inside.entries.items ≤ c.behind.result = subst (λ items. length items ≤ c.behind.result) c.deref.ensures.value c.in_err-entry.ensures.lookup.3 in
-    rw c.from_residual.ensures (subst (λ rows. HasNoNext (row_of rows) c.args.key.now) same (none_behind _ c.self.invariant c.args.key.now _ behind past))
+pub returns-in_err-found : goal.returns-in_err-found
+returns-in_err-found c =
+    let entries = c.self.inside.entries.entries in
+    let key = c.args.key.now in
+    let same = rows_are entries ∙ ap (λ (t : TableView). row_of t.rows) c.self.view_is in
+    let none = subst (λ (cmp : RowKey → RowKey → Ordering). map.HasNoNext cmp (map.value_of cmp entries) key) same_order c.in_err-found.ensures.next in
+    rw c.from_residual.ensures (subst (λ (rows : Rows). HasNoNext rows key) same (none_next _ key none))
 
 pub returns-then-kind : goal.returns-then-kind
 returns-then-kind c =
-    let same = ap (λ (t : TableView). t.rows) c.self.view_is in
-    let behind = subst (λ rows. IsBehind rows c.args.key.now c.behind.result) (sym same) c.behind.ensures in
-    let entry = c.in_ok-entry.entry.now in
-    let lookup = c.in_ok-entry.ensures.lookup in
-    let lt = subst (λ items. c.behind.result < length items) c.deref.ensures.value lookup.3.0 in
-    let it = subst (λ items. entry ≡ get_or items c.behind.result entry) c.deref.ensures.value lookup.1 in
-    subst (λ rows. IsNext (row_of rows) c.args.key.now entry.key entry.row) same (is_next _ c.self.invariant c.args.key.now _ behind entry lt it (search rules))
+    let entries = c.self.inside.entries.entries in
+    let key = c.args.key.now in
+    let found = c.in_ok-found.found.now in
+    let row = c.in_ok-found.row.now in
+    let same = rows_are entries ∙ ap (λ (t : TableView). row_of t.rows) c.self.view_is in
+    let next = subst (λ (cmp : RowKey → RowKey → Ordering). map.IsNext cmp (map.value_of cmp entries) key found row) same_order c.in_ok-found.ensures.next in
+    subst (λ (rows : Rows). IsNext rows key found row) same (is_next _ key found row next (search rules))
 
 pub returns-else-kind : goal.returns-else-kind
 returns-else-kind c =
-    let same = ap (λ (t : TableView). t.rows) c.self.view_is in
-    let behind = subst (λ rows. IsBehind rows c.args.key.now c.behind.result) (sym same) c.behind.ensures in
-    let entry = c.in_ok-entry.entry.now in
-    let lookup = c.in_ok-entry.ensures.lookup in
-    let lt = subst (λ items. c.behind.result < length items) c.deref.ensures.value lookup.3.0 in
-    let it = subst (λ items. entry ≡ get_or items c.behind.result entry) c.deref.ensures.value lookup.1 in
-    subst (λ rows. HasNoNext (row_of rows) c.args.key.now) same (other_kind _ c.self.invariant c.args.key.now _ behind entry lt it (λ kind. search rules))
+    let entries = c.self.inside.entries.entries in
+    let key = c.args.key.now in
+    let found = c.in_ok-found.found.now in
+    let row = c.in_ok-found.row.now in
+    let same = rows_are entries ∙ ap (λ (t : TableView). row_of t.rows) c.self.view_is in
+    let next = subst (λ (cmp : RowKey → RowKey → Ordering). map.IsNext cmp (map.value_of cmp entries) key found row) same_order c.in_ok-found.ensures.next in
+    subst (λ (rows : Rows). HasNoNext rows key) same (other_kind _ key found row next (λ kind. search rules))

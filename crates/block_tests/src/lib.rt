@@ -1,0 +1,12 @@
+//! Tests of blocks in a journal: the bytes of their bodies, every rule of a body broken once, and disks that fail.
+#![tactic(auto)]
+
+mod asking;
+#[cfg(test)]
+mod changes;
+#[cfg(test)]
+mod damaged;
+#[cfg(test)]
+mod failing;
+mod hex;
+mod journals;

@@ -1,0 +1,4 @@
+pub mod Changing
+pub mod Handing
+pub mod Places
+pub mod Sizes

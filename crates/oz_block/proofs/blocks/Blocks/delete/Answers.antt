@@ -1,0 +1,28 @@
+use Rattle.oz_block.proofs.Changing.{unplanned, halted, is_made, kept_after, applied}
+use Rattle.oz_entries.specs.declared.entry.Entry.TheVariants as entries
+use Rattle.oz_entries.specs.Held.{node_of}
+use Rattle.oz_entries.specs.Node.{MayFollow}
+use Rattle.oz_block.proofs.blocks.Blocks.delete.Goals as goal
+
+pub returns-in_err-frame-clause-changes : goal.returns-in_err-frame-clause-changes
+returns-in_err-frame-clause-changes g c =
+    let follows : MayFollow (node_of c.self.inside.held) (entries.Apply c.args.txn.now) = rw (← c.self.view_is) at c.requires in
+    rw (← c.self.view_is) (unplanned g.D.Disk.told g.D.Disk.clock g.D.Disk.image g.D.Disk.faults (entries.Apply c.args.txn.now) c.self.inside.held c.plan_delete.new.held c.self.inside.journal.disk c.self.inside.journal.stopped _
+    c.in_ok-check.ensures.running c.from_residual-in_err-frame.ensures.1 c.in_ok-check.ensures.at_rest (c.self.invariant c.in_ok-check.ensures.running) follows c.plan_delete.ensures.same)
+
+pub returns-in_err-add-clause-changes : goal.returns-in_err-add-clause-changes
+returns-in_err-add-clause-changes g c =
+    let follows : MayFollow (node_of c.self.inside.held) (entries.Apply c.args.txn.now) = rw (← c.self.view_is) at c.requires in
+    rw (← c.self.view_is) (halted g.D.Disk.told g.D.Disk.clock g.D.Disk.image g.D.Disk.faults (entries.Apply c.args.txn.now) c.self.inside.held c.plan_delete.new.held _ c.self.inside.journal.disk c.add.new.journal.disk c.self.inside.journal.stopped c.add.new.journal.stopped
+    c.in_err-add.field-0.0 _ c.in_ok-check.ensures.running c.in_err-add.ensures.stopped c.in_err-add.ensures.fault c.from_residual-in_err-add.ensures.1 c.in_ok-frame.ensures.frame.body (c.self.invariant c.in_ok-check.ensures.running) follows c.plan_delete.ensures.same c.in_err-add.ensures.appended)
+
+pub invariant_of-self-2 : goal.invariant_of-self-2
+invariant_of-self-2 g c =
+    let follows : MayFollow (node_of c.self.inside.held) (entries.Apply c.args.txn.now) = rw (← c.self.view_is) at c.requires in
+    λ running. kept_after (entries.Apply c.args.txn.now) _ _ _ (node_of c.self.inside.held) (node_of c.set_number.new.self) c.in_ok-add.field-0 c.in_ok-frame.ensures.frame.body (c.self.invariant c.in_ok-check.ensures.running) follows c.in_ok-add.ensures.appended (applied c.args.txn.now c.items.result.now (node_of c.self.inside.held) (node_of c.plan_delete.new.held) (node_of c.forget_locals.new.self) (node_of c.set_number.new.self) c.plan_delete.ensures.same c.items.ensures c.forget_locals.ensures.same c.set_number.ensures.number)
+
+pub returns-clause-changes : goal.returns-clause-changes
+returns-clause-changes g c =
+    let follows : MayFollow (node_of c.self.inside.held) (entries.Apply c.args.txn.now) = rw (← c.self.view_is) at c.requires in
+    rw (← c.self.view_is) (is_made g.D.Disk.told g.D.Disk.clock g.D.Disk.image g.D.Disk.faults (entries.Apply c.args.txn.now) c.self.inside.held c.set_number.new.self _ c.self.inside.journal.disk c.add.new.journal.disk c.self.inside.journal.stopped c.add.new.journal.stopped
+    c.in_ok-add.field-0 _ c.in_ok-check.ensures.running c.in_ok-add.ensures.stopped c.in_ok-frame.ensures.frame.body (c.self.invariant c.in_ok-check.ensures.running) follows (applied c.args.txn.now c.items.result.now (node_of c.self.inside.held) (node_of c.plan_delete.new.held) (node_of c.forget_locals.new.self) (node_of c.set_number.new.self) c.plan_delete.ensures.same c.items.ensures c.forget_locals.ensures.same c.set_number.ensures.number) c.in_ok-add.ensures.appended)

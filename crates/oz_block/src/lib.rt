@@ -1,0 +1,13 @@
+//! The blocks of a datanode: their rows, and the states and transactions of replicas, kept in a journal.
+#![tactic(auto)]
+
+mod adding;
+mod blocks;
+mod fault;
+mod laws;
+mod loading;
+mod planning;
+
+pub use blocks::Blocks;
+pub use fault::BlockFault;
+pub use laws::a_disk_stands_for_one_node;

@@ -1,4 +1,0 @@
-mod Blocks
-mod Empty
-mod Members
-mod Reached

@@ -1,4 +1,0 @@
-//! Tests of what a script says.
-#![tactic(auto)]
-
-mod grammar;

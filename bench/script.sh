@@ -7,9 +7,9 @@
 # It makes a script of so many LINES (512 4096) and reads it ROUNDS times (50); the least time is taken, and where
 # the time of each line then lies is printed, in nanoseconds:
 #     KIND LINES NANOSECONDS
-# where KIND is `one` for lines of one client, `many` for those of 64 clients in turn, and `chain` for those of 64
-# clients of which each waits by its `after` for the line above it. The clock is the wall's, so the machine should have
-# a processor to spare.
+# where KIND is `one` for lines of one client, `many` for those of 64 clients in turn, `chain` for those of 64 clients of
+# which each waits by its `after` for the line above it, and `labels` for keys that one client opens and commits in turn.
+# The clock is the wall's, so the machine should have a processor to spare.
 set -euo pipefail
 top=$(dirname "$(dirname "$(readlink -f "${BASH_SOURCE[0]}")")")
 rounds=${1:-50}
@@ -42,6 +42,13 @@ fn line(alloc: Global, kind: &str, number: u64) -> Result<String, OutOfMemory> {
     if kind == "one" {
         return format!(in alloc; "c0 bucket info /vol1/bk{number}\n");
     }
+    if kind == "labels" && number % 2 == 0 {
+        return format!(in alloc; "c0 key open l{number} /vol1/bk1/k text x\n");
+    }
+    if kind == "labels" {
+        let opened = number - 1;
+        return format!(in alloc; "c0 key commit l{opened}\n");
+    }
     if kind == "many" || number == 0 {
         return format!(in alloc; "c{client} bucket info /vol1/bk{number}\n");
     }
@@ -70,7 +77,7 @@ fn main(rt: HostRuntime) -> anyhow::Result<()> {
     let rounds = number_in(words.next());
     for word in words {
         let lines = number_in(Some(word));
-        for kind in ["one", "many", "chain"] {
+        for kind in ["one", "many", "chain", "labels"] {
             let script = script(rt.alloc(), kind, lines)?;
             let mut least = u128::MAX;
             for _ in 0..rounds {
@@ -88,4 +95,4 @@ fn main(rt: HostRuntime) -> anyhow::Result<()> {
 PROGRAM
 cd "$work/crates/bench_script"
 rt run -- "$rounds" "${sizes[@]}" >"$work/said" 2>"$work/errors" || { cat "$work/said" "$work/errors"; exit 1; }
-grep -E '^(one|many|chain) ' "$work/said"
+grep -E '^(one|many|chain|labels) ' "$work/said"

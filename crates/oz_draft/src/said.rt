@@ -2,7 +2,7 @@
 
 ghost use Rattle.std.specs.Prelude.{◌≡◌, IfOk};
 ghost use Rattle.oz_command.specs.Words.{words};
-ghost use Rattle.oz_lines.specs.Said.{said_of, said_behind, said_after};
+ghost use Rattle.oz_draft.specs.Said.{said_of, said_behind, said_after};
 
 use oz_command::{Command, command_of, is_client_name, number_in, split_word};
 use oz_fields::{Name, OutOfMemory};

@@ -1,18 +1,20 @@
 //! The lines of a script as they are written.
 
-ghost use Rattle.std.specs.Prelude.{◌≡◌, ◌<◌, ◌==◌, ◌&&◌, ◌++◌, [], ◌∷◌, length, IfOk, MatchResult, if◌then◌else◌};
-ghost use Rattle.std.specs.List.{list_any, position};
+ghost use Rattle.std.specs.Prelude.{◌≡◌, ◌<◌, ◌==◌, ◌++◌, [], ◌∷◌, length, IfOk, MatchResult, if◌then◌else◌};
+ghost use Rattle.std.specs.List.{position};
 ghost use Rattle.std.specs.Option.{option_copied};
 ghost use Rattle.std.specs.Str.{bytes_eq};
-ghost use Rattle.oz_lines.specs.Drafts.{Fails, client_place, draft_of, is_opened, label_used, longer, opens};
-ghost use Rattle.oz_lines.specs.Drafts.{with_client, with_line, with_said, with_words};
-ghost use Rattle.oz_lines.specs.Tracked.{IsTracked};
+ghost use Rattle.oz_draft.specs.Drafts.{Fails, client_place, draft_of, is_opened, label_used, longer};
+ghost use Rattle.oz_draft.specs.Drafts.{with_client, with_line, with_said, with_words};
+ghost use Rattle.oz_draft.specs.Tracked.{IsTracked};
 
 use crate::fault::{Cause, ScriptFault};
+use crate::labels::{OpenedLabel, has_label, label_used, with_opened};
 use crate::said::{Said, said_of};
 use oz_command::{Command, is_of_words, split_line, split_word};
 use oz_fields::{List, Name, OutOfMemory};
 use std::alloc::Global;
+use std::collections::BTreeSet;
 
 /// A script has at most so many bytes.
 pub const MOST_BYTES: usize = 1_048_576;
@@ -42,18 +44,19 @@ pub struct Draft {
     pub entries: List<Entry>,
 }
 
-/// A draft, and how many lines each client has.
+/// A draft, how many lines each client has, and which labels it has opened.
 #[derive(Debug, Drop)]
-pub(crate) struct Drafting {
+pub struct Drafting {
     pub draft: Draft,
     pub counts: Vec<u16>,
+    pub opened: BTreeSet<OpenedLabel>,
 }
 
-/// Reads the lines.
-pub(crate) fn draft_of(alloc: Global, bytes: &[u8]) -> Result<Drafting, ScriptFault>
+/// Reads the lines, up to the first in none of the forms, too many, or with an unknown label.
+pub fn draft_of(alloc: Global, bytes: &[u8]) -> Result<Drafting, ScriptFault>
     ensures exact { MatchResult result (λ found. draft_of bytes.now ≡ Ok found.draft)
         (λ fault. Fails fault (draft_of bytes.now)) }
-    ensures tracked { IfOk result (λ found. IsTracked found.draft found.counts.items) }
+    ensures tracked { IfOk result (λ found. IsTracked found.draft found.counts.items found.opened) }
 {
     if bytes.len() > MOST_BYTES {
         return Err(ScriptFault::At {
@@ -67,6 +70,7 @@ pub(crate) fn draft_of(alloc: Global, bytes: &[u8]) -> Result<Drafting, ScriptFa
             entries: List::new(alloc),
         },
         counts: Vec::new(alloc),
+        opened: BTreeSet::new(alloc),
     };
     let mut place = 1;
     let mut rest = bytes;
@@ -85,10 +89,10 @@ fn with_line(
     place: u64,
     line: &[u8],
 ) -> Result<Drafting, ScriptFault>
-    requires { IsTracked drafting.draft drafting.counts.items }
+    requires { IsTracked drafting.draft drafting.counts.items drafting.opened }
     ensures exact { MatchResult result (λ next. with_line drafting.draft place line.now ≡ Ok next.draft)
         (λ fault. Fails fault (with_line drafting.draft place line.now)) }
-    ensures tracked { IfOk result (λ next. IsTracked next.draft next.counts.items) }
+    ensures tracked { IfOk result (λ next. IsTracked next.draft next.counts.items next.opened) }
 {
     let form = ScriptFault::At {
         line: place,
@@ -116,20 +120,19 @@ fn with_said(
     place: u64,
     said: Said,
 ) -> Result<Drafting, ScriptFault>
-    requires { IsTracked drafting.draft drafting.counts.items }
+    requires { IsTracked drafting.draft drafting.counts.items drafting.opened }
     ensures exact { MatchResult result (λ next. with_said drafting.draft place said ≡ Ok next.draft)
         (λ fault. Fails fault (with_said drafting.draft place said)) }
-    ensures tracked { IfOk result (λ next. IsTracked next.draft next.counts.items) }
+    ensures tracked { IfOk result (λ next. IsTracked next.draft next.counts.items next.opened) }
 {
     let client = client_place(&drafting.draft.clients, said.client.bytes());
-    let entries = &drafting.draft.entries;
-    if client >= MOST_CLIENTS || entries.len() >= MOST_LINES {
+    if client >= MOST_CLIENTS || drafting.draft.entries.len() >= MOST_LINES {
         return Err(ScriptFault::At {
             line: place,
             cause: Cause::Many,
         });
     }
-    if !is_opened(entries, client as u16 + 1, label_used(&said.command)) {
+    if !is_opened(alloc, &drafting, client as u16 + 1, &said.command)? {
         return Err(ScriptFault::At {
             line: place,
             cause: Cause::Label,
@@ -139,7 +142,7 @@ fn with_said(
 }
 
 /// Which client this is, counted from 0: one that has spoken, or the next.
-pub(crate) fn client_place(clients: &List<Name>, name: &[u8]) -> usize
+pub fn client_place(clients: &List<Name>, name: &[u8]) -> usize
     ensures { result ≡ client_place clients.now name.now }
 {
     spoken_place(clients, name).unwrap_or(clients.len())
@@ -151,56 +154,20 @@ fn spoken_place(clients: &List<Name>, name: &[u8]) -> Option<usize>
     clients.iter().position(|client| client.bytes() == name)
 }
 
-/// A line of the client opens the label, if there is one.
-fn is_opened(entries: &List<Entry>, client: u16, label: Option<&Name>) -> bool
-    ensures { result ≡ is_opened entries.now client (option_copied label.entry) }
+/// A line of the client opens the label that the command takes up, if it takes one up.
+fn is_opened(
+    alloc: Global,
+    drafting: &Drafting,
+    client: u16,
+    command: &Command,
+) -> Result<bool, OutOfMemory>
+    requires { IsTracked drafting.now.draft drafting.now.counts.items drafting.now.opened }
+    ensures { IfOk result (λ found. found
+        ≡ is_opened drafting.now.draft.entries client (label_used command.now)) }
 {
-    match label {
-        None => true,
-        Some(label) => has_opened(entries, client, label),
-    }
-}
-
-fn has_opened(entries: &List<Entry>, client: u16, label: &Name) -> bool
-    ensures { result ≡ list_any (λ entry. entry.client == client && opens label.now entry.command) entries.now }
-{
-    entries.iter().any(|entry| entry.client == client && opens(label, &entry.command))
-}
-
-fn opens(label: &Name, command: &Command) -> bool
-    ensures { result ≡ opens label.now command.now }
-{
-    match command {
-        Command::KeyOpen { label: other, .. } => other.bytes() == label.bytes(),
-        _ => false,
-    }
-}
-
-/// The label that a command takes up.
-fn label_used(command: &Command) -> Option<&Name>
-    ensures { option_copied result ≡ label_used command.now }
-{
-    match command {
-        Command::KeyCommit { label } => Some(label),
-        Command::VolumeCreate { .. }
-        | Command::VolumeDelete { .. }
-        | Command::VolumeInfo { .. }
-        | Command::BucketCreate { .. }
-        | Command::BucketDelete { .. }
-        | Command::BucketInfo { .. }
-        | Command::BucketList { .. }
-        | Command::KeyPut { .. }
-        | Command::KeyOpen { .. }
-        | Command::KeyGet { .. }
-        | Command::KeyDelete { .. }
-        | Command::KeyRename { .. }
-        | Command::KeyList { .. }
-        | Command::KeyExpire { .. }
-        | Command::SnapshotCreate { .. }
-        | Command::SnapshotDelete { .. }
-        | Command::SnapshotInfo { .. }
-        | Command::SnapshotList { .. }
-        | Command::Admin(_) => None,
+    match label_used(command) {
+        None => Ok(true),
+        Some(label) => has_label(alloc, &drafting.opened, client, label),
     }
 }
 
@@ -212,14 +179,18 @@ fn longer(
     client: usize,
     said: Said,
 ) -> Result<Drafting, OutOfMemory>
-    requires tracked { IsTracked drafting.draft drafting.counts.items }
+    requires tracked { IsTracked drafting.draft drafting.counts.items drafting.opened }
     requires client { client ≡ client_place drafting.draft.clients said.client }
     requires client_room { client < MOST_CLIENTS }
     requires line_room { length drafting.draft.entries < MOST_LINES }
     ensures exact { IfOk result (λ next. next.draft ≡ longer drafting.draft place client said) }
-    ensures tracked { IfOk result (λ next. IsTracked next.draft next.counts.items) }
+    ensures tracked { IfOk result (λ next. IsTracked next.draft next.counts.items next.opened) }
 {
-    let Drafting { draft, counts } = drafting;
+    let Drafting {
+        draft,
+        counts,
+        opened,
+    } = drafting;
     let Draft { clients, entries } = draft;
     let Said {
         client: name,
@@ -229,6 +200,7 @@ fn longer(
     let (clients, mut counts) = with_client(alloc, clients, counts, client, name)?;
     let number = counts[client] + 1;
     counts[client] = number;
+    let opened = with_opened(alloc, opened, client as u16 + 1, &command)?;
     let entry = Entry {
         place,
         client: client as u16 + 1,
@@ -240,6 +212,7 @@ fn longer(
     Ok(Drafting {
         draft: Draft { clients, entries },
         counts,
+        opened,
     })
 }
 
@@ -265,11 +238,7 @@ fn with_client(
     Ok((clients, counts))
 }
 
-pub(crate) fn pushed<T: Drop>(
-    alloc: Global,
-    mut list: List<T>,
-    item: T,
-) -> Result<List<T>, OutOfMemory>
+fn pushed<T: Drop>(alloc: Global, mut list: List<T>, item: T) -> Result<List<T>, OutOfMemory>
     ensures { IfOk result (λ longer. longer ≡ list ++ item ∷ []) }
 {
     match list.push(alloc, item) {

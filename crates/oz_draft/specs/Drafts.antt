@@ -12,14 +12,14 @@ use Rattle.oz_command.specs.declared.command.Command.TheVariants.{KeyCommit, Key
 use Rattle.oz_command.specs.declared.command.Command.TheVariants.{KeyExpire, SnapshotCreate, SnapshotDelete, SnapshotInfo}
 use Rattle.oz_command.specs.declared.command.Command.TheVariants.{SnapshotList, Admin}
 use Rattle.oz_command.specs.Words.{is_blank, is_visible, words}
-use Rattle.oz_lines.specs.declared.drafting.Draft.{Draft}
-use Rattle.oz_lines.specs.declared.drafting.Entry.{Entry}
-use Rattle.oz_lines.specs.declared.drafting.TheConstants.{MOST_BYTES, MOST_LINES, MOST_CLIENTS}
-use Rattle.oz_lines.specs.declared.fault.Cause.TheVariants.{Long, Form, Many, Label}
-use Rattle.oz_lines.specs.declared.fault.ScriptFault.{ScriptFault}
-use Rattle.oz_lines.specs.declared.fault.ScriptFault.TheVariants.{At, OutOfMemory}
-use Rattle.oz_lines.specs.declared.said.Said.{Said}
-use Rattle.oz_lines.specs.Said.{said_of}
+use Rattle.oz_draft.specs.declared.drafting.Draft.{Draft}
+use Rattle.oz_draft.specs.declared.drafting.Entry.{Entry}
+use Rattle.oz_draft.specs.declared.drafting.TheConstants.{MOST_BYTES, MOST_LINES, MOST_CLIENTS}
+use Rattle.oz_draft.specs.declared.fault.Cause.TheVariants.{Long, Form, Many, Label}
+use Rattle.oz_draft.specs.declared.fault.ScriptFault.{ScriptFault}
+use Rattle.oz_draft.specs.declared.fault.ScriptFault.TheVariants.{At, OutOfMemory}
+use Rattle.oz_draft.specs.declared.said.Said.{Said}
+use Rattle.oz_draft.specs.Said.{said_of}
 
 -- one after the other, up to the first fault
 infixl 10 ◌>>=◌

@@ -1,7 +1,7 @@
 //! What is wrong with a script.
 
 ghost use Rattle.std.specs.Prelude.{◌≡◌};
-ghost use Rattle.oz_lines.specs.Causes.{cause_text};
+ghost use Rattle.oz_draft.specs.Causes.{cause_text};
 
 use oz_fields::OutOfMemory;
 
@@ -50,7 +50,7 @@ impl Cause {
 }
 
 impl From<OutOfMemory> for ScriptFault {
-    ghost use Rattle.oz_lines.specs.declared.fault.ScriptFault.TheVariants.{OutOfMemory};
+    ghost use Rattle.oz_draft.specs.declared.fault.ScriptFault.TheVariants.{OutOfMemory};
 
     ghost from_gives = { λ _ fault. fault ≡ OutOfMemory };
 

@@ -4,8 +4,8 @@ use Rattle.std.specs.Str.{bytes_eq}
 use Rattle.oz_command.specs.Commands.{◌>>=◌, command_of}
 use Rattle.oz_command.specs.Numbers.{number_in}
 use Rattle.oz_command.specs.Words.{is_client_name}
-use Rattle.oz_lines.specs.declared.said.Said.{Said}
-use Rattle.oz_lines.specs.declared.said.TheConstants.{GREATEST_AFTER}
+use Rattle.oz_draft.specs.declared.said.Said.{Said}
+use Rattle.oz_draft.specs.declared.said.TheConstants.{GREATEST_AFTER}
 
 -- the words behind `after CLIENT`
 abbrev pub after_line : List ℕ → List ℕ → List ℕ → List (List ℕ) → Option Said

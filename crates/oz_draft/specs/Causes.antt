@@ -1,7 +1,7 @@
 -- The word of each fault of a script.
 use Rattle.std.specs.Prelude.{ℕ, List, codes}
-use Rattle.oz_lines.specs.declared.fault.Cause.{Cause}
-use Rattle.oz_lines.specs.declared.fault.Cause.TheVariants.{Long, Form, Many, Label, After, Circle, Later}
+use Rattle.oz_draft.specs.declared.fault.Cause.{Cause}
+use Rattle.oz_draft.specs.declared.fault.Cause.TheVariants.{Long, Form, Many, Label, After, Circle, Later}
 
 -- what the program prints
 abbrev pub cause_text : Cause → List ℕ

@@ -13,3 +13,5 @@ pub mod Grammar
 pub mod Based
 pub mod Found
 pub mod Standing
+pub mod Moves
+pub mod Shown

@@ -6,3 +6,4 @@ pub mod Deleting
 pub mod Granting
 pub mod Becoming
 pub mod Bare
+pub mod Apart

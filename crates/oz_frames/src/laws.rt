@@ -3,6 +3,7 @@
 ghost use Rattle.std.specs.Prelude.{◌∷◌, [], ◌++◌, ℕ, List, None, Some, Option as Perhaps};
 ghost use Rattle.oz_fields.specs.declared.block.Block.{Block as AnyBlock};
 ghost use Rattle.oz_fields.specs.declared.block.Piece.{Piece as AnyPiece};
+ghost use Rattle.oz_frames.specs.Apart.{ChangedInOne, only_in};
 ghost use Rattle.oz_frames.specs.Buckets.{BucketBecomes, with_bucket};
 ghost use Rattle.oz_frames.specs.Moves.{BlocksMove, NamesStay};
 ghost use Rattle.oz_frames.specs.Parts.{parted, IsParted, KeepsNumbers};
@@ -37,6 +38,14 @@ pub fn moved_blocks_stay_sound()
     ensures renames { (all now : Rows) (granted : Perhaps AnyBlock) →
         BlocksMove all now granted → IsSoundButRenames all → NamesStay all now →
         RenamesAreSound all → RenamesAreSound now }
+{}
+
+/// Rows that changed in one bucket are sound where the bucket's rows are, alone, and the rows before were.
+pub fn rows_of_one_bucket_change()
+    ensures sound { (all now : Rows) (volume name : List ℕ) → ChangedInOne all now volume name →
+        IsSoundButRenames (only_in volume name now) → IsSoundButRenames all → IsSoundButRenames now }
+    ensures renames { (all now : Rows) (volume name : List ℕ) → ChangedInOne all now volume name →
+        RenamesAreSound (only_in volume name now) → RenamesAreSound all → RenamesAreSound now }
 {}
 
 /// The blocks of one row are parted between it and another: they move.

@@ -15,3 +15,4 @@ pub mod Found
 pub mod Standing
 pub mod Moves
 pub mod Shown
+pub mod Breaking

@@ -7,10 +7,10 @@ use Rattle.oz_namespace.specs.declared.namespace.Bucket.{Bucket}
 use Rattle.oz_rows.specs.declared.key.RowKey.TheVariants as keys
 use Rattle.oz_rows.specs.declared.row.Row.TheVariants as values
 use Rattle.oz_rows.specs.declared.operation.Change.{Change}
-use Rattle.oz_rows.specs.RowMaps.{put}
+use Rattle.oz_rows.specs.RowMaps.{put, gone}
 use Rattle.oz_frames.specs.Parts.{parted}
 use Rattle.oz_frames.specs.Sessions.{blocks_in}
-use Rattle.oz_example.specs.Example.{home, photos, cat, fox, block, piece, cat_now, bucket_photos}
+use Rattle.oz_example.specs.Example.{home, photos, cat, elk, fox, block, piece, cat_now, bucket_photos}
 
 -- the session 11 becomes the key `fox`
 abbrev pub of_fox : List Piece
@@ -33,3 +33,17 @@ new_block = block 1 12
 
 abbrev pub granting : List Change
 granting = put (keys.Open home photos cat 10) (values.Open (block 1 9 ∷ block 1 10 ∷ new_block ∷ [])) ∷ []
+
+-- ---- what no request may do
+
+-- the key `cat` goes, and nothing keeps its blocks
+abbrev pub forgetting : List Change
+forgetting = gone (keys.Key home photos cat) ∷ []
+
+-- a block of the key `cat` stands in a deleted row as well
+abbrev pub standing_twice : List Change
+standing_twice = put (keys.Deleted home photos 0 cat 7) (values.Deleted (block 1 7 ∷ [])) ∷ []
+
+-- a session has a number that wasn't drawn
+abbrev pub undrawn : List Change
+undrawn = put (keys.Open home photos elk 13) (values.Open []) ∷ []

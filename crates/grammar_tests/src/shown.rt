@@ -1,6 +1,7 @@
 //! What a script says, shown.
 
-use oz_lines::{Line, PlacedScript, ScriptFault, read_lines};
+use oz_draft::ScriptFault;
+use oz_lines::{Line, PlacedScript, read_lines};
 use oz_script::parse;
 use std::alloc::{AllocError, Global};
 use std::process::Abort;

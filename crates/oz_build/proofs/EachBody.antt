@@ -9,10 +9,11 @@ use Rattle.oz_fields.specs.Field.{AreBytes}
 use Rattle.oz_fields.specs.laws.Bytes.{AreBytes-behind}
 use Rattle.oz_rows.specs.declared.key.RowKey.{RowKey}
 use Rattle.oz_rows.specs.declared.row.Row.{Row}
+use Rattle.oz_rows.specs.declared.operation.Head.{Head}
 use Rattle.oz_rows.specs.declared.operation.Operation.{Operation}
 use Rattle.oz_rows.specs.declared.operation.Operation.TheVariants.{Put, Remove, CopyKeys, MoveDeleted, DropKeys, DropOpen}
 use Rattle.oz_rows.specs.declared.operation.Operations.{Operations}
-use Rattle.oz_rows.specs.Operations.{OperationFits, operation_bytes, AreOperations, batch_bytes, head_bytes, IsIndex, IsBody}
+use Rattle.oz_rows.specs.Operations.{OperationFits, operation_bytes, AreOperations, batch_bytes, head_bytes, head_in, IsHead, IsBody}
 use Rattle.oz_rows.specs.Reading.{head_at, operation_at}
 use Rattle.oz_rows.specs.laws.OperationReads.{operation_reads, head_reads}
 use Rattle.oz_rows.specs.laws.Batches.{fewer_left}
@@ -20,7 +21,7 @@ use Rattle.oz_rows.specs.laws.Bodies.{body_found}
 use Rattle.oz_rows.specs.declared.entry.RowEntry.{RowEntry}
 use Rattle.oz_rows.specs.RowMaps.{row_of, KeysRise, Becomes}
 use Rattle.oz_effects.specs.Effects.{Leads, IsPossible, operation_changes}
-use Rattle.oz_effects.specs.Build.{base_of, removes, IsOrphan, LeavesOne, AllAreBased, IsAtFault, NoneAtFault, IsNextBody, BuildsFrom, OperationFails, IsDamagedBody, FailsFrom}
+use Rattle.oz_effects.specs.Build.{base_of, removes, IsOrphan, LeavesOne, AllAreBased, IsAtFault, NoneAtFault, no_head, Rises, IsNextBody, BuildsFrom, Builds, OperationFails, IsDamagedBody, FailsFrom, FailsAt}
 use Rattle.oz_build.specs.Steps.{is_left}
 use Rattle.oz_rows.specs.laws.Changes.{become}
 use Rattle.oz_effects.specs.laws.Steps.{some_apart, some_inside, leads_rise}
@@ -31,7 +32,7 @@ abbrev OperationRead : Type 0
 OperationRead = Result (Operation × List ℕ) ℕ
 
 abbrev HeadRead : Type 0
-HeadRead = Result (ℕ × List ℕ) ℕ
+HeadRead = Result (Head × List ℕ) ℕ
 
 -- ---- the operations of a batch, one after another
 
@@ -197,30 +198,30 @@ module _ (after : List RowEntry) (rise : KeysRise after) (whole : List Operation
 
 -- ---- bodies
 
-abbrev body_with : ℕ → List Operation → Operations
-body_with index items = record { layout = 1; index = index; items = items }
+abbrev body_with : Head → List Operation → Operations
+body_with head items = record { layout = head.layout; index = head.index; items = items }
 
-abbrev Next : ℕ → List RowEntry → List ℕ → Type 0
+abbrev Next : Head → List RowEntry → List ℕ → Type 0
 Next last before bytes = (body : Operations) × (after : List RowEntry) × IsNextBody last before bytes body after
 
-abbrev Damaged : ℕ → List RowEntry → List ℕ → Type 0
+abbrev Damaged : Head → List RowEntry → List ℕ → Type 0
 Damaged last before bytes = (place : ℕ) × IsDamagedBody last before bytes place
 
-module _ (last : ℕ) (before : List RowEntry) (bytes : List ℕ) (rise : KeysRise before) (based : AllAreBased before) (fit : AreBytes bytes) where
-  module _ (index : ℕ) (rest : List ℕ) (head : head_at bytes ≡ Ok (index, rest)) (rises : last < index) where
-    spelled : IsIndex index × (bytes ≡ head_bytes index ++ rest)
-    spelled = head_reads.one_spelling bytes index rest fit head
+module _ (last : Head) (before : List RowEntry) (bytes : List ℕ) (rise : KeysRise before) (based : AllAreBased before) (fit : AreBytes bytes) where
+  module _ (head : Head) (rest : List ℕ) (reads : head_at bytes ≡ Ok (head, rest)) (rises : Rises last head) where
+    spelled : IsHead head × (bytes ≡ head_bytes head ++ rest)
+    spelled = head_reads.one_spelling bytes head rest fit reads
 
     stopped : Stops before rest → Damaged last before bytes
     stopped stops =
         let fails = stops.fails bytes in (
           fails.0,
           inr (inl (record {
-            index = index;
+            head = head;
             items = stops.items;
             rest = stops.rest;
             between = stops.between;
-            head = head ∙ ap (λ (rest : List ℕ). Ok (index, rest)) stops.parts;
+            reads = reads ∙ ap (λ (rest : List ℕ). Ok (head, rest)) stops.parts;
             rises = rises;
             fit = stops.fit;
             leads = stops.leads;
@@ -232,15 +233,15 @@ module _ (last : ℕ) (before : List RowEntry) (bytes : List ℕ) (rise : KeysRi
     followed : Follows before rest → Next last before bytes ⊎ Damaged last before bytes
     followed follows = by (first_fault follows.after (leads_rise before follows.items follows.after follows.leads rise) follows.items follows.items [])
       where
-        is : IsBody bytes (body_with index follows.items)
-        is = body_found bytes index rest follows.items fit head (follows.fit, follows.parts)
+        is : IsBody bytes (body_with head follows.items)
+        is = body_found bytes head rest follows.items fit reads (follows.fit, follows.parts)
 
         by : NoneAtFault follows.after follows.items follows.items [] ⊎ FirstFault follows.after (leads_rise before follows.items follows.after follows.leads rise) follows.items (follows.items ++ []) → Next last before bytes ⊎ Damaged last before bytes
-        by (inl none) = inl (body_with index follows.items, follows.after, record { body_is = is; rises = rises; leads = follows.leads; based = based_after before follows.items follows.after based follows.leads none })
+        by (inl none) = inl (body_with head follows.items, follows.after, record { body_is = is; rises = rises; leads = follows.leads; based = based_after before follows.items follows.after based follows.leads none })
         by (inr found) = inr (
-          length (head_bytes index) + length (batch_bytes found.earlier),
+          length (head_bytes head) + length (batch_bytes found.earlier),
           inr (inr (record {
-            body = body_with index follows.items;
+            body = body_with head follows.items;
             after = follows.after;
             earlier = found.earlier;
             operation = found.operation;
@@ -260,38 +261,48 @@ module _ (last : ℕ) (before : List RowEntry) (bytes : List ℕ) (rise : KeysRi
     by_batch (inr stops) = inr (stopped stops)
 
     risen : Next last before bytes ⊎ Damaged last before bytes
-    risen = by_batch (each_batch (length rest) before rest (omega arith) rise (AreBytes-behind bytes (head_bytes index) rest fit spelled.1))
+    risen = by_batch (each_batch (length rest) before rest (omega arith) rise (AreBytes-behind bytes (head_bytes head) rest fit spelled.1))
 
   each_body : Next last before bytes ⊎ Damaged last before bytes
   each_body = by (head_at bytes) refl
     where
       by : (read : HeadRead) → head_at bytes ≡ read → Next last before bytes ⊎ Damaged last before bytes
       by (Err left) e = inr (length bytes - left, inl (inl (left, e, refl)))
-      by (Ok (index, rest)) e = above (cases_lt last index)
+      by (Ok (head, rest)) e = by_layout (cases_lt head.layout last.layout)
         where
-          above : (last < index) ⊎ (index ≤ last) → Next last before bytes ⊎ Damaged last before bytes
-          above (inl rises) = risen index rest e rises
-          above (inr le) = inr (1, inl (inr (index, rest, e, le, refl)))
+          by_index : last.layout ≤ head.layout → (last.index < head.index) ⊎ (head.index ≤ last.index) → Next last before bytes ⊎ Damaged last before bytes
+          by_index kept (inl above) = risen head rest e (record { layout = kept; index = above })
+          by_index kept (inr le) = inr (1, inl (inr (head, rest, e, inr (kept, le, refl))))
 
-abbrev Built : List RowEntry → ℕ → List (List ℕ) → Type 0
-Built before last bodies = (all : List RowEntry) × (index : ℕ) × BuildsFrom before last bodies all index
+          by_layout : (head.layout < last.layout) ⊎ (last.layout ≤ head.layout) → Next last before bytes ⊎ Damaged last before bytes
+          by_layout (inl below) = inr (0, inl (inr (head, rest, e, inl (below, refl))))
+          by_layout (inr kept) = by_index kept (cases_lt last.index head.index)
 
-abbrev Failed : List RowEntry → ℕ → List (List ℕ) → Type 0
+abbrev Built : List RowEntry → Head → List (List ℕ) → Type 0
+Built before last bodies = (all : List RowEntry) × (head : Head) × BuildsFrom before last bodies all head
+
+abbrev Failed : List RowEntry → Head → List (List ℕ) → Type 0
 Failed before last bodies = (count : ℕ) × (place : ℕ) × FailsFrom before last bodies count place
 
-module _ (before : List RowEntry) (last : ℕ) (bytes : List ℕ) (bodies : List (List ℕ)) (rise : KeysRise before) (behind : (between : List RowEntry) (index : ℕ) → KeysRise between → AllAreBased between → Built between index bodies ⊎ Failed between index bodies) where
-  one_more : (body : Operations) (after : List RowEntry) → IsNextBody last before bytes body after → Built after body.index bodies ⊎ Failed after body.index bodies → Built before last (bytes ∷ bodies) ⊎ Failed before last (bytes ∷ bodies)
+module _ (before : List RowEntry) (last : Head) (bytes : List ℕ) (bodies : List (List ℕ)) (rise : KeysRise before) (behind : (between : List RowEntry) (head : Head) → KeysRise between → AllAreBased between → Built between head bodies ⊎ Failed between head bodies) where
+  one_more : (body : Operations) (after : List RowEntry) → IsNextBody last before bytes body after → Built after (head_in body) bodies ⊎ Failed after (head_in body) bodies → Built before last (bytes ∷ bodies) ⊎ Failed before last (bytes ∷ bodies)
   unfolding BuildsFrom FailsFrom
-  one_more body after next (inl (all, index, builds)) = inl (all, index, (body, after, next, builds))
+  one_more body after next (inl (all, head, builds)) = inl (all, head, (body, after, next, builds))
   one_more body after next (inr (count, place, fails)) = inr (suc count, place, (body, after, next, fails))
 
   one_first : Next last before bytes ⊎ Damaged last before bytes → Built before last (bytes ∷ bodies) ⊎ Failed before last (bytes ∷ bodies)
   unfolding BuildsFrom FailsFrom
   one_first (inr (place, damaged)) = inr (0, place, damaged)
-  one_first (inl (body, after, next)) = one_more body after next (behind after body.index (leads_rise before body.items after next.leads rise) next.based)
+  one_first (inl (body, after, next)) = one_more body after next (behind after (head_in body) (leads_rise before body.items after next.leads rise) next.based)
 
-pub each_builds : (before : List RowEntry) (last : ℕ) (bodies : List (List ℕ)) → KeysRise before → AllAreBased before → AllByRecursion AreBytes bodies → Built before last bodies ⊎ Failed before last bodies
+pub each_builds : (before : List RowEntry) (last : Head) (bodies : List (List ℕ)) → KeysRise before → AllAreBased before → AllByRecursion AreBytes bodies → Built before last bodies ⊎ Failed before last bodies
 unfolding BuildsFrom FailsFrom
 each_builds before last [] rise based fit = inl (before, last, (refl, refl))
 each_builds before last (bytes ∷ bodies) rise based fit =
-    one_first before last bytes bodies rise (λ between index rise based. each_builds between index bodies rise based fit.1) (each_body last before bytes rise based fit.0)
+    one_first before last bytes bodies rise (λ between head rise based. each_builds between head bodies rise based fit.1) (each_body last before bytes rise based fit.0)
+
+-- what they make is told by the index alone
+pub told : (bodies : List (List ℕ)) → Built [] no_head bodies ⊎ Failed [] no_head bodies
+    → ((all : List RowEntry) × (index : ℕ) × Builds bodies all index) ⊎ ((count : ℕ) × (place : ℕ) × FailsAt bodies count place)
+told bodies (inl (all, head, builds)) = inl (all, head.index, (head, builds, refl))
+told bodies (inr fails) = inr fails

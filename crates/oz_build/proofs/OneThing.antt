@@ -9,18 +9,19 @@ use Rattle.std.proofs.lemmas.List.Concat.{flat_map-cons}
 use Rattle.oz_rows.specs.declared.key.RowKey.{RowKey}
 use Rattle.oz_rows.specs.declared.row.Row.{Row}
 use Rattle.oz_rows.specs.declared.operation.Change.{Change}
+use Rattle.oz_rows.specs.declared.operation.Head.{Head}
 use Rattle.oz_rows.specs.declared.operation.Operation.{Operation}
 use Rattle.oz_rows.specs.declared.operation.Operation.TheVariants.{Put, Remove, CopyKeys, MoveDeleted, DropKeys, DropOpen}
 use Rattle.oz_rows.specs.declared.operation.Operations.{Operations}
 use Rattle.oz_rows.specs.Order.{key_order}
-use Rattle.oz_rows.specs.Operations.{OperationFits, operation_bytes, AreOperations, batch_bytes, head_bytes, IsBody}
+use Rattle.oz_rows.specs.Operations.{OperationFits, operation_bytes, AreOperations, batch_bytes, head_bytes, head_in, IsBody}
 use Rattle.oz_rows.specs.Reading.{head_at, operation_at}
 use Rattle.oz_rows.specs.laws.Bodies.{body_is}
 use Rattle.oz_rows.specs.laws.OperationReads.{operation_reads, head_reads}
 use Rattle.oz_rows.specs.declared.entry.RowEntry.{RowEntry}
 use Rattle.oz_rows.specs.RowMaps.{row_of, is_same, KeysRise, Becomes}
 use Rattle.oz_effects.specs.Effects.{Leads, IsPossible, operation_changes}
-use Rattle.oz_effects.specs.Build.{AllAreBased, IsAtFault, NoneAtFault, IsNextBody, BuildsFrom, HeadFails, OperationFails, BatchFails, LeavesOrphan, IsDamagedBody, FailsFrom}
+use Rattle.oz_effects.specs.Build.{AllAreBased, IsAtFault, NoneAtFault, Rises, IsNextBody, BuildsFrom, HeadFalls, HeadFails, OperationFails, BatchFails, LeavesOrphan, IsDamagedBody, FailsFrom}
 use Rattle.oz_rows.specs.laws.Order.{itself, below_above}
 use Rattle.oz_rows.specs.laws.Same.{same_is_one}
 use Rattle.oz_rows.specs.laws.Following.{found_over, first_least}
@@ -123,18 +124,18 @@ unfolding is_read
 not_both_read r x left ok err = false≢true (sym (ap is_read err) ∙ ap is_read ok)
 
 abbrev HeadRead : Type 0
-HeadRead = ℕ × List ℕ
+HeadRead = Head × List ℕ
 
 abbrev OperationRead : Type 0
 OperationRead = Operation × List ℕ
 
-headed : (bytes : List ℕ) (body : Operations) → IsBody bytes body → head_at bytes ≡ Ok (body.index, batch_bytes body.items)
-headed bytes body is = ap head_at is.3 ∙ head_reads.reads_back body.index (batch_bytes body.items) is.1
+headed : (bytes : List ℕ) (body : Operations) → IsBody bytes body → head_at bytes ≡ Ok (head_in body, batch_bytes body.items)
+headed bytes body is = ap head_at is.2 ∙ head_reads.reads_back (head_in body) (batch_bytes body.items) is.0
 
 body_one : (bytes : List ℕ) (body other : Operations) → IsBody bytes body → IsBody bytes other → body ≡ other
 body_one bytes body other is is_other =
     let head = headed bytes body is in
-    sym (body_is bytes body.index (batch_bytes body.items) body.items head (is.2, refl) body is) ∙ body_is bytes body.index (batch_bytes body.items) body.items head (is.2, refl) other is_other
+    sym (body_is bytes (head_in body) (batch_bytes body.items) body.items head (is.1, refl) body is) ∙ body_is bytes (head_in body) (batch_bytes body.items) body.items head (is.1, refl) other is_other
 
 first_read : (first : Operation) (others : List Operation) (rest : List ℕ) → OperationFits first → operation_at (batch_bytes (first ∷ others) ++ rest) ≡ Ok (first, batch_bytes others ++ rest)
 first_read first others rest fits =
@@ -236,7 +237,7 @@ record SameBody (body other : Operations) (a b : List RowEntry) : Type 0 where
   bodies : body ≡ other
   rows : a ≡ b
 
-next_one : (last : ℕ) (before : List RowEntry) (bytes : List ℕ) (body other : Operations) (a b : List RowEntry) → IsNextBody last before bytes body a → IsNextBody last before bytes other b → SameBody body other a b
+next_one : (last : Head) (before : List RowEntry) (bytes : List ℕ) (body other : Operations) (a b : List RowEntry) → IsNextBody last before bytes body a → IsNextBody last before bytes other b → SameBody body other a b
 next_one last before bytes body other a b next next_other =
     let same = body_one bytes body other next.body_is next_other.body_is in
     record {
@@ -244,17 +245,21 @@ next_one last before bytes body other a b next next_other =
       rows = leads_one before body.items a b next.leads (subst (λ (operations : Operations). Leads before operations.items b) (sym same) next_other.leads);
     }
 
-head_ok : (last : ℕ) (bytes : List ℕ) (index : ℕ) (rest : List ℕ) (place : ℕ) → head_at bytes ≡ Ok (index, rest) → last < index → HeadFails last bytes place → ⊥
-head_ok last bytes index rest place head rises (inl (left, fails, is)) = not_both_read (head_at bytes) (index, rest) left head fails
-head_ok last bytes index rest place head rises (inr (other, after, there, not_above, is)) =
-    let x : HeadRead = (index, rest) in
-    let y : HeadRead = (other, after) in
-    let same : index ≡ other = ap (λ (read : HeadRead). read.0) (ok_same x y (sym head ∙ there)) in
-    omega (arith, same, rises, not_above)
+falls_not : (last head : Head) (place : ℕ) → Rises last head → HeadFalls last head place → ⊥
+falls_not last head place rises (inl (below, is)) = omega (arith, rises.layout, below)
+falls_not last head place rises (inr (kept, le, is)) = omega (arith, rises.index, le)
 
-batch_is : (bytes : List ℕ) (index other : ℕ) (rest left : List ℕ) → head_at bytes ≡ Ok (index, rest) → head_at bytes ≡ Ok (other, left) → rest ≡ left
-batch_is bytes index other rest left here there =
-    let x : HeadRead = (index, rest) in
+head_ok : (last : Head) (bytes : List ℕ) (head : Head) (rest : List ℕ) (place : ℕ) → head_at bytes ≡ Ok (head, rest) → Rises last head → HeadFails last bytes place → ⊥
+head_ok last bytes head rest place reads rises (inl (left, fails, is)) = not_both_read (head_at bytes) (head, rest) left reads fails
+head_ok last bytes head rest place reads rises (inr (other, after, there, falls)) =
+    let x : HeadRead = (head, rest) in
+    let y : HeadRead = (other, after) in
+    let same : head ≡ other = ap (λ (read : HeadRead). read.0) (ok_same x y (sym reads ∙ there)) in
+    falls_not last other place (subst (Rises last) same rises) falls
+
+batch_is : (bytes : List ℕ) (head other : Head) (rest left : List ℕ) → head_at bytes ≡ Ok (head, rest) → head_at bytes ≡ Ok (other, left) → rest ≡ left
+batch_is bytes head other rest left here there =
+    let x : HeadRead = (head, rest) in
     let y : HeadRead = (other, left) in
     ap (λ (read : HeadRead). read.1) (ok_same x y (sym here ∙ there))
 
@@ -262,31 +267,41 @@ to_end : (items : List Operation) → batch_bytes items ++ [] ≡ batch_bytes it
 to_end items = append-nil (batch_bytes items)
 
 -- a whole body whose operations may follow each other has no operation that fails
-no_batch_fails : (last : ℕ) (before : List RowEntry) (bytes : List ℕ) (body : Operations) (after : List RowEntry) (place : ℕ) → IsBody bytes body → Leads before body.items after → BatchFails last before bytes place → ⊥
+no_batch_fails : (last : Head) (before : List RowEntry) (bytes : List ℕ) (body : Operations) (after : List RowEntry) (place : ℕ) → IsBody bytes body → Leads before body.items after → BatchFails last before bytes place → ⊥
 no_batch_fails last before bytes body after place is leads fails =
-    whole_batch before body.items fails.items fails.rest after fails.between bytes place is.2 fails.fit (to_end body.items ∙ batch_is bytes body.index fails.index (batch_bytes body.items) (batch_bytes fails.items ++ fails.rest) (headed bytes body is) fails.head) leads fails.leads fails.not_over fails.fails
+    whole_batch before body.items fails.items fails.rest after fails.between bytes place is.1 fails.fit (to_end body.items ∙ batch_is bytes (head_in body) fails.head (batch_bytes body.items) (batch_bytes fails.items ++ fails.rest) (headed bytes body is) fails.reads) leads fails.leads fails.not_over fails.fails
 
-next_not_damaged : (last : ℕ) (before : List RowEntry) (bytes : List ℕ) (body : Operations) (after : List RowEntry) (place : ℕ) → IsNextBody last before bytes body after → IsDamagedBody last before bytes place → ⊥
-next_not_damaged last before bytes body after place next (inl head) = head_ok last bytes body.index (batch_bytes body.items) place (headed bytes body next.body_is) next.rises head
+next_not_damaged : (last : Head) (before : List RowEntry) (bytes : List ℕ) (body : Operations) (after : List RowEntry) (place : ℕ) → IsNextBody last before bytes body after → IsDamagedBody last before bytes place → ⊥
+next_not_damaged last before bytes body after place next (inl head) = head_ok last bytes (head_in body) (batch_bytes body.items) place (headed bytes body next.body_is) next.rises head
 next_not_damaged last before bytes body after place next (inr (inl batch)) = no_batch_fails last before bytes body after place next.body_is next.leads batch
 next_not_damaged last before bytes body after place next (inr (inr left)) =
     let same = body_one bytes body left.body next.body_is left.body_is in
     let rows = leads_one before body.items after left.after next.leads (subst (λ (operations : Operations). Leads before operations.items left.after) (sym same) left.leads) in
     at_fault_unbased left.after left.body.items left.later left.operation left.at_fault (subst AllAreBased rows next.based)
 
-heads_once : (last : ℕ) (bytes : List ℕ) (at place : ℕ) → HeadFails last bytes at → HeadFails last bytes place → at ≡ place
-heads_once last bytes at place (inl (a, fails_a, is_a)) (inl (b, fails_b, is_b)) = is_a ∙ ap (λ (left : ℕ). length bytes - left) (err_same HeadRead a b (sym fails_a ∙ fails_b)) ∙ sym is_b
-heads_once last bytes at place (inl (a, fails_a, is_a)) (inr (index, rest, here, le, is_b)) = absurd (not_both_read (head_at bytes) (index, rest) a here fails_a)
-heads_once last bytes at place (inr (index, rest, here, le, is_a)) (inl (b, fails_b, is_b)) = absurd (not_both_read (head_at bytes) (index, rest) b here fails_b)
-heads_once last bytes at place (inr (index, rest, here, le, is_a)) (inr (other, after, there, le_other, is_b)) = is_a ∙ sym is_b
+falls_once : (last head : Head) (at place : ℕ) → HeadFalls last head at → HeadFalls last head place → at ≡ place
+falls_once last head at place (inl (below, is_a)) (inl (also, is_b)) = is_a ∙ sym is_b
+falls_once last head at place (inl (below, is_a)) (inr (kept, le, is_b)) = absurd (omega (arith, below, kept))
+falls_once last head at place (inr (kept, le, is_a)) (inl (below, is_b)) = absurd (omega (arith, below, kept))
+falls_once last head at place (inr (kept, le, is_a)) (inr (also, le_also, is_b)) = is_a ∙ sym is_b
 
-batches_once : (last : ℕ) (before : List RowEntry) (bytes : List ℕ) (at place : ℕ) → BatchFails last before bytes at → BatchFails last before bytes place → at ≡ place
+heads_once : (last : Head) (bytes : List ℕ) (at place : ℕ) → HeadFails last bytes at → HeadFails last bytes place → at ≡ place
+heads_once last bytes at place (inl (a, fails_a, is_a)) (inl (b, fails_b, is_b)) = is_a ∙ ap (λ (left : ℕ). length bytes - left) (err_same HeadRead a b (sym fails_a ∙ fails_b)) ∙ sym is_b
+heads_once last bytes at place (inl (a, fails_a, is_a)) (inr (head, rest, here, falls)) = absurd (not_both_read (head_at bytes) (head, rest) a here fails_a)
+heads_once last bytes at place (inr (head, rest, here, falls)) (inl (b, fails_b, is_b)) = absurd (not_both_read (head_at bytes) (head, rest) b here fails_b)
+heads_once last bytes at place (inr (head, rest, here, falls)) (inr (other, after, there, also)) =
+    let x : HeadRead = (head, rest) in
+    let y : HeadRead = (other, after) in
+    let same : head ≡ other = ap (λ (read : HeadRead). read.0) (ok_same x y (sym here ∙ there)) in
+    falls_once last other at place (subst (λ (h : Head). HeadFalls last h at) same falls) also
+
+batches_once : (last : Head) (before : List RowEntry) (bytes : List ℕ) (at place : ℕ) → BatchFails last before bytes at → BatchFails last before bytes place → at ≡ place
 batches_once last before bytes at place a b =
-    let same = same_place before a.items b.items a.rest b.rest a.between b.between bytes at place a.fit b.fit (batch_is bytes a.index b.index (batch_bytes a.items ++ a.rest) (batch_bytes b.items ++ b.rest) a.head b.head) a.leads b.leads a.fails b.fails in
+    let same = same_place before a.items b.items a.rest b.rest a.between b.between bytes at place a.fit b.fit (batch_is bytes a.head b.head (batch_bytes a.items ++ a.rest) (batch_bytes b.items ++ b.rest) a.reads b.reads) a.leads b.leads a.fails b.fails in
     fails_once b.between bytes b.rest at place
     (subst (λ (rest : List ℕ). OperationFails b.between bytes rest at) same.rest_same (subst (λ (rows : List RowEntry). OperationFails rows bytes a.rest at) same.rows_same a.fails)) b.fails
 
-orphans_once : (last : ℕ) (before : List RowEntry) (bytes : List ℕ) (at place : ℕ) → LeavesOrphan last before bytes at → LeavesOrphan last before bytes place → at ≡ place
+orphans_once : (last : Head) (before : List RowEntry) (bytes : List ℕ) (at place : ℕ) → LeavesOrphan last before bytes at → LeavesOrphan last before bytes place → at ≡ place
 orphans_once last before bytes at place a b =
     let same = body_one bytes a.body b.body a.body_is b.body_is in
     let rows = leads_one before a.body.items a.after b.after a.leads (subst (λ (operations : Operations). Leads before operations.items b.after) (sym same) b.leads) in
@@ -294,18 +309,18 @@ orphans_once last before bytes at place a b =
     let first = subst (λ (l : List Operation). NoneAtFault b.after l a.earlier (a.operation ∷ a.later)) items (subst (λ (after : List RowEntry). NoneAtFault after a.body.items a.earlier (a.operation ∷ a.later)) rows a.first) in
     let at_fault = subst (λ (l : List Operation). IsAtFault b.after l a.later a.operation) items (subst (λ (after : List RowEntry). IsAtFault after a.body.items a.later a.operation) rows a.at_fault) in
     let earlier = first_once b.after b.body.items a.earlier b.earlier a.operation b.operation a.later b.later (sym a.parts ∙ items ∙ b.parts) first b.first at_fault b.at_fault in
-    a.begins ∙ ap (λ (index : ℕ). length (head_bytes index) + length (batch_bytes a.earlier)) (ap (λ (operations : Operations). operations.index) same) ∙ ap (λ (l : List Operation). length (head_bytes b.body.index) + length (batch_bytes l)) earlier ∙ sym b.begins
+    a.begins ∙ ap (λ (head : Head). length (head_bytes head) + length (batch_bytes a.earlier)) (ap head_in same) ∙ ap (λ (l : List Operation). length (head_bytes (head_in b.body)) + length (batch_bytes l)) earlier ∙ sym b.begins
 
-batch_head : (last : ℕ) (before : List RowEntry) (bytes : List ℕ) (at place : ℕ) → BatchFails last before bytes at → HeadFails last bytes place → ⊥
-batch_head last before bytes at place batch head = head_ok last bytes batch.index (batch_bytes batch.items ++ batch.rest) place batch.head batch.rises head
+batch_head : (last : Head) (before : List RowEntry) (bytes : List ℕ) (at place : ℕ) → BatchFails last before bytes at → HeadFails last bytes place → ⊥
+batch_head last before bytes at place batch head = head_ok last bytes batch.head (batch_bytes batch.items ++ batch.rest) place batch.reads batch.rises head
 
-orphan_head : (last : ℕ) (before : List RowEntry) (bytes : List ℕ) (at place : ℕ) → LeavesOrphan last before bytes at → HeadFails last bytes place → ⊥
-orphan_head last before bytes at place left head = head_ok last bytes left.body.index (batch_bytes left.body.items) place (headed bytes left.body left.body_is) left.rises head
+orphan_head : (last : Head) (before : List RowEntry) (bytes : List ℕ) (at place : ℕ) → LeavesOrphan last before bytes at → HeadFails last bytes place → ⊥
+orphan_head last before bytes at place left head = head_ok last bytes (head_in left.body) (batch_bytes left.body.items) place (headed bytes left.body left.body_is) left.rises head
 
-orphan_batch : (last : ℕ) (before : List RowEntry) (bytes : List ℕ) (at place : ℕ) → LeavesOrphan last before bytes at → BatchFails last before bytes place → ⊥
+orphan_batch : (last : Head) (before : List RowEntry) (bytes : List ℕ) (at place : ℕ) → LeavesOrphan last before bytes at → BatchFails last before bytes place → ⊥
 orphan_batch last before bytes at place left batch = no_batch_fails last before bytes left.body left.after place left.body_is left.leads batch
 
-damaged_once : (last : ℕ) (before : List RowEntry) (bytes : List ℕ) (at place : ℕ) → IsDamagedBody last before bytes at → IsDamagedBody last before bytes place → at ≡ place
+damaged_once : (last : Head) (before : List RowEntry) (bytes : List ℕ) (at place : ℕ) → IsDamagedBody last before bytes at → IsDamagedBody last before bytes place → at ≡ place
 damaged_once last before bytes at place (inl a) (inl b) = heads_once last bytes at place a b
 damaged_once last before bytes at place (inl a) (inr (inl b)) = absurd (batch_head last before bytes place at b a)
 damaged_once last before bytes at place (inl a) (inr (inr b)) = absurd (orphan_head last before bytes place at b a)
@@ -318,24 +333,24 @@ damaged_once last before bytes at place (inr (inr a)) (inr (inr b)) = orphans_on
 
 -- ---- all bodies
 
-pub builds_one : (before : List RowEntry) (last : ℕ) (bodies : List (List ℕ)) (all other : List RowEntry) (index end : ℕ) → BuildsFrom before last bodies all index → BuildsFrom before last bodies other end → (all ≡ other) × (index ≡ end)
+pub builds_one : (before : List RowEntry) (last : Head) (bodies : List (List ℕ)) (all other : List RowEntry) (head end : Head) → BuildsFrom before last bodies all head → BuildsFrom before last bodies other end → (all ≡ other) × (head ≡ end)
 unfolding BuildsFrom
-builds_one before last [] all other index end a b = (a.0 ∙ sym b.0, a.1 ∙ sym b.1)
-builds_one before last (bytes ∷ bodies) all other index end (body, rows, next, builds) (body', rows', next', builds') =
+builds_one before last [] all other head end a b = (a.0 ∙ sym b.0, a.1 ∙ sym b.1)
+builds_one before last (bytes ∷ bodies) all other head end (body, rows, next, builds) (body', rows', next', builds') =
     let same = next_one last before bytes body body' rows rows' next next' in
-    builds_one rows body.index bodies all other index end builds
-    (subst (λ (rows : List RowEntry). BuildsFrom rows body.index bodies other end) (sym same.rows) (subst (λ (operations : Operations). BuildsFrom rows' operations.index bodies other end) (sym same.bodies) builds'))
+    builds_one rows (head_in body) bodies all other head end builds
+    (subst (λ (rows : List RowEntry). BuildsFrom rows (head_in body) bodies other end) (sym same.rows) (subst (λ (operations : Operations). BuildsFrom rows' (head_in operations) bodies other end) (sym same.bodies) builds'))
 
-pub not_both : (before : List RowEntry) (last : ℕ) (bodies : List (List ℕ)) (all : List RowEntry) (index count place : ℕ) → BuildsFrom before last bodies all index → FailsFrom before last bodies count place → ⊥
+pub not_both : (before : List RowEntry) (last : Head) (bodies : List (List ℕ)) (all : List RowEntry) (head : Head) (count place : ℕ) → BuildsFrom before last bodies all head → FailsFrom before last bodies count place → ⊥
 unfolding BuildsFrom FailsFrom
-not_both before last [] all index count place builds fails = fails
-not_both before last (bytes ∷ bodies) all index zero place (body, rows, next, builds) fails = next_not_damaged last before bytes body rows place next fails
-not_both before last (bytes ∷ bodies) all index (suc count) place (body, rows, next, builds) (body', rows', next', fails) =
+not_both before last [] all head count place builds fails = fails
+not_both before last (bytes ∷ bodies) all head zero place (body, rows, next, builds) fails = next_not_damaged last before bytes body rows place next fails
+not_both before last (bytes ∷ bodies) all head (suc count) place (body, rows, next, builds) (body', rows', next', fails) =
     let same = next_one last before bytes body body' rows rows' next next' in
-    not_both rows body.index bodies all index count place builds
-    (subst (λ (rows : List RowEntry). FailsFrom rows body.index bodies count place) (sym same.rows) (subst (λ (operations : Operations). FailsFrom rows' operations.index bodies count place) (sym same.bodies) fails))
+    not_both rows (head_in body) bodies all head count place builds
+    (subst (λ (rows : List RowEntry). FailsFrom rows (head_in body) bodies count place) (sym same.rows) (subst (λ (operations : Operations). FailsFrom rows' (head_in operations) bodies count place) (sym same.bodies) fails))
 
-pub fails_one : (before : List RowEntry) (last : ℕ) (bodies : List (List ℕ)) (count place other at : ℕ) → FailsFrom before last bodies count place → FailsFrom before last bodies other at → (count ≡ other) × (place ≡ at)
+pub fails_one : (before : List RowEntry) (last : Head) (bodies : List (List ℕ)) (count place other at : ℕ) → FailsFrom before last bodies count place → FailsFrom before last bodies other at → (count ≡ other) × (place ≡ at)
 unfolding FailsFrom
 fails_one before last [] count place other at a b = absurd a
 fails_one before last (bytes ∷ bodies) zero place zero at a b = (refl, damaged_once last before bytes place at a b)
@@ -343,6 +358,6 @@ fails_one before last (bytes ∷ bodies) zero place (suc other) at a (body, rows
 fails_one before last (bytes ∷ bodies) (suc count) place zero at (body, rows, next, fails) b = absurd (next_not_damaged last before bytes body rows at next b)
 fails_one before last (bytes ∷ bodies) (suc count) place (suc other) at (body, rows, next, fails) (body', rows', next', fails') =
     let same = next_one last before bytes body body' rows rows' next next' in
-    let later = fails_one rows body.index bodies count place other at fails
-    (subst (λ (rows : List RowEntry). FailsFrom rows body.index bodies other at) (sym same.rows) (subst (λ (operations : Operations). FailsFrom rows' operations.index bodies other at) (sym same.bodies) fails')) in
+    let later = fails_one rows (head_in body) bodies count place other at fails
+    (subst (λ (rows : List RowEntry). FailsFrom rows (head_in body) bodies other at) (sym same.rows) (subst (λ (operations : Operations). FailsFrom rows' (head_in operations) bodies other at) (sym same.bodies) fails')) in
     (ap (λ (n : ℕ). suc n) later.0, later.1)

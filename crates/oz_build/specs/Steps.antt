@@ -8,10 +8,11 @@ use Rattle.oz_rows.specs.declared.key.RowKey.{RowKey}
 use Rattle.oz_rows.specs.declared.row.Row.{Row}
 use Rattle.oz_rows.specs.declared.row.Row.TheVariants as rows
 use Rattle.oz_rows.specs.declared.row.SnapshotState.TheVariants.{Live}
+use Rattle.oz_rows.specs.declared.operation.Head.{Head}
 use Rattle.oz_rows.specs.declared.operation.Operation.{Operation}
 use Rattle.oz_rows.specs.declared.operation.Operation.TheVariants.{Remove}
 use Rattle.oz_rows.specs.declared.operation.Operations.{Operations}
-use Rattle.oz_rows.specs.Operations.{IsIndex, AreOperations, batch_bytes, head_bytes}
+use Rattle.oz_rows.specs.Operations.{IsHead, AreOperations, batch_bytes, head_bytes, head_in}
 use Rattle.oz_rows.specs.Reading.{head_at, operation_at}
 use Rattle.oz_build.specs.declared.body.Step.{Step}
 use Rattle.oz_rows.specs.declared.entry.RowEntry.{RowEntry}
@@ -21,7 +22,7 @@ use Rattle.oz_tables.specs.Tables.{TableView}
 use Rattle.oz_rows.specs.RowMaps.{row_of, is_same}
 use Rattle.oz_effects.specs.Effects.{Leads}
 use Rattle.oz_effects.specs.Parts.{IsPart}
-use Rattle.oz_effects.specs.Build.{base_of, puts, IsAtFault, NoneAtFault, IsNextBody}
+use Rattle.oz_effects.specs.Build.{base_of, puts, IsAtFault, NoneAtFault, Rises, IsNextBody}
 
 -- a fault of reading, as a place in a body
 abbrev pub fault_in : ℕ → List ℕ → ReadFault → BuildFault
@@ -36,12 +37,12 @@ IfLeft P reads.OutOfMemory = Unit {0}
 abbrev pub operations_of : List Step → List Operation
 operations_of steps = map (λ (step : Step). step.operation) steps
 
--- the head of a body whose index is above the last
-pub record HeadRises (last : ℕ) (bytes : List ℕ) (index : ℕ) (rest : List ℕ) : Type 0 where
-  pub head : head_at bytes ≡ Ok (index, rest)
-  pub fits : IsIndex index
-  pub parts : bytes ≡ head_bytes index ++ rest
-  pub rises : last < index
+-- the head of a body, which may follow the last
+pub record HeadRises (last : Head) (bytes : List ℕ) (head : Head) (rest : List ℕ) : Type 0 where
+  pub reads : head_at bytes ≡ Ok (head, rest)
+  pub fits : IsHead head
+  pub parts : bytes ≡ head_bytes head ++ rest
+  pub rises : Rises last head
 
 -- an operation removes a row that isn't there
 pub record RemovesNothing (all : List RowEntry) (operation : Operation) : Type 0 where
@@ -80,10 +81,11 @@ pub record BatchStops (before : List RowEntry) (bytes : List ℕ) (between : Lis
       × (row_of between key ≡ None)
       × (left ≡ length rest))
 
--- what a body makes of tables, and their index
-pub record Follows (before : TableView) (bytes : List ℕ) (after : TableView) : Type 0 where
+-- what a body makes of tables, behind a head, and its own head
+pub record Follows (last : Head) (before : TableView) (bytes : List ℕ) (after : TableView) (head : Head) : Type 0 where
   pub body : Operations
-  pub next : IsNextBody before.last_index before.rows bytes body after.rows
+  pub next : IsNextBody last before.rows bytes body after.rows
+  pub head_is : head_in body ≡ head
   pub index : body.index ≡ after.last_index
 
 -- the first step that is

@@ -10,7 +10,7 @@ ghost use Rattle.oz_build.specs.Steps.{Follows, RemovesNothing, BatchLeads, Batc
 use crate::needs::first_at_fault;
 use oz_changes::operation_changes;
 use oz_fields::OutOfMemory;
-use oz_rows::{Operation, ReadFault, head_of, operation_of};
+use oz_rows::{Head, Operation, ReadFault, head_of, operation_of};
 use oz_tables::Tables;
 use std::alloc::Global;
 
@@ -22,40 +22,48 @@ pub(crate) struct Step {
 }
 
 /// Applies a body to the rows that those before it made.
-pub(crate) fn follow(alloc: Global, tables: &mut Tables, bytes: &[u8]) -> Result<(), ReadFault>
+pub(crate) fn follow(
+    alloc: Global,
+    tables: &mut Tables,
+    last: Head,
+    bytes: &[u8],
+) -> Result<Head, ReadFault>
     requires { AllAreBased tables.old.rows }
-    ensures follows { OnOk result (Follows tables.old bytes.now tables.new) }
+    ensures follows { IfOk result (Follows last tables.old bytes.now tables.new) }
     ensures damaged { IfErr result
-        (IfLeft (λ left. IsDamagedBody tables.old.last_index tables.old.rows bytes.now (length bytes.now - left))) }
+        (IfLeft (λ left. IsDamagedBody last tables.old.rows bytes.now (length bytes.now - left))) }
 {
-    let (index, rest) = rising_head(bytes, tables.last_index())?;
+    let (head, rest) = rising_head(bytes, last)?;
     let steps = batch(alloc, tables, rest)?;
     match first_at_fault(alloc, tables, steps.as_slice())? {
         Some(left) => Err(ReadFault::Left(left)),
         None => {
-            tables.reach(index);
-            Ok(())
+            tables.reach(head.index);
+            Ok(head)
         }
     }
 }
 
-/// The head of a body, whose index is above the last one.
-fn rising_head(bytes: &[u8], last: u64) -> Result<(u64, &[u8]), ReadFault>
+/// The head of a body, which may follow the last one.
+fn rising_head(bytes: &[u8], last: Head) -> Result<(Head, &[u8]), ReadFault>
     ensures head { IfOk result (λ head. HeadRises last bytes.now head.0 head.1.now) }
     ensures fails { IfErr result (IfLeft (λ left. HeadFails last bytes.now (length bytes.now - left))) }
 {
-    let (index, rest) = head_of(bytes)?;
-    if !is_above(index, last) {
+    let (head, rest) = head_of(bytes)?;
+    if is_below(u64::from(head.layout), u64::from(last.layout)) {
+        return Err(ReadFault::Left(bytes.len()));
+    }
+    if !is_below(last.index, head.index) {
         return Err(ReadFault::Left(bytes.len().saturating_sub(1)));
     }
-    Ok((index, rest))
+    Ok((head, rest))
 }
 
-fn is_above(index: u64, last: u64) -> bool
-    ensures above { OnTrue result (last < index) }
-    ensures not_above { OnFalse result (index ≤ last) }
+fn is_below(number: u64, other: u64) -> bool
+    ensures below { OnTrue result (number < other) }
+    ensures not_below { OnFalse result (other ≤ number) }
 {
-    index > last
+    number < other
 }
 
 /// Applies operations to the end of the bytes.

@@ -9,7 +9,7 @@ ghost use Rattle.oz_build.specs.Steps.{fault_in};
 use crate::body::follow;
 use crate::fault::BuildFault;
 use oz_journal::Body;
-use oz_rows::ReadFault;
+use oz_rows::{Head, LAYOUT, ReadFault};
 use oz_tables::Tables;
 use std::alloc::Global;
 
@@ -21,11 +21,16 @@ pub fn build(alloc: Global, bodies: &[Body]) -> Result<Tables, BuildFault>
         → FailsAt (bodies_in bodies.now) body at) }
 {
     let mut tables = Tables::new(alloc);
+    let mut head = Head {
+        layout: LAYOUT,
+        index: 0,
+    };
     for (count, body) in bodies.iter().enumerate() {
         let bytes = body.bytes.items();
-        if let Err(fault) = follow(alloc, &mut tables, bytes) {
-            return Err(fault_of(fault, count, bytes));
-        }
+        head = match follow(alloc, &mut tables, head, bytes) {
+            Ok(head) => head,
+            Err(fault) => return Err(fault_of(fault, count, bytes)),
+        };
     }
     Ok(tables)
 }

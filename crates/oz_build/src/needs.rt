@@ -1,7 +1,7 @@
 //! The rows that rows need, and the operations at fault where one is missing.
 
 ghost use Rattle.std.specs.Prelude.{◌≡◌, [], ◌∷◌, ◌&&◌, ◌⊎◌, ℕ, Option, None, false, not, map, IfOk, MatchOption};
-ghost use Rattle.std.specs.Prelude.{MatchBool};
+ghost use Rattle.std.specs.Prelude.{MatchBool, IsTrue};
 ghost use Rattle.std.specs.List.{list_any};
 ghost use Rattle.oz_rows.specs.declared.key.RowKey.{RowKey as AnyKey};
 ghost use Rattle.oz_rows.specs.RowMaps.{is_same};
@@ -60,6 +60,9 @@ fn is_orphan(alloc: Global, tables: &Tables, key: &RowKey) -> Result<bool, OutOf
     ensures { let orphan = ((base : AnyKey) × IsOrphan tables.now.rows key.now base) in
         IfOk result (λ found. MatchBool found orphan (orphan → ⊥)) }
 {
+    if is_based(alloc, tables, key)? {
+        return Ok(false);
+    }
     let Some(row) = tables.get(key) else {
         return Ok(false);
     };
@@ -67,6 +70,20 @@ fn is_orphan(alloc: Global, tables: &Tables, key: &RowKey) -> Result<bool, OutOf
         return Ok(false);
     };
     Ok(tables.get(&base).is_none())
+}
+
+/// Whether the row that any row of this key needs is there. Mostly it is, and the key's own row, which may stand far
+/// from those that were looked at before, needn't be looked for.
+fn is_based(alloc: Global, tables: &Tables, key: &RowKey) -> Result<bool, OutOfMemory>
+    ensures { IfOk result (λ based. IsTrue based → (base : AnyKey) → IsOrphan tables.now.rows key.now base → ⊥) }
+{
+    let base = match key {
+        RowKey::Bucket { volume, .. } => RowKey::of_volume(alloc, volume)?,
+        RowKey::Key { volume, bucket, .. } => RowKey::of_bucket(alloc, volume, bucket)?,
+        RowKey::Open { volume, bucket, .. } => RowKey::of_bucket(alloc, volume, bucket)?,
+        _ => return Ok(false),
+    };
+    Ok(tables.get(&base).is_some())
 }
 
 fn base_of(alloc: Global, key: &RowKey, row: &Row) -> Result<Option<RowKey>, OutOfMemory>

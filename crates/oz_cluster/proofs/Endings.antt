@@ -10,9 +10,9 @@ use Rattle.oz_cluster.specs.declared.opening.OpenFault.{OpenFault}
 use Rattle.oz_cluster.specs.declared.opening.OpenFault.TheVariants as fault
 use Rattle.oz_cluster.specs.declared.stop.Stop.{Stop}
 use Rattle.oz_cluster.specs.declared.stop.Stop.TheVariants.{Words, Read, Script, Disk, Damaged, OutOfMemory}
-use Rattle.oz_lines.specs.declared.fault.Cause.{Cause}
+use Rattle.oz_draft.specs.declared.fault.Cause.{Cause}
 use Rattle.oz_lines.specs.declared.script.Script.{Script as Lines}
-use Rattle.oz_lines.specs.declared.fault.ScriptFault.TheVariants.{At}
+use Rattle.oz_draft.specs.declared.fault.ScriptFault.TheVariants.{At}
 use Rattle.oz_cluster.specs.declared.status.Status.{Status}
 use Rattle.oz_cluster.specs.declared.status.Status.TheVariants as ends
 use Rattle.oz_namespace.specs.declared.namespace.Namespace.{Namespace}

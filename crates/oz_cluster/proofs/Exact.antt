@@ -5,7 +5,7 @@ use Rattle.oz_journal.specs.Grammar.{IsJournal, IsDamagedAt, places}
 use Rattle.oz_namespace.specs.declared.namespace.Namespace.{Namespace}
 use Rattle.oz_namespace.specs.Namespace.{nothing}
 use Rattle.oz_rows.specs.declared.entry.RowEntry.{RowEntry}
-use Rattle.oz_effects.specs.Build.{Builds, BuildsFrom, FailsAt}
+use Rattle.oz_effects.specs.Build.{Builds, BuildsFrom, FailsAt, no_head}
 use Rattle.oz_sound.specs.Sound.{IsSound}
 use Rattle.oz_sound.specs.StandsFor.{StandsFor}
 use Rattle.oz_rows.specs.RowMaps.{Rows, row_of}
@@ -61,7 +61,7 @@ module _ (one_reading : (bytes : List ℕ) (bodies others : List (List ℕ)) →
     pub empty_loads : StandsFor (row_of []) nothing → IsSound (row_of []) → (bytes : List ℕ) (all : List RowEntry) (index : ℕ) → length bytes ≤ 1 → Loads bytes all index → IsCoherent all nothing × (index ≡ 0)
     unfolding BuildsFrom
     empty_loads stands sound bytes all index short loads =
-        let same = one_loading bytes all [] index 0 loads ([], inl (short, refl), (refl, refl)) in
+        let same = one_loading bytes all [] index 0 loads ([], inl (short, refl), (no_head, (refl, refl), refl)) in
         (subst (λ (l : List RowEntry). IsCoherent l nothing) (sym same.0) (record { stands = stands; sound = sound }), same.1)
 
 pub opens_or_damaged : ((bytes : List ℕ) (all : List RowEntry) (index offset : ℕ) → Loads bytes all index → IsDamagedDisk bytes offset → ⊥) → (bytes : List ℕ) (opening : Opening) (offset : ℕ) → Opens bytes opening → IsDamagedDisk bytes offset → ⊥
@@ -69,4 +69,4 @@ opens_or_damaged apart bytes opening offset opens damaged = apart bytes opens.0 
 
 pub empty_opens : StandsFor (row_of []) nothing → IsSound (row_of []) → (bytes : List ℕ) → length bytes ≤ 1 → Opens bytes (record { namespace = nothing; index = 0 })
 unfolding BuildsFrom
-empty_opens stands sound bytes short = ([], ([], inl (short, refl), (refl, refl)), record { stands = stands; sound = sound })
+empty_opens stands sound bytes short = ([], ([], inl (short, refl), (no_head, (refl, refl), refl)), record { stands = stands; sound = sound })

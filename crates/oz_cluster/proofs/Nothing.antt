@@ -22,6 +22,8 @@ none_sound = record {
     one_snapshot = λ volume bucket name number previous other before here there. absurd (cc here);
     one_name = λ volume bucket name another number block has other. absurd (cc has.stands.there);
     open_name = λ volume bucket key name session number block here has. absurd (cc here.there);
+  };
+  renames = record {
     renamed = λ volume bucket name another number owner block has is. absurd (cc has.stands.there);
     noted = λ volume bucket name number block has anew. absurd (cc has.stands.there);
   };

@@ -1,7 +1,7 @@
 -- Why a run ends with each status, and with which status a wrong word, a wrong script and a wrong disk end it.
 use Rattle.std.specs.Prelude.{◌≡◌, ◌⊎◌, ℕ, ◌≤◌, List, take, Option, Some, Err, IfSome}
-use Rattle.oz_lines.specs.declared.fault.Cause.{Cause}
-use Rattle.oz_lines.specs.declared.fault.ScriptFault.TheVariants.{At}
+use Rattle.oz_draft.specs.declared.fault.Cause.{Cause}
+use Rattle.oz_draft.specs.declared.fault.ScriptFault.TheVariants.{At}
 use Rattle.oz_rows.specs.declared.entry.RowEntry.{RowEntry}
 use Rattle.oz_cluster.specs.Opens.{Loads, IsDamagedDisk}
 use Rattle.oz_cluster.specs.Stopped.{IsScript}

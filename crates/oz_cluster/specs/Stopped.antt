@@ -9,10 +9,10 @@ use Rattle.oz_journal.specs.Load.{IsLoadable, IsLeftAlone}
 use Rattle.oz_world.specs.Moments.{Spans}
 use Rattle.oz_cluster.specs.declared.events.Event.{Event}
 use Rattle.oz_lines.specs.declared.script.Script.{Script as Lines}
-use Rattle.oz_lines.specs.declared.fault.ScriptFault.TheVariants.{At}
+use Rattle.oz_draft.specs.declared.fault.ScriptFault.TheVariants.{At}
 use Rattle.oz_cluster.specs.declared.status.Status.{Status}
 use Rattle.oz_cluster.specs.declared.status.Status.TheVariants as status
-use Rattle.oz_lines.specs.Causes.{cause_text}
+use Rattle.oz_draft.specs.Causes.{cause_text}
 use Rattle.oz_cluster.specs.Opens.{IsDamagedDisk}
 use Rattle.oz_cluster.specs.Report.{words_fault, script_fault, damaged_manager, disk_fault, read_fault, memory_fault}
 use Rattle.oz_script.specs.Parsing.{ParsesTo}

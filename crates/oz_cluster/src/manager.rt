@@ -30,7 +30,7 @@ use oz_lines::Line;
 use oz_names::stripe_of as stripe_number;
 use oz_om_bucket::{Decision, decide};
 use oz_requests::{Answer, AskId, Family, Reply, Request};
-use oz_rows::{Change, END_OF_INDEXES, put_head};
+use oz_rows::{Change, END_OF_INDEXES, Head, LAYOUT, put_head};
 use oz_world::{Disk, Failed, Gate, Point};
 use std::alloc::{AllocError, Global};
 use std::marker::Brand;
@@ -108,7 +108,14 @@ fn framed(alloc: Global, index: u64, batch: &[u8]) -> Result<Vec<u8>, OutOfMemor
     ensures size { IfOk result (λ framed. length framed.items ≡ length batch.now + 14) }
 {
     let mut head = Vec::new(alloc);
-    put_head(alloc, &mut head, index)?;
+    put_head(
+        alloc,
+        &mut head,
+        Head {
+            layout: LAYOUT,
+            index,
+        },
+    )?;
     let mut frame = Frame::new(alloc)?;
     frame.put(&head)?;
     frame.put(batch)?;

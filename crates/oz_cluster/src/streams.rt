@@ -6,8 +6,8 @@ ghost use Rattle.std.specs.Option.{option_map};
 ghost use Rattle.oz_world.specs.Faults.{Rose, HasCause};
 ghost use Rattle.oz_cluster.specs.Streams.{script_limit, TakesUpTo, IsReadThrough, HoldsPrefix};
 
+use oz_draft::MOST_BYTES;
 use oz_fields::OutOfMemory;
-use oz_lines::MOST_BYTES;
 use oz_world::{Failed, Sink, Source};
 use std::alloc::Global;
 

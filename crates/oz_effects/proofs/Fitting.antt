@@ -9,15 +9,16 @@ use Rattle.oz_rows.specs.declared.key.RowKey.TheVariants as keys
 use Rattle.oz_rows.specs.declared.row.Row.{Row}
 use Rattle.oz_rows.specs.declared.row.Row.TheVariants as rows
 use Rattle.oz_rows.specs.declared.operation.Change.{Change}
+use Rattle.oz_rows.specs.declared.operation.Head.{Head}
 use Rattle.oz_rows.specs.declared.operation.Operation.{Operation}
 use Rattle.oz_rows.specs.declared.operation.Operation.TheVariants.{Put, Remove, CopyKeys, MoveDeleted, DropKeys, DropOpen}
 use Rattle.oz_rows.specs.Rows.{RowFits, ValueFits, IsBlock}
-use Rattle.oz_rows.specs.Operations.{OperationFits, AreOperations}
+use Rattle.oz_rows.specs.Operations.{OperationFits, AreOperations, head_in}
 use Rattle.oz_names.specs.Names.{IsVolumeName, IsKeyName}
 use Rattle.oz_rows.specs.declared.entry.RowEntry.{RowEntry}
 use Rattle.oz_rows.specs.RowMaps.{row_of, row_after, row_after_one, is_same, KeysRise, IsBelow, is_bucket, put}
 use Rattle.oz_effects.specs.Effects.{Leads, operation_changes, copied, moved, dropped, closed, freed, is_in_a_key}
-use Rattle.oz_effects.specs.Build.{Builds, BuildsFrom}
+use Rattle.oz_effects.specs.Build.{Builds, BuildsFrom, no_head}
 use Rattle.oz_rows.specs.laws.Order.{itself}
 use Rattle.oz_rows.specs.laws.Same.{same_is_one}
 use Rattle.oz_effects.specs.laws.Steps.{some_inside, some_apart, leads_rise}
@@ -215,11 +216,11 @@ leads_fit before (item ∷ items) after leads fits rise all =
     let changes = operation_changes_fit before item entries fits.0 in
     leads_fit leads.0 items after leads.3 fits.1 leads.2.in_order (λ key row is. row_fits_after (operation_changes before item) key (row_of before key) row changes (λ old found. all key old found) (sym (leads.2.rows key) ∙ is))
 
-fit_from : (before : List RowEntry) (last : ℕ) (bodies : List (List ℕ)) (all : List RowEntry) (index : ℕ) → BuildsFrom before last bodies all index → KeysRise before → AllFit before → AllFit all
+fit_from : (before : List RowEntry) (last : Head) (bodies : List (List ℕ)) (all : List RowEntry) (head : Head) → BuildsFrom before last bodies all head → KeysRise before → AllFit before → AllFit all
 unfolding BuildsFrom
-fit_from before last [] all index builds rise fit = subst AllFit (sym builds.0) fit
-fit_from before last (first ∷ bodies) all index builds rise fit =
-    fit_from builds.1 builds.0.index bodies all index builds.3 (leads_rise before builds.0.items builds.1 builds.2.leads rise) (leads_fit before builds.0.items builds.1 builds.2.leads builds.2.body_is.2 rise fit)
+fit_from before last [] all head builds rise fit = subst AllFit (sym builds.0) fit
+fit_from before last (first ∷ bodies) all head builds rise fit =
+    fit_from builds.1 (head_in builds.0) bodies all head builds.3 (leads_rise before builds.0.items builds.1 builds.2.leads rise) (leads_fit before builds.0.items builds.1 builds.2.leads builds.2.body_is.1 rise fit)
 
 pub bodies_fit : (bodies : List (List ℕ)) (all : List RowEntry) (last : ℕ) → Builds bodies all last → (key : RowKey) (row : Row) → row_of all key ≡ Some row → RowFits key row
-bodies_fit bodies all last builds = fit_from [] 0 bodies all last builds tt (λ key row is. absurd (some_apart (sym is)))
+bodies_fit bodies all last builds = fit_from [] no_head bodies all builds.0 builds.1 tt (λ key row is. absurd (some_apart (sym is)))

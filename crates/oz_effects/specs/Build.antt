@@ -9,8 +9,10 @@ use Rattle.oz_rows.specs.declared.row.Row.TheVariants as rows
 use Rattle.oz_rows.specs.declared.row.SnapshotState.TheVariants.{Live}
 use Rattle.oz_rows.specs.declared.operation.Operation.{Operation}
 use Rattle.oz_rows.specs.declared.operation.Operation.TheVariants.{Put, Remove}
+use Rattle.oz_rows.specs.declared.operation.Head.{Head}
 use Rattle.oz_rows.specs.declared.operation.Operations.{Operations}
-use Rattle.oz_rows.specs.Operations.{IsBody, AreOperations, batch_bytes, head_bytes}
+use Rattle.oz_rows.specs.declared.operation.TheConstants.{LAYOUT}
+use Rattle.oz_rows.specs.Operations.{IsBody, AreOperations, batch_bytes, head_bytes, head_in}
 use Rattle.oz_rows.specs.Reading.{head_at, operation_at}
 use Rattle.oz_rows.specs.declared.entry.RowEntry.{RowEntry}
 use Rattle.oz_rows.specs.RowMaps.{row_of, is_same}
@@ -63,31 +65,46 @@ NoneAtFault after items [] behind = Unit {0}
 NoneAtFault after items (operation ∷ operations) behind =
     (IsAtFault after items (operations ++ behind) operation → ⊥) × NoneAtFault after items operations behind
 
--- A body may follow these rows: it is in the grammar, its index is above the last, each row that it removes is there,
+-- what stands before the first body
+abbrev pub no_head : Head
+no_head = record { layout = LAYOUT; index = 0 }
+
+-- a head may follow another: its layout is not below that one's, and its index is above it
+pub record Rises (last head : Head) : Type 0 where
+  pub layout : last.layout ≤ head.layout
+  pub index : last.index < head.index
+
+-- A body may follow these rows: it is in the grammar, its head may follow the last, each row that it removes is there,
 -- and after it each row has the one that it needs.
-pub record IsNextBody (last : ℕ) (before : List RowEntry) (bytes : List ℕ) (body : Operations)
+pub record IsNextBody (last : Head) (before : List RowEntry) (bytes : List ℕ) (body : Operations)
     (after : List RowEntry) : Type 0 where
   pub body_is : IsBody bytes body
-  pub rises : last < body.index
+  pub rises : Rises last (head_in body)
   pub leads : Leads before body.items after
   pub based : AllAreBased after
 
--- bodies lead from rows and an index to rows and an index
-unfoldable pub BuildsFrom : List RowEntry → ℕ → List (List ℕ) → List RowEntry → ℕ → Type 0
-BuildsFrom before last [] after index = (after ≡ before) × (index ≡ last)
-BuildsFrom before last (bytes ∷ bodies) after index =
+-- bodies lead from rows and a head to rows and the last head
+unfoldable pub BuildsFrom : List RowEntry → Head → List (List ℕ) → List RowEntry → Head → Type 0
+BuildsFrom before last [] after head = (after ≡ before) × (head ≡ last)
+BuildsFrom before last (bytes ∷ bodies) after head =
     (body : Operations) × (between : List RowEntry) × IsNextBody last before bytes body between
-    × BuildsFrom between body.index bodies after index
+    × BuildsFrom between (head_in body) bodies after head
 
--- what the bodies of a journal make
+-- what the bodies of a journal make, and their last index
 abbrev pub Builds : List (List ℕ) → List RowEntry → ℕ → Type 0
-Builds bodies all index = BuildsFrom [] 0 bodies all index
+Builds bodies all index = (head : Head) × BuildsFrom [] no_head bodies all head × (head.index ≡ index)
 
--- the head can't be read, at its layout or its index; or the index isn't above the last, and stands behind the layout
-abbrev pub HeadFails : ℕ → List ℕ → ℕ → Type 0
+-- a head that was read may not follow the last, at its layout, or else at its index, which stands behind it
+abbrev pub HeadFalls : Head → Head → ℕ → Type 0
+HeadFalls last head place =
+    ((head.layout < last.layout) × (place ≡ 0))
+    ⊎ ((last.layout ≤ head.layout) × (head.index ≤ last.index) × (place ≡ 1))
+
+-- the head can't be read, at its layout or its index; or it may not follow the last
+abbrev pub HeadFails : Head → List ℕ → ℕ → Type 0
 HeadFails last bytes place =
     ((left : ℕ) × (head_at bytes ≡ Err left) × (place ≡ length bytes - left))
-    ⊎ ((index : ℕ) × (rest : List ℕ) × (head_at bytes ≡ Ok (index, rest)) × (index ≤ last) × (place ≡ 1))
+    ⊎ ((head : Head) × (rest : List ℕ) × (head_at bytes ≡ Ok (head, rest)) × HeadFalls last head place)
 
 -- an operation can't be read, at a field of it; or it removes a row that isn't there, and begins at the place
 abbrev pub OperationFails : List RowEntry → List ℕ → List ℕ → ℕ → Type 0
@@ -97,13 +114,13 @@ OperationFails all bytes rest place =
     × (place ≡ length bytes - length rest))
 
 -- behind a good head and operations that may follow each other stands one that fails
-pub record BatchFails (last : ℕ) (before : List RowEntry) (bytes : List ℕ) (place : ℕ) : Type 0 where
-  pub index : ℕ
+pub record BatchFails (last : Head) (before : List RowEntry) (bytes : List ℕ) (place : ℕ) : Type 0 where
+  pub head : Head
   pub items : List Operation
   pub rest : List ℕ
   pub between : List RowEntry
-  pub head : head_at bytes ≡ Ok (index, batch_bytes items ++ rest)
-  pub rises : last < index
+  pub reads : head_at bytes ≡ Ok (head, batch_bytes items ++ rest)
+  pub rises : Rises last head
   pub fit : AreOperations items
   pub leads : Leads before items between
   pub not_over : 1 ≤ length rest
@@ -111,33 +128,33 @@ pub record BatchFails (last : ℕ) (before : List RowEntry) (bytes : List ℕ) (
 
 -- all operations may follow each other, and behind some that aren't at fault stands one that is, which begins at the
 -- place
-pub record LeavesOrphan (last : ℕ) (before : List RowEntry) (bytes : List ℕ) (place : ℕ) : Type 0 where
+pub record LeavesOrphan (last : Head) (before : List RowEntry) (bytes : List ℕ) (place : ℕ) : Type 0 where
   pub body : Operations
   pub after : List RowEntry
   pub earlier : List Operation
   pub operation : Operation
   pub later : List Operation
   pub body_is : IsBody bytes body
-  pub rises : last < body.index
+  pub rises : Rises last (head_in body)
   pub leads : Leads before body.items after
   pub parts : body.items ≡ earlier ++ operation ∷ later
   pub first : NoneAtFault after body.items earlier (operation ∷ later)
   pub at_fault : IsAtFault after body.items later operation
-  pub begins : place ≡ length (head_bytes body.index) + length (batch_bytes earlier)
+  pub begins : place ≡ length (head_bytes (head_in body)) + length (batch_bytes earlier)
 
 -- a body that may not follow these rows is damaged at this place of its bytes
-abbrev pub IsDamagedBody : ℕ → List RowEntry → List ℕ → ℕ → Type 0
+abbrev pub IsDamagedBody : Head → List RowEntry → List ℕ → ℕ → Type 0
 IsDamagedBody last before bytes place =
     HeadFails last bytes place ⊎ (BatchFails last before bytes place ⊎ LeavesOrphan last before bytes place)
 
 -- behind so many good bodies stands one that is damaged at this place of its bytes
-unfoldable pub FailsFrom : List RowEntry → ℕ → List (List ℕ) → ℕ → ℕ → Type 0
+unfoldable pub FailsFrom : List RowEntry → Head → List (List ℕ) → ℕ → ℕ → Type 0
 FailsFrom before last [] count place = ⊥
 FailsFrom before last (bytes ∷ bodies) zero place = IsDamagedBody last before bytes place
 FailsFrom before last (bytes ∷ bodies) (suc count) place =
     (body : Operations) × (between : List RowEntry) × IsNextBody last before bytes body between
-    × FailsFrom between body.index bodies count place
+    × FailsFrom between (head_in body) bodies count place
 
 -- the bodies of a journal are damaged at this place of the bytes of this body, counted from 0
 abbrev pub FailsAt : List (List ℕ) → ℕ → ℕ → Type 0
-FailsAt bodies count place = FailsFrom [] 0 bodies count place
+FailsAt bodies count place = FailsFrom [] no_head bodies count place

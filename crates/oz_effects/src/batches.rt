@@ -5,7 +5,7 @@ ghost use Rattle.oz_rows.specs.declared.key.RowKey.{RowKey as AnyKey};
 ghost use Rattle.oz_rows.specs.declared.row.Row.{Row as AnyRow};
 ghost use Rattle.oz_rows.specs.declared.operation.Change.{Change as AnyChange};
 ghost use Rattle.oz_rows.specs.Rows.{RowFits, KeyFits, row_bytes, key_bytes};
-ghost use Rattle.oz_rows.specs.Operations.{IsIndex, OperationFits, head_bytes, operation_bytes};
+ghost use Rattle.oz_rows.specs.Operations.{IsIndex, OperationFits, head_bytes, new_head, operation_bytes};
 ghost use Rattle.oz_rows.specs.declared.operation.Operation.{Operation as AnyOperation};
 ghost use Rattle.oz_effects.specs.Effects.{operation_changes};
 ghost use Rattle.oz_rows.specs.declared.entry.RowEntry.{RowEntry as AnyEntry};
@@ -81,7 +81,7 @@ pub fn a_batch_makes_a_body()
     ensures follows { (bodies : List (List ℕ)) (all : List AnyEntry) (last index : ℕ) (batch : List ℕ)
         (changes : List AnyChange) →
         Builds bodies all last → IsIndex index → last < index → IsBatchOf (row_of all) batch changes →
-        (after : List AnyEntry) × Builds (bodies ++ (head_bytes index ++ batch) ∷ []) after index
+        (after : List AnyEntry) × Builds (bodies ++ (head_bytes (new_head index) ++ batch) ∷ []) after index
         × AreRows after (after_changes changes (row_of all)) }
     ensures based { (bodies : List (List ℕ)) (all : List AnyEntry) (last : ℕ) → Builds bodies all last
         → AllAreBased all }

@@ -13,3 +13,6 @@ pub mod Grammar
 pub mod Based
 pub mod Found
 pub mod Standing
+pub mod Moves
+pub mod Shown
+pub mod Breaking

@@ -13,7 +13,7 @@ use Rattle.oz_rows.specs.declared.row.Row.TheVariants as values
 use Rattle.oz_rows.specs.declared.row.SnapshotState.TheVariants.{Live}
 use Rattle.oz_rows.specs.declared.entry.RowEntry.{RowEntry}
 use Rattle.oz_rows.specs.RowMaps.{is_block, row_of, is_same, KeysRise}
-use Rattle.oz_sound.specs.Sound.{StandsIn, SnapshotHas, ComesBehind, IsRename, IsNamedAnew, NamesAreSound}
+use Rattle.oz_sound.specs.Sound.{StandsIn, SnapshotHas, ComesBehind, IsRename, IsNamedAnew, NamesAreSound, RenamesAreSound}
 use Rattle.oz_example.proofs.Keys.{same_is_one, same_self}
 use Rattle.oz_example.proofs.Lists.{split_and, split_or, if_so, not_so, some_item}
 use Rattle.oz_example.proofs.Entries.{row_passes, own_row, found_row, is_there}
@@ -195,6 +195,7 @@ module _ (rows : List RowEntry) (rise : KeysRise rows) where
     one_snapshot = one_snapshot pass.snapshots;
     one_name = one_name pass.names;
     open_name = open_name pass.sessions;
-    renamed = renamed pass.renames;
-    noted = noted pass.notes;
   }
+
+  pub renames_are_sound : NamesPass → RenamesAreSound (row_of rows)
+  renames_are_sound pass = record { renamed = renamed pass.renames; noted = noted pass.notes }

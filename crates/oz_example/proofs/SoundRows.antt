@@ -9,7 +9,7 @@ use Rattle.oz_example.proofs.Entries.{do_rise, rising}
 use Rattle.oz_example.proofs.Few.{keys_passing}
 use Rattle.oz_example.proofs.Tests.{has_number}
 use Rattle.oz_example.proofs.BlockFacts.{BlocksPass, blocks_are_sound}
-use Rattle.oz_example.proofs.NameFacts.{NamesPass, names_are_sound}
+use Rattle.oz_example.proofs.NameFacts.{NamesPass, names_are_sound, renames_are_sound}
 use Rattle.oz_example.proofs.NumberFacts.{NumbersPass, numbers_are_sound}
 use Rattle.oz_example.proofs.CountFacts.{AreFew, counts_are_sound}
 
@@ -48,6 +48,7 @@ pub rows_are_sound : IsSound (row_of rows)
 rows_are_sound = record {
   blocks = blocks_are_sound rows rows_rise live are_numbered blocks_pass;
   names = names_are_sound rows rows_rise names_pass;
+  renames = renames_are_sound rows rows_rise names_pass;
   numbers = numbers_are_sound rows numbers_pass;
   counts = counts_are_sound rows are_few;
 }

@@ -44,7 +44,7 @@ bucket_holds Holds first second third volume bucket b e =
     (each_found nat_list_cmp_total one_name (Holds home) buckets_of_home (first, (second, tt)), (each_found nat_list_cmp_total one_name (Holds shop) buckets_of_shop (third, tt), tt))
     volume came.0 came.1 bucket b came.2
 
-home_is : buckets_of namespace home ≡ Some (from_entries buckets_of_home)
+pub home_is : buckets_of namespace home ≡ Some (from_entries buckets_of_home)
 unfolding namespace
 home_is = get-from_entries nat_list_cmp_total volumes home
 
@@ -55,7 +55,7 @@ shop_is = get-from_entries nat_list_cmp_total volumes shop
 drafts_is : bucket_of namespace home drafts ≡ Some new_bucket
 drafts_is = ap (option_and_then (λ (buckets : ByName Bucket). get buckets drafts)) home_is ∙ get-from_entries nat_list_cmp_total buckets_of_home drafts
 
-photos_is : bucket_of namespace home photos ≡ Some bucket_photos
+pub photos_is : bucket_of namespace home photos ≡ Some bucket_photos
 photos_is = ap (option_and_then (λ (buckets : ByName Bucket). get buckets photos)) home_is ∙ get-from_entries nat_list_cmp_total buckets_of_home photos
 
 orders_is : bucket_of namespace shop orders ≡ Some bucket_orders

@@ -6,7 +6,7 @@ ghost use Rattle.oz_core.specs.Asks.{is_of_line, line_index_after, line_index, a
 use oz_core::{Event, EventKind};
 use oz_requests::AskId;
 
-fn is_of_line(client: u16, line: u16, id: AskId) -> bool
+pub fn is_of_line(client: u16, line: u16, id: AskId) -> bool
     ensures { result ≡ is_of_line client line id }
 {
     id.client == client && id.line == line

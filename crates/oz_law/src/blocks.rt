@@ -20,7 +20,7 @@ use oz_core::{Event, EventKind, Opening, SERVICE_CLIENT};
 use oz_fields::{Block, Piece};
 use oz_requests::{AskId, Reply};
 
-fn is_id(id: AskId, other: AskId) -> bool
+pub fn is_id(id: AskId, other: AskId) -> bool
     ensures { result ≡ is_id id other }
 {
     other.client == id.client && other.line == id.line && other.step == id.step
@@ -44,7 +44,7 @@ fn has_piece(pieces: &[Piece], block: Block) -> bool
     is_in_piece(pieces, block)
 }
 
-fn is_named_by(block: Block, reply: &Reply) -> bool
+pub fn is_named_by(block: Block, reply: &Reply) -> bool
     ensures { result ≡ list_any (is_block block) (named_by reply.now) }
 {
     match reply {
@@ -98,7 +98,7 @@ pub fn bad_is_enabled(
     ensures { IsTrue result ↔ BadIsEnabled opening.now story.now seat dn block id }
 {
     is_datanode_seat(opening, dn, seat)
-        && holds(opening, story, dn, block)
+        && holds(opening, story, usize::from(dn), block)
         && is_named_or_own(story, id, block)
 }
 
@@ -174,11 +174,12 @@ pub fn copy_is_enabled(
 ) -> bool
     ensures { IsTrue result ↔ CopyIsEnabled opening.now story.now seat source target block }
 {
-    let had = has_put_or_copied(source, block, story) || was_held(opening, source, block);
+    let had = has_put_or_copied(source, block, story)
+        || was_held(opening, usize::from(source), block);
     let closed = came_to_copies(block.container, story) || was_copied(opening, block.container);
     is_datanode_seat(opening, target, seat)
         && is_running(target, story)
-        && !holds(opening, story, target, block)
+        && !holds(opening, story, usize::from(target), block)
         && is_member(opening, story, block.container, source)
         && is_member(opening, story, block.container, target)
         && had

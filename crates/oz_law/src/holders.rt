@@ -26,7 +26,7 @@ fn pipeline_after(number: u64, before: Option<u8>, kind: &EventKind) -> Option<u
 }
 
 /// The pipeline that the container was made on, None where it wasn't made.
-fn pipeline_of(opening: &Opening, story: &[Event], number: u64) -> Option<u8>
+pub fn pipeline_of(opening: &Opening, story: &[Event], number: u64) -> Option<u8>
     ensures { result ≡ pipeline_in (get (containers opening.now story.now) number) }
 {
     let mut pipeline = opening
@@ -71,10 +71,10 @@ fn has_piece(block: Block, node: &NodeOpening) -> bool
 }
 
 /// Whether the datanode's disks had the block.
-pub fn was_held(opening: &Opening, dn: u8, block: Block) -> bool
+pub fn was_held(opening: &Opening, dn: usize, block: Block) -> bool
     ensures { result ≡ was_held opening.now dn block }
 {
-    match opening.nodes.items().get(usize::from(dn)) {
+    match opening.nodes.items().get(dn) {
         None => false,
         Some(node) => has_piece(block, node),
     }
@@ -83,7 +83,7 @@ pub fn was_held(opening: &Opening, dn: u8, block: Block) -> bool
 fn held_after(
     opening: &Opening,
     story: &[Event],
-    dn: u8,
+    dn: usize,
     block: Block,
     kind: &EventKind,
 ) -> Option<bool>
@@ -94,24 +94,25 @@ fn held_after(
             dn: other,
             block: put,
             ..
-        } if *other == dn && is_block(block, *put) => Some(true),
+        } if usize::from(*other) == dn && is_block(block, *put) => Some(true),
         EventKind::Copy {
             target,
             block: copied,
             ..
-        } if *target == dn && is_block(block, *copied) => Some(true),
+        } if usize::from(*target) == dn && is_block(block, *copied) => Some(true),
         EventKind::Delete {
             dn: other,
             txn,
             locals,
-        } if *other == dn && deletes(opening, story, *txn, locals.items(), block) => Some(false),
-        EventKind::Wipe { dn: other } if *other == dn => Some(false),
+        } if usize::from(*other) == dn && deletes(opening, story, *txn, locals.items(), block) =>
+            Some(false),
+        EventKind::Wipe { dn: other } if usize::from(*other) == dn => Some(false),
         _ => None,
     }
 }
 
 /// Whether the datanode holds the block.
-pub fn holds(opening: &Opening, story: &[Event], dn: u8, block: Block) -> bool
+pub fn holds(opening: &Opening, story: &[Event], dn: usize, block: Block) -> bool
     ensures { result ≡ holds opening.now story.now dn block }
 {
     let mut held = was_held(opening, dn, block);
@@ -136,30 +137,30 @@ fn closes_at_opening(container: u64, node: &NodeOpening) -> bool
     node.replicas.iter().any(|replica| replica.container == container && !is_open(replica.state))
 }
 
-fn was_closed(opening: &Opening, dn: u8, container: u64) -> bool
+fn was_closed(opening: &Opening, dn: usize, container: u64) -> bool
     ensures { result ≡ was_closed opening.now dn container }
 {
-    match opening.nodes.items().get(usize::from(dn)) {
+    match opening.nodes.items().get(dn) {
         None => false,
         Some(node) => closes_at_opening(container, node),
     }
 }
 
-fn closed_after(dn: u8, number: u64, kind: &EventKind) -> Option<bool>
+fn closed_after(dn: usize, number: u64, kind: &EventKind) -> Option<bool>
     ensures { result ≡ closed_after dn number kind.now }
 {
     match kind {
         EventKind::CloseCommand {
             dn: other,
             container,
-        } if *other == dn && *container == number => Some(true),
-        EventKind::Wipe { dn: other } if *other == dn => Some(false),
+        } if usize::from(*other) == dn && *container == number => Some(true),
+        EventKind::Wipe { dn: other } if usize::from(*other) == dn => Some(false),
         _ => None,
     }
 }
 
 /// Whether the datanode's replica of the container is closed.
-pub fn is_closed(opening: &Opening, story: &[Event], dn: u8, container: u64) -> bool
+pub fn is_closed(opening: &Opening, story: &[Event], dn: usize, container: u64) -> bool
     ensures { result ≡ is_closed opening.now story.now dn container }
 {
     let mut closed = was_closed(opening, dn, container);

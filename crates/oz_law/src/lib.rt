@@ -13,11 +13,17 @@ mod scm;
 mod seats;
 mod turns;
 
-pub use blocks::{bad_is_enabled, copy_is_enabled};
+pub use asks::{is_of_line, is_told, line_index};
+pub use blocks::{bad_is_enabled, copy_is_enabled, is_id, is_named_by, is_named_or_own};
 pub use deletion::{ack_del_is_enabled, log_is_enabled, retire_is_enabled};
+pub use holders::{holds, is_closed, is_member, pipeline_of, was_held};
 pub use journal::{flushed_is_enabled, halt_is_enabled, swap_is_enabled};
+pub use log::{came_logged, is_block, is_logged, names_block};
+pub use manager::{durable_index, halt_of, last_index};
 pub use nodes::{
-    close_command_is_enabled, down_is_enabled, start_is_enabled, stop_is_enabled, up_is_enabled,
-    wipe_is_enabled,
+    close_command_is_enabled, down_is_enabled, is_running, start_is_enabled, stop_is_enabled,
+    up_is_enabled, wipe_is_enabled,
 };
+pub use scm::is_up;
+pub use seats::{SCM_SEAT, is_datanode_seat, is_line_seat};
 pub use turns::told_is_enabled;

@@ -76,7 +76,7 @@ pub fn deletes(
     has_txn(opening, story, number, block.container) && has_local(locals, block.local)
 }
 
-fn names_block(block: Block, txn: &Txn) -> bool
+pub fn names_block(block: Block, txn: &Txn) -> bool
     ensures { result ≡ names_block block txn.now }
 {
     txn.container == block.container && has_local(txn.locals.items(), block.local)
@@ -104,7 +104,7 @@ fn was_logged(opening: &Opening, block: Block) -> bool
         .any(|unretired| names_block(block, &unretired.txn))
 }
 
-fn came_logged(block: Block, story: &[Event]) -> bool
+pub fn came_logged(block: Block, story: &[Event]) -> bool
     ensures { result ≡ list_any (λ event. option_map_or (names_block block) (logged event.kind) false) story.now }
 {
     story.iter().any(|event| logs_block(block, &event.kind))

@@ -45,7 +45,7 @@ pub fn up_is_enabled(opening: &Opening, story: &[Event], seat: u16, dn: u8) -> b
 {
     seat == SCM_SEAT
         && usize::from(dn) < opening.nodes.len()
-        && !is_up(dn, story)
+        && !is_up(usize::from(dn), story)
         && is_running(dn, story)
 }
 
@@ -55,7 +55,7 @@ pub fn down_is_enabled(opening: &Opening, story: &[Event], seat: u16, dn: u8) ->
 {
     seat == SCM_SEAT
         && usize::from(dn) < opening.nodes.len()
-        && is_up(dn, story)
+        && is_up(usize::from(dn), story)
         && !is_running(dn, story)
 }
 

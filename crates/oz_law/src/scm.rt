@@ -8,18 +8,18 @@ use oz_core::{Event, EventKind, Opening};
 use oz_fields::OutOfMemory;
 use std::alloc::Global;
 
-fn up_or_down(dn: u8, kind: &EventKind) -> Option<bool>
+fn up_or_down(dn: usize, kind: &EventKind) -> Option<bool>
     ensures { result ≡ up_or_down dn kind.now }
 {
     match kind {
-        EventKind::Up { dn: other } if *other == dn => Some(true),
-        EventKind::Down { dn: other } if *other == dn => Some(false),
+        EventKind::Up { dn: other } if usize::from(*other) == dn => Some(true),
+        EventKind::Down { dn: other } if usize::from(*other) == dn => Some(false),
         _ => None,
     }
 }
 
 /// Whether the datanode is up by the last that was said of it.
-pub fn is_up(dn: u8, story: &[Event]) -> bool
+pub fn is_up(dn: usize, story: &[Event]) -> bool
     ensures { result ≡ is_up dn story.now }
 {
     let mut up = true;

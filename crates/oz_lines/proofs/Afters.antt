@@ -1,16 +1,18 @@
 -- The lines that lines wait for, one after the other.
 use Rattle.std.proofs.Common.{◌≡◌, ℕ, suc, ◌+◌, ◌<◌, ◌≤◌, Bool, true, false, cond, List, [], ◌∷◌, ◌++◌, length, get_or, drop, Result, Ok, Err, Option, Some, None, refl, sym, ap, ◌∙◌, append_assoc, add-one, arith}
 use Rattle.std.specs.Prelude.{nat_le, ◌&&◌}
+use Rattle.std.specs.BTreeSet.{BTreeSet}
 use Rattle.std.proofs.lemmas.Bool.{lt-leb, and_left, and_right}
 use Rattle.std.proofs.lemmas.List.{append-nil, drop_all}
 use Rattle.std.proofs.Math.Seq.{drop-cons}
-use Rattle.oz_lines.specs.declared.drafting.Draft.{Draft}
-use Rattle.oz_lines.specs.declared.drafting.Entry.{Entry}
-use Rattle.oz_lines.specs.declared.fault.ScriptFault.{ScriptFault}
-use Rattle.oz_lines.specs.declared.fault.ScriptFault.TheVariants.{At, OutOfMemory}
-use Rattle.oz_lines.specs.Drafts.{◌>>=◌, Fails, client_place, count_in}
+use Rattle.oz_draft.specs.declared.drafting.Draft.{Draft}
+use Rattle.oz_draft.specs.declared.drafting.Entry.{Entry}
+use Rattle.oz_draft.specs.declared.fault.ScriptFault.{ScriptFault}
+use Rattle.oz_draft.specs.declared.fault.ScriptFault.TheVariants.{At, OutOfMemory}
+use Rattle.oz_draft.specs.declared.labels.OpenedLabel.{OpenedLabel}
+use Rattle.oz_draft.specs.Drafts.{◌>>=◌, Fails, client_place, count_in}
 use Rattle.oz_lines.specs.Placed.{after_of, afters_of, line_named}
-use Rattle.oz_lines.specs.Tracked.{IsTracked}
+use Rattle.oz_draft.specs.Tracked.{IsTracked}
 
 abbrev Place : Type 0
 Place = Option (ℕ × ℕ)
@@ -68,9 +70,9 @@ refused true x e = absurd cc
 refused false x e = refl
 
 -- a number beyond the client's lines names none
-pub not_named : (draft : Draft) (counts : List ℕ) (name : List ℕ) (number place : ℕ) → IsTracked draft counts → place ≡ client_place draft.clients name → get_or counts place 0 < number
+pub not_named : (draft : Draft) (counts : List ℕ) (opened : BTreeSet OpenedLabel) (name : List ℕ) (number place : ℕ) → IsTracked draft counts opened → place ≡ client_place draft.clients name → get_or counts place 0 < number
     → None ≡ line_named draft name number
-not_named draft counts name number place t is lt =
+not_named draft counts opened name number place t is lt =
     let few : count_in draft.entries (client_place draft.clients name + 1) < number =
     omega (arith, lt, t.counted place, ap (λ (n : ℕ). count_in draft.entries (n + 1)) is) in
     sym (refused (nat_le 1 number && nat_le number (count_in draft.entries (client_place draft.clients name + 1))) (Some (client_place draft.clients name + 1, number))

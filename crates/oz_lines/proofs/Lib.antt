@@ -1,5 +1,2 @@
 mod Afters
-mod Counting
-mod DraftSteps
 mod Numbers
-mod Places

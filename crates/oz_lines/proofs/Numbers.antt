@@ -1,26 +1,28 @@
 -- Each client's lines are numbered from 1.
-use Rattle.std.proofs.Common.{◌≡◌, ℕ, ◌+◌, ◌<◌, ◌≤◌, Bool, true, false, cond, List, [], ◌∷◌, ◌++◌, length, map, Result, Ok, Err, Option, refl, sym, ap, subst, ◌∙◌, append_assoc, zero-add, suc, arith, inl, inr}
-use Rattle.std.specs.Prelude.{◌⊎◌, ◌||◌, nat_lt, ◌&&◌, ◌==◌, IfOk, MatchResult}
-use Rattle.std.specs.List.{list_all, zip}
+use Rattle.std.proofs.Common.{◌≡◌, ℕ, ◌+◌, ◌<◌, ◌≤◌, ◌≢◌, Bool, true, false, cond, List, [], ◌∷◌, ◌++◌, length, map, Result, Ok, Err, Option, refl, sym, ap, subst, ◌∙◌, append_assoc, zero-add, suc, arith, inl, inr}
+use Rattle.std.specs.Prelude.{◌⊎◌, not, ◌||◌, nat_lt, ◌&&◌, ◌==◌, IfOk, MatchResult}
+use Rattle.std.specs.List.{All, list_all, zip}
+use Rattle.std.specs.Str.{bytes_eq}
 use Rattle.std.specs.Option.{ok_or}
 use Rattle.std.specs.Str.Lines.{lines}
-use Rattle.std.proofs.lemmas.Bool.{eqb-true, ltb-true, and_parts}
+use Rattle.std.proofs.lemmas.Bool.{eqb-true, eqb-false, ltb-true, and_parts}
 use Rattle.std.proofs.lemmas.List.{append-nil, length-append, length-map}
-use Rattle.std.proofs.lemmas.List.Sums.{sum_by-append}
+use Rattle.std.proofs.lemmas.List.Elements.{All-nil, All-cons, All-push}
+use Rattle.std.proofs.lemmas.List.Sums.{sum_by-append, prefix_len-le-length}
 use Rattle.oz_command.specs.Words.{is_blank, is_visible, words}
-use Rattle.oz_lines.specs.declared.drafting.Draft.{Draft}
-use Rattle.oz_lines.specs.declared.drafting.Entry.{Entry}
-use Rattle.oz_lines.specs.declared.fault.Cause.TheVariants.{Long, Form, Many, Label}
-use Rattle.oz_lines.specs.declared.fault.ScriptFault.{ScriptFault}
-use Rattle.oz_lines.specs.declared.fault.ScriptFault.TheVariants.{At}
-use Rattle.oz_lines.specs.declared.said.Said.{Said}
+use Rattle.oz_draft.specs.declared.drafting.Draft.{Draft}
+use Rattle.oz_draft.specs.declared.drafting.Entry.{Entry}
+use Rattle.oz_draft.specs.declared.fault.Cause.TheVariants.{Long, Form, Many, Label}
+use Rattle.oz_draft.specs.declared.fault.ScriptFault.{ScriptFault}
+use Rattle.oz_draft.specs.declared.fault.ScriptFault.TheVariants.{At}
+use Rattle.oz_draft.specs.declared.said.Said.{Said}
 use Rattle.oz_lines.specs.declared.script.Line.{Line}
 use Rattle.oz_lines.specs.declared.script.PlacedScript.{PlacedScript}
-use Rattle.oz_lines.specs.Drafts.{◌>>=◌, Fails, is_remark, count_in, client_place, is_opened, label_used, next_entry, longer, with_said, with_words, with_line, with_lines, draft_of}
+use Rattle.oz_draft.specs.Drafts.{◌>>=◌, Fails, is_remark, count_in, client_place, is_opened, label_used, next_entry, with_client, longer, with_said, with_words, with_line, with_lines, draft_of}
 use Rattle.oz_lines.specs.Numbered.{lines_of, AreNumbered, IsNumbered}
 use Rattle.oz_lines.specs.Placed.{after_of, afters_of, line_with, placed_of}
-use Rattle.oz_lines.specs.Said.{said_of}
-use Rattle.oz_lines.proofs.Counting.{count-more}
+use Rattle.oz_draft.specs.Said.{said_of}
+use Rattle.oz_draft.specs.laws.Counts.{count-more}
 
 abbrev Place : Type 0
 Place = Option (ℕ × ℕ)
@@ -50,17 +52,37 @@ entries-push before (first ∷ rest) entry n client number =
 pub record DraftNumbered (draft : Draft) : Type 0 where
   pub clients : length draft.clients ≤ 64
   pub few : length draft.entries ≤ 4096
+  pub known : All (λ entry. entry.client ≤ length draft.clients) draft.entries
   pub in_order : EntriesNumbered [] draft.entries
 
 clients-more : (clients : List (List ℕ)) (name : List ℕ) (new : Bool) (at : ℕ) → (at == length clients) ≡ new → at < 64 → length clients ≤ 64 → length (cond new (clients ++ name ∷ []) clients) ≤ 64
 clients-more clients name true at e room few = omega (arith, eqb-true at (length clients) e, length-append clients (name ∷ []))
 clients-more clients name false at e room few = few
 
+-- a client of before is still one
+clients-kept : (clients : List (List ℕ)) (name : List ℕ) (new : Bool) → length clients ≤ length (cond new (clients ++ name ∷ []) clients)
+clients-kept clients name true = omega (arith, length-append clients (name ∷ []))
+clients-kept clients name false = omega arith
+
+-- the client that speaks is one
+client-known : (clients : List (List ℕ)) (name : List ℕ) (new : Bool) (at : ℕ) → (at == length clients) ≡ new → at ≤ length clients → at + 1 ≤ length (cond new (clients ++ name ∷ []) clients)
+client-known clients name true at e le = omega (arith, le, length-append clients (name ∷ []))
+client-known clients name false at e le = let other : at ≢ length clients = eqb-false at (length clients) e in omega (arith, le, other)
+
+at-most : (few more : ℕ) (entries : List Entry) → few ≤ more → All (λ (entry : Entry). entry.client ≤ few) entries → All (λ (entry : Entry). entry.client ≤ more) entries
+at-most few more entries le known = λ (k : ℕ) (entry : Entry) (lt : k < length entries). let is = known k entry lt in omega (arith, is, le)
+
 numbered-longer : (draft : Draft) (place : ℕ) (said : Said) → DraftNumbered draft → client_place draft.clients said.client < 64 → length draft.entries < 4096
     → DraftNumbered (longer draft place (client_place draft.clients said.client) said)
 numbered-longer draft place said n room line_room = record {
   clients = clients-more draft.clients said.client (client_place draft.clients said.client == length draft.clients) (client_place draft.clients said.client) refl room n.clients;
   few = omega (arith, length-append draft.entries (next_entry draft place (client_place draft.clients said.client + 1) said ∷ []));
+  known =
+      let kept = clients-kept draft.clients said.client (client_place draft.clients said.client == length draft.clients) in
+      let le : client_place draft.clients said.client ≤ length draft.clients = prefix_len-le-length (λ (client : List ℕ). not (bytes_eq client said.client)) draft.clients in
+      All-push (λ (entry : Entry). entry.client ≤ length (with_client draft.clients said.client)) draft.entries (next_entry draft place (client_place draft.clients said.client + 1) said)
+      (at-most (length draft.clients) (length (with_client draft.clients said.client)) draft.entries kept n.known)
+      (client-known draft.clients said.client (client_place draft.clients said.client == length draft.clients) (client_place draft.clients said.client) refl le);
   in_order = entries-push [] draft.entries (next_entry draft place (client_place draft.clients said.client + 1) said) n.in_order (omega arith) refl;
 }
 
@@ -116,7 +138,7 @@ numbered-draft bytes draft e =
     let found : Result Draft ScriptFault = Ok draft in
     elim (chosen (nat_lt 1048576 (length bytes)) (Err (At 0 Long)) (with_lines (record { clients = []; entries = [] }) 1 (lines bytes)) found e) [
       | inl long ↦ absurd cc
-      | inr short ↦ numbered-lines (record { clients = []; entries = [] }) 1 (lines bytes) draft (record { clients = omega arith; few = omega arith; in_order = tt }) short.1
+      | inr short ↦ numbered-lines (record { clients = []; entries = [] }) 1 (lines bytes) draft (record { clients = omega arith; few = omega arith; known = All-nil (λ (entry : Entry). entry.client ≤ 0); in_order = tt }) short.1
     ]
 
 -- ---- scripts
@@ -142,13 +164,20 @@ numbered-made draft (entry ∷ rest) before lines_before afters n e same =
     subst (λ (l : List Place). AreNumbered lines_before (made (entry ∷ rest) l) × (length (made (entry ∷ rest) l) ≡ length (entry ∷ rest))) is
     ((n.0, n.1 ∙ ap (λ (k : ℕ). k + 1) (sym (same entry.client)), more.0), ap suc more.1)
 
+known-made : (few : ℕ) (entries : List Entry) (afters : List Place) → All (λ (entry : Entry). entry.client ≤ few) entries → All (λ (line : Line). line.client ≤ few) (made entries afters)
+known-made few [] afters known = All-nil (λ (line : Line). line.client ≤ few)
+known-made few (entry ∷ rest) [] known = All-nil (λ (line : Line). line.client ≤ few)
+known-made few (entry ∷ rest) (after ∷ afters) known =
+    All-cons (λ (line : Line). line.client ≤ few) (line_with entry after) (made rest afters) (known 0 entry (omega arith))
+    (known-made few rest afters (λ (k : ℕ) (other : Entry) (lt : k < length rest). known (suc k) other (omega (arith, lt))))
+
 pub numbered-placed : (draft : Draft) (placed : PlacedScript) → DraftNumbered draft → placed_of draft ≡ Ok placed → IsNumbered placed.script
 unfolding placed_of
 numbered-placed draft placed n e =
     let a = bind_ok (afters_of draft draft.entries) (λ afters. let r : Result PlacedScript ScriptFault = Ok (record { script = record { clients = draft.clients; lines = made draft.entries afters }; places = map (λ entry. entry.place) draft.entries }) in r) placed e in
     let same : record { script = record { clients = draft.clients; lines = made draft.entries a.0 }; places = map (λ entry. entry.place) draft.entries } ≡ placed = cc in
     let m = numbered-made draft draft.entries [] [] a.0 n.in_order a.1 (λ client. refl) in
-    subst (λ (p : PlacedScript). IsNumbered p.script) same (record { clients = n.clients; few = omega (arith, n.few, m.1); in_order = m.0 })
+    subst (λ (p : PlacedScript). IsNumbered p.script) same (record { clients = n.clients; few = omega (arith, n.few, m.1); known = known-made (length draft.clients) draft.entries a.0 n.known; in_order = m.0 })
 
 pub numbered-read : (bytes : List ℕ) (draft : Draft) (result : Result PlacedScript ScriptFault) → draft_of bytes ≡ Ok draft
     → MatchResult result (λ placed. placed_of draft ≡ Ok placed) (λ fault. Fails fault (placed_of draft)) → IfOk result (λ placed. IsNumbered placed.script)

@@ -1,6 +1,7 @@
 -- The numbers of clients and lines.
 use Rattle.std.specs.Prelude.{◌≡◌, ℕ, ◌+◌, ◌≤◌, ◌==◌, List, [], ◌∷◌, ◌++◌, length, count_by}
-use Rattle.oz_lines.specs.declared.drafting.TheConstants.{MOST_LINES, MOST_CLIENTS}
+use Rattle.std.specs.List.{All}
+use Rattle.oz_draft.specs.declared.drafting.TheConstants.{MOST_LINES, MOST_CLIENTS}
 use Rattle.oz_lines.specs.declared.script.Line.{Line}
 use Rattle.oz_lines.specs.declared.script.Script.{Script}
 
@@ -14,8 +15,9 @@ AreNumbered before [] = Unit {0}
 AreNumbered before (line ∷ rest) =
     (1 ≤ line.client) × (line.number ≡ lines_of before line.client + 1) × AreNumbered (before ++ line ∷ []) rest
 
--- Not too many clients and lines, and the lines of each client are numbered from 1.
+-- Not too many clients and lines, each line is one of these clients', and the lines of each client are numbered from 1.
 pub record IsNumbered (script : Script) : Type 0 where
   pub clients : length script.clients ≤ MOST_CLIENTS
   pub few : length script.lines ≤ MOST_LINES
+  pub known : All (λ line. line.client ≤ length script.clients) script.lines
   pub in_order : AreNumbered [] script.lines

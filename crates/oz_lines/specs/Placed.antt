@@ -1,14 +1,14 @@
 -- The script that a draft makes, with the place of each line, or the first line whose `after` names no line.
 use Rattle.std.specs.Prelude.{ℕ, ◌+◌, nat_le, ◌&&◌, List, [], ◌∷◌, map, Option, None, Some, Result, Ok, Err, if◌then◌else◌}
 use Rattle.std.specs.List.{zip}
-use Rattle.oz_lines.specs.declared.drafting.Draft.{Draft}
-use Rattle.oz_lines.specs.declared.drafting.Entry.{Entry}
-use Rattle.oz_lines.specs.declared.fault.Cause.TheVariants.{After}
-use Rattle.oz_lines.specs.declared.fault.ScriptFault.{ScriptFault}
-use Rattle.oz_lines.specs.declared.fault.ScriptFault.TheVariants.{At}
+use Rattle.oz_draft.specs.declared.drafting.Draft.{Draft}
+use Rattle.oz_draft.specs.declared.drafting.Entry.{Entry}
+use Rattle.oz_draft.specs.declared.fault.Cause.TheVariants.{After}
+use Rattle.oz_draft.specs.declared.fault.ScriptFault.{ScriptFault}
+use Rattle.oz_draft.specs.declared.fault.ScriptFault.TheVariants.{At}
 use Rattle.oz_lines.specs.declared.script.Line.{Line}
 use Rattle.oz_lines.specs.declared.script.PlacedScript.{PlacedScript}
-use Rattle.oz_lines.specs.Drafts.{◌>>=◌, client_place, count_in, draft_of}
+use Rattle.oz_draft.specs.Drafts.{◌>>=◌, client_place, count_in, draft_of}
 
 -- the client and the number of the line that is named, if there is one: a client's lines are numbered from 1
 abbrev pub line_named : Draft → List ℕ → ℕ → Option (ℕ × ℕ)

@@ -1,15 +1,14 @@
 //! Scripts, and the lines for which their lines wait.
 
-ghost use Rattle.std.specs.Prelude.{◌≡◌, length, map, IfOk, MatchResult};
+ghost use Rattle.std.specs.Prelude.{◌≡◌, ◌++◌, [], ◌∷◌, length, map, IfOk, MatchResult};
 ghost use Rattle.std.specs.List.{zip};
-ghost use Rattle.oz_lines.specs.Drafts.{Fails};
+ghost use Rattle.oz_draft.specs.Drafts.{Fails};
 ghost use Rattle.oz_lines.specs.Numbered.{IsNumbered};
 ghost use Rattle.oz_lines.specs.Placed.{after_of, afters_of, line_named, line_with, placed_of, read_of};
-ghost use Rattle.oz_lines.specs.Tracked.{IsTracked};
+ghost use Rattle.oz_draft.specs.Tracked.{IsTracked};
 
-use crate::drafting::{Draft, Drafting, Entry, client_place, draft_of, pushed};
-use crate::fault::{Cause, ScriptFault};
 use oz_command::Command;
+use oz_draft::{Cause, Draft, Drafting, Entry, ScriptFault, client_place, draft_of};
 use oz_fields::{List, Name, OutOfMemory};
 use std::alloc::Global;
 
@@ -53,7 +52,7 @@ pub fn read_lines(alloc: Global, bytes: &[u8]) -> Result<PlacedScript, ScriptFau
 /// The script that a draft makes, with the place of each line.
 #[tactic(auto, unfolding(crate::specs::Placed::placed_of))]
 fn placed_of(alloc: Global, drafting: Drafting) -> Result<PlacedScript, ScriptFault>
-    requires { IsTracked drafting.draft drafting.counts.items }
+    requires { IsTracked drafting.draft drafting.counts.items drafting.opened }
     ensures { MatchResult result (λ placed. placed_of drafting.draft ≡ Ok placed)
         (λ fault. Fails fault (placed_of drafting.draft)) }
 {
@@ -111,7 +110,7 @@ fn line_with(entry: Entry, after: Option<(u16, u16)>) -> Line
 
 /// The lines for which the lines wait.
 fn afters_of(alloc: Global, drafting: &Drafting) -> Result<List<Option<(u16, u16)>>, ScriptFault>
-    requires { IsTracked drafting.now.draft drafting.now.counts.items }
+    requires { IsTracked drafting.now.draft drafting.now.counts.items drafting.now.opened }
     ensures { MatchResult result (λ afters. afters_of drafting.now.draft drafting.now.draft.entries ≡ Ok afters)
         (λ fault. Fails fault (afters_of drafting.now.draft drafting.now.draft.entries)) }
 {
@@ -119,14 +118,27 @@ fn afters_of(alloc: Global, drafting: &Drafting) -> Result<List<Option<(u16, u16
     let mut afters = List::new(alloc);
     for entry in entries {
         let after = after_of(drafting, entry)?;
-        afters = pushed(alloc, afters, after)?;
+        afters = with_after(alloc, afters, after)?;
     }
     Ok(afters)
 }
 
+fn with_after(
+    alloc: Global,
+    mut afters: List<Option<(u16, u16)>>,
+    after: Option<(u16, u16)>,
+) -> Result<List<Option<(u16, u16)>>, OutOfMemory>
+    ensures { IfOk result (λ more. more ≡ afters ++ after ∷ []) }
+{
+    match afters.push(alloc, after) {
+        Ok(()) => Ok(afters),
+        Err((_, error)) => Err(error),
+    }
+}
+
 #[tactic(auto, unfolding(crate::specs::Placed::after_of))]
 fn after_of(drafting: &Drafting, entry: &Entry) -> Result<Option<(u16, u16)>, ScriptFault>
-    requires { IsTracked drafting.now.draft drafting.now.counts.items }
+    requires { IsTracked drafting.now.draft drafting.now.counts.items drafting.now.opened }
     ensures { MatchResult result (λ after. after_of drafting.now.draft entry.now ≡ Ok after)
         (λ fault. Fails fault (after_of drafting.now.draft entry.now)) }
 {
@@ -143,7 +155,7 @@ fn after_of(drafting: &Drafting, entry: &Entry) -> Result<Option<(u16, u16)>, Sc
 }
 
 fn line_named(drafting: &Drafting, name: &Name, number: u16) -> Option<(u16, u16)>
-    requires { IsTracked drafting.now.draft drafting.now.counts.items }
+    requires { IsTracked drafting.now.draft drafting.now.counts.items drafting.now.opened }
     ensures { result ≡ line_named drafting.now.draft name.now number }
 {
     if number < 1 {

@@ -6,8 +6,9 @@ use Rattle.oz_fields.specs.laws.Bytes.{AreBytes-behind}
 use Rattle.oz_rows.specs.declared.fault.ReadFault.TheVariants as reads
 use Rattle.oz_rows.specs.declared.fault.RowFault.TheVariants as faults
 use Rattle.oz_rows.specs.declared.operation.Operation.{Operation}
+use Rattle.oz_rows.specs.declared.operation.Head.{Head}
 use Rattle.oz_rows.specs.declared.operation.Operations.{Operations}
-use Rattle.oz_rows.specs.Operations.{OperationFits, operation_bytes, AreOperations, batch_bytes, head_bytes, IsIndex, IsBody}
+use Rattle.oz_rows.specs.Operations.{OperationFits, operation_bytes, AreOperations, batch_bytes, head_bytes, IsHead, IsBody}
 use Rattle.oz_rows.specs.Reading.{head_at, operation_at}
 use Rattle.oz_rows.specs.Faults.{BatchEnds, OperationEnds, IsBodyFault}
 use Rattle.oz_rows.specs.laws.OperationReads.{operation_reads, head_reads}
@@ -18,7 +19,7 @@ abbrev OperationRead : Type 0
 OperationRead = Result (Operation × List ℕ) ℕ
 
 abbrev HeadRead : Type 0
-HeadRead = Result (ℕ × List ℕ) ℕ
+HeadRead = Result (Head × List ℕ) ℕ
 
 abbrev Whole : List ℕ → Type 0
 Whole bytes = (items : List Operation) × AreOperations items × (bytes ≡ batch_bytes items)
@@ -60,20 +61,20 @@ each_body bytes fit = by (head_at bytes) refl
   where
     by : (read : HeadRead) → head_at bytes ≡ read → ((body : Operations) × IsBody bytes body) ⊎ ((place : ℕ) × IsBodyFault bytes (faults.At place))
     by (Err left) e = inr (length bytes - left, inl (left, e, refl))
-    by (Ok (index, rest)) e = by_batch (each_batch (length rest) rest (omega arith) (AreBytes-behind bytes (head_bytes index) rest fit spelled.1))
+    by (Ok (head, rest)) e = by_batch (each_batch (length rest) rest (omega arith) (AreBytes-behind bytes (head_bytes head) rest fit spelled.1))
       where
-        spelled : IsIndex index × (bytes ≡ head_bytes index ++ rest)
-        spelled = head_reads.one_spelling bytes index rest fit e
+        spelled : IsHead head × (bytes ≡ head_bytes head ++ rest)
+        spelled = head_reads.one_spelling bytes head rest fit e
 
         by_batch : Whole rest ⊎ Cut rest → ((body : Operations) × IsBody bytes body) ⊎ ((place : ℕ) × IsBodyFault bytes (faults.At place))
-        by_batch (inl (items, all, is)) = inl (record { layout = 1; index = index; items = items }, body_found bytes index rest items fit e (all, is))
-        by_batch (inr (left, ends)) = inr (length bytes - left, inr (record { index = index; batch = rest; left = left; index_fits = spelled.0; parts = spelled.1; batch_ends = ends; is_left = refl }))
+        by_batch (inl (items, all, is)) = inl (record { layout = head.layout; index = head.index; items = items }, body_found bytes head rest items fit e (all, is))
+        by_batch (inr (left, ends)) = inr (length bytes - left, inr (record { head = head; batch = rest; left = left; head_fits = spelled.0; parts = spelled.1; batch_ends = ends; is_left = refl }))
 
 pub body_without_fault : (bytes : List ℕ) (body : Operations) (place : ℕ) → IsBody bytes body → IsBodyFault bytes (faults.At place) → ⊥
 body_without_fault bytes body place is (inl (left, e, at)) = let none = no_head_fails bytes (reads.Left left) e body is in absurd cc
 body_without_fault bytes body place is (inr ends) =
-    let head = ap head_at ends.parts ∙ head_reads.reads_back ends.index ends.batch ends.index_fits in
-    let none = no_operation_fails bytes ends.index ends.batch (reads.Left ends.left) head ends.batch_ends body is in
+    let head = ap head_at ends.parts ∙ head_reads.reads_back ends.head ends.batch ends.head_fits in
+    let none = no_operation_fails bytes ends.head ends.batch (reads.Left ends.left) head ends.batch_ends body is in
     absurd cc
 
 -- ---- one place
@@ -92,14 +93,14 @@ err_same A a b e = ap left_or e
 operation_read : Operation × List ℕ → OperationRead
 operation_read read = Ok read
 
-head_read : ℕ × List ℕ → HeadRead
+head_read : Head × List ℕ → HeadRead
 head_read read = Ok read
 
 same_operation : (x y : Operation × List ℕ) → operation_read x ≡ operation_read y → x ≡ y
 unfolding operation_read
 same_operation x y e = cc
 
-same_head : (x y : ℕ × List ℕ) → head_read x ≡ head_read y → x ≡ y
+same_head : (x y : Head × List ℕ) → head_read x ≡ head_read y → x ≡ y
 unfolding head_read
 same_head x y e = cc
 
@@ -122,11 +123,11 @@ ends_once (x ∷ a) (y ∷ b) rest other left behind fit_a fit_b e at_a at_b =
     let same = same_operation (x, batch_bytes a ++ rest) (y, batch_bytes b ++ other) (sym (first_read x a rest fit_a.0) ∙ ap operation_at e ∙ first_read y b other fit_b.0) in
     ends_once a b rest other left behind fit_a.1 fit_b.1 (ap (λ (read : Operation × List ℕ). read.1) same) at_a at_b
 
-headed : (bytes : List ℕ) (place : ℕ) → (ends : OperationEnds bytes place) → head_at bytes ≡ head_read (ends.index, ends.batch)
+headed : (bytes : List ℕ) (place : ℕ) → (ends : OperationEnds bytes place) → head_at bytes ≡ head_read (ends.head, ends.batch)
 unfolding head_read
-headed bytes place ends = ap head_at ends.parts ∙ head_reads.reads_back ends.index ends.batch ends.index_fits
+headed bytes place ends = ap head_at ends.parts ∙ head_reads.reads_back ends.head ends.batch ends.head_fits
 
-unheaded : (bytes : List ℕ) (read : ℕ × List ℕ) (left : ℕ) → head_at bytes ≡ head_read read → head_at bytes ≡ Err left → ⊥
+unheaded : (bytes : List ℕ) (read : Head × List ℕ) (left : ℕ) → head_at bytes ≡ head_read read → head_at bytes ≡ Err left → ⊥
 unfolding head_read
 unheaded bytes read left a b = absurd cc
 
@@ -135,11 +136,11 @@ unfolding err
 failed_once A read a b x y = err_same A a b (sym x ∙ y)
 
 pub one_place : (bytes : List ℕ) (a b : ℕ) → IsBodyFault bytes (faults.At a) → IsBodyFault bytes (faults.At b) → a ≡ b
-one_place bytes a b (inl (left, e, at)) (inl (other, f, here)) = at ∙ ap (λ (n : ℕ). length bytes - n) (failed_once (ℕ × List ℕ) (head_at bytes) left other e f) ∙ sym here
-one_place bytes a b (inl (left, e, at)) (inr ends) = absurd (unheaded bytes (ends.index, ends.batch) left (headed bytes b ends) e)
-one_place bytes a b (inr ends) (inl (left, e, at)) = absurd (unheaded bytes (ends.index, ends.batch) left (headed bytes a ends) e)
+one_place bytes a b (inl (left, e, at)) (inl (other, f, here)) = at ∙ ap (λ (n : ℕ). length bytes - n) (failed_once (Head × List ℕ) (head_at bytes) left other e f) ∙ sym here
+one_place bytes a b (inl (left, e, at)) (inr ends) = absurd (unheaded bytes (ends.head, ends.batch) left (headed bytes b ends) e)
+one_place bytes a b (inr ends) (inl (left, e, at)) = absurd (unheaded bytes (ends.head, ends.batch) left (headed bytes a ends) e)
 one_place bytes a b (inr x) (inr y) =
-    let same = ap (λ (read : ℕ × List ℕ). read.1) (same_head (x.index, x.batch) (y.index, y.batch) (sym (headed bytes a x) ∙ headed bytes b y)) in
+    let same = ap (λ (read : Head × List ℕ). read.1) (same_head (x.head, x.batch) (y.head, y.batch) (sym (headed bytes a x) ∙ headed bytes b y)) in
     let rest = ends_once x.batch_ends.before y.batch_ends.before x.batch_ends.rest y.batch_ends.rest x.left y.left x.batch_ends.before_fits y.batch_ends.before_fits (sym x.batch_ends.parts ∙ same ∙ y.batch_ends.parts) x.batch_ends.fault y.batch_ends.fault in
     let left = failed_once (Operation × List ℕ) (operation_at y.batch_ends.rest) x.left y.left (ap operation_at (sym rest) ∙ x.batch_ends.fault) y.batch_ends.fault in
     x.is_left ∙ ap (λ (n : ℕ). length bytes - n) left ∙ sym y.is_left

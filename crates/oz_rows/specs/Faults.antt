@@ -7,8 +7,9 @@ use Rattle.oz_rows.specs.declared.fault.RowFault.{RowFault}
 use Rattle.oz_rows.specs.declared.fault.RowFault.TheVariants as faults
 use Rattle.oz_rows.specs.declared.key.RowKey.{RowKey}
 use Rattle.oz_rows.specs.declared.row.Row.{Row}
+use Rattle.oz_rows.specs.declared.operation.Head.{Head}
 use Rattle.oz_rows.specs.declared.operation.Operation.{Operation}
-use Rattle.oz_rows.specs.Operations.{AreOperations, batch_bytes, IsIndex, head_bytes}
+use Rattle.oz_rows.specs.Operations.{AreOperations, batch_bytes, IsHead, head_bytes}
 use Rattle.oz_rows.specs.Reading.{row_at, head_at, operation_at}
 
 -- a fault of reading, as a place
@@ -44,11 +45,11 @@ pub record BatchEnds (bytes : List ℕ) (left : ℕ) : Type 0 where
 
 -- the head is whole, and such a field stands behind it
 pub record OperationEnds (bytes : List ℕ) (place : ℕ) : Type 0 where
-  pub index : ℕ
+  pub head : Head
   pub batch : List ℕ
   pub left : ℕ
-  pub index_fits : IsIndex index
-  pub parts : bytes ≡ head_bytes index ++ batch
+  pub head_fits : IsHead head
+  pub parts : bytes ≡ head_bytes head ++ batch
   pub batch_ends : BatchEnds batch left
   pub is_left : IsFromEnd bytes left place
 

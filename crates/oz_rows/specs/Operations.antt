@@ -8,6 +8,7 @@ use Rattle.oz_names.specs.Names.{IsVolumeName, IsBucketName}
 use Rattle.oz_rows.specs.declared.operation.Operation.{Operation}
 use Rattle.oz_rows.specs.declared.operation.Operation.TheVariants.{Put, Remove, CopyKeys, MoveDeleted, DropKeys}
 use Rattle.oz_rows.specs.declared.operation.Operation.TheVariants.{DropOpen}
+use Rattle.oz_rows.specs.declared.operation.Head.{Head}
 use Rattle.oz_rows.specs.declared.operation.Operations.{Operations}
 use Rattle.oz_rows.specs.Rows.{IsNumber, IsOwner, KeyFits, RowFits, key_bytes, row_bytes}
 
@@ -42,11 +43,22 @@ batch_bytes operations = flat_map operation_bytes operations
 abbrev pub IsIndex : ℕ → Type 0
 IsIndex index = (1 ≤ index) × (index < END_OF_INDEXES)
 
--- the layout, and that index
-abbrev pub head_bytes : ℕ → List ℕ
-head_bytes index = u8_bytes LAYOUT ++ u64_bytes index
+-- the layout of all bodies so far, and such an index
+abbrev pub IsHead : Head → Type 0
+IsHead head = (head.layout ≡ LAYOUT) × IsIndex head.index
+
+abbrev pub head_bytes : Head → List ℕ
+head_bytes head = u8_bytes head.layout ++ u64_bytes head.index
+
+-- the head with which a body is written
+abbrev pub new_head : ℕ → Head
+new_head index = record { layout = LAYOUT; index = index }
+
+-- what the body begins with
+abbrev pub head_in : Operations → Head
+head_in body = record { layout = body.layout; index = body.index }
 
 -- the bytes are this body
 abbrev pub IsBody : List ℕ → Operations → Type 0
-IsBody bytes body = (body.layout ≡ LAYOUT) × IsIndex body.index × AreOperations body.items
-    × (bytes ≡ head_bytes body.index ++ batch_bytes body.items)
+IsBody bytes body = IsHead (head_in body) × AreOperations body.items
+    × (bytes ≡ head_bytes (head_in body) ++ batch_bytes body.items)

@@ -16,6 +16,7 @@ use Rattle.oz_rows.specs.declared.row.Row.{Row}
 use Rattle.oz_rows.specs.declared.row.Row.TheVariants as rows
 use Rattle.oz_rows.specs.declared.row.SnapshotState.{SnapshotState}
 use Rattle.oz_rows.specs.declared.row.SnapshotState.TheVariants.{Live, Marked}
+use Rattle.oz_rows.specs.declared.operation.Head.{Head}
 use Rattle.oz_rows.specs.declared.operation.Operation.{Operation}
 use Rattle.oz_rows.specs.declared.operation.Operation.TheVariants.{Put, Remove, CopyKeys, MoveDeleted, DropKeys}
 use Rattle.oz_rows.specs.declared.operation.Operation.TheVariants.{DropOpen}
@@ -306,10 +307,11 @@ unfoldable pub index_at : List ℕ → Result (ℕ × List ℕ) ℕ
 index_at bytes = field u64_at (λ n. nat_le 1 n && nat_lt n END_OF_INDEXES) bytes
 
 -- the head of a body: the layout, and the last transaction index
-unfoldable pub head_at : List ℕ → Result (ℕ × List ℕ) ℕ
+unfoldable pub head_at : List ℕ → Result (Head × List ℕ) ℕ
 head_at = do
   layout ← field u8_at (λ n. n == LAYOUT)
-  index_at
+  index ← index_at
+  done (record { layout = layout; index = index })
 
 -- What a call gave, seen by view, is what reading gives, unless memory ran out.
 abbrev pub ReadFails : {Y : Type 0} → ReadFault → Result Y ℕ → Type 0

@@ -2,10 +2,10 @@
 
 ghost use Rattle.std.specs.Prelude.{◌≡◌, ◌∷◌, ◌++◌, IfOk, OnOk, OnErr};
 ghost use Rattle.oz_rows.specs.Rows.{KeyFits, RowFits, key_bytes, row_bytes};
-ghost use Rattle.oz_rows.specs.Operations.{OperationFits, operation_bytes, IsIndex, head_bytes};
+ghost use Rattle.oz_rows.specs.Operations.{OperationFits, operation_bytes, IsHead, head_bytes};
 
 use crate::key::RowKey;
-use crate::operation::{LAYOUT, Operation};
+use crate::operation::{Head, Operation};
 use crate::row::Row;
 use crate::writing::{put_key, put_path, put_value};
 use oz_fields::{OutOfMemory, put_u8, put_u64};
@@ -68,16 +68,16 @@ pub fn put_operation(
     out.extend_from_slice(&bytes)
 }
 
-/// Puts the head of a body: its layout, and the last transaction index of the operations behind it.
+/// Puts the head of a body.
 #[tactic(auto, unfolding(oz_fields::specs::Number::u64_bytes))]
-pub fn put_head(_alloc: Global, out: &mut Vec<u8>, index: u64) -> Result<(), OutOfMemory>
-    requires { IsIndex index }
-    ensures ok { OnOk result (out.new.items ≡ out.old.items ++ head_bytes index) }
+pub fn put_head(_alloc: Global, out: &mut Vec<u8>, head: Head) -> Result<(), OutOfMemory>
+    requires { IsHead head }
+    ensures ok { OnOk result (out.new.items ≡ out.old.items ++ head_bytes head) }
     ensures err { OnErr result (out.new.items ≡ out.old.items) }
 {
     out.reserve(9)?;
-    out.push(LAYOUT).unwrap();
-    out.extend_from_slice(&index.to_be_bytes()).unwrap();
+    out.push(head.layout).unwrap();
+    out.extend_from_slice(&head.index.to_be_bytes()).unwrap();
     Ok(())
 }
 

@@ -25,7 +25,7 @@ pub use laws::{
     one_row_for_a_spelling, same_keys_are_one,
 };
 pub use operation::{
-    Change, END_OF_INDEXES, LAYOUT, LONGEST_OPERATION, MOST_REMOVALS, Operation, Operations,
+    Change, END_OF_INDEXES, Head, LAYOUT, LONGEST_OPERATION, MOST_REMOVALS, Operation, Operations,
 };
 pub use operation_reading::{head_of, operation_of};
 pub use row::{Row, SnapshotState};

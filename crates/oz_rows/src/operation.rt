@@ -55,6 +55,13 @@ pub enum Operation {
     },
 }
 
+/// What a body begins with: its layout, and the last transaction index that it reaches.
+#[derive(Clone, Copy, Debug)]
+pub struct Head {
+    pub layout: u8,
+    pub index: u64,
+}
+
 /// A body of the manager's journal: its layout, the last transaction index that it reaches, and the
 /// operations up to there.
 #[derive(Debug, Drop, PartialEq, Eq)]

@@ -6,7 +6,7 @@ ghost use Rattle.oz_rows.specs.Reading.{drop_open_at, operation_at, index_at, he
 
 use crate::decoding::{key_of, row_of};
 use crate::fault::ReadFault;
-use crate::operation::{END_OF_INDEXES, LAYOUT, Operation};
+use crate::operation::{END_OF_INDEXES, Head, LAYOUT, Operation};
 use crate::reading::{number_of, owner_of, volume_name_of};
 use oz_fields::Reader;
 use std::alloc::Global;
@@ -108,13 +108,20 @@ fn drop_open_of(alloc: Global, bytes: &[u8]) -> Result<(Operation, &[u8]), ReadF
     Ok((Operation::DropOpen { volume, bucket }, rest))
 }
 
-/// The last transaction index in the head of a body.
+/// The head of a body, and the bytes behind it.
 #[tactic(auto, unfolding(crate::specs::Reading::head_at))]
-pub fn head_of(bytes: &[u8]) -> Result<(u64, &[u8]), ReadFault>
+pub fn head_of(bytes: &[u8]) -> Result<(Head, &[u8]), ReadFault>
     ensures { ReadGives (λ x. (x.0, x.1.now)) result (head_at bytes.now) }
 {
     match bytes {
-        [LAYOUT, rest @ ..] => index_of(rest),
+        [LAYOUT, rest @ ..] => {
+            let (index, rest) = index_of(rest)?;
+            let head = Head {
+                layout: LAYOUT,
+                index,
+            };
+            Ok((head, rest))
+        }
         _ => Err(ReadFault::Left(bytes.len())),
     }
 }

@@ -11,7 +11,7 @@ ghost use Rattle.oz_rows.specs.Faults.{IsRowFault, IsBodyFault, BatchFails, plac
 use crate::decoding::row_of;
 use crate::fault::{ReadFault, RowFault};
 use crate::key::RowKey;
-use crate::operation::{LAYOUT, Operation, Operations};
+use crate::operation::{Operation, Operations};
 use crate::operation_reading::{head_of, operation_of};
 use crate::row::Row;
 use oz_fields::List;
@@ -50,14 +50,14 @@ pub fn operations(alloc: Global, body: &[u8]) -> Result<Operations, RowFault>
         → MatchResult result (λ found. found ≡ other) (λ fault. fault ≡ RowFault.OutOfMemory) }
     ensures fault { IfErr result (λ fault. IsBodyFault body.now fault) }
 {
-    let (index, rest) = match head_of(body) {
-        Ok(head) => head,
+    let (head, rest) = match head_of(body) {
+        Ok(found) => found,
         Err(fault) => return Err(offset_of(fault, body)),
     };
     match batch_of(alloc, rest) {
         Ok(items) => Ok(Operations {
-            layout: LAYOUT,
-            index,
+            layout: head.layout,
+            index: head.index,
             items: List::of(items),
         }),
         Err(fault) => Err(offset_of(fault, body)),

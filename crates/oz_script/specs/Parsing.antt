@@ -2,10 +2,10 @@
 use Rattle.std.specs.Prelude.{◌≡◌, ℕ, List, Option, None, Some, Result, Ok, Err}
 use Rattle.std.specs.List.{slice_get}
 use Rattle.oz_circles.specs.Circles.{IsFirstBack}
-use Rattle.oz_lines.specs.declared.fault.Cause.{Cause}
-use Rattle.oz_lines.specs.declared.fault.Cause.TheVariants.{Circle, Later}
-use Rattle.oz_lines.specs.declared.fault.ScriptFault.{ScriptFault}
-use Rattle.oz_lines.specs.declared.fault.ScriptFault.TheVariants.{At, OutOfMemory}
+use Rattle.oz_draft.specs.declared.fault.Cause.{Cause}
+use Rattle.oz_draft.specs.declared.fault.Cause.TheVariants.{Circle, Later}
+use Rattle.oz_draft.specs.declared.fault.ScriptFault.{ScriptFault}
+use Rattle.oz_draft.specs.declared.fault.ScriptFault.TheVariants.{At, OutOfMemory}
 use Rattle.oz_lines.specs.declared.script.PlacedScript.{PlacedScript}
 use Rattle.oz_lines.specs.declared.script.Script.{Script}
 use Rattle.oz_lines.specs.Placed.{read_of}

@@ -9,8 +9,9 @@ ghost use Rattle.oz_script.specs.Parsing.{Gives, ParsesTo};
 ghost use Rattle.oz_script.specs.Waiting.{WaitsFor};
 
 use crate::waiting::first_back;
+use oz_draft::{Cause, ScriptFault};
 use oz_fields::List;
-use oz_lines::{Cause, PlacedScript, Script, ScriptFault, later_index, read_lines};
+use oz_lines::{PlacedScript, Script, later_index, read_lines};
 use std::alloc::Global;
 
 /// Reads a script. Its faults are tested in this order: too many bytes; the first line in none of the forms, too many or

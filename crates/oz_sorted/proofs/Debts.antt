@@ -14,7 +14,7 @@ module _ {A : Type 0} where
   debt_set (x ∷ z ∷ l) (suc zero) n y le = omega (arith, debt_set (z ∷ l) zero n y le)
   debt_set (x ∷ z ∷ l) (suc (suc i)) n y le = omega (arith, debt_set (z ∷ l) (suc i) n y le)
 
-  pub debt_split : (l : List (List A)) (i : ℕ) (a b : List A) → i < length l → length (get_or l i []) ≡ 256 → length a + length b ≡ 256 → 128 ≤ length a → (length a ≡ 128) ⊎ (suc i ≡ length l) → debt (insert (set l i a) (suc i) b) + 128 ≤ debt l
+  pub debt_split : (l : List (List A)) (i : ℕ) (a b : List A) → i < length l → length (get_or l i []) ≡ 64 → length a + length b ≡ 64 → 32 ≤ length a → (length a ≡ 32) ⊎ (suc i ≡ length l) → debt (insert (set l i a) (suc i) b) + 32 ≤ debt l
   debt_split [] i a b lt full parts le fit = absurd (omega arith)
   debt_split (x ∷ []) zero a b lt full parts le fit = omega arith
   debt_split (x ∷ []) (suc i) a b lt full parts le fit = absurd (omega arith)
@@ -25,7 +25,7 @@ module _ {A : Type 0} where
   debt_split (x ∷ z ∷ l) (suc (suc i)) a b lt full parts le (inl half) = omega (arith, debt_split (z ∷ l) (suc i) a b (omega arith) full parts le (inl half))
   debt_split (x ∷ z ∷ l) (suc (suc i)) a b lt full parts le (inr last) = omega (arith, debt_split (z ∷ l) (suc i) a b (omega arith) full parts le (inr (omega arith)))
 
-  pub debt_removed : (l : List (List A)) (i : ℕ) → debt (remove l i) ≤ debt l + 128
+  pub debt_removed : (l : List (List A)) (i : ℕ) → debt (remove l i) ≤ debt l + 32
   debt_removed [] zero = omega arith
   debt_removed [] (suc i) = omega arith
   debt_removed (x ∷ []) zero = omega arith
@@ -36,7 +36,7 @@ module _ {A : Type 0} where
   debt_removed (x ∷ z ∷ w ∷ l) (suc zero) = omega arith
   debt_removed (x ∷ z ∷ l) (suc (suc i)) = omega (arith, debt_removed (z ∷ l) (suc i))
 
-  pub debt_bound : (l : List (List A)) → debt l ≤ excess l + 128
+  pub debt_bound : (l : List (List A)) → debt l ≤ excess l + 32
   debt_bound [] = omega arith
   debt_bound (x ∷ []) = omega arith
   debt_bound (x ∷ z ∷ l) = omega (arith, debt_bound (z ∷ l))
@@ -66,7 +66,7 @@ module _ {K V : Type 0} (a b : ChunkList K V) (more : ℕ) where
   reserved_put same le (inl few) = inl (omega arith)
   reserved_put same le (inr few) = inr (omega arith)
 
-  pub reserved_split : b.spares + 1 ≡ a.spares → debt b.chunks + 127 ≤ debt a.chunks → IsReserved a (more + 1) → IsReserved b more
+  pub reserved_split : b.spares + 1 ≡ a.spares → debt b.chunks + 31 ≤ debt a.chunks → IsReserved a (more + 1) → IsReserved b more
   reserved_split one le (inl few) = inl (omega arith)
   reserved_split one le (inr few) = inr (omega arith)
 
@@ -74,12 +74,12 @@ module _ {K V : Type 0} (a b : ChunkList K V) (more : ℕ) where
   reserved_kept same le (inl few) = inl (omega arith)
   reserved_kept same le (inr few) = inr (omega arith)
 
-  pub reserved_freed : b.spares ≡ a.spares + 1 → debt b.chunks ≤ debt a.chunks + 128 → IsReserved a more → IsReserved b more
+  pub reserved_freed : b.spares ≡ a.spares + 1 → debt b.chunks ≤ debt a.chunks + 32 → IsReserved a more → IsReserved b more
   reserved_freed one le (inl few) = inl (omega arith)
   reserved_freed one le (inr few) = inr (omega arith)
 
 module _ {K V : Type 0} where
-  pub excess_at : (l : List (List (Entry K V))) (i : ℕ) (x : List (Entry K V)) → i < length l → x ≡ get_or l i x → (length x - 128) ≤ excess (drop i l)
+  pub excess_at : (l : List (List (Entry K V))) (i : ℕ) (x : List (Entry K V)) → i < length l → x ≡ get_or l i x → (length x - 32) ≤ excess (drop i l)
   excess_at [] i x lt it = absurd (omega arith)
   excess_at (y ∷ l) zero x lt it = omega (arith, ap length it)
   excess_at (y ∷ l) (suc i) x lt it = excess_at l i x (omega arith) it
@@ -90,7 +90,7 @@ module _ {K V : Type 0} where
   excess_past (y ∷ l) zero le = absurd (omega arith)
   excess_past (y ∷ l) (suc i) le = excess_past l i (omega arith)
 
-  pub enough_spares : (l : List (List (Entry K V))) (more above r spares : ℕ) → above ≡ more + excess l → r ≡ min more (above / 128 + 2) → r ≤ spares → IsReserved (record { chunks = l; spares = spares }) more
+  pub enough_spares : (l : List (List (Entry K V))) (more above r spares : ℕ) → above ≡ more + excess l → r ≡ min more (above / 32 + 2) → r ≤ spares → IsReserved (record { chunks = l; spares = spares }) more
   enough_spares l more above r spares sum least le = elim (cases_lt spares more) [
     | inl few ↦ inr (omega (arith, debt_bound l))
     | inr many ↦ inl many

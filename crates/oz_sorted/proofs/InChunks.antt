@@ -77,20 +77,20 @@ module _ {A : Type 0} where
     pub get_joined : (d : A) → j < length (get_or l i []) → get_or (joined l) (length (joined (take i l)) + j) d ≡ get_or (get_or l i []) j d
     get_joined d lt = ap (λ all. get_or all (length (joined (take i l)) + j) d) (joined_parts l i) ∙ get_mid (joined (take i l)) (get_or l i []) (joined (drop (suc i) l)) _ j d refl lt
 
-  module _ (l : List (List A)) (i cut : ℕ) (lt : i < length l) (full : length (get_or l i []) ≡ 256) (low : 128 ≤ cut) (high : cut < 256) where
+  module _ (l : List (List A)) (i cut : ℕ) (lt : i < length l) (full : length (get_or l i []) ≡ 64) (low : 32 ≤ cut) (high : cut < 64) where
     abbrev pub halves : List (List A)
     halves = insert (set l i (take cut (get_or l i []))) (suc i) (drop cut (get_or l i []))
 
     front_size : length (take cut (get_or l i [])) ≡ cut
     front_size = simp length-take (omega arith)
 
-    back_size : length (drop cut (get_or l i [])) ≡ 256 - cut
+    back_size : length (drop cut (get_or l i [])) ≡ 64 - cut
     back_size = simp length-drop (omega arith)
 
     pub halves_same : joined halves ≡ joined l
     halves_same = joined_split l i (take cut (get_or l i [])) (drop cut (get_or l i [])) lt (parts (get_or l i []) cut)
 
-    pub halves_debt : (cut ≡ 128) ⊎ (suc i ≡ length l) → debt halves + 128 ≤ debt l
+    pub halves_debt : (cut ≡ 32) ⊎ (suc i ≡ length l) → debt halves + 32 ≤ debt l
     halves_debt middle = debt_split l i (take cut (get_or l i [])) (drop cut (get_or l i [])) lt full (omega (arith, front_size, back_size)) (omega (arith, front_size)) (elim middle [ inl half ↦ inl (front_size ∙ half) | inr last ↦ inr last ])
 
     pub front_rank : (at : ℕ) → length (joined (take i halves)) + at ≡ length (joined (take i l)) + at
@@ -108,7 +108,7 @@ module _ {A : Type 0} where
         let before = ap (λ n. length (joined (take n halves))) e ∙ ap (λ whole. length (joined whole)) (split_with l i front (drop cut (get_or l i [])) lt) ∙ start_behind (take i l) front in
         omega (arith, before, front_size)
 
-    pub back_length : (n : ℕ) → n ≡ suc i → length (get_or halves n []) ≡ 256 - cut
+    pub back_length : (n : ℕ) → n ≡ suc i → length (get_or halves n []) ≡ 64 - cut
     back_length n e = ap (λ n. length (get_or halves n [])) e ∙ ap length (split_back l i (take cut (get_or l i [])) (drop cut (get_or l i [])) lt) ∙ back_size
 
   get_behind : (p c q : List A) (k : ℕ) → k ≡ length p + length c → slice_get (p ++ (c ++ q)) k ≡ slice_get q 0
@@ -137,3 +137,26 @@ module _ {A : Type 0} where
   length_at [] i x lt it = absurd (omega arith)
   length_at (y ∷ l) zero x lt it = omega (arith, ap length it, length-append y (joined l))
   length_at (y ∷ l) (suc i) x lt it = length_at l i x (omega arith) it
+
+  -- what stands before a place in a chunk stands before every later chunk
+  pub rank_below : (l : List (List A)) (i k j : ℕ) → i < k → j ≤ length (get_or l i []) → length (joined (take i l)) + j ≤ length (joined (take k l))
+  rank_below [] zero (suc k) j lt le = omega arith
+  rank_below [] (suc i) (suc k) j lt le = omega arith
+  rank_below l i zero j lt le = absurd (omega arith)
+  rank_below (x ∷ l) zero (suc k) j lt le = omega (arith, length-append x (joined (take k l)))
+  rank_below (x ∷ l) (suc i) (suc k) j lt le = omega (arith, rank_below l i k j (omega arith) le, length-append x (joined (take i l)), length-append x (joined (take k l)))
+
+  -- the entries before a chunk are those before an earlier one, and those of the chunks from that one on
+  pub length_between : (l : List (List A)) (i k : ℕ) → i ≤ k → length (joined (take k l)) ≡ length (joined (take i l)) + length (joined (take (k - i) (drop i l)))
+  length_between l zero k le =
+      let same : k - 0 ≡ k = omega arith in
+      omega (arith, ap (λ n. length (joined (take n l))) same)
+  length_between l (suc i) zero le = absurd (omega arith)
+  length_between [] (suc i) (suc k) le = omega (arith, none (suc k - suc i))
+    where
+      none : (n : ℕ) → 0 ≡ length {A = A} (joined {A = A} (take n []))
+      none zero = refl
+      none (suc n) = refl
+  length_between (x ∷ l) (suc i) (suc k) le =
+      let same : suc k - suc i ≡ k - i = omega arith in
+      omega (arith, length_between l i k (omega arith), ap (λ n. length (joined (take n (drop i l)))) same, length-append x (joined (take i l)), length-append x (joined (take k l)))

@@ -37,20 +37,20 @@ module _ {A : Type 0} where
     pub at : place.at ≤ length (chunk_of chunks place)
 
   -- What is counted towards the next splits: the entries that a chunk has above its half, and all of the last chunk.
-  -- Each split takes 128 of it away. Where there is no chunk, the first one is to come.
+  -- Each split takes 32 of it away. Where there is no chunk, the first one is to come.
   abbrev pub debt : List (List A) → ℕ
-  debt [] = 128
+  debt [] = 32
   debt (chunk ∷ []) = length chunk
-  debt (chunk ∷ next ∷ chunks) = (length chunk - 128) + debt (next ∷ chunks)
+  debt (chunk ∷ next ∷ chunks) = (length chunk - 32) + debt (next ∷ chunks)
 
   -- how many entries the chunks have above their halves
   abbrev pub excess : List (List A) → ℕ
   excess [] = 0
-  excess (chunk ∷ chunks) = (length chunk - 128) + excess chunks
+  excess (chunk ∷ chunks) = (length chunk - 32) + excess chunks
 
 -- The spare chunks do for so many entries, wherever they come in.
 abbrev pub IsReserved : {K V : Type 0} → ChunkList K V → ℕ → Type 0
-IsReserved index more = (more ≤ index.spares) ⊎ (more + debt index.chunks ≤ 128 * index.spares)
+IsReserved index more = (more ≤ index.spares) ⊎ (more + debt index.chunks ≤ 32 * index.spares)
 
 -- the chunk has no entry above the key as its first
 abbrev pub is_begun : {K V : Type 0} → (K → K → Ordering) → List (Entry K V) → K → Bool

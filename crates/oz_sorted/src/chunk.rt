@@ -12,7 +12,7 @@ use std::alloc::Global;
 use std::marker::Model;
 
 /// How many entries a chunk can have.
-pub(crate) const FULL: usize = 256;
+pub(crate) const FULL: usize = 64;
 
 /// Some entries in order. The room for all that it can have is taken when it is made.
 #[derive(Debug, Drop)]
@@ -29,8 +29,8 @@ impl<K, V> Model for Chunk<K, V> {
     ghost view = { λ c. c.entries.items };
 
     ghost invariant = { λ c. record {
-      bounded : vec_len c.entries ≤ 256;
-      room : 256 ≤ vec_capacity c.entries;
+      bounded : vec_len c.entries ≤ 64;
+      room : 64 ≤ vec_capacity c.entries;
     } };
 }
 
@@ -51,7 +51,7 @@ impl<K, V> Chunk<K, V> {
 
     pub(crate) fn len(&self) -> usize
         ensures len { result ≡ length self.now }
-        ensures bounded { length self.now ≤ 256 }
+        ensures bounded { length self.now ≤ 64 }
     {
         self.entries.len()
     }
@@ -70,7 +70,7 @@ impl<K, V> Chunk<K, V> {
 
     pub(crate) fn put(&mut self, at: usize, entry: Entry<K, V>)
         requires place { at ≤ length self.old }
-        requires room { length self.old < 256 }
+        requires room { length self.old < 64 }
         ensures { self.new ≡ insert self.old at entry }
     {
         put_in(&mut self.entries, at, entry);

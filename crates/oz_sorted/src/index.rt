@@ -92,17 +92,17 @@ impl<K, V> Index<K, V> {
         }
     }
 
-    /// How many keys are below this one. It takes a step for each chunk before it.
-    pub(crate) fn below(&self, key: &K) -> usize
+    /// The place before the keys that are not below this one.
+    pub(crate) fn before(&self, key: &K) -> Place
     where
         K: Ord,
-        requires rise { KeysRise K.cmp (joined self.now.chunks) }
-        requires small { length (joined self.now.chunks) < 2 ^ 63 }
-        ensures { IsRank K.cmp (joined self.now.chunks) key.now result }
+        requires { KeysRise K.cmp (joined self.now.chunks) }
+        ensures fits { FitsIn self.now.chunks result }
+        ensures rank { IsRank K.cmp (joined self.now.chunks) key.now (rank_of self.now.chunks result) }
     {
         match self.find(key) {
-            Ok(place) => self.rank(place),
-            Err(place) => self.rank(place),
+            Ok(place) => place,
+            Err(place) => place,
         }
     }
 
@@ -140,17 +140,18 @@ impl<K, V> Index<K, V> {
         self.chunks.get(chunk)?.entries().first()
     }
 
-    /// How many entries stand before a place.
-    fn rank(&self, place: Place) -> usize
-        requires place { FitsIn self.now.chunks place }
+    /// How many entries stand from one place on and before another. It takes a step for each chunk between them.
+    pub(crate) fn between(&self, from: Place, to: Place) -> usize
+        requires from { FitsIn self.now.chunks from }
+        requires to { FitsIn self.now.chunks to }
         requires small { length (joined self.now.chunks) < 2 ^ 63 }
-        ensures { result ≡ rank_of self.now.chunks place }
+        ensures { result ≡ rank_of self.now.chunks to - rank_of self.now.chunks from }
     {
-        let mut before = place.at;
-        for chunk in &self.chunks[..place.chunk] {
-            before += chunk.len();
+        if to.chunk < from.chunk {
+            return 0;
         }
-        before
+        let whole = held(&self.chunks[from.chunk..to.chunk]);
+        (whole + to.at).saturating_sub(from.at)
     }
 
     /// Puts an entry in the place of another, and gives that one's value.
@@ -235,11 +236,14 @@ impl<K, V> Index<K, V> {
         self.spares.len()
     }
 
-    /// How many spare chunks do for so many entries.
+    /// How many spare chunks do for so many entries. Where they are more than a chunk can have, it takes a step a chunk.
     fn wanted(&self, more: usize) -> usize
         requires { more + length (joined self.now.chunks) < 2 ^ 63 }
         ensures { (spares : ℕ) → result ≤ spares → IsReserved (record self.now { spares = spares }) more }
     {
+        if more <= FULL {
+            return more;
+        }
         let mut above = more;
         for chunk in &self.chunks {
             above += chunk.len().saturating_sub(HALF);
@@ -274,7 +278,7 @@ impl<K, V> Index<K, V> {
     fn put_into(&mut self, place: Place, entry: Entry<K, V>)
         requires chunk { place.chunk < length self.old.chunks }
         requires at { place.at ≤ length (chunk_of self.old.chunks place) }
-        requires room { length (chunk_of self.old.chunks place) < 256 }
+        requires room { length (chunk_of self.old.chunks place) < 64 }
         ensures chunks { self.new.chunks ≡ slice_set self.old.chunks place.chunk
             (insert (chunk_of self.old.chunks place) place.at entry) }
         ensures spares { self.new.spares ≡ self.old.spares }
@@ -286,11 +290,11 @@ impl<K, V> Index<K, V> {
     fn put_split(&mut self, place: Place, entry: Entry<K, V>)
         requires chunk { place.chunk < length self.old.chunks }
         requires at { place.at ≤ length (chunk_of self.old.chunks place) }
-        requires full { length (chunk_of self.old.chunks place) ≡ 256 }
+        requires full { length (chunk_of self.old.chunks place) ≡ 64 }
         requires spare { 0 < self.old.spares }
         ensures entries { joined self.new.chunks
             ≡ insert (joined self.old.chunks) (rank_of self.old.chunks place) entry }
-        ensures debt { debt self.new.chunks + 127 ≤ debt self.old.chunks }
+        ensures debt { debt self.new.chunks + 31 ≤ debt self.old.chunks }
         ensures spares { self.new.spares + 1 ≡ self.old.spares }
     {
         let place = self.split_for(place);
@@ -301,14 +305,14 @@ impl<K, V> Index<K, V> {
     fn split_for(&mut self, place: Place) -> Place
         requires chunk { place.chunk < length self.old.chunks }
         requires at { place.at ≤ length (chunk_of self.old.chunks place) }
-        requires full { length (chunk_of self.old.chunks place) ≡ 256 }
+        requires full { length (chunk_of self.old.chunks place) ≡ 64 }
         requires spare { 0 < self.old.spares }
         ensures entries { joined self.new.chunks ≡ joined self.old.chunks }
         ensures rank { rank_of self.new.chunks result ≡ rank_of self.old.chunks place }
         ensures chunk { result.chunk < length self.new.chunks }
         ensures at { result.at ≤ length (chunk_of self.new.chunks result) }
-        ensures room { length (chunk_of self.new.chunks result) < 256 }
-        ensures debt { debt self.new.chunks + 128 ≤ debt self.old.chunks }
+        ensures room { length (chunk_of self.new.chunks result) < 64 }
+        ensures debt { debt self.new.chunks + 32 ≤ debt self.old.chunks }
         ensures spares { self.new.spares + 1 ≡ self.old.spares }
     {
         let cut = self.cut_for(place);
@@ -328,9 +332,9 @@ impl<K, V> Index<K, V> {
     fn cut_for(&self, place: Place) -> usize
         requires { place.chunk < length self.now.chunks }
         ensures fits { place.chunk + 1 < 2 ^ 64 }
-        ensures low { 128 ≤ result }
-        ensures high { result < 256 }
-        ensures middle { (result ≡ 128) ⊎ (suc place.chunk ≡ length self.now.chunks) }
+        ensures low { 32 ≤ result }
+        ensures high { result < 64 }
+        ensures middle { (result ≡ 32) ⊎ (suc place.chunk ≡ length self.now.chunks) }
     {
         if place.at == FULL && place.chunk + 1 == self.chunks.len() {
             FULL - 1
@@ -382,4 +386,16 @@ impl<K, V> Index<K, V> {
         self.spares.push(chunk).unwrap();
         entry
     }
+}
+
+/// How many entries the chunks have.
+fn held<K, V>(chunks: &[Chunk<K, V>]) -> usize
+    requires { length (joined chunks.now) < 2 ^ 63 }
+    ensures { result ≡ length (joined chunks.now) }
+{
+    let mut held = 0;
+    for chunk in chunks {
+        held += chunk.len();
+    }
+    held
 }

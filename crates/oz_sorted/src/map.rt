@@ -106,7 +106,8 @@ impl<K: Ord, V> SortedMap<K, V> {
         ensures small { result < 2 ^ 63 }
         ensures in_order { KeysRise K.cmp self.now.entries }
     {
-        self.index.below(to).saturating_sub(self.index.below(from))
+        self.index
+            .between(self.index.before(from), self.index.before(to))
     }
 
     /// Makes room for so many entries more, where there is less.

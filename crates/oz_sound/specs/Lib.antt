@@ -1,3 +1,4 @@
 pub mod StandsFor
 pub mod Sound
+pub mod Kept
 pub mod laws

@@ -129,6 +129,9 @@ pub record NamesAreSound (all : Rows) : Type 0 where
   pub open_name : (volume bucket key name : List ℕ) (session number : ℕ) (block : Block)
       → StandsIn all block (keys.Open volume bucket key session) → SnapshotHas all volume bucket number block name
       → name ≡ key
+
+-- What renamed rows say of the names that blocks have in live snapshots.
+pub record RenamesAreSound (all : Rows) : Type 0 where
   -- The first rename of a block behind a live snapshot gives the name that it has there.
   pub renamed : (volume bucket name another : List ℕ) (number owner : ℕ) (block : Block)
       → SnapshotHas all volume bucket number block name
@@ -173,6 +176,14 @@ pub record CountsAreSound (all : Rows) : Type 0 where
 
 -- all of these
 pub record IsSound (all : Rows) : Type 0 where
+  pub blocks : BlocksAreSound all
+  pub names : NamesAreSound all
+  pub renames : RenamesAreSound all
+  pub numbers : NumbersAreSound all
+  pub counts : CountsAreSound all
+
+-- All of these but what renamed rows say, which no request writes yet.
+pub record IsSoundButRenames (all : Rows) : Type 0 where
   pub blocks : BlocksAreSound all
   pub names : NamesAreSound all
   pub numbers : NumbersAreSound all

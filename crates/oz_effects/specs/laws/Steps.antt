@@ -1,19 +1,20 @@
 -- What one operation leads to, and what a body adds to those before it.
-use Rattle.std.proofs.Common.{◌≡◌, ◌<◌, ℕ, Bool, true, false, List, [], ◌∷◌, ◌++◌, Option, None, Some, IsSome, is_some}
-use Rattle.std.proofs.Common.{cond, refl, sym, ◌∙◌, ap, subst, append-nil}
+use Rattle.std.proofs.Common.{◌≡◌, ◌<◌, ◌≤◌, ℕ, Bool, true, false, List, [], ◌∷◌, ◌++◌, Option, None, Some, IsSome, is_some}
+use Rattle.std.proofs.Common.{cond, refl, sym, ◌∙◌, ap, subst, append-nil, arith}
 use mathlib.Core.Bool.{false≢true}
 use Rattle.oz_rows.specs.declared.key.RowKey.{RowKey}
 use Rattle.oz_rows.specs.declared.row.Row.{Row}
 use Rattle.oz_rows.specs.declared.operation.Change.{Change}
 use Rattle.oz_rows.specs.declared.operation.Operation.{Operation}
 use Rattle.oz_rows.specs.declared.operation.Operation.TheVariants.{Put, Remove}
+use Rattle.oz_rows.specs.declared.operation.Head.{Head}
 use Rattle.oz_rows.specs.declared.operation.Operations.{Operations}
 use Rattle.oz_rows.specs.Rows.{RowFits, KeyFits, row_bytes, key_bytes}
-use Rattle.oz_rows.specs.Operations.{IsIndex, head_bytes}
+use Rattle.oz_rows.specs.Operations.{IsIndex, head_bytes, head_in, new_head}
 use Rattle.oz_rows.specs.declared.entry.RowEntry.{RowEntry}
 use Rattle.oz_rows.specs.RowMaps.{Rows, row_of, is_same, KeysRise, put, gone, AreRows, after_changes}
 use Rattle.oz_effects.specs.Effects.{Leads}
-use Rattle.oz_effects.specs.Build.{base_of, AllAreBased, Builds, BuildsFrom, IsNextBody}
+use Rattle.oz_effects.specs.Build.{base_of, AllAreBased, Builds, BuildsFrom, IsNextBody, Rises, no_head}
 use Rattle.oz_effects.specs.Batches.{IsBatchOf}
 use Rattle.oz_rows.specs.laws.Same.{same_is_one}
 use Rattle.oz_rows.specs.laws.Changes.{become}
@@ -99,43 +100,53 @@ pub nothing_is_batch : (rows : Rows) → IsBatchOf rows [] []
 unfolding Leads
 nothing_is_batch rows = record { items = []; fit = tt; bytes_are = refl; comes = λ all are based. record { after = all; leads = refl; based = based; rows_are = λ q. refl } }
 
-pub one_more : (before : List RowEntry) (last : ℕ) (bodies : List (List ℕ)) (all : List RowEntry) (index : ℕ) → BuildsFrom before last bodies all index → (bytes : List ℕ) (body : Operations) (after : List RowEntry) → IsNextBody index all bytes body after → BuildsFrom before last (bodies ++ bytes ∷ []) after body.index
+pub one_more : (before : List RowEntry) (last : Head) (bodies : List (List ℕ)) (all : List RowEntry) (head : Head) → BuildsFrom before last bodies all head → (bytes : List ℕ) (body : Operations) (after : List RowEntry) → IsNextBody head all bytes body after → BuildsFrom before last (bodies ++ bytes ∷ []) after (head_in body)
 unfolding BuildsFrom
-one_more before last [] all index builds bytes body after next =
-    (body, after, subst (λ l. IsNextBody l before bytes body after) builds.1 (subst (λ rows. IsNextBody index rows bytes body after) builds.0 next), (refl, refl))
-one_more before last (first ∷ bodies) all index builds bytes body after next =
-    (builds.0, builds.1, builds.2, one_more builds.1 builds.0.index bodies all index builds.3 bytes body after next)
+one_more before last [] all head builds bytes body after next =
+    (body, after, subst (λ l. IsNextBody l before bytes body after) builds.1 (subst (λ rows. IsNextBody head rows bytes body after) builds.0 next), (refl, refl))
+one_more before last (first ∷ bodies) all head builds bytes body after next =
+    (builds.0, builds.1, builds.2, one_more builds.1 (head_in builds.0) bodies all head builds.3 bytes body after next)
 
 -- what holds of the rows of bodies
-based_from : (before : List RowEntry) (last : ℕ) (bodies : List (List ℕ)) (all : List RowEntry) (index : ℕ) → BuildsFrom before last bodies all index → AllAreBased before → AllAreBased all
+based_from : (before : List RowEntry) (last : Head) (bodies : List (List ℕ)) (all : List RowEntry) (head : Head) → BuildsFrom before last bodies all head → AllAreBased before → AllAreBased all
 unfolding BuildsFrom
-based_from before last [] all index builds based = subst AllAreBased (sym builds.0) based
-based_from before last (first ∷ bodies) all index builds based = based_from builds.1 builds.0.index bodies all index builds.3 builds.2.based
+based_from before last [] all head builds based = subst AllAreBased (sym builds.0) based
+based_from before last (first ∷ bodies) all head builds based = based_from builds.1 (head_in builds.0) bodies all head builds.3 builds.2.based
 
 pub bodies_based : (bodies : List (List ℕ)) (all : List RowEntry) (last : ℕ) → Builds bodies all last → AllAreBased all
-bodies_based bodies all last builds = based_from [] 0 bodies all last builds (λ key base orphan. some_apart (sym orphan.stands))
+bodies_based bodies all last builds = based_from [] no_head bodies all builds.0 builds.1 (λ key base orphan. some_apart (sym orphan.stands))
 
 pub leads_rise : (before : List RowEntry) (items : List Operation) (after : List RowEntry) → Leads before items after → KeysRise before → KeysRise after
 unfolding Leads
 leads_rise before [] after leads rise = subst KeysRise (sym leads) rise
 leads_rise before (item ∷ items) after leads rise = leads_rise leads.0 items after leads.3 leads.2.in_order
 
-rise_from : (before : List RowEntry) (last : ℕ) (bodies : List (List ℕ)) (all : List RowEntry) (index : ℕ) → BuildsFrom before last bodies all index → KeysRise before → KeysRise all
+rise_from : (before : List RowEntry) (last : Head) (bodies : List (List ℕ)) (all : List RowEntry) (head : Head) → BuildsFrom before last bodies all head → KeysRise before → KeysRise all
 unfolding BuildsFrom
-rise_from before last [] all index builds rise = subst KeysRise (sym builds.0) rise
-rise_from before last (first ∷ bodies) all index builds rise = rise_from builds.1 builds.0.index bodies all index builds.3 (leads_rise before builds.0.items builds.1 builds.2.leads rise)
+rise_from before last [] all head builds rise = subst KeysRise (sym builds.0) rise
+rise_from before last (first ∷ bodies) all head builds rise = rise_from builds.1 (head_in builds.0) bodies all head builds.3 (leads_rise before builds.0.items builds.1 builds.2.leads rise)
 
-pub body_follows : (bodies : List (List ℕ)) (all : List RowEntry) (last index : ℕ) (batch : List ℕ) (changes : List Change) → Builds bodies all last → IsIndex index → last < index → IsBatchOf (row_of all) batch changes → (after : List RowEntry) × Builds (bodies ++ (head_bytes index ++ batch) ∷ []) after index × AreRows after (after_changes changes (row_of all))
+-- there is one layout so far
+layout_from : (before : List RowEntry) (last : Head) (bodies : List (List ℕ)) (all : List RowEntry) (head : Head) → BuildsFrom before last bodies all head → last.layout ≡ 1 → head.layout ≡ 1
+unfolding BuildsFrom
+layout_from before last [] all head builds e = ap (λ (h : Head). h.layout) builds.1 ∙ e
+layout_from before last (first ∷ bodies) all head builds e = layout_from builds.1 (head_in builds.0) bodies all head builds.3 builds.2.body_is.0.0
+
+pub body_follows : (bodies : List (List ℕ)) (all : List RowEntry) (last index : ℕ) (batch : List ℕ) (changes : List Change) → Builds bodies all last → IsIndex index → last < index → IsBatchOf (row_of all) batch changes → (after : List RowEntry) × Builds (bodies ++ (head_bytes (new_head index) ++ batch) ∷ []) after index × AreRows after (after_changes changes (row_of all))
 body_follows bodies all last index batch changes builds fits rises is =
-    let rise = rise_from [] 0 bodies all last builds tt in
+    let rise = rise_from [] no_head bodies all builds.0 builds.1 tt in
     let comes = is.comes all (record { in_order = rise; rows_are = λ q. refl }) (bodies_based bodies all last builds) in
     let body : Operations = record { layout = 1; index = index; items = is.items } in (
       comes.after,
-      one_more [] 0 bodies all last builds (head_bytes index ++ batch) body comes.after (record {
-        body_is = (refl, fits, is.fit, ap (λ l. head_bytes index ++ l) is.bytes_are);
-        rises = rises;
-        leads = comes.leads;
-        based = comes.based;
-      }),
+      (
+        head_in body,
+        one_more [] no_head bodies all builds.0 builds.1 (head_bytes (new_head index) ++ batch) body comes.after (record {
+          body_is = ((refl, fits), is.fit, ap (λ l. head_bytes (new_head index) ++ l) is.bytes_are);
+          rises = record { layout = omega (arith, layout_from [] no_head bodies all builds.0 builds.1 refl); index = omega (arith, rises, builds.2) };
+          leads = comes.leads;
+          based = comes.based;
+        }),
+        refl,
+      ),
       record { in_order = leads_rise all is.items comes.after comes.leads rise; rows_are = comes.rows_are },
     )

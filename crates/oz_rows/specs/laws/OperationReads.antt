@@ -14,7 +14,7 @@ use Rattle.oz_rows.specs.declared.operation.Operation.TheVariants.{DropOpen}
 use Rattle.oz_rows.specs.declared.key.RowKey.{RowKey}
 use Rattle.oz_rows.specs.declared.row.Row.{Row}
 use Rattle.oz_rows.specs.Rows.{KeyFits, RowFits, key_bytes, row_bytes}
-use Rattle.oz_rows.specs.Operations.{OperationFits, operation_bytes, IsIndex, head_bytes}
+use Rattle.oz_rows.specs.Operations.{OperationFits, operation_bytes, IsIndex, IsHead, head_bytes}
 use Rattle.oz_rows.specs.Reading.{field, put_at, remove_at, copy_keys_at, move_deleted_at, drop_keys_at, drop_open_at}
 use Rattle.oz_rows.specs.Reading.{operation_of_tag_at, operation_at, index_at, head_at}
 use Rattle.oz_rows.specs.laws.Grammar.{IsRead, Finds, Backs, fits_as, field_reads, finds_done, finds_then, finds_last}
@@ -113,8 +113,8 @@ layout_reads = fits_as (λ n. (n < 2 ^ 8) × (eqb n 1 ≡ true)) (λ n. n ≡ 1)
     (λ n is. (omega arith, eq-eqb n 1 is))
     (field_reads (λ n. n < 2 ^ 8) u8_bytes u8_at (λ n. eqb n 1) u8_field)
 
-pub head_reads : IsRead IsIndex head_bytes head_at
+pub head_reads : IsRead IsHead head_bytes head_at
 unfolding head_at
 head_reads = is_read
-    (finds_then layout_reads (λ layout is. finds_last index_reads (λ index fits. (fits, ap (λ (n : ℕ). u8_bytes n ++ u64_bytes index) is))))
-    (λ index fits. backs_then _ 1 layout_reads refl (backs_last index index_reads fits))
+    (finds_then layout_reads (λ layout is. finds_then index_reads (λ index fits. finds_done (is, fits) refl)))
+    (λ head fits. backs_as (simp append-nil) (backs_then _ head.layout layout_reads fits.0 (backs_then _ head.index index_reads fits.1 backs_done)))

@@ -2,9 +2,9 @@
 use Rattle.std.proofs.Common.{◌≡◌, ◌⊎◌, ℕ, zero, suc, ◌<◌, List, Option, Some, None, Result, Ok, Err, refl, sym, ap, subst, ◌∙◌, arith, inl, inr}
 use Rattle.std.proofs.lemmas.Option.{same_Some}
 use Rattle.oz_circles.specs.Circles.{IsFirstBack}
-use Rattle.oz_lines.specs.declared.fault.Cause.{Cause}
-use Rattle.oz_lines.specs.declared.fault.ScriptFault.{ScriptFault}
-use Rattle.oz_lines.specs.declared.fault.ScriptFault.TheVariants.{At}
+use Rattle.oz_draft.specs.declared.fault.Cause.{Cause}
+use Rattle.oz_draft.specs.declared.fault.ScriptFault.{ScriptFault}
+use Rattle.oz_draft.specs.declared.fault.ScriptFault.TheVariants.{At}
 use Rattle.oz_lines.specs.declared.script.PlacedScript.{PlacedScript}
 use Rattle.oz_lines.specs.declared.script.Script.{Script}
 use Rattle.oz_lines.specs.Placed.{read_of}

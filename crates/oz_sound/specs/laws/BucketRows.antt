@@ -21,7 +21,8 @@ use Rattle.oz_rows.specs.declared.row.Row.{Row}
 use Rattle.oz_rows.specs.Rows.{kind_of}
 use Rattle.oz_rows.specs.RowMaps.{Rows, is_block}
 use Rattle.oz_sound.specs.Sound.{blocks_of, StandsIn, SnapshotHas, AreTogether, IsRename, IsNamedAnew, IsUsing, AtMost}
-use Rattle.oz_sound.specs.Sound.{BlocksAreSound, NamesAreSound, NumbersAreSound, CountsAreSound, IsSound}
+use Rattle.oz_sound.specs.Sound.{BlocksAreSound, NamesAreSound, RenamesAreSound, NumbersAreSound, CountsAreSound}
+use Rattle.oz_sound.specs.Sound.{IsSoundButRenames, IsSound}
 use Rattle.oz_sound.specs.StandsFor.{StandsFor, SnapshotsStand, AreSnapshots, IsSnapshot, IsLive, pieces_in, drawn_in}
 
 -- the pieces, the session and the snapshots that a bucket has, None and nothing where there is no bucket
@@ -159,6 +160,10 @@ module _ (all now : Rows) (agree : (key : RowKey) → 2 < kind_of key → now ke
       one_snapshot = λ v b name n p m q here there. sound.one_snapshot v b name n p m q (sym (agree (keys.Snapshot v b n) (omega arith)) ∙ here) (sym (agree (keys.Snapshot v b m) (omega arith)) ∙ there);
       one_name = λ v b name another n block here there. sound.one_name v b name another n block (has_before v b n block name here) (has_before v b n block another there);
       open_name = λ v b key name session n block here there. sound.open_name v b key name session n block (block_before block _ here) (has_before v b n block name there);
+    }
+
+    pub renames_again : RenamesAreSound all → RenamesAreSound now
+    renames_again sound = record {
       renamed = λ v b name another n owner block has is. sound.renamed v b name another n owner block (has_before v b n block name has) (rename_before v b n block.local owner another is);
       noted = λ v b name n block has anew.
           let found = sound.noted v b name n block (has_before v b n block name has) (named_before v b n block name anew) in
@@ -196,10 +201,19 @@ module _ (all now : Rows) (agree : (key : RowKey) → 2 < kind_of key → now ke
       snapshot_keys = λ v b n live. at_most _ _ MOST_KEYS (λ key some. some_before (keys.SnapshotKey v b n key) (omega arith) some) (sound.snapshot_keys v b n (live_before v b n live));
     }
 
+    pub but_renames_again : ((v : List ℕ) → AtMost MOST_BUCKETS (λ b. IsSome (now (keys.Bucket v b)))) → IsSoundButRenames all → IsSoundButRenames now
+    but_renames_again buckets sound = record {
+      blocks = blocks_again sound.blocks;
+      names = names_again sound.names;
+      numbers = numbers_again sound.numbers;
+      counts = counts_again buckets sound.counts;
+    }
+
     pub sound_again : ((v : List ℕ) → AtMost MOST_BUCKETS (λ b. IsSome (now (keys.Bucket v b)))) → IsSound all → IsSound now
     sound_again buckets sound = record {
       blocks = blocks_again sound.blocks;
       names = names_again sound.names;
+      renames = renames_again sound.renames;
       numbers = numbers_again sound.numbers;
       counts = counts_again buckets sound.counts;
     }

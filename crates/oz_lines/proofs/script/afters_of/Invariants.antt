@@ -1,5 +1,5 @@
 use Rattle.std.proofs.Common.{◌≡◌, ◌++◌, drop, Ok}
-use Rattle.oz_lines.specs.Drafts.{◌>>=◌}
+use Rattle.oz_draft.specs.Drafts.{◌>>=◌}
 use Rattle.oz_lines.specs.Placed.{afters_of}
 use Rattle.oz_lines.proofs.script.afters_of.Given as goal
 

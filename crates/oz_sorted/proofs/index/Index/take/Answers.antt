@@ -36,4 +36,4 @@ returns-else-len-gt1-clause-entries g c =
 pub returns-else-len-gt1-clause-reserved : goal.returns-else-len-gt1-clause-reserved
 returns-else-len-gt1-clause-reserved g c = λ more.
     let l = c.args.self.now.chunks in
-    reserved_freed c.args.self.now c.take_last.new.self more c.take_last.ensures.spares (subst (λ h. debt h ≤ debt l + 128) (sym c.take_last.ensures.chunks) (debt_removed l c.args.place.chunk))
+    reserved_freed c.args.self.now c.take_last.new.self more c.take_last.ensures.spares (subst (λ h. debt h ≤ debt l + 32) (sym c.take_last.ensures.chunks) (debt_removed l c.args.place.chunk))

@@ -1,0 +1,5 @@
+pub mod Meets
+pub mod Drafts
+pub mod Replies
+pub mod Walking
+pub mod laws

@@ -1,0 +1,14 @@
+//! What every decision on a request owes, over rows.
+#![tactic(auto)]
+
+mod counted_rows;
+mod decision;
+mod draft;
+mod lookups;
+mod walking;
+
+pub use counted_rows::CountedRows;
+pub use decision::{Decision, LONGEST_BATCH};
+pub use draft::Draft;
+pub use lookups::{bucket_count, bucket_names, key_count, session_count, snapshot_count};
+pub use walking::keys_between;

@@ -1,0 +1,4 @@
+mod Counting
+mod DraftSteps
+mod Opened
+mod Places

@@ -1,0 +1,5 @@
+pub mod Causes
+pub mod Drafts
+pub mod Said
+pub mod Tracked
+pub mod laws

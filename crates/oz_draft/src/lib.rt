@@ -1,0 +1,14 @@
+//! The lines of a script as they are written: who says what, and which line is the first at fault.
+#![tactic(auto)]
+
+mod drafting;
+mod fault;
+mod labels;
+mod said;
+
+pub use drafting::{
+    Draft, Drafting, Entry, MOST_BYTES, MOST_CLIENTS, MOST_LINES, client_place, draft_of,
+};
+pub use fault::{Cause, ScriptFault};
+pub use labels::OpenedLabel;
+pub use said::{GREATEST_AFTER, Said, said_of};

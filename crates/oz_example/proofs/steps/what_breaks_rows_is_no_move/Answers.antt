@@ -1,0 +1,11 @@
+use Rattle.oz_example.proofs.Breaking.{lost, twice, number}
+use Rattle.oz_example.proofs.steps.what_breaks_rows_is_no_move.Goals as goal
+
+pub returns-clause-lost : goal.returns-clause-lost
+returns-clause-lost c = lost
+
+pub returns-clause-twice : goal.returns-clause-twice
+returns-clause-twice c = twice
+
+pub returns-clause-number : goal.returns-clause-number
+returns-clause-number c = number

@@ -1,0 +1,44 @@
+//! That the example's rows stay sound as blocks move among them.
+
+ghost use Rattle.std.specs.Prelude.{None, Some, Option as Perhaps};
+ghost use Rattle.std.specs.FinMap.{from_entries};
+ghost use Rattle.oz_example.specs.Example.{rows, namespace, home, photos, buckets_of_home};
+ghost use Rattle.oz_example.specs.Steps.{committing, deleting, granting, photos_without_cat, new_block};
+ghost use Rattle.oz_example.specs.Steps.{forgetting, standing_twice, undrawn};
+ghost use Rattle.oz_fields.specs.declared.block.Block.{Block as AnyBlock};
+ghost use Rattle.oz_frames.specs.Buckets.{with_bucket};
+ghost use Rattle.oz_frames.specs.Moves.{BlocksMove};
+ghost use Rattle.oz_rows.specs.RowMaps.{row_of, after_changes};
+ghost use Rattle.oz_sound.specs.Kept.{KeepsBlocks};
+ghost use Rattle.oz_sound.specs.Sound.{IsSoundButRenames, RenamesAreSound};
+ghost use Rattle.oz_sound.specs.StandsFor.{StandsFor};
+
+/// A session becomes a key.
+pub fn a_session_commits()
+    ensures sound { IsSoundButRenames (after_changes committing (row_of rows)) }
+    ensures renames { RenamesAreSound (after_changes committing (row_of rows)) }
+    ensures kept { KeepsBlocks (row_of rows) (after_changes committing (row_of rows)) None (λ block. ⊥) }
+{}
+
+/// A key becomes a deleted row, and the rows stand for the namespace without it.
+pub fn a_key_goes()
+    ensures sound { IsSoundButRenames (after_changes deleting (row_of rows)) }
+    ensures renames { RenamesAreSound (after_changes deleting (row_of rows)) }
+    ensures kept { KeepsBlocks (row_of rows) (after_changes deleting (row_of rows)) None (λ block. ⊥) }
+    ensures stands { StandsFor (after_changes deleting (row_of rows))
+        (with_bucket namespace home (from_entries buckets_of_home) photos photos_without_cat namespace.stripes) }
+{}
+
+/// A session gets a block.
+pub fn a_session_gets_a_block()
+    ensures sound { IsSoundButRenames (after_changes granting (row_of rows)) }
+    ensures kept { KeepsBlocks (row_of rows) (after_changes granting (row_of rows)) (Some new_block) (λ block. ⊥) }
+{}
+
+/// Three batches that no request makes, and that no law of moved blocks takes: a block is lost, it stands in two rows,
+/// a number wasn't drawn.
+pub fn what_breaks_rows_is_no_move()
+    ensures lost { (granted : Perhaps AnyBlock) → BlocksMove (row_of rows) (after_changes forgetting (row_of rows)) granted → ⊥ }
+    ensures twice { (granted : Perhaps AnyBlock) → BlocksMove (row_of rows) (after_changes standing_twice (row_of rows)) granted → ⊥ }
+    ensures number { (granted : Perhaps AnyBlock) → BlocksMove (row_of rows) (after_changes undrawn (row_of rows)) granted → ⊥ }
+{}

@@ -1,0 +1,20 @@
+//! What a body of the storage container manager's journal says.
+
+/// Block ids that are granted at once: `count` of them from `first` on, in one container.
+#[derive(Clone, Copy, Debug, PartialEq, Eq)]
+pub struct Grant {
+    pub container: u64,
+    /// The pipeline whose datanodes have the container's replicas.
+    pub pipeline: u8,
+    pub first: u64,
+    pub count: u32,
+}
+
+/// One body of the journal.
+#[derive(Clone, Copy, Debug, PartialEq, Eq)]
+pub enum Entry {
+    /// How many datanodes there are.
+    Nodes { count: u8 },
+    /// Block ids were granted to a stripe. The first grant in a container makes it.
+    Granted { stripe: u8, grant: Grant },
+}

@@ -1,0 +1,3 @@
+pub mod Purges
+pub mod Held
+pub mod laws

@@ -1,0 +1,138 @@
+-- What a stop would leave of the namespace is what a front of the story made.
+use Rattle.std.proofs.Common.{◌≡◌, ◌≢◌, ⊎_elim, ◌⊎◌, ℕ, zero, suc, ◌+◌, ◌<◌, ◌≤◌, Bool, true, false, List, [], ◌∷◌, ◌++◌, length, take, Option, None, Some, cond, inl, inr, refl, sym, ◌∙◌, ap, subst, append-nil, arith}
+use Rattle.std.proofs.lemmas.Bool.{cases_lt, lt-leb, le-leb}
+use Rattle.std.proofs.lemmas.List.Sums.{fold_push}
+use Rattle.std.specs.Prelude.{nat_le}
+use Rattle.std.specs.List.{filter_map, cons_option}
+use Rattle.oz_fields.specs.declared.block.Block.{Block}
+use Rattle.oz_namespace.specs.declared.namespace.Namespace.{Namespace}
+use Rattle.oz_requests.specs.declared.request.AskId.{AskId}
+use Rattle.oz_requests.specs.declared.reply.Reply.{Reply}
+use Rattle.oz_requests.specs.declared.request.Family.{Family}
+use Rattle.oz_requests.specs.declared.request.Family.TheVariants.{Buckets, Keys, Allocation, Snapshots, Service}
+use Rattle.oz_requests.specs.Families.{family_of}
+use Rattle.oz_model.specs.Answers.{after}
+use Rattle.oz_core.specs.declared.event.Event.{Event}
+use Rattle.oz_core.specs.declared.event.EventKind.{EventKind}
+use Rattle.oz_core.specs.declared.event.EventKind.TheVariants.{Decide}
+use Rattle.oz_core.specs.declared.opening.Opening.{Opening}
+use Rattle.oz_core.specs.Asks.{pending}
+use Rattle.oz_core.specs.Law.{IsLegalFrom, IsEnabled, KindIsEnabled, DecideIsEnabled}
+use Rattle.oz_core.specs.Manager.{last_index, decided_index, namespace_step, namespace_after, namespace_from, namespace_of, kept_block, granted_block, granted_by}
+use Rattle.oz_core.specs.Stories.{all_told, newer}
+use Rattle.oz_kept.specs.laws.Places.{moved_over, legal_first, legal_rest, namespace_next}
+
+pub last_next : (opening : Opening) (before : List Event) (event : Event) → last_index opening (before ++ event ∷ []) ≡ newer (decided_index event.kind) (last_index opening before)
+last_next opening before event = fold_push (λ told (event : Event). newer (decided_index event.kind) told) opening.last_index before event
+
+is_service : (family : Family) → (family ≡ Service) ⊎ (family ≢ Service)
+is_service Buckets = inr (λ e. absurd cc)
+is_service Keys = inr (λ e. absurd cc)
+is_service Allocation = inr (λ e. absurd cc)
+is_service Snapshots = inr (λ e. absurd cc)
+is_service Service = inl refl
+
+-- an index never falls
+pub index_rises : (opening : Opening) (before : List Event) (seat : ℕ) (id : AskId) (index : ℕ) (reply : Reply) (batch : List ℕ)
+    → DecideIsEnabled opening before seat id index reply batch → last_index opening before ≤ index
+index_rises opening before seat id index reply batch enabled = ⊎_elim (λ below. absurd (none below)) (λ le. le) (cases_lt index (last_index opening before))
+  where
+    changed : index < last_index opening before → after (namespace_of opening before) enabled.request reply ≢ namespace_of opening before
+    changed below same = ⊎_elim
+        (λ service. ⊎_elim (λ stays. absurd (omega (arith, below, stays))) (λ rises. absurd (omega (arith, below, rises))) (enabled.index_goes_on.service service))
+        (λ other. absurd (omega (arith, below, enabled.index_goes_on.stays same other)))
+        (is_service (family_of enabled.request))
+
+    none : index < last_index opening before → ⊥
+    none below = absurd (omega (arith, below, enabled.index_goes_on.changes (changed below)))
+
+module _ (opening : Opening) (most : ℕ) where
+  abbrev Counts : ℕ → Bool
+  Counts index = nat_le index most
+
+  -- behind an index that is above it nothing counts
+  record Past (before : List Event) (kind : EventKind) : Type 0 where
+    step : (namespace : Namespace) → namespace_step (λ index. nat_le index most) before namespace kind ≡ namespace
+    block : kept_block most kind ≡ None
+    above : most < newer (decided_index kind) (last_index opening before)
+
+  decide_past : (before : List Event) (id : AskId) (index : ℕ) (reply : Reply) (batch : List ℕ) → most < index → Past before (Decide id index reply batch)
+  decide_past before id index reply batch above =
+      let out : nat_le index most ≡ false = lt-leb index most above in
+      record {
+        step = λ namespace. ap (λ (t : Bool). cond t (namespace_after (pending id before) namespace reply) namespace) out;
+        block = ap (λ (t : Bool). cond t (granted_by reply) None) out;
+        above = above;
+      }
+
+  kind_past : (before : List Event) (seat : ℕ) (kind : EventKind) → KindIsEnabled opening before seat kind → most < last_index opening before → Past before kind
+  kind_past before seat (Decide id index reply batch) enabled above =
+      let rises = index_rises opening before seat id index reply batch enabled in
+      decide_past before id index reply batch (omega (arith, above, rises))
+  kind_past before seat kind enabled above = record { step = λ namespace. refl; block = refl; above = above }
+
+  record NoMore (before rest : List Event) : Type 0 where
+    namespace : (namespace : Namespace) → namespace_from (λ index. nat_le index most) before namespace rest ≡ namespace
+    blocks : all_told (kept_block most) rest ≡ []
+
+  no_more : (rest before : List Event) → IsLegalFrom opening before rest → most < last_index opening before → NoMore before rest
+  unfolding namespace_from
+  no_more [] before legal above = record { namespace = λ namespace. refl; blocks = refl }
+  no_more (event ∷ rest) before legal above =
+      let past = kind_past before event.seat event.kind (legal_first opening before event rest legal) above in
+      let later = no_more rest (before ++ event ∷ []) (legal_rest opening before event rest legal) (subst (λ n. most < n) (sym (last_next opening before event)) past.above) in
+      record {
+        namespace = λ namespace. later.namespace (namespace_step (λ index. nat_le index most) before namespace event.kind) ∙ past.step namespace;
+        blocks = ap (λ (o : Option Block). cons_option o (all_told (kept_block most) rest)) past.block ∙ later.blocks;
+      }
+
+  -- before it all does
+  record Alike (before : List Event) (kind : EventKind) : Type 0 where
+    step : (namespace : Namespace) → namespace_step (λ index. nat_le index most) before namespace kind ≡ namespace_step (λ index. true) before namespace kind
+    block : kept_block most kind ≡ granted_block kind
+
+  alike_or_past : (before : List Event) (kind : EventKind) → Alike before kind ⊎ Past before kind
+  alike_or_past before (Decide id index reply batch) = ⊎_elim
+      (λ above. inr (decide_past before id index reply batch above))
+      (λ le.
+      let counts : nat_le index most ≡ true = le-leb index most le in
+      inl (record {
+        step = λ namespace. ap (λ (t : Bool). cond t (namespace_after (pending id before) namespace reply) namespace) counts;
+        block = ap (λ (t : Bool). cond t (granted_by reply) None) counts;
+      }))
+      (cases_lt most index)
+  alike_or_past before kind = inl (record { step = λ namespace. refl; block = refl })
+
+  -- the front of a story that is kept
+  pub record Front (before rest : List Event) : Type 0 where
+    pub size : ℕ
+    pub within : size ≤ length rest
+    pub namespace : namespace_from (λ index. nat_le index most) before (namespace_of opening before) rest ≡ namespace_of opening (before ++ take size rest)
+    pub blocks : all_told (kept_block most) rest ≡ all_told granted_block (take size rest)
+
+  pub front : (rest before : List Event) → IsLegalFrom opening before rest → Front before rest
+  unfolding namespace_from
+  front [] before legal = record { size = 0; within = omega arith; namespace = ap (namespace_of opening) (sym (append-nil before)); blocks = refl }
+  front (event ∷ rest) before legal = ⊎_elim
+      (λ alike.
+      let later = front rest (before ++ event ∷ []) (legal_rest opening before event rest legal) in
+      record {
+        size = suc later.size;
+        within = omega (arith, later.within);
+        namespace =
+            ap (λ (n : Namespace). namespace_from (λ index. nat_le index most) (before ++ event ∷ []) n rest) (alike.step (namespace_of opening before) ∙ sym (namespace_next opening before event))
+            ∙ later.namespace ∙ ap (namespace_of opening) (moved_over before (take later.size rest) event);
+        blocks =
+            ap (λ (o : Option Block). cons_option o (all_told (kept_block most) rest)) alike.block
+            ∙ ap (λ (l : List Block). cons_option (granted_block event.kind) l) later.blocks;
+      })
+      (λ past.
+      let none = no_more rest (before ++ event ∷ []) (legal_rest opening before event rest legal) (subst (λ n. most < n) (sym (last_next opening before event)) past.above) in
+      record {
+        size = 0;
+        within = omega arith;
+        namespace = none.namespace (namespace_step (λ index. nat_le index most) before (namespace_of opening before) event.kind) ∙ past.step (namespace_of opening before)
+            ∙ ap (namespace_of opening) (sym (append-nil before));
+        blocks = ap (λ (o : Option Block). cons_option o (all_told (kept_block most) rest)) past.block ∙ none.blocks;
+      })
+      (alike_or_past before event.kind)

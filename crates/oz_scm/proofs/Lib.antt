@@ -1,0 +1,5 @@
+pub mod Firsts
+pub mod Granting
+pub mod Handing
+pub mod Places
+pub mod Sizes

@@ -1,0 +1,3 @@
+pub mod Frames
+pub mod Grants
+pub mod Scm

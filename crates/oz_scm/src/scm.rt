@@ -1,0 +1,235 @@
+//! The storage container manager.
+
+ghost use Rattle.std.specs.Prelude.{◌≡◌, ◌≢◌, ◌≤◌, ◌<◌, ◌+◌, ℕ, [], List, length, false, true, replicate, slice_set, map, Some};
+ghost use Rattle.std.specs.Prelude.{IfOk, IfErr, IfSome, OnErr, OnOk, IsSomeAnd, Err};
+ghost use Rattle.std.specs.List.{range_with_len};
+ghost use Rattle.std.specs.Option.{option_map};
+ghost use Rattle.oz_grants.specs.declared.container.Container.{Container as AnyContainer};
+ghost use Rattle.oz_grants.specs.Made.{container_at};
+ghost use Rattle.oz_journal.specs.Grammar.{IsJournal, TellsBodies};
+ghost use Rattle.oz_journal.specs.Load.{IsLoadable};
+ghost use Rattle.oz_names.specs.declared.limits.TheConstants.{STRIPES};
+ghost use Rattle.oz_nodes.specs.declared.nodes.TheConstants.{FEWEST_NODES, MOST_NODES};
+ghost use Rattle.oz_nodes.specs.Pipelines.{members_of, is_node_up};
+ghost use Rattle.oz_scm.specs.Grants.{Grants};
+ghost use Rattle.oz_scm.specs.Scm.{IsOfNodes, IsDamagedDisk, or_first};
+ghost use Rattle.oz_world.specs.Disk.{seen, TellsAsBefore, IsStable};
+ghost use Rattle.oz_world.specs.Faults.{Rose};
+ghost use Rattle.oz_world.specs.Moments.{Elapses, Spans};
+
+use crate::adding::{add, check};
+use crate::beginning::found_or_first;
+use crate::choosing::due;
+use crate::fault::{GrantFault, ScmFault};
+use crate::loading::containers_of;
+use crate::planning::plan_grant;
+use oz_fields::OutOfMemory;
+use oz_grants::{Container, Containers, Grant};
+use oz_journal::{
+    Journal, LoadFault, bytes_left_alone_stand_for_the_same, bytes_stand_for_one_thing,
+};
+use oz_nodes::Nodes;
+use oz_requests::Exclude;
+use oz_world::Disk;
+use std::alloc::Global;
+use std::marker::Model;
+
+/// The storage container manager. Each grant is one body of its journal, and is made here once that body is stable.
+/// Which datanodes are up isn't on its disk: all are as it is loaded.
+#[derive(Drop)]
+pub struct Scm<D: Disk> {
+    journal: Journal<D>,
+    containers: Containers,
+    nodes: Nodes,
+}
+
+impl<D: Disk> Model for Scm<D> {
+    ghost use Rattle.std.specs.Prelude.{◌≡◌, false, length};
+    ghost use Rattle.oz_scm.specs.Scm.{State, Keeps};
+
+    ghost Value = { State D };
+
+    ghost view = { λ scm. record {
+      disk = scm.journal.disk;
+      stopped = scm.journal.stopped;
+      made = scm.containers.made;
+      up = scm.nodes;
+    } };
+
+    ghost invariant = { λ scm. (length scm.nodes ≡ scm.containers.made.nodes)
+        × (scm.journal.stopped ≡ false → Keeps (D.told scm.journal.disk) scm.containers.made) };
+}
+
+impl<D: Disk> Scm<D> {
+    ghost use Rattle.oz_scm.specs.Scm.{StandsFor, StandsStill, disk_after};
+
+    /// Loads what a disk has, and names the number of datanodes on one that has no body. It makes what it reads stable
+    /// before it reads it. The disk comes back where it can't be loaded.
+    pub fn load(alloc: Global, disk: D, nodes: u8) -> Result<Scm<D>, (D, ScmFault)>
+        requires least { FEWEST_NODES ≤ nodes }
+        requires most { nodes ≤ MOST_NODES }
+        ensures stands { IfOk result (λ scm. IfSome (D.told disk) (λ bytes. StandsFor nodes bytes scm.made)) }
+        ensures nodes { IfOk result (λ scm. scm.made.nodes ≡ nodes) }
+        ensures up { IfOk result (λ scm. scm.up ≡ replicate nodes true) }
+        ensures running { IfOk result (λ scm. scm.stopped ≡ false) }
+
+        // When each fault comes.
+        ensures damaged { IfErr result (λ refused. (offset : ℕ) → refused.1 ≡ ScmFault.Damaged offset →
+            IfSome (D.told disk) (λ bytes. IsDamagedDisk bytes offset)) }
+        ensures other { IfErr result (λ refused. (recorded given : ℕ) → refused.1 ≡ ScmFault.Nodes recorded given →
+            (given ≡ nodes) × (recorded ≢ nodes) × IfSome (D.told disk) (IsOfNodes recorded)) }
+        ensures disk { IfErr result (λ refused.
+            refused.1 ≡ ScmFault.Disk → Rose (D.faults disk) (D.faults refused.0)) }
+        ensures never_falls { D.faults disk ≤ D.faults (disk_after result) }
+
+        // What the disk tells afterwards.
+        ensures telling { TellsAsBefore (D.told disk) (D.told (disk_after result)) }
+        ensures bodies { IfOk result (λ scm. IfSome (D.told disk) (λ bytes. (bodies : List (List ℕ)) →
+            IsJournal bytes bodies → TellsBodies (D.told scm.disk) (or_first nodes bodies))) }
+        ensures contents { IfErr result (λ refused. refused.1 ≢ ScmFault.Disk → IfSome (D.told disk) (λ bytes.
+            2 ≤ length bytes → D.told refused.0 ≡ Some bytes)) }
+
+        // What a stop may leave: whatever was loaded from what one would have left before.
+        ensures stable { IfOk result (λ scm. (bytes : List ℕ) → D.told scm.disk ≡ Some bytes →
+            IsStable (D.image scm.disk) (D.clock scm.disk) bytes) }
+        ensures time { Elapses (D.clock disk) (D.clock (disk_after result)) (D.image disk)
+            (D.image (disk_after result)) }
+        ensures moments { IfSome (D.told disk) (λ bytes.
+            IsLoadable bytes (D.image disk (D.clock disk)) →
+            Spans (StandsStill nodes) (D.clock disk) (D.clock (disk_after result)) (D.image disk)
+            (D.image (disk_after result))) }
+    {
+        bytes_left_alone_stand_for_the_same();
+        bytes_stand_for_one_thing();
+        let (journal, bodies) = match Journal::load(alloc, disk) {
+            Ok(loaded) => loaded,
+            Err((disk, fault)) => return Err((disk, fault_of(fault))),
+        };
+        let mut journal = journal;
+        let found = match containers_of(alloc, &bodies, nodes) {
+            Ok(found) => found,
+            Err(fault) => return Err((journal.into_disk(), fault)),
+        };
+        let containers = match found_or_first(alloc, &mut journal, found, nodes) {
+            Ok(containers) => containers,
+            Err(fault) => return Err((journal.into_disk(), fault)),
+        };
+        Ok(Scm {
+            journal,
+            containers,
+            nodes: Nodes::new(nodes),
+        })
+    }
+
+    /// Grants the ids that are due to a stripe, which is one of the sixteen. The grant is stable when it is answered.
+    pub fn grant(
+        &mut self,
+        alloc: Global,
+        stripe: u8,
+        exclude: &Exclude,
+    ) -> Result<Grant, GrantFault>
+        requires { stripe < STRIPES }
+        ensures { Grants stripe exclude.now self.old self.new
+            (seen (D.told self.old.disk) (D.clock self.old.disk) (D.image self.old.disk) (D.faults self.old.disk))
+            (seen (D.told self.new.disk) (D.clock self.new.disk) (D.image self.new.disk) (D.faults self.new.disk))
+            result }
+    {
+        check(&self.journal)?;
+        let grant = due(&self.containers, &self.nodes, stripe, exclude)?;
+        let frame = plan_grant(alloc, &mut self.containers, stripe, &grant)?;
+        add(&mut self.journal, frame)?;
+        self.containers.grant(&grant);
+        Ok(grant)
+    }
+
+    /// How many datanodes there are.
+    pub fn nodes(&self) -> u8
+        ensures made { result ≡ self.now.made.nodes }
+        ensures known { result ≡ length self.now.up }
+    {
+        self.containers.nodes()
+    }
+
+    /// Notes that a datanode is up, or that it is down.
+    pub fn set_up(&mut self, dn: u8, up: bool)
+        requires { dn < length self.old.up }
+        ensures { self.new ≡ record self.old { up = slice_set self.old.up dn up } }
+    {
+        if up {
+            self.nodes.up(dn);
+        } else {
+            self.nodes.down(dn);
+        }
+    }
+
+    pub fn is_up(&self, dn: u8) -> bool
+        requires { dn < length self.now.up }
+        ensures { result ≡ is_node_up self.now.up dn }
+    {
+        self.nodes.is_up(dn)
+    }
+
+    /// The datanodes that have a container's replicas, None where it wasn't made.
+    pub fn members(&self, container: u64) -> Option<[u8; 3]>
+        ensures { result ≡ option_map (λ (one : AnyContainer). members_of self.now.made.nodes one.pipeline)
+            (container_at self.now.made.containers container) }
+    {
+        match self.containers.get(container) {
+            Some(container) => Some(self.nodes.members(container.pipeline)),
+            None => None,
+        }
+    }
+
+    /// The id of the next block that is granted.
+    pub fn next_id(&self) -> u64
+        ensures { result ≡ self.now.made.next_id }
+    {
+        self.containers.next_id()
+    }
+
+    /// The containers that were made with their numbers, in their order.
+    pub fn containers(&self, alloc: Global) -> Result<Vec<(u64, Container)>, OutOfMemory>
+        ensures numbers { IfOk result (λ all. map (λ (one : ℕ × AnyContainer). one.0) all.items
+            ≡ range_with_len 1 (length self.now.made.containers)) }
+        ensures containers { IfOk result (λ all. map (λ (one : ℕ × AnyContainer). one.1) all.items
+            ≡ self.now.made.containers) }
+    {
+        self.containers.all(alloc)
+    }
+
+    /// Whether a call on the disk has failed. While none has, what the disk tells stands for this, and is stable.
+    pub fn stopped(&self) -> bool
+        ensures stopped { result ≡ self.now.stopped }
+        ensures at_rest { self.now.stopped ≡ false → (bytes : List ℕ) → D.told self.now.disk ≡ Some bytes →
+            StandsFor self.now.made.nodes bytes self.now.made
+            × IsStable (D.image self.now.disk) (D.clock self.now.disk) bytes }
+    {
+        self.journal.stopped()
+    }
+
+    /// How often the disk has failed, at most `u64::MAX`.
+    pub fn faults(&self) -> u64
+        ensures { result ≡ D.faults self.now.disk }
+    {
+        self.journal.faults()
+    }
+
+    pub fn into_disk(self) -> D
+        ensures { result ≡ self.disk }
+    {
+        self.journal.into_disk()
+    }
+}
+
+/// A fault of the journal.
+fn fault_of(fault: LoadFault) -> ScmFault
+    ensures disk { result ≡ ScmFault.Disk → fault ≡ LoadFault.Disk }
+    ensures damaged { (offset : ℕ) → result ≡ ScmFault.Damaged offset → fault ≡ LoadFault.Damaged offset }
+    ensures other { (recorded given : ℕ) → result ≡ ScmFault.Nodes recorded given → ⊥ }
+{
+    match fault {
+        LoadFault::Disk => ScmFault::Disk,
+        LoadFault::Damaged { offset } => ScmFault::Damaged { offset },
+        LoadFault::OutOfMemory => ScmFault::OutOfMemory,
+    }
+}

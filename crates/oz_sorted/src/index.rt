@@ -1,11 +1,11 @@
 //! The chunks in order, and spare ones.
 
 ghost use Rattle.std.specs.Prelude.{◌≡◌, ◌+◌, ◌-◌, ◌^◌, ◌<◌, ◌≤◌, ◌⊎◌, ℕ, suc, [], ◌∷◌, length, take, drop};
-ghost use Rattle.std.specs.Prelude.{insert, remove};
-ghost use Rattle.std.specs.Prelude.{slice_get, slice_index_or, slice_set, option_copied, IfOk, IfErr, OnOk, OnErr};
+ghost use Rattle.std.specs.Prelude.{◌++◌, insert, remove};
+ghost use Rattle.std.specs.Prelude.{slice_get, slice_index_or, slice_set, option_copied, IfOk, IfErr, OnOk, OnErr, IsTrue};
 ghost use Rattle.oz_sorted.specs.Sorted.{KeysRise};
 ghost use Rattle.oz_sorted.specs.Places.{IsAt, IsGap, IsBehind, IsRank, AllBelow, AllAbove};
-ghost use Rattle.oz_sorted.specs.Chunks.{joined, rank_of, chunk_of, debt, AreFilled, StandsIn, FitsIn, IsReserved};
+ghost use Rattle.oz_sorted.specs.Chunks.{joined, rank_of, chunk_of, debt, AreFilled, StandsIn, FitsIn, IsReserved, has_begun};
 
 use crate::OutOfMemory;
 use crate::chunk::{Chunk, FULL};
@@ -24,6 +24,8 @@ const HALF: usize = FULL / 2;
 pub(crate) struct Index<K, V> {
     chunks: Vec<Chunk<K, V>>,
     spares: Vec<Chunk<K, V>>,
+    /// The chunk of the last edit, which is tried first, so that a run of rising keys is one walk.
+    near: usize,
 }
 
 impl<K, V> Model for Index<K, V> {
@@ -51,6 +53,7 @@ impl<K, V> Index<K, V> {
         Index {
             chunks: Vec::new(alloc),
             spares: Vec::new(alloc),
+            near: 0,
         }
     }
 
@@ -116,9 +119,36 @@ impl<K, V> Index<K, V> {
         ensures after { AllAbove K.cmp key.now (joined (drop (suc result) self.now.chunks)) }
         ensures filled { AreFilled self.now.chunks }
     {
+        if self.is_for(self.near, key) {
+            return self.near;
+        }
         self.chunks
             .partition_point(|chunk| chunk.begins_by(key))
             .saturating_sub(1)
+    }
+
+    /// Whether there is this chunk, and its first key isn't above this one, and the first of the chunk behind it is.
+    fn is_for(&self, chunk: usize, key: &K) -> bool
+    where
+        K: Ord,
+        requires { KeysRise K.cmp (joined self.now.chunks) }
+        ensures { IsTrue result → (chunk < length self.now.chunks)
+            × AllBelow K.cmp key.now (joined (take chunk self.now.chunks))
+            × AllAbove K.cmp key.now (joined (drop (suc chunk) self.now.chunks)) }
+    {
+        chunk < self.chunks.len() && self.has_begun(chunk, key) && !self.has_begun(chunk + 1, key)
+    }
+
+    /// Whether there is this chunk, and its first key isn't above this one.
+    fn has_begun(&self, chunk: usize, key: &K) -> bool
+    where
+        K: Ord,
+        ensures { result ≡ has_begun K.cmp (slice_get self.now.chunks chunk) key.now }
+    {
+        match self.chunks.get(chunk) {
+            Some(entries) => entries.begins_by(key),
+            None => false,
+        }
     }
 
     /// The entry at a place, or else the first of the chunk behind it.
@@ -200,7 +230,8 @@ impl<K, V> Index<K, V> {
         }
     }
 
-    /// Takes the entry at a place out. A chunk that is left without entries becomes a spare one.
+    /// Takes the entry at a place out. A chunk that is left without entries becomes a spare one, and one that is left with
+    /// few is made one with a neighbour that has few.
     pub(crate) fn take(&mut self, place: Place) -> Entry<K, V>
         requires { StandsIn self.old.chunks place }
         ensures entry { (d : Entry K V) → result
@@ -210,7 +241,7 @@ impl<K, V> Index<K, V> {
         ensures reserved { (more : ℕ) → IsReserved self.old more → IsReserved self.new more }
     {
         if self.chunks[place.chunk].len() > 1 {
-            self.take_from(place)
+            self.take_some(place)
         } else {
             self.take_last(place)
         }
@@ -283,6 +314,7 @@ impl<K, V> Index<K, V> {
             (insert (chunk_of self.old.chunks place) place.at entry) }
         ensures spares { self.new.spares ≡ self.old.spares }
     {
+        self.near = place.chunk;
         let chunk = &mut self.chunks[place.chunk];
         chunk.put(place.at, entry);
     }
@@ -371,6 +403,57 @@ impl<K, V> Index<K, V> {
     {
         let chunk = &mut self.chunks[place.chunk];
         chunk.take(place.at)
+    }
+
+    /// Takes an entry out of a chunk that has others too, and makes it one with a neighbour, where both have few.
+    fn take_some(&mut self, place: Place) -> Entry<K, V>
+        requires place { StandsIn self.old.chunks place }
+        requires others { 1 < length (chunk_of self.old.chunks place) }
+        ensures entry { (d : Entry K V) → result
+            ≡ slice_index_or (joined self.old.chunks) (rank_of self.old.chunks place) d }
+        ensures entries { joined self.new.chunks
+            ≡ remove (joined self.old.chunks) (rank_of self.old.chunks place) }
+        ensures reserved { (more : ℕ) → IsReserved self.old more → IsReserved self.new more }
+    {
+        let entry = self.take_from(place);
+        self.merge_few(place.chunk.saturating_sub(1));
+        self.merge_few(place.chunk);
+        entry
+    }
+
+    /// Makes one of a chunk and the one behind it, where both together fill at most half of one.
+    fn merge_few(&mut self, at: usize)
+        ensures entries { joined self.new.chunks ≡ joined self.old.chunks }
+        ensures reserved { (more : ℕ) → IsReserved self.old more → IsReserved self.new more }
+    {
+        if self.are_few(at) {
+            self.merge(at);
+        }
+    }
+
+    /// Whether there are this chunk and one behind it, which together fill at most half of one.
+    fn are_few(&self, at: usize) -> bool
+        ensures { IsTrue result → (suc at < length self.now.chunks)
+            × (length (slice_index_or self.now.chunks at []) + length (slice_index_or self.now.chunks (suc at) []) ≤ 32) }
+    {
+        at < self.chunks.len()
+            && at + 1 < self.chunks.len()
+            && self.chunks[at].len() + self.chunks[at + 1].len() <= HALF
+    }
+
+    /// Moves the entries of the chunk behind this one into it. The other becomes a spare one.
+    fn merge(&mut self, at: usize)
+        requires behind { suc at < length self.old.chunks }
+        requires few { length (slice_index_or self.old.chunks at [])
+            + length (slice_index_or self.old.chunks (suc at) []) ≤ 32 }
+        ensures chunks { self.new.chunks ≡ remove (slice_set self.old.chunks at
+            (slice_index_or self.old.chunks at [] ++ slice_index_or self.old.chunks (suc at) [])) (suc at) }
+        ensures spares { self.new.spares ≡ self.old.spares + 1 }
+    {
+        let mut behind = self.chunks.remove(at + 1);
+        let chunk = &mut self.chunks[at];
+        chunk.take_all(&mut behind);
+        self.spares.push(behind).unwrap();
     }
 
     /// Takes the only entry of a chunk out, which becomes a spare one.

@@ -16,6 +16,14 @@ enum Order {
     Mixed,
 }
 
+/// The map, the standard library's, and the words that keys are drawn from.
+#[derive(Drop)]
+struct Both {
+    map: SortedMap<u64, u64>,
+    plain: BTreeMap<u64, u64>,
+    words: Pcg32,
+}
+
 fn key_at(order: Order, words: &mut Pcg32, turn: u64) -> u64 {
     match order {
         Order::Rising => turn,
@@ -74,23 +82,45 @@ fn walk(rt: &impl Abort, map: &SortedMap<u64, u64>, plain: &BTreeMap<u64, u64>) 
     assert!(rt; found.is_none());
 }
 
-/// Many keys come in, and most go again, in one order.
-fn drawn(rt: &impl Abort, alloc: Global, order: Order) -> Result<(), OutOfMemory> {
-    let mut words = Pcg32::new(42, 54);
-    let mut map = SortedMap::new(alloc);
-    let mut plain = BTreeMap::new(alloc);
-    for turn in 0..20_000u64 {
-        let key = key_at(order, &mut words, turn);
-        put_in(rt, alloc, &mut map, &mut plain, key, turn)?;
+/// So many keys come in, each so far behind the last in its order.
+fn come_in(
+    rt: &impl Abort,
+    alloc: Global,
+    both: &mut Both,
+    order: Order,
+    turns: u64,
+    step: u64,
+) -> Result<(), OutOfMemory> {
+    for turn in 0..turns {
+        let key = key_at(order, &mut both.words, turn.wrapping_mul(step));
+        put_in(rt, alloc, &mut both.map, &mut both.plain, key, turn)?;
     }
-    walk(rt, &map, &plain);
-    for turn in 0..20_000u64 {
-        let key = key_at(order, &mut words, turn);
+    walk(rt, &both.map, &both.plain);
+    Ok(())
+}
+
+/// Fifteen of sixteen keys go again.
+fn go_out(rt: &impl Abort, both: &mut Both, order: Order, turns: u64) {
+    for turn in 0..turns {
+        let key = key_at(order, &mut both.words, turn);
         if turn % 16 < 15 {
-            take_out(rt, &mut map, &mut plain, key);
+            take_out(rt, &mut both.map, &mut both.plain, key);
         }
     }
-    walk(rt, &map, &plain);
+    walk(rt, &both.map, &both.plain);
+}
+
+/// Many keys come in, most go, and some come in again, in one order.
+fn drawn(rt: &impl Abort, alloc: Global, order: Order) -> Result<(), OutOfMemory> {
+    let mut both = Both {
+        map: SortedMap::new(alloc),
+        plain: BTreeMap::new(alloc),
+        words: Pcg32::new(42, 54),
+    };
+    come_in(rt, alloc, &mut both, order, 20_000, 1)?;
+    go_out(rt, &mut both, order, 20_000);
+    come_in(rt, alloc, &mut both, order, 6_000, 3)?;
+    go_out(rt, &mut both, order, 20_000);
     Ok(())
 }
 

@@ -14,7 +14,7 @@ ghost use Rattle.oz_core.specs.Manager.{IsUsed, namespace_at};
 ghost use Rattle.oz_core.specs.Scm.{is_logged_at_opening};
 ghost use Rattle.oz_core.specs.Nodes.{holds};
 ghost use Rattle.oz_kept.specs.Held.{HasBytes, LinesAreApart};
-ghost use Rattle.oz_kept.specs.Purges.{IsPurgeAt};
+ghost use Rattle.oz_kept.specs.Purges.{IsPurgeAt, WasLetGo};
 ghost use Rattle.oz_lines.specs.Numbered.{IsNumbered};
 ghost use Rattle.oz_lines.specs.declared.script.Script.{Script as AnyScript};
 
@@ -42,10 +42,7 @@ pub fn what_is_being_deleted_is_not_reached()
     ensures deleted { (opening : AnyOpening) (story : List AnyEvent) (place seat dn number local : ℕ) (locals : List ℕ) →
         IsLegal opening story →
         slice_get story place ≡ Some (record { seat = seat; kind = Delete dn number locals }) →
-        Contains locals local →
-        (block : AnyBlock) × (block.local ≡ local)
-        × ((is_logged_at_opening opening block ≡ true)
-        ⊎ ((before : ℕ) × (before < place) × IsPurgeAt story block before)) }
+        Contains locals local → WasLetGo opening story place number local }
     ensures at_opening { (opening : AnyOpening) (story : List AnyEvent) (block : AnyBlock) (later : ℕ) →
         LogIsCoherent opening → IsLegal opening story → is_logged_at_opening opening block ≡ true →
         IsReached (namespace_at opening story later) block → ⊥ }

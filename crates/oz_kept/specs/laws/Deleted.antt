@@ -1,5 +1,5 @@
 -- Blocks that are being deleted.
-use Rattle.std.proofs.Common.{◌≡◌, ⊎_elim, ◌⊎◌, ℕ, zero, suc, ◌+◌, ◌-◌, ◌<◌, ◌≤◌, Bool, true, false, ◌&&◌, ◌||◌, ◌==◌, min, List, [], ◌∷◌, ◌++◌, length, take, drop, map, get_or, Option, None, Some, Contains, cond, inl, inr, refl, sym, ◌∙◌, ap, subst, append-nil, arith}
+use Rattle.std.proofs.Common.{◌≡◌, ⊎_elim, ◌⊎◌, ℕ, zero, suc, ◌<◌, ◌≤◌, Bool, true, false, ◌&&◌, ◌||◌, ◌==◌, List, [], ◌∷◌, ◌++◌, length, take, drop, map, Option, None, Some, Contains, cond, inl, inr, refl, sym, ◌∙◌, ap, subst, append-nil, arith}
 use Rattle.std.proofs.lemmas.Bool.{eq-eqb}
 use Rattle.std.proofs.lemmas.List.{take-append-drop}
 use Rattle.std.proofs.lemmas.List.Elements.{All-contains, Contains-append_cases}
@@ -15,12 +15,12 @@ use Rattle.oz_core.specs.declared.event.EventKind.TheVariants.{PurgeAsk, Log, De
 use Rattle.oz_core.specs.declared.opening.Opening.{Opening}
 use Rattle.oz_core.specs.declared.opening.Unretired.{Unretired}
 use Rattle.oz_core.specs.Coherent.{LogIsCoherent}
-use Rattle.oz_core.specs.Law.{IsLegal, IsLegalFrom, IsEnabled, KindIsEnabled, PurgeAskIsEnabled, LogIsEnabled, DeleteIsEnabled, IsPurged}
-use Rattle.oz_core.specs.Manager.{IsUsed, IsUsedAndKept, WasUsed, kept_block, granted_block, durable_index, kept_namespace, namespace_from, namespace_of, namespace_at}
+use Rattle.oz_core.specs.Law.{IsLegal, IsLegalFrom, IsEnabled, PurgeAskIsEnabled, LogIsEnabled, DeleteIsEnabled, IsPurged}
+use Rattle.oz_core.specs.Manager.{IsUsed, IsUsedAndKept, WasUsed, kept_block, durable_index, kept_namespace, namespace_from, namespace_of, namespace_at}
 use Rattle.oz_core.specs.Nodes.{holds}
-use Rattle.oz_core.specs.Scm.{logs, logged, is_logged_at_opening, is_in_logs, names_block}
+use Rattle.oz_core.specs.Scm.{logged, is_logged_at_opening, names_block}
 use Rattle.oz_core.specs.Stories.{all_told}
-use Rattle.oz_kept.specs.Purges.{IsPurgeAt}
+use Rattle.oz_kept.specs.Purges.{IsPurgeAt, WasLetGo}
 use Rattle.oz_kept.specs.laws.Places.{legal_behind, legal_first}
 use Rattle.oz_kept.specs.laws.Reached.{never_back}
 use Rattle.oz_kept.specs.laws.Kept.{Front, front}
@@ -200,18 +200,20 @@ earlier_purge : (story : List Event) (place later : ℕ) (block : Block) → pla
     → ((before : ℕ) × (before < place) × IsPurgeAt story block before) → (before : ℕ) × (before < later) × IsPurgeAt story block before
 earlier_purge story place later block lt found = (found.0, omega (arith, lt, found.1), found.2)
 
-pub deleted_purged : (opening : Opening) (story : List Event) (place seat dn number local : ℕ) (locals : List ℕ) → IsLegal opening story
+pub deleted_let_go : (opening : Opening) (story : List Event) (place seat dn number local : ℕ) (locals : List ℕ) → IsLegal opening story
     → slice_get story place ≡ Some (record { seat = seat; kind = Delete dn number locals }) → Contains locals local
-    → (block : Block) × (block.local ≡ local) × ((is_logged_at_opening opening block ≡ true) ⊎ ((before : ℕ) × (before < place) × IsPurgeAt story block before))
+    → WasLetGo opening story place number local
 unfolding opening_txns
-deleted_purged opening story place seat dn number local locals legal is among =
+deleted_let_go opening story place seat dn number local locals legal is among =
     let enabled : DeleteIsEnabled opening (take place story) seat dn number locals = enabled_at opening story legal place (record { seat = seat; kind = Delete dn number locals }) is in
     let txn = enabled.txn in
     let block : Block = record { container = txn.container; local = local } in
-    let inside = passed (λ local. holds opening (take place story) dn (record { container = txn.container; local = local })) txn.locals local (subst (λ (l : List ℕ). Contains l local) enabled.held among) in (
-      block,
-      refl,
-      ⊎_elim
+    let inside = passed (λ local. holds opening (take place story) dn (record { container = txn.container; local = local })) txn.locals local (subst (λ (l : List ℕ). Contains l local) enabled.held among) in
+    record {
+      txn = txn;
+      there = enabled.logged;
+      of_number = enabled.of_number;
+      let_go = ⊎_elim
           (λ at_opening. inl (named_at_opening opening txn local at_opening inside))
           (λ told.
           let log = told_at (take place story) txn told in
@@ -219,8 +221,8 @@ deleted_purged opening story place seat dn number local locals legal is among =
           let lt = slice_get_within (take place story) log.0 log.1.event log.1.there in
           inr (earlier_purge story log.0 place block (omega (arith, lt, taken_length story place))
           (log_purged opening story txn log.0 local legal (record { event = log.1.event; there = there; tells = log.1.tells }) inside)))
-          (Contains-append_cases (opening_txns opening) (all_told logged (take place story)) txn enabled.logged),
-    )
+          (Contains-append_cases (opening_txns opening) (all_told logged (take place story)) txn enabled.logged);
+    }
 
 pub opening_away : (opening : Opening) (story : List Event) (block : Block) (later : ℕ) → LogIsCoherent opening → IsLegal opening story → is_logged_at_opening opening block ≡ true
     → IsReached (namespace_at opening story later) block → ⊥

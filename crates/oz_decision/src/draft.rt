@@ -2,7 +2,7 @@
 
 ghost use Rattle.std.specs.Prelude.{◌≡◌, ◌++◌, ◌∷◌, [], IfOk};
 ghost use Rattle.oz_rows.specs.declared.operation.Operation.{Operation as AnyOperation};
-ghost use Rattle.oz_rows.specs.Operations.{OperationFits, operation_bytes};
+ghost use Rattle.oz_rows.specs.Operations.{OperationFits, batch_bytes};
 ghost use Rattle.oz_rows.specs.RowMaps.{put, gone};
 ghost use Rattle.oz_rows.specs.Rows.{RowFits, KeyFits};
 
@@ -43,7 +43,7 @@ impl Draft {
     /// The row has this value.
     pub fn put(self, alloc: Global, key: RowKey, row: Row) -> Result<Draft, OutOfMemory>
         requires { RowFits key row }
-        ensures bytes { IfOk result (λ draft. draft.bytes ≡ self.bytes ++ operation_bytes (AnyOperation.Put key row)) }
+        ensures bytes { IfOk result (λ draft. draft.bytes ≡ self.bytes ++ batch_bytes (AnyOperation.Put key row ∷ [])) }
         ensures changes { IfOk result (λ draft. draft.changes ≡ self.changes ++ put key row ∷ []) }
     {
         let Draft {
@@ -61,7 +61,7 @@ impl Draft {
     /// The row, which is there, is gone.
     pub fn remove(self, alloc: Global, key: RowKey) -> Result<Draft, OutOfMemory>
         requires { KeyFits key }
-        ensures bytes { IfOk result (λ draft. draft.bytes ≡ self.bytes ++ operation_bytes (AnyOperation.Remove key)) }
+        ensures bytes { IfOk result (λ draft. draft.bytes ≡ self.bytes ++ batch_bytes (AnyOperation.Remove key ∷ [])) }
         ensures changes { IfOk result (λ draft. draft.changes ≡ self.changes ++ gone key ∷ []) }
     {
         let Draft {
@@ -81,7 +81,7 @@ impl Draft {
         mut made: Vec<Change>,
     ) -> Result<Draft, OutOfMemory>
         requires { OperationFits operation.now }
-        ensures bytes { IfOk result (λ draft. draft.bytes ≡ self.bytes ++ operation_bytes operation.now) }
+        ensures bytes { IfOk result (λ draft. draft.bytes ≡ self.bytes ++ batch_bytes (operation.now ∷ [])) }
         ensures changes { IfOk result (λ draft. draft.changes ≡ self.changes ++ made.items) }
     {
         let Draft {

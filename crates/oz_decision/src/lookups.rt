@@ -1,6 +1,6 @@
 //! What the newest rows say of a volume or a bucket.
 
-ghost use Rattle.std.specs.Prelude.{◌≡◌, ◌<◌, ◌^◌, ◌∷◌, ◌++◌, [], ℕ, List as AnyList, None, length, IfOk};
+ghost use Rattle.std.specs.Prelude.{◌≡◌, ◌<◌, ◌^◌, ◌∷◌, ◌++◌, [], ℕ, List as AnyList, None, length, is_some, IfOk};
 ghost use Rattle.std.specs.FinMap.{len, keys};
 ghost use Rattle.oz_model.specs.Buckets.{buckets_at, bucket_at};
 ghost use Rattle.oz_rows.specs.Counts.{IsCount};
@@ -13,6 +13,13 @@ use crate::walking::{buckets_named, keys_between, live_count};
 use oz_fields::{List, Name, OutOfMemory, TryClone};
 use oz_rows::RowKey;
 use std::alloc::Global;
+
+/// Whether a key has a row.
+pub fn has_row<M: CountedRows>(rows: &M, key: &RowKey) -> bool
+    ensures { result ≡ is_some (M.rows rows.now key.now) }
+{
+    rows.get(key).is_some()
+}
 
 /// The name that comes next in the order of names: the same, with a byte 0 behind it.
 fn next_name(alloc: Global, name: &Name) -> Result<Name, OutOfMemory>

@@ -1,5 +1,5 @@
 -- What a decision owes that changes one row, or none.
-use Rattle.std.proofs.Common.{◌≡◌, ◌≤◌, ℕ, Bool, true, false, List, [], ◌∷◌, length, Option, None, Some, IsSome, is_some, cond, refl, sym, ◌∙◌, ap, subst, arith, inl, append-nil}
+use Rattle.std.proofs.Common.{◌≡◌, ◌≤◌, ◌↔◌, ℕ, Bool, true, false, List, [], ◌∷◌, ◌++◌, length, Option, None, Some, IsSome, is_some, cond, refl, sym, ◌∙◌, ap, subst, arith, inl, append-nil}
 use mathlib.Core.Bool.{false≢true}
 use Rattle.std.proofs.lemmas.Option.{same_Some}
 use Rattle.oz_fields.specs.declared.block.Block.{Block}
@@ -10,8 +10,9 @@ use Rattle.oz_requests.specs.declared.request.Request.{Request}
 use Rattle.oz_rows.specs.declared.key.RowKey.{RowKey}
 use Rattle.oz_rows.specs.declared.row.Row.{Row}
 use Rattle.oz_rows.specs.declared.operation.Change.{Change}
+use Rattle.oz_rows.specs.declared.operation.Operation.{Operation}
 use Rattle.oz_rows.specs.declared.operation.Operation.TheVariants.{Put, Remove}
-use Rattle.oz_rows.specs.Operations.{batch_bytes, operation_bytes}
+use Rattle.oz_rows.specs.Operations.{OperationFits, batch_bytes, operation_bytes}
 use Rattle.oz_rows.specs.Rows.{RowFits, KeyFits}
 use Rattle.oz_rows.specs.RowMaps.{after_changes, put, gone, Rows, is_same}
 use Rattle.oz_rows.specs.laws.Same.{same_is_one}
@@ -22,6 +23,7 @@ use Rattle.oz_effects.specs.laws.Steps.{put_is_batch, removal_is_batch, nothing_
 use Rattle.oz_sound.specs.Kept.{KeepsBlocks}
 use Rattle.oz_sound.specs.Sound.{IsHome, IsSound, IsSoundButRenames, RenamesAreSound}
 use Rattle.oz_sound.specs.laws.BucketChanges.{replaced}
+use Rattle.oz_decision.specs.Drafts.{operation_for, row_by_row}
 use Rattle.oz_decision.specs.Meets.{AreInGrammar, IsSafe, Stand, Meets, granted_in, MayGo}
 
 some_apart : {A : Type 0} {a : A} → Some a ≡ None → ⊥
@@ -40,6 +42,19 @@ it_fits key row fits r e = subst (RowFits key) (same_Some row r e) fits
 
 pub none_fits : (key : RowKey) (r : Row) → None ≡ Some r → RowFits key r
 none_fits key r e = absurd (some_apart (sym e))
+
+-- the batch of one operation is no longer than an operation
+pub alone_is_short : (operation : Operation) → OperationFits operation → length (batch_bytes (operation ∷ [])) ≤ 6304
+alone_is_short operation fits = subst (λ (b : List ℕ). length b ≤ 6304) (sym (append-nil (operation_bytes operation))) (operation_size operation fits)
+
+-- each change that is made row by row has bytes
+some_bytes : (key : RowKey) (row : Option Row) (rest : List ℕ) → operation_bytes (operation_for key row) ++ rest ≡ [] → ⊥
+some_bytes key (Some row) rest e = absurd (cc)
+some_bytes key None rest e = absurd (cc)
+
+pub has_bytes : (changes : List Change) → (batch_bytes (row_by_row changes) ≡ []) ↔ (changes ≡ [])
+has_bytes [] = (λ e. refl, λ e. refl)
+has_bytes (change ∷ changes) = ((λ e. absurd (some_bytes change.key change.row (batch_bytes (row_by_row changes)) e)), λ e. absurd (cc))
 
 module _ (all : Rows) (fit : AreInGrammar all) where
   pub nothing_is_safe : IsSafe all [] []

@@ -34,7 +34,7 @@ use Rattle.oz_kept.specs.laws.Granted.{IsGrantedTo, one_id, was_nowhere, granted
 
 -- ---- grants, as those who wrote the block know them
 
-its_grant : (opening : Opening) (story : List Event) (legal : IsLegal opening story) (id : AskId) (block : Block) (before : List Event) → WasGranted story id block before → IsGrantedTo opening story legal block id
+pub its_grant : (opening : Opening) (story : List Event) (legal : IsLegal opening story) (id : AskId) (block : Block) (before : List Event) → WasGranted story id block before → IsGrantedTo opening story legal block id
 its_grant opening story legal id block before granted =
     let asked : Event = record { seat = granted.asker; kind = Ask id granted.request } in
     let decided : Event = record { seat = granted.stripe; kind = Decide id granted.index (replies.Granted block granted.pipeline) granted.batch } in
@@ -149,7 +149,7 @@ having_next script block start (first ∷ before) event dn content has = having_
 
 -- ---- what one event gives
 
-one_block : (block other : Block) → is_block block other ≡ true → block ≡ other
+pub one_block : (block other : Block) → is_block block other ≡ true → block ≡ other
 one_block block other e =
     let both = and_parts (other.container == block.container) (other.local == block.local) e in
     made (sym (eqb-true other.container block.container both.0)) (sym (eqb-true other.local block.local both.1))
@@ -254,12 +254,12 @@ front_ends [] (suc n) e = refl
 front_ends (x ∷ l) zero e = absurd cc
 front_ends (x ∷ l) (suc n) e = ap (λ rest. x ∷ rest) (front_ends l n e)
 
-front_grows : {A : Type 0} (l : List A) (n : ℕ) (x : A) → slice_get l n ≡ Some x → take (suc n) l ≡ take n l ++ x ∷ []
+pub front_grows : {A : Type 0} (l : List A) (n : ℕ) (x : A) → slice_get l n ≡ Some x → take (suc n) l ≡ take n l ++ x ∷ []
 front_grows [] n x e = absurd cc
 front_grows (y ∷ l) zero x e = let same : y ≡ x = cc in ap (λ z. z ∷ []) same
 front_grows (y ∷ l) (suc n) x e = ap (λ rest. y ∷ rest) (front_grows l n x e)
 
-fits_to : (opening : Opening) (bytes : OpeningBytes) (script : Script) (before a b : List Event) → FitsFrom opening bytes script before (a ++ b) → FitsFrom opening bytes script before a
+pub fits_to : (opening : Opening) (bytes : OpeningBytes) (script : Script) (before a b : List Event) → FitsFrom opening bytes script before (a ++ b) → FitsFrom opening bytes script before a
 unfolding FitsFrom
 fits_to opening bytes script before [] b fits = tt
 fits_to opening bytes script before (event ∷ a) b fits = (fits.0, fits_to opening bytes script (before ++ event ∷ []) a b fits.1)

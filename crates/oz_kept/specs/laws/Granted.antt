@@ -145,6 +145,10 @@ module _ (opening : Opening) (story : List Event) (legal : IsLegal opening story
   asked_for : (family_of at_place.request ≡ Allocation) × ((stripe : ℕ) × IsOfGrant (take grant.there.0 story) stripe block grant.pipeline)
   asked_for = granted_request opening (take grant.there.0 story) (namespace_of opening (take grant.there.0 story)) at_place.request block grant.pipeline at_place.one_thread at_place.granted
 
+  -- a Grant that stands before has it
+  pub of_grant : (stripe : ℕ) × IsOfGrant (take grant.there.0 story) stripe block grant.pipeline
+  of_grant = asked_for.1
+
   pub no_lower : opening.next_id ≤ block.local
   no_lower =
       let front = take grant.there.0 story in

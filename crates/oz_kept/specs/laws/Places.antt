@@ -24,7 +24,7 @@ pub legal_rest : (opening : Opening) (before : List Event) (event : Event) (rest
 unfolding IsLegalFrom
 legal_rest opening before event rest legal = legal.1
 
-namespace_parts : (counts : ℕ → Bool) (before : List Event) (namespace : Namespace) (a b : List Event)
+pub namespace_parts : (counts : ℕ → Bool) (before : List Event) (namespace : Namespace) (a b : List Event)
     → namespace_from counts before namespace (a ++ b) ≡ namespace_from counts (before ++ a) (namespace_from counts before namespace a) b
 unfolding namespace_from
 namespace_parts counts before namespace [] b = ap (λ (l : List Event). namespace_from counts l namespace b) (sym (append-nil before))

@@ -37,10 +37,10 @@ used_still opening before more block (inr (inr (inr granted))) =
     inr (inr (inr (subst (λ (l : List Block). Contains l block) (sym (filter_map-append told before more))
     (Contains-append_left (all_told granted_block before) (all_told granted_block more) block granted))))
 
-in_none : {A : Type 0} (x : A) → Contains [] x → ⊥
+pub in_none : {A : Type 0} (x : A) → Contains [] x → ⊥
 in_none x among = absurd (omega (arith, among.1))
 
-in_one : {A : Type 0} (y x : A) → Contains (y ∷ []) x → y ≡ x
+pub in_one : {A : Type 0} (y x : A) → Contains (y ∷ []) x → y ≡ x
 in_one y x among = ⊎_elim (λ none. absurd (in_none x none)) (λ same. same) (Contains-push_cases [] y x among)
 
 -- a block that is granted wasn't used
@@ -65,7 +65,7 @@ step_away opening before seat (Decide id index reply batch) block enabled used a
     ⊎_elim away (granted_anew opening before (namespace_of opening before) enabled.request reply block enabled.one_thread enabled.granted used) grown
 step_away opening before seat kind block enabled used away reached = away reached
 
-stays_away : (opening : Opening) (block : Block) (rest before : List Event) (n : ℕ) → IsLegalFrom opening before rest → IsUsed opening before block
+pub stays_away : (opening : Opening) (block : Block) (rest before : List Event) (n : ℕ) → IsLegalFrom opening before rest → IsUsed opening before block
     → (IsReached (namespace_of opening before) block → ⊥) → IsReached (namespace_of opening (before ++ take n rest)) block → ⊥
 stays_away opening block [] before zero legal used away reached = away (subst (λ (l : List Event). IsReached (namespace_of opening l) block) (append-nil before) reached)
 stays_away opening block [] before (suc n) legal used away reached = away (subst (λ (l : List Event). IsReached (namespace_of opening l) block) (append-nil before) reached)

@@ -1,5 +1,5 @@
 -- Whoever got a block has its content.
-use Rattle.std.proofs.Common.{◌≡◌, ⊎_elim, ◌⊎◌, ℕ, zero, suc, ◌+◌, ◌*◌, ◌-◌, ◌<◌, ◌≤◌, Bool, true, false, not, ◌&&◌, ◌||◌, ◌==◌, List, [], ◌∷◌, ◌++◌, length, take, drop, Option, None, Some, IsSome, Contains, cond, inl, inr, refl, sym, ◌∙◌, ap, subst, append-nil, append_assoc, arith}
+use Rattle.std.proofs.Common.{◌≡◌, ⊎_elim, ◌⊎◌, ℕ, zero, suc, ◌*◌, Bool, true, false, ◌&&◌, ◌||◌, ◌==◌, List, [], ◌∷◌, ◌++◌, length, take, drop, Option, None, Some, IsSome, Contains, cond, inl, inr, refl, sym, ◌∙◌, ap, subst, append_assoc}
 use mathlib.Core.Bool.{false≢true}
 use Rattle.std.proofs.lemmas.Bool.{eqb-true, eq-eqb, and_parts}
 use Rattle.std.proofs.lemmas.List.{take-append-drop}
@@ -21,14 +21,13 @@ use Rattle.oz_core.specs.declared.event.EventKind.TheVariants.{Ask, Decide, Put,
 use Rattle.oz_core.specs.declared.opening.Opening.{Opening}
 use Rattle.oz_core.specs.Asks.{is_id, is_script, is_asked, asks}
 use Rattle.oz_core.specs.Coherent.{IsCoherent}
-use Rattle.oz_core.specs.Contents.{OpeningBytes, HasContent, HadBytes, IsPieceOfLine, WasGranted, IsLineOf, WasThere, piece_number}
-use Rattle.oz_core.specs.Fits.{EventFits, FitsFrom, HasLength}
-use Rattle.oz_core.specs.Law.{IsLegal, IsLegalFrom, IsEnabled, KindIsEnabled, PutIsEnabled, CopyIsEnabled, puts_or_copies}
+use Rattle.oz_core.specs.Contents.{OpeningBytes, HasContent, WasGranted, IsLineOf, piece_number}
+use Rattle.oz_core.specs.Fits.{EventFits, FitsFrom}
+use Rattle.oz_core.specs.Law.{IsLegal, IsEnabled, KindIsEnabled, PutIsEnabled, CopyIsEnabled, puts_or_copies}
 use Rattle.oz_core.specs.Nodes.{is_block, was_held, holds, held_after, deletes}
 use Rattle.oz_core.specs.Scm.{logs}
 use Rattle.oz_core.specs.Stories.{has_event, last_told, newer}
 use Rattle.oz_kept.specs.Held.{LinesAreApart, Having, HadAtOpening, ArePut, HavingAfter, HavingFrom, HasBytes}
-use Rattle.oz_kept.specs.laws.Places.{moved_over, legal_first, legal_rest}
 use Rattle.oz_kept.specs.laws.Deleted.{front_legal, enabled_at}
 use Rattle.oz_kept.specs.laws.Granted.{IsGrantedTo, one_id, was_nowhere, granted_to_script, one_ask_id, fits_at}
 

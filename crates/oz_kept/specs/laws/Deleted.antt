@@ -1,5 +1,5 @@
 -- Blocks that are being deleted.
-use Rattle.std.proofs.Common.{◌≡◌, ⊎_elim, ◌⊎◌, ℕ, zero, suc, ◌+◌, ◌-◌, ◌<◌, ◌≤◌, Bool, true, false, ◌&&◌, ◌||◌, ◌==◌, min, List, [], ◌∷◌, ◌++◌, length, take, drop, map, get_or, Option, None, Some, Contains, cond, inl, inr, refl, sym, ◌∙◌, ap, subst, append-nil, arith}
+use Rattle.std.proofs.Common.{◌≡◌, ⊎_elim, ◌⊎◌, ℕ, zero, suc, ◌<◌, ◌≤◌, Bool, true, false, ◌&&◌, ◌||◌, ◌==◌, List, [], ◌∷◌, ◌++◌, length, take, drop, map, Option, None, Some, Contains, cond, inl, inr, refl, sym, ◌∙◌, ap, subst, append-nil, arith}
 use Rattle.std.proofs.lemmas.Bool.{eq-eqb}
 use Rattle.std.proofs.lemmas.List.{take-append-drop}
 use Rattle.std.proofs.lemmas.List.Sums.{fold_push}
@@ -17,9 +17,9 @@ use Rattle.oz_core.specs.declared.opening.Opening.{Opening}
 use Rattle.oz_core.specs.declared.opening.Unretired.{Unretired}
 use Rattle.oz_core.specs.Coherent.{LogIsCoherent}
 use Rattle.oz_core.specs.Law.{IsLegal, IsLegalFrom, IsEnabled, KindIsEnabled, PurgeAskIsEnabled, LogIsEnabled, DeleteIsEnabled, IsPurged}
-use Rattle.oz_core.specs.Manager.{IsUsed, IsUsedAndKept, WasUsed, kept_block, granted_block, durable_index, last_index, stable_index, kept_namespace, kept_up_to, namespace_from, namespace_of, namespace_at}
+use Rattle.oz_core.specs.Manager.{IsUsed, IsUsedAndKept, WasUsed, kept_block, durable_index, last_index, stable_index, kept_namespace, kept_up_to, namespace_from, namespace_of, namespace_at}
 use Rattle.oz_core.specs.Nodes.{holds}
-use Rattle.oz_core.specs.Scm.{logs, logged, is_logged_at_opening, is_in_logs, names_block}
+use Rattle.oz_core.specs.Scm.{logged, is_logged_at_opening, names_block}
 use Rattle.oz_core.specs.Stories.{all_told, newer}
 use Rattle.oz_kept.specs.Purges.{IsPurgeAt}
 use Rattle.oz_kept.specs.laws.Places.{legal_behind, legal_first, legal_rest, moved_over}
@@ -216,7 +216,7 @@ passed p (y ∷ l) x among = by (p y) refl (passed p l x)
         (first_or_later y x (filter p l) (subst (λ (t : Bool). Contains (cond t (y ∷ filter p l) (filter p l)) x) e among))
     by false e rest = later (rest (subst (λ (t : Bool). Contains (cond t (y ∷ filter p l) (filter p l)) x) e among))
 
-one_passes : {A : Type 0} (p : A → Bool) (l : List A) (x : A) → Contains l x → p x ≡ true → list_any p l ≡ true
+pub one_passes : {A : Type 0} (p : A → Bool) (l : List A) (x : A) → Contains l x → p x ≡ true → list_any p l ≡ true
 one_passes p [] x among is = absurd (omega (arith, among.1))
 one_passes p (y ∷ l) x among is = ⊎_elim
     (λ same. ap (λ (t : Bool). t || list_any p l) (ap p same ∙ is))

@@ -1,9 +1,9 @@
 -- What a stop would leave of the namespace is what a front of the story made.
-use Rattle.std.proofs.Common.{◌≡◌, ◌≢◌, ⊎_elim, ◌⊎◌, ℕ, zero, suc, ◌+◌, ◌<◌, ◌≤◌, Bool, true, false, List, [], ◌∷◌, ◌++◌, length, take, Option, None, Some, cond, inl, inr, refl, sym, ◌∙◌, ap, subst, append-nil, arith}
+use Rattle.std.proofs.Common.{◌≡◌, ◌≢◌, ⊎_elim, ◌⊎◌, ℕ, suc, ◌<◌, ◌≤◌, Bool, true, false, List, [], ◌∷◌, ◌++◌, length, take, Option, None, cond, inl, inr, refl, sym, ◌∙◌, ap, subst, append-nil, arith}
 use Rattle.std.proofs.lemmas.Bool.{cases_lt, lt-leb, le-leb}
 use Rattle.std.proofs.lemmas.List.Sums.{fold_push}
 use Rattle.std.specs.Prelude.{nat_le}
-use Rattle.std.specs.List.{filter_map, cons_option}
+use Rattle.std.specs.List.{cons_option}
 use Rattle.oz_fields.specs.declared.block.Block.{Block}
 use Rattle.oz_namespace.specs.declared.namespace.Namespace.{Namespace}
 use Rattle.oz_requests.specs.declared.request.AskId.{AskId}
@@ -17,7 +17,7 @@ use Rattle.oz_core.specs.declared.event.EventKind.{EventKind}
 use Rattle.oz_core.specs.declared.event.EventKind.TheVariants.{Decide}
 use Rattle.oz_core.specs.declared.opening.Opening.{Opening}
 use Rattle.oz_core.specs.Asks.{pending}
-use Rattle.oz_core.specs.Law.{IsLegalFrom, IsEnabled, KindIsEnabled, DecideIsEnabled}
+use Rattle.oz_core.specs.Law.{IsLegalFrom, KindIsEnabled, DecideIsEnabled}
 use Rattle.oz_core.specs.Manager.{last_index, decided_index, namespace_step, namespace_after, namespace_from, namespace_of, kept_block, granted_block, granted_by}
 use Rattle.oz_core.specs.Stories.{all_told, newer}
 use Rattle.oz_kept.specs.laws.Places.{moved_over, legal_first, legal_rest, namespace_next, namespace_parts}

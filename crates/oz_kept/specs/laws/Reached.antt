@@ -1,12 +1,11 @@
 -- Blocks that left reach.
-use Rattle.std.proofs.Common.{◌≡◌, ⊎_elim, ℕ, zero, suc, ◌<◌, ◌≤◌, ◌-◌, Bool, true, List, [], ◌∷◌, ◌++◌, take, drop, Option, None, Some, Contains, inl, inr, refl, sym, ◌∙◌, ap, subst, append-nil, arith}
+use Rattle.std.proofs.Common.{◌≡◌, ⊎_elim, ℕ, zero, suc, ◌≤◌, ◌-◌, true, List, [], ◌∷◌, ◌++◌, take, drop, Option, Contains, inl, inr, sym, ap, subst, append-nil, arith}
 use Rattle.std.proofs.lemmas.List.{take-append-drop}
 use Rattle.std.proofs.lemmas.List.Elements.{Contains-append_left, Contains-push_cases, filter_map-append}
 use Rattle.oz_fields.specs.declared.block.Block.{Block}
 use Rattle.oz_namespace.specs.declared.namespace.Namespace.{Namespace}
 use Rattle.oz_requests.specs.declared.reply.Reply.{Reply}
 use Rattle.oz_requests.specs.declared.reply.Reply.TheVariants as replies
-use Rattle.oz_requests.specs.declared.request.AskId.{AskId}
 use Rattle.oz_requests.specs.declared.request.Request.{Request}
 use Rattle.oz_requests.specs.declared.request.Request.TheVariants.{AllocateBlock}
 use Rattle.oz_requests.specs.Names.{volume_in}
@@ -22,7 +21,7 @@ use Rattle.oz_core.specs.declared.event.EventKind.{EventKind}
 use Rattle.oz_core.specs.declared.event.EventKind.TheVariants.{Decide}
 use Rattle.oz_core.specs.declared.opening.Opening.{Opening}
 use Rattle.oz_core.specs.Asks.{pending}
-use Rattle.oz_core.specs.Law.{IsLegal, IsLegalFrom, IsEnabled, KindIsEnabled, DecideIsEnabled, GrantIsAllowed}
+use Rattle.oz_core.specs.Law.{IsLegal, IsLegalFrom, KindIsEnabled, GrantIsAllowed}
 use Rattle.oz_core.specs.Manager.{IsUsed, granted_block, namespace_step, namespace_after, namespace_of, namespace_at}
 use Rattle.oz_core.specs.Stories.{all_told}
 use Rattle.oz_kept.specs.laws.Places.{moved_over, legal_behind, legal_first, legal_rest, namespace_next, later_front}

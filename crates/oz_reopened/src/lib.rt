@@ -1,0 +1,8 @@
+//! What a stop leaves of a legal story is an opening whose parts agree: laws on the definitions alone.
+#![tactic(auto)]
+
+mod laws;
+
+pub use laws::{
+    what_a_stop_leaves_deletes_nothing_that_is_reached, what_a_stop_leaves_has_fresh_ids,
+};

@@ -2,4 +2,6 @@
 pub mod Rising
 pub mod Named
 pub mod Logged
+pub mod Placed
+pub mod Given
 pub mod Reopened

@@ -1,13 +1,18 @@
 //! What holds of all that legal stories leave.
 
-ghost use Rattle.std.specs.Prelude.{◌≡◌, ℕ, List, take};
+ghost use Rattle.std.specs.Prelude.{◌≡◌, ℕ, true, List, [], IsSome, Contains, take};
+ghost use Rattle.std.specs.FinMap.{get};
+ghost use Rattle.oz_fields.specs.declared.block.Block.{Block as AnyBlock};
 ghost use Rattle.oz_lines.specs.declared.script.Script.{Script as AnyScript};
 ghost use Rattle.oz_core.specs.declared.event.Event.{Event as AnyEvent};
 ghost use Rattle.oz_core.specs.declared.opening.Opening.{Opening as AnyOpening};
-ghost use Rattle.oz_core.specs.Coherent.{IsCoherent, IdsAreFresh, LogIsCoherent};
+ghost use Rattle.oz_core.specs.Coherent.{IsCoherent, IdsAreFresh, IsOnDisk, LogIsCoherent};
 ghost use Rattle.oz_core.specs.Contents.{OpeningBytes};
 ghost use Rattle.oz_core.specs.Fits.{Fits};
 ghost use Rattle.oz_core.specs.Law.{IsLegal};
+ghost use Rattle.oz_core.specs.Nodes.{was_held};
+ghost use Rattle.oz_core.specs.Scm.{members};
+ghost use Rattle.oz_kept.specs.Held.{LinesAreApart};
 ghost use Rattle.oz_reopened.specs.Left.{IsLeft};
 
 /// No id that is on a disk after a stop at any place is granted again: the next id is above all that the manager's disk
@@ -25,4 +30,33 @@ pub fn what_a_stop_leaves_deletes_nothing_that_is_reached()
         (place most : ℕ) (left : AnyOpening) (given : OpeningBytes) →
         IsCoherent opening bytes → IsLegal opening story → Fits opening bytes script story →
         IsLeft opening bytes script (take place story) most left given → LogIsCoherent left }
+{}
+
+/// Each block that is on a disk after a stop at any place lies in a container that was made, and on its members alone.
+pub fn what_a_stop_leaves_is_placed()
+    ensures made { (opening : AnyOpening) (bytes : OpeningBytes) (script : AnyScript) (story : List AnyEvent)
+        (place most : ℕ) (left : AnyOpening) (given : OpeningBytes) (block : AnyBlock) →
+        IsCoherent opening bytes → IsLegal opening story → Fits opening bytes script story →
+        IsLeft opening bytes script (take place story) most left given →
+        IsOnDisk left block → IsSome (get left.containers block.container) }
+    ensures placed { (opening : AnyOpening) (bytes : OpeningBytes) (script : AnyScript) (story : List AnyEvent)
+        (place most : ℕ) (left : AnyOpening) (given : OpeningBytes) (block : AnyBlock) (dn : ℕ) →
+        IsCoherent opening bytes → IsLegal opening story → Fits opening bytes script story →
+        IsLeft opening bytes script (take place story) most left given →
+        was_held left dn block ≡ true → Contains (members left [] block.container) dn }
+{}
+
+/// Each datanode gives back the blocks that it holds after a stop at any place, with the digests that were kept, and all
+/// of them give the same bytes of a block, where no two lines of the script have one client and one number.
+pub fn what_a_stop_leaves_is_alike()
+    ensures digests_match { (opening : AnyOpening) (bytes : OpeningBytes) (script : AnyScript) (story : List AnyEvent)
+        (place most : ℕ) (left : AnyOpening) (given : OpeningBytes) (block : AnyBlock) (dn : ℕ) →
+        IsCoherent opening bytes → LinesAreApart script → IsLegal opening story → Fits opening bytes script story →
+        IsLeft opening bytes script (take place story) most left given →
+        was_held left dn block ≡ true → IsSome (given dn block) }
+    ensures alike { (opening : AnyOpening) (bytes : OpeningBytes) (script : AnyScript) (story : List AnyEvent)
+        (place most : ℕ) (left : AnyOpening) (given : OpeningBytes) (block : AnyBlock) (dn other : ℕ) →
+        IsCoherent opening bytes → LinesAreApart script → IsLegal opening story → Fits opening bytes script story →
+        IsLeft opening bytes script (take place story) most left given →
+        was_held left dn block ≡ true → was_held left other block ≡ true → given dn block ≡ given other block }
 {}

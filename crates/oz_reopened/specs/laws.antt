@@ -4,4 +4,7 @@ pub mod Named
 pub mod Logged
 pub mod Placed
 pub mod Given
+pub mod Pieces
+pub mod Committed
+pub mod Whole
 pub mod Reopened

@@ -46,17 +46,11 @@ pub fn what_a_stop_leaves_is_placed()
         was_held left dn block ≡ true → Contains (members left [] block.container) dn }
 {}
 
-/// Each datanode gives back the blocks that it holds after a stop at any place, with the digests that were kept, and all
-/// of them give the same bytes of a block, where no two lines of the script have one client and one number.
-pub fn what_a_stop_leaves_is_alike()
-    ensures digests_match { (opening : AnyOpening) (bytes : OpeningBytes) (script : AnyScript) (story : List AnyEvent)
-        (place most : ℕ) (left : AnyOpening) (given : OpeningBytes) (block : AnyBlock) (dn : ℕ) →
+/// What a stop at any place leaves is a coherent opening, with the manager at any index from the stable one to the last
+/// that was decided, where no two lines of the script have one client and one number.
+pub fn what_a_stop_leaves_is_coherent()
+    ensures { (opening : AnyOpening) (bytes : OpeningBytes) (script : AnyScript) (story : List AnyEvent)
+        (place most : ℕ) (left : AnyOpening) (given : OpeningBytes) →
         IsCoherent opening bytes → LinesAreApart script → IsLegal opening story → Fits opening bytes script story →
-        IsLeft opening bytes script (take place story) most left given →
-        was_held left dn block ≡ true → IsSome (given dn block) }
-    ensures alike { (opening : AnyOpening) (bytes : OpeningBytes) (script : AnyScript) (story : List AnyEvent)
-        (place most : ℕ) (left : AnyOpening) (given : OpeningBytes) (block : AnyBlock) (dn other : ℕ) →
-        IsCoherent opening bytes → LinesAreApart script → IsLegal opening story → Fits opening bytes script story →
-        IsLeft opening bytes script (take place story) most left given →
-        was_held left dn block ≡ true → was_held left other block ≡ true → given dn block ≡ given other block }
+        IsLeft opening bytes script (take place story) most left given → IsCoherent left given }
 {}

@@ -87,7 +87,7 @@ one_grant opening story legal block id other before another a b =
 
 -- ---- a content stays one
 
-granted_still : (story : List Event) (event : Event) (id : AskId) (block : Block) (before : List Event) → asks id event.kind ≡ false → WasGranted story id block before → WasGranted (story ++ event ∷ []) id block before
+pub granted_still : (story : List Event) (event : Event) (id : AskId) (block : Block) (before : List Event) → asks id event.kind ≡ false → WasGranted story id block before → WasGranted (story ++ event ∷ []) id block before
 granted_still story event id block before away granted = record {
   behind = granted.behind ++ event ∷ [];
   asker = granted.asker;
@@ -103,7 +103,7 @@ granted_still story event id block before away granted = record {
 }
 
 -- nothing that was granted is asked again
-unasked_again : (opening : Opening) (bytes : OpeningBytes) (script : Script) (story : List Event) (legal : IsLegal opening story) → FitsFrom opening bytes script [] story
+pub unasked_again : (opening : Opening) (bytes : OpeningBytes) (script : Script) (story : List Event) (legal : IsLegal opening story) → FitsFrom opening bytes script [] story
     → (seat : ℕ) (kind : EventKind) → KindIsEnabled opening story seat kind → (id : AskId) (block : Block) (before : List Event) → WasGranted story id block before → asks id kind ≡ false
 unasked_again opening bytes script story legal fits seat (Ask other request) enabled id block before granted = by (is_id id other) refl
   where
@@ -247,7 +247,7 @@ module _ (opening : Opening) (bytes : OpeningBytes) (script : Script) (coherent 
 
 -- ---- at each place
 
-front_ends : {A : Type 0} (l : List A) (n : ℕ) → slice_get l n ≡ None → take (suc n) l ≡ take n l
+pub front_ends : {A : Type 0} (l : List A) (n : ℕ) → slice_get l n ≡ None → take (suc n) l ≡ take n l
 front_ends [] zero e = refl
 front_ends [] (suc n) e = refl
 front_ends (x ∷ l) zero e = absurd cc
@@ -334,7 +334,7 @@ holder_got opening story block dn held = held_from (logs opening story) dn block
 
 -- ---- a block has one content
 
-same_line : (script : Script) → LinesAreApart script → (client number : ℕ) (one other : Line) → IsLineOf script client number one → IsLineOf script client number other → one ≡ other
+pub same_line : (script : Script) → LinesAreApart script → (client number : ℕ) (one other : Line) → IsLineOf script client number one → IsLineOf script client number other → one ≡ other
 same_line script apart client number one other a b = apart one other a.there b.there (a.of_client ∙ sym b.of_client) (a.of_number ∙ sym b.of_number)
 
 some_bytes : (a b : List ℕ) → Some a ≡ Some b → a ≡ b

@@ -162,11 +162,11 @@ module _ (opening : Opening) (story : List Event) (legal : IsLegal opening story
 -- ---- by an ask of a line
 
 -- what is pending was asked
-record WasAsked (id : AskId) (request : Request) (story : List Event) : Type 0 where
-  seat : ℕ
-  other : AskId
-  there : Contains story (record { seat = seat; kind = Ask other request })
-  same : is_id id other ≡ true
+pub record WasAsked (id : AskId) (request : Request) (story : List Event) : Type 0 where
+  pub seat : ℕ
+  pub other : AskId
+  pub there : Contains story (record { seat = seat; kind = Ask other request })
+  pub same : is_id id other ≡ true
 
 asked_behind : (id : AskId) (request : Request) (first : Event) (story : List Event) → WasAsked id request story → WasAsked id request (first ∷ story)
 asked_behind id request first story asked =
@@ -203,7 +203,7 @@ pending_from id request (first ∷ story) before e = ⊎_elim
     (λ later. inr (asked_behind id request first story later))
     (pending_from id request story (pending_after id before first.kind) e)
 
-pending_asked : (id : AskId) (request : Request) (story : List Event) → pending id story ≡ Some request → WasAsked id request story
+pub pending_asked : (id : AskId) (request : Request) (story : List Event) → pending id story ≡ Some request → WasAsked id request story
 pending_asked id request story e = ⊎_elim (λ none. absurd cc) (λ asked. asked) (pending_from id request story None e)
 
 pub one_ask_id : (id other : AskId) → is_id id other ≡ true → id ≡ other

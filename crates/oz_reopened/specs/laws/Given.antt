@@ -1,5 +1,5 @@
 -- What a datanode was given of a block is the block's content.
-use Rattle.std.proofs.Common.{◌≡◌, ⊎_elim, ◌⊎◌, ℕ, ◌+◌, ◌<◌, ◌≤◌, ◌==◌, Bool, true, false, ◌&&◌, List, [], ◌∷◌, ◌++◌, length, Option, None, Some, IsSome, Contains, inl, inr, refl, sym, ◌∙◌, ap, subst}
+use Rattle.std.proofs.Common.{◌≡◌, ℕ, ◌==◌, Bool, true, false, ◌&&◌, List, [], ◌∷◌, Some, sym, ◌∙◌, ap, subst}
 use Rattle.std.specs.Prelude.{MatchBool}
 use Rattle.oz_command.specs.Payload.{bytes_from}
 use Rattle.oz_fields.specs.declared.block.Block.{Block}
@@ -20,7 +20,7 @@ use Rattle.oz_kept.specs.laws.Contents.{one_content}
 use Rattle.oz_reopened.specs.Left.{GivesBack}
 use Rattle.oz_reopened.specs.laws.Named.{held_content}
 
-some_bytes : (a b : List ℕ) → Some a ≡ Some b → a ≡ b
+pub some_bytes : (a b : List ℕ) → Some a ≡ Some b → a ≡ b
 some_bytes a b e = cc
 
 one_put : (script : Script) → LinesAreApart script → (id : AskId) (first count : ℕ) (a b : List ℕ) → ArePut script id first count a → ArePut script id first count b → a ≡ b

@@ -1,10 +1,9 @@
 -- Each block that a stop leaves lies in a container that was made, on its members.
-use Rattle.std.proofs.Common.{◌≡◌, ⊎_elim, ◌⊎◌, ℕ, zero, suc, ◌+◌, ◌<◌, ◌≤◌, ◌==◌, Bool, true, false, ◌&&◌, ◌||◌, List, [], ◌∷◌, ◌++◌, length, take, drop, Option, None, Some, IsSome, Contains, cond, inl, inr, refl, sym, ◌∙◌, ap, subst, arith}
+use Rattle.std.proofs.Common.{◌≡◌, ⊎_elim, ◌⊎◌, ℕ, suc, ◌==◌, Bool, true, false, ◌||◌, List, [], ◌∷◌, length, take, drop, Option, None, Some, IsSome, Contains, inl, inr, refl, sym, ◌∙◌, ap, subst, arith}
 use mathlib.Core.Bool.{false≢true}
 use Rattle.std.proofs.lemmas.Bool.{eqb-true, and_parts}
 use Rattle.std.proofs.lemmas.List.{take-append-drop}
 use Rattle.std.specs.FinMap.{get}
-use Rattle.std.specs.List.{slice_get}
 use Rattle.std.specs.Option.{option_map_or}
 use Rattle.oz_fields.specs.declared.block.Block.{Block}
 use Rattle.oz_nodes.specs.Pipelines.{members_of}
@@ -13,17 +12,17 @@ use Rattle.oz_core.specs.declared.event.EventKind.{EventKind}
 use Rattle.oz_core.specs.declared.event.EventKind.TheVariants.{Put, Copy}
 use Rattle.oz_core.specs.declared.opening.Container.{Container}
 use Rattle.oz_core.specs.declared.opening.Opening.{Opening}
-use Rattle.oz_core.specs.Coherent.{IsCoherent, BlocksAreCoherent, IsOnDisk}
+use Rattle.oz_core.specs.Coherent.{BlocksAreCoherent}
 use Rattle.oz_core.specs.Contents.{OpeningBytes, WasThere}
-use Rattle.oz_core.specs.Law.{IsLegal, KindIsEnabled, PutIsEnabled, CopyIsEnabled, puts_or_copies}
-use Rattle.oz_core.specs.Nodes.{is_block, was_held, holds}
+use Rattle.oz_core.specs.Law.{IsLegal, KindIsEnabled, puts_or_copies}
+use Rattle.oz_core.specs.Nodes.{is_block, holds}
 use Rattle.oz_core.specs.Scm.{Containers, containers, members}
 use Rattle.oz_core.specs.Stories.{has_event}
 use Rattle.oz_kept.specs.laws.Deleted.{found_at, enabled_at}
-use Rattle.oz_kept.specs.laws.Contents.{one_block, holder_got, GotIt}
+use Rattle.oz_kept.specs.laws.Contents.{one_block, holder_got}
 use Rattle.oz_reopened.specs.Left.{IsOfManager, IsLeftByScm}
 use Rattle.oz_reopened.specs.laws.Named.{WasGrantedIn, kept_grant, granted_on}
-use Rattle.oz_reopened.specs.laws.Rising.{IsOn, stays_on, member_stays}
+use Rattle.oz_reopened.specs.laws.Rising.{stays_on, member_stays}
 
 -- ---- containers that were made
 

@@ -1,5 +1,5 @@
 -- What a stop leaves is an opening whose parts agree.
-use Rattle.std.proofs.Common.{◌≡◌, ⊎_elim, ◌⊎◌, ℕ, ◌<◌, Bool, true, List, [], take, drop, Option, Some, IsSome, Contains, inl, inr, refl, sym, ◌∙◌, subst}
+use Rattle.std.proofs.Common.{◌≡◌, ⊎_elim, ◌⊎◌, ℕ, ◌<◌, true, List, [], take, drop, Option, Some, IsSome, Contains, inl, inr, refl, sym, ◌∙◌, subst}
 use Rattle.std.proofs.lemmas.List.{take-append-drop}
 use Rattle.std.specs.FinMap.{get}
 use Rattle.oz_fields.specs.declared.block.Block.{Block}
@@ -7,8 +7,8 @@ use Rattle.oz_lines.specs.declared.script.Script.{Script}
 use Rattle.oz_model.specs.Reach.{IsReached}
 use Rattle.oz_core.specs.declared.event.Event.{Event}
 use Rattle.oz_core.specs.declared.opening.Opening.{Opening}
-use Rattle.oz_core.specs.Coherent.{IsCoherent, IdsAreFresh, LogIsCoherent, IsOnDisk}
-use Rattle.oz_core.specs.Contents.{OpeningBytes}
+use Rattle.oz_core.specs.Coherent.{IsCoherent, IdsAreFresh, LogIsCoherent, BlocksAreCoherent, IsOnDisk}
+use Rattle.oz_core.specs.Contents.{OpeningBytes, HasContent}
 use Rattle.oz_core.specs.Fits.{Fits, FitsFrom}
 use Rattle.oz_core.specs.Law.{IsLegal}
 use Rattle.oz_core.specs.Nodes.{was_held, holds}
@@ -16,7 +16,8 @@ use Rattle.oz_core.specs.Scm.{next_id, Containers, members}
 use Rattle.oz_kept.specs.Held.{LinesAreApart}
 use Rattle.oz_kept.specs.laws.Contents.{fits_to}
 use Rattle.oz_reopened.specs.Left.{IsLeft}
-use Rattle.oz_reopened.specs.laws.Given.{give_alike}
+use Rattle.oz_reopened.specs.laws.Given.{give_alike, gives_content, some_bytes}
+use Rattle.oz_reopened.specs.laws.Whole.{left_whole}
 use Rattle.oz_reopened.specs.laws.Placed.{of_manager_made, held_made, held_by_member, members_left}
 use Rattle.oz_reopened.specs.laws.Logged.{going_away, going_below, left_going}
 use Rattle.oz_reopened.specs.laws.Named.{of_manager, of_manager_below, held_from, held_below}
@@ -83,3 +84,20 @@ module _ (opening : Opening) (bytes : OpeningBytes) (script : Script) (story : L
     where
       some_given : (o : Option (List ℕ)) (content : List ℕ) → o ≡ Some content → IsSome o
       some_given o content e = subst IsSome (sym e) refl
+
+  pub blocks_stay : LinesAreApart script → BlocksAreCoherent left given
+  blocks_stay apart = record {
+    made = placed_well.made;
+    placed = placed_well.placed;
+    digests_match = (given_alike apart).digests_match;
+    alike = (given_alike apart).alike;
+    whole = λ piece dn content has held gives.
+        let back = (is.node dn).has piece.block (held_here piece.block dn held) in
+        let same = some_bytes back.content content (sym back.gives ∙ gives) in
+        left_whole opening bytes script story most left coherent apart legal fits is.manager piece content has
+        (subst (HasContent opening bytes script story piece.block) same
+        (gives_content opening bytes script story coherent apart legal fits given piece.block dn (held_here piece.block dn held) back));
+  }
+
+  pub stays_coherent : LinesAreApart script → IsCoherent left given
+  stays_coherent apart = record { log = log_stays; blocks = blocks_stay apart; fresh = fresh_ids }

@@ -50,6 +50,12 @@ abbrev pub AreAcknowledgers : Opening → List Event → ℕ → List ℕ → Ty
 AreAcknowledgers opening story number found =
     (dn : ℕ) → Contains found dn ↔ Contains (acknowledgers opening story number) dn
 
+-- no two transactions of an opening have one number
+abbrev pub NumbersAreApart : Opening → Type 0
+NumbersAreApart opening =
+    (one other : Unretired) → Contains opening.unretired one → Contains opening.unretired other
+    → one.txn.number ≡ other.txn.number → one ≡ other
+
 -- a transaction stands in the log with its acknowledgers
 pub record StandsInLog (opening : Opening) (story : List Event) (left : Opening) (txn : Txn) : Type 0 where
   pub acknowledged : List ℕ

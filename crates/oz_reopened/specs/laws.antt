@@ -8,3 +8,4 @@ pub mod Pieces
 pub mod Committed
 pub mod Whole
 pub mod Reopened
+pub mod Start

@@ -13,7 +13,7 @@ ghost use Rattle.oz_core.specs.Law.{IsLegal};
 ghost use Rattle.oz_core.specs.Nodes.{was_held};
 ghost use Rattle.oz_core.specs.Scm.{members};
 ghost use Rattle.oz_kept.specs.Held.{LinesAreApart};
-ghost use Rattle.oz_reopened.specs.Left.{IsLeft};
+ghost use Rattle.oz_reopened.specs.Left.{IsLeft, NumbersAreApart};
 
 /// No id that is on a disk after a stop at any place is granted again: the next id is above all that the manager's disk
 /// names, at any index that it may have come to, and above all that the datanodes hold.
@@ -53,4 +53,11 @@ pub fn what_a_stop_leaves_is_coherent()
         (place most : ℕ) (left : AnyOpening) (given : OpeningBytes) →
         IsCoherent opening bytes → LinesAreApart script → IsLegal opening story → Fits opening bytes script story →
         IsLeft opening bytes script (take place story) most left given → IsCoherent left given }
+{}
+
+/// A coherent opening is what the empty story leaves of it, where no two transactions of its log have one number.
+pub fn the_empty_story_leaves_its_opening()
+    ensures { (opening : AnyOpening) (bytes : OpeningBytes) (script : AnyScript) →
+        IsCoherent opening bytes → NumbersAreApart opening →
+        IsLeft opening bytes script [] opening.last_index opening bytes }
 {}

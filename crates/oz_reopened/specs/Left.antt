@@ -110,8 +110,8 @@ pub record GivesBack (opening : Opening) (bytes : OpeningBytes) (script : Script
   pub has : HasBytes opening bytes script story block dn content
   pub gives : given dn block ≡ Some content
 
--- Its disks have the blocks that it holds, each with a length that was told of it and with its bytes, which replicas are
--- closed, and the greatest transactions.
+-- Its disks have the blocks that it holds, each with a length that was told of it and with its bytes. They have which
+-- replicas are closed, and the greatest transactions.
 pub record IsLeftByNode (opening : Opening) (bytes : OpeningBytes) (script : Script) (story : List Event) (dn : ℕ)
     (left : Opening) (given : OpeningBytes) : Type 0 where
   pub held : (block : Block) → was_held left dn block ≡ holds opening story dn block

@@ -1,5 +1,5 @@
 -- Which bytes a datanode has of a block: those that its disks had as the run began, or those that an event gave it last.
-use Rattle.std.specs.Prelude.{◌≡◌, ◌⊎◌, ℕ, Bool, true, ◌&&◌, ◌==◌, List, [], ◌∷◌, Some, MatchBool, Contains}
+use Rattle.std.specs.Prelude.{◌≡◌, ℕ, true, ◌&&◌, ◌==◌, List, [], ◌∷◌, Some, MatchBool, Contains}
 use Rattle.oz_command.specs.Payload.{bytes_from}
 use Rattle.oz_fields.specs.declared.block.Block.{Block}
 use Rattle.oz_requests.specs.declared.request.AskId.{AskId}

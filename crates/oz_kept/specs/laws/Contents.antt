@@ -1,5 +1,5 @@
 -- Whoever got a block has its content.
-use Rattle.std.proofs.Common.{◌≡◌, ⊎_elim, ◌⊎◌, ℕ, zero, suc, ◌+◌, ◌*◌, ◌-◌, ◌<◌, ◌≤◌, Bool, true, false, not, ◌&&◌, ◌||◌, ◌==◌, List, [], ◌∷◌, ◌++◌, length, take, drop, Option, None, Some, IsSome, Contains, cond, inl, inr, refl, sym, ◌∙◌, ap, subst, append-nil, append_assoc, arith}
+use Rattle.std.proofs.Common.{◌≡◌, ⊎_elim, ◌⊎◌, ℕ, zero, suc, ◌*◌, Bool, true, false, ◌&&◌, ◌||◌, ◌==◌, List, [], ◌∷◌, ◌++◌, length, take, drop, Option, None, Some, IsSome, Contains, cond, inl, inr, refl, sym, ◌∙◌, ap, subst, append_assoc}
 use mathlib.Core.Bool.{false≢true}
 use Rattle.std.proofs.lemmas.Bool.{eqb-true, eq-eqb, and_parts}
 use Rattle.std.proofs.lemmas.List.{take-append-drop}
@@ -21,20 +21,19 @@ use Rattle.oz_core.specs.declared.event.EventKind.TheVariants.{Ask, Decide, Put,
 use Rattle.oz_core.specs.declared.opening.Opening.{Opening}
 use Rattle.oz_core.specs.Asks.{is_id, is_script, is_asked, asks}
 use Rattle.oz_core.specs.Coherent.{IsCoherent}
-use Rattle.oz_core.specs.Contents.{OpeningBytes, HasContent, HadBytes, IsPieceOfLine, WasGranted, IsLineOf, WasThere, piece_number}
-use Rattle.oz_core.specs.Fits.{EventFits, FitsFrom, HasLength}
-use Rattle.oz_core.specs.Law.{IsLegal, IsLegalFrom, IsEnabled, KindIsEnabled, PutIsEnabled, CopyIsEnabled, puts_or_copies}
+use Rattle.oz_core.specs.Contents.{OpeningBytes, HasContent, WasGranted, IsLineOf, piece_number}
+use Rattle.oz_core.specs.Fits.{EventFits, FitsFrom}
+use Rattle.oz_core.specs.Law.{IsLegal, IsEnabled, KindIsEnabled, PutIsEnabled, CopyIsEnabled, puts_or_copies}
 use Rattle.oz_core.specs.Nodes.{is_block, was_held, holds, held_after, deletes}
 use Rattle.oz_core.specs.Scm.{logs}
 use Rattle.oz_core.specs.Stories.{has_event, last_told, newer}
 use Rattle.oz_kept.specs.Held.{LinesAreApart, Having, HadAtOpening, ArePut, HavingAfter, HavingFrom, HasBytes}
-use Rattle.oz_kept.specs.laws.Places.{moved_over, legal_first, legal_rest}
 use Rattle.oz_kept.specs.laws.Deleted.{front_legal, enabled_at}
 use Rattle.oz_kept.specs.laws.Granted.{IsGrantedTo, one_id, was_nowhere, granted_to_script, one_ask_id, fits_at}
 
 -- ---- grants, as those who wrote the block know them
 
-its_grant : (opening : Opening) (story : List Event) (legal : IsLegal opening story) (id : AskId) (block : Block) (before : List Event) → WasGranted story id block before → IsGrantedTo opening story legal block id
+pub its_grant : (opening : Opening) (story : List Event) (legal : IsLegal opening story) (id : AskId) (block : Block) (before : List Event) → WasGranted story id block before → IsGrantedTo opening story legal block id
 its_grant opening story legal id block before granted =
     let asked : Event = record { seat = granted.asker; kind = Ask id granted.request } in
     let decided : Event = record { seat = granted.stripe; kind = Decide id granted.index (replies.Granted block granted.pipeline) granted.batch } in
@@ -88,7 +87,7 @@ one_grant opening story legal block id other before another a b =
 
 -- ---- a content stays one
 
-granted_still : (story : List Event) (event : Event) (id : AskId) (block : Block) (before : List Event) → asks id event.kind ≡ false → WasGranted story id block before → WasGranted (story ++ event ∷ []) id block before
+pub granted_still : (story : List Event) (event : Event) (id : AskId) (block : Block) (before : List Event) → asks id event.kind ≡ false → WasGranted story id block before → WasGranted (story ++ event ∷ []) id block before
 granted_still story event id block before away granted = record {
   behind = granted.behind ++ event ∷ [];
   asker = granted.asker;
@@ -104,7 +103,7 @@ granted_still story event id block before away granted = record {
 }
 
 -- nothing that was granted is asked again
-unasked_again : (opening : Opening) (bytes : OpeningBytes) (script : Script) (story : List Event) (legal : IsLegal opening story) → FitsFrom opening bytes script [] story
+pub unasked_again : (opening : Opening) (bytes : OpeningBytes) (script : Script) (story : List Event) (legal : IsLegal opening story) → FitsFrom opening bytes script [] story
     → (seat : ℕ) (kind : EventKind) → KindIsEnabled opening story seat kind → (id : AskId) (block : Block) (before : List Event) → WasGranted story id block before → asks id kind ≡ false
 unasked_again opening bytes script story legal fits seat (Ask other request) enabled id block before granted = by (is_id id other) refl
   where
@@ -149,7 +148,7 @@ having_next script block start (first ∷ before) event dn content has = having_
 
 -- ---- what one event gives
 
-one_block : (block other : Block) → is_block block other ≡ true → block ≡ other
+pub one_block : (block other : Block) → is_block block other ≡ true → block ≡ other
 one_block block other e =
     let both = and_parts (other.container == block.container) (other.local == block.local) e in
     made (sym (eqb-true other.container block.container both.0)) (sym (eqb-true other.local block.local both.1))
@@ -248,18 +247,18 @@ module _ (opening : Opening) (bytes : OpeningBytes) (script : Script) (coherent 
 
 -- ---- at each place
 
-front_ends : {A : Type 0} (l : List A) (n : ℕ) → slice_get l n ≡ None → take (suc n) l ≡ take n l
+pub front_ends : {A : Type 0} (l : List A) (n : ℕ) → slice_get l n ≡ None → take (suc n) l ≡ take n l
 front_ends [] zero e = refl
 front_ends [] (suc n) e = refl
 front_ends (x ∷ l) zero e = absurd cc
 front_ends (x ∷ l) (suc n) e = ap (λ rest. x ∷ rest) (front_ends l n e)
 
-front_grows : {A : Type 0} (l : List A) (n : ℕ) (x : A) → slice_get l n ≡ Some x → take (suc n) l ≡ take n l ++ x ∷ []
+pub front_grows : {A : Type 0} (l : List A) (n : ℕ) (x : A) → slice_get l n ≡ Some x → take (suc n) l ≡ take n l ++ x ∷ []
 front_grows [] n x e = absurd cc
 front_grows (y ∷ l) zero x e = let same : y ≡ x = cc in ap (λ z. z ∷ []) same
 front_grows (y ∷ l) (suc n) x e = ap (λ rest. y ∷ rest) (front_grows l n x e)
 
-fits_to : (opening : Opening) (bytes : OpeningBytes) (script : Script) (before a b : List Event) → FitsFrom opening bytes script before (a ++ b) → FitsFrom opening bytes script before a
+pub fits_to : (opening : Opening) (bytes : OpeningBytes) (script : Script) (before a b : List Event) → FitsFrom opening bytes script before (a ++ b) → FitsFrom opening bytes script before a
 unfolding FitsFrom
 fits_to opening bytes script before [] b fits = tt
 fits_to opening bytes script before (event ∷ a) b fits = (fits.0, fits_to opening bytes script (before ++ event ∷ []) a b fits.1)
@@ -335,7 +334,7 @@ holder_got opening story block dn held = held_from (logs opening story) dn block
 
 -- ---- a block has one content
 
-same_line : (script : Script) → LinesAreApart script → (client number : ℕ) (one other : Line) → IsLineOf script client number one → IsLineOf script client number other → one ≡ other
+pub same_line : (script : Script) → LinesAreApart script → (client number : ℕ) (one other : Line) → IsLineOf script client number one → IsLineOf script client number other → one ≡ other
 same_line script apart client number one other a b = apart one other a.there b.there (a.of_client ∙ sym b.of_client) (a.of_number ∙ sym b.of_number)
 
 some_bytes : (a b : List ℕ) → Some a ≡ Some b → a ≡ b

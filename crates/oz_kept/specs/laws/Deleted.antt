@@ -2,6 +2,7 @@
 use Rattle.std.proofs.Common.{◌≡◌, ⊎_elim, ◌⊎◌, ℕ, zero, suc, ◌<◌, ◌≤◌, Bool, true, false, ◌&&◌, ◌||◌, ◌==◌, List, [], ◌∷◌, ◌++◌, length, take, drop, map, Option, None, Some, Contains, cond, inl, inr, refl, sym, ◌∙◌, ap, subst, append-nil, arith}
 use Rattle.std.proofs.lemmas.Bool.{eq-eqb}
 use Rattle.std.proofs.lemmas.List.{take-append-drop}
+use Rattle.std.proofs.lemmas.List.Sums.{fold_push}
 use Rattle.std.proofs.lemmas.List.Elements.{All-contains, Contains-append_cases}
 use Rattle.std.proofs.lemmas.Option.{slice_get_within}
 use Rattle.std.specs.List.{slice_get, filter, list_any, cons_option}
@@ -11,19 +12,19 @@ use Rattle.oz_namespace.specs.declared.namespace.Namespace.{Namespace}
 use Rattle.oz_model.specs.Reach.{IsReached}
 use Rattle.oz_core.specs.declared.event.Event.{Event}
 use Rattle.oz_core.specs.declared.event.EventKind.{EventKind}
-use Rattle.oz_core.specs.declared.event.EventKind.TheVariants.{PurgeAsk, Log, Delete}
+use Rattle.oz_core.specs.declared.event.EventKind.TheVariants.{PurgeAsk, Log, Delete, Flushed}
 use Rattle.oz_core.specs.declared.opening.Opening.{Opening}
 use Rattle.oz_core.specs.declared.opening.Unretired.{Unretired}
 use Rattle.oz_core.specs.Coherent.{LogIsCoherent}
-use Rattle.oz_core.specs.Law.{IsLegal, IsLegalFrom, IsEnabled, PurgeAskIsEnabled, LogIsEnabled, DeleteIsEnabled, IsPurged}
-use Rattle.oz_core.specs.Manager.{IsUsed, IsUsedAndKept, WasUsed, kept_block, durable_index, kept_namespace, namespace_from, namespace_of, namespace_at}
+use Rattle.oz_core.specs.Law.{IsLegal, IsLegalFrom, IsEnabled, KindIsEnabled, PurgeAskIsEnabled, LogIsEnabled, DeleteIsEnabled, IsPurged}
+use Rattle.oz_core.specs.Manager.{IsUsed, IsUsedAndKept, WasUsed, kept_block, durable_index, last_index, stable_index, kept_namespace, kept_up_to, namespace_from, namespace_of, namespace_at}
 use Rattle.oz_core.specs.Nodes.{holds}
 use Rattle.oz_core.specs.Scm.{logged, is_logged_at_opening, names_block}
-use Rattle.oz_core.specs.Stories.{all_told}
+use Rattle.oz_core.specs.Stories.{all_told, newer}
 use Rattle.oz_kept.specs.Purges.{IsPurgeAt, WasLetGo}
-use Rattle.oz_kept.specs.laws.Places.{legal_behind, legal_first}
-use Rattle.oz_kept.specs.laws.Reached.{never_back}
-use Rattle.oz_kept.specs.laws.Kept.{Front, front}
+use Rattle.oz_kept.specs.laws.Places.{legal_behind, legal_first, legal_rest, moved_over}
+use Rattle.oz_kept.specs.laws.Reached.{never_back, stays_away}
+use Rattle.oz_kept.specs.laws.Kept.{Front, front, front_behind}
 
 module _ {A : Type 0} where
   pub split_at : (l : List A) (k : ℕ) (x : A) → slice_get l k ≡ Some x → l ≡ take k l ++ x ∷ drop (suc k) l
@@ -92,6 +93,51 @@ purged_away opening story block place later legal purge le reached =
     (subst (λ (l : List Event). IsUsed opening l block) same used)
     (λ there. away (subst (λ (n : Namespace). IsReached n block) (sym kept.namespace) (subst (λ (l : List Event). IsReached (namespace_of opening l) block) (sym same) there)))
     reached
+
+durable_next : (opening : Opening) (before : List Event) (event : Event) → durable_index opening (before ++ event ∷ []) ≡ newer (stable_index event.kind) (durable_index opening before)
+durable_next opening before event = fold_push (λ told (event : Event). newer (stable_index event.kind) told) opening.last_index before event
+
+kind_durable : (opening : Opening) (before : List Event) (seat : ℕ) (kind : EventKind) → KindIsEnabled opening before seat kind → durable_index opening before ≤ newer (stable_index kind) (durable_index opening before)
+kind_durable opening before seat (Flushed index moment) enabled = omega (arith, enabled.unstable)
+kind_durable opening before seat kind enabled = omega arith
+
+-- what is stable stays so
+pub durable_rises : (opening : Opening) (rest before : List Event) → IsLegalFrom opening before rest → durable_index opening before ≤ durable_index opening (before ++ rest)
+durable_rises opening [] before legal = subst (λ (l : List Event). durable_index opening before ≤ durable_index opening l) (sym (append-nil before)) (omega arith)
+durable_rises opening (event ∷ rest) before legal =
+    let first = kind_durable opening before event.seat event.kind (legal_first opening before event rest legal) in
+    let later = durable_rises opening rest (before ++ event ∷ []) (legal_rest opening before event rest legal) in
+    subst (λ (l : List Event). durable_index opening before ≤ durable_index opening l) (moved_over before rest event) (omega (arith, first, later, durable_next opening before event))
+
+pub legal_parts : (opening : Opening) (story : List Event) (n : ℕ) → IsLegal opening story → IsLegalFrom opening (take n story) (drop n story)
+legal_parts opening story n legal = legal_behind opening [] (take n story) (drop n story) (subst (IsLegalFrom opening []) (sym (take-append-drop n story)) legal)
+
+pub durable_within : (opening : Opening) (story : List Event) (place : ℕ) → IsLegal opening story → durable_index opening (take place story) ≤ durable_index opening story
+durable_within opening story place legal =
+    subst (λ (l : List Event). durable_index opening (take place story) ≤ durable_index opening l) (take-append-drop place story)
+    (durable_rises opening (drop place story) (take place story) (legal_parts opening story place legal))
+
+-- nor does what a stop would leave at any index from the stable one on
+pub kept_away : (opening : Opening) (story : List Event) (block : Block) (place most : ℕ) → IsLegal opening story → IsPurgeAt story block place → durable_index opening story ≤ most
+    → IsReached (kept_up_to opening most story) block → ⊥
+unfolding namespace_from
+kept_away opening story block place most legal purge le reached =
+    let event : Event = record { seat = purge.seat; kind = PurgeAsk purge.blocks } in
+    let enabled : PurgeAskIsEnabled opening (take place story) purge.seat purge.blocks = enabled_at opening story legal place event purge.there in
+    let stable = durable_index opening (take place story) in
+    let kept = front opening (durable_index opening (take place story)) (take place story) [] (front_legal opening story legal place) in
+    let used = used_at_front opening stable (take place story) block kept (All-contains (IsUsedAndKept opening (take place story)) purge.blocks block enabled.used purge.among) in
+    let away = All-contains (λ block. IsReached (kept_namespace opening (take place story)) block → ⊥) purge.blocks block enabled.unreached purge.among in
+    let same = taken_twice story kept.size place kept.within in
+    let first = durable_rises opening (take place story) [] (front_legal opening story legal place) in
+    let index = subst (λ (l : List Event). last_index opening l ≤ stable) same (kept.index first) in
+    let behind = legal_parts opening story kept.size legal in
+    let within = durable_within opening story place legal in
+    let longer = front_behind opening most (take kept.size story) (drop kept.size story) behind (omega (arith, index, within, le)) (front_legal opening story legal kept.size) in
+    stays_away opening block (drop kept.size story) (take kept.size story) (front opening most (drop kept.size story) (take kept.size story) behind).size behind
+    (subst (λ (l : List Event). IsUsed opening l block) same used)
+    (λ there. away (subst (λ (n : Namespace). IsReached n block) (sym kept.namespace) (subst (λ (l : List Event). IsReached (namespace_of opening l) block) (sym same) there)))
+    (subst (λ (n : Namespace). IsReached n block) longer (subst (λ (l : List Event). IsReached (kept_up_to opening most l) block) (sym (take-append-drop kept.size story)) reached))
 
 -- a purged block of a front has its place in the story
 purge_of : (story : List Event) (place : ℕ) (block : Block) → IsPurged (take place story) block → (before : ℕ) × (before < place) × IsPurgeAt story block before
@@ -170,7 +216,7 @@ passed p (y ∷ l) x among = by (p y) refl (passed p l x)
         (first_or_later y x (filter p l) (subst (λ (t : Bool). Contains (cond t (y ∷ filter p l) (filter p l)) x) e among))
     by false e rest = later (rest (subst (λ (t : Bool). Contains (cond t (y ∷ filter p l) (filter p l)) x) e among))
 
-one_passes : {A : Type 0} (p : A → Bool) (l : List A) (x : A) → Contains l x → p x ≡ true → list_any p l ≡ true
+pub one_passes : {A : Type 0} (p : A → Bool) (l : List A) (x : A) → Contains l x → p x ≡ true → list_any p l ≡ true
 one_passes p [] x among is = absurd (omega (arith, among.1))
 one_passes p (y ∷ l) x among is = ⊎_elim
     (λ same. ap (λ (t : Bool). t || list_any p l) (ap p same ∙ is))

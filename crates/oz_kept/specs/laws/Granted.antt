@@ -1,11 +1,8 @@
 -- A block is granted once, to an ask of a line, and was on no disk before.
-use Rattle.std.proofs.Common.{◌≡◌, ◌≢◌, ⊎_elim, ◌⊎◌, ℕ, zero, suc, ◌+◌, ◌-◌, ◌<◌, ◌≤◌, Bool, true, false, not, ◌&&◌, ◌||◌, ◌==◌, List, [], ◌∷◌, ◌++◌, length, take, drop, Option, None, Some, Contains, cond, inl, inr, refl, sym, ◌∙◌, ap, subst, append-nil, arith}
-use mathlib.Core.Bool.{false≢true}
-use Rattle.std.proofs.lemmas.Bool.{cases_lt, eqb-true, eq-eqb, and_parts}
-use Rattle.std.proofs.lemmas.List.{take-append-drop}
+use Rattle.std.proofs.Common.{◌≡◌, ⊎_elim, ◌⊎◌, ℕ, zero, suc, ◌<◌, ◌≤◌, Bool, true, false, ◌&&◌, ◌==◌, List, [], ◌∷◌, ◌++◌, take, drop, Option, None, Some, Contains, cond, inl, inr, refl, sym, ◌∙◌, ap, subst, append-nil, arith}
+use Rattle.std.proofs.lemmas.Bool.{cases_lt, eqb-true, and_parts}
 use Rattle.std.proofs.lemmas.List.Sums.{fold_push}
-use Rattle.std.proofs.lemmas.Option.{slice_get_within}
-use Rattle.std.specs.List.{slice_get, cons_option, list_any, fold}
+use Rattle.std.specs.List.{slice_get, cons_option, fold}
 use Rattle.oz_fields.specs.declared.block.Block.{Block}
 use Rattle.oz_lines.specs.declared.script.Script.{Script}
 use Rattle.oz_namespace.specs.declared.namespace.Namespace.{Namespace}
@@ -18,7 +15,6 @@ use Rattle.oz_requests.specs.declared.request.Request.TheVariants.{AllocateBlock
 use Rattle.oz_requests.specs.Families.{family_of}
 use Rattle.oz_requests.specs.Names.{volume_in}
 use Rattle.oz_model.specs.Answers.{Answers}
-use Rattle.oz_model.specs.Buckets.{granted_by}
 use Rattle.oz_model.specs.Refusals.{refusal}
 use Rattle.oz_model.specs.Scope.{scope_of}
 use Rattle.oz_model.specs.laws.Grants.{grants_none}
@@ -26,11 +22,11 @@ use Rattle.oz_core.specs.declared.event.Event.{Event}
 use Rattle.oz_core.specs.declared.event.EventKind.{EventKind}
 use Rattle.oz_core.specs.declared.event.EventKind.TheVariants.{Ask, Decide, Grant}
 use Rattle.oz_core.specs.declared.opening.Opening.{Opening}
-use Rattle.oz_core.specs.Asks.{is_id, is_script, is_asked, asks, pending, pending_after}
+use Rattle.oz_core.specs.Asks.{is_id, is_script, pending, pending_after}
 use Rattle.oz_core.specs.Coherent.{IdsAreFresh}
 use Rattle.oz_core.specs.Contents.{OpeningBytes, WasThere}
 use Rattle.oz_core.specs.Fits.{EventFits, FitsFrom, ServiceAskFits}
-use Rattle.oz_core.specs.Law.{IsLegal, IsLegalFrom, IsEnabled, KindIsEnabled, DecideIsEnabled, GrantIsEnabled, GrantIsAllowed, MayBeGranted}
+use Rattle.oz_core.specs.Law.{IsLegal, IsLegalFrom, KindIsEnabled, DecideIsEnabled, GrantIsEnabled, GrantIsAllowed}
 use Rattle.oz_core.specs.Manager.{IsUsed, granted_block, namespace_of}
 use Rattle.oz_core.specs.Scm.{IsOfGrant, next_id, id_after}
 use Rattle.oz_core.specs.Stories.{all_told, newer}
@@ -145,6 +141,10 @@ module _ (opening : Opening) (story : List Event) (legal : IsLegal opening story
   asked_for : (family_of at_place.request ≡ Allocation) × ((stripe : ℕ) × IsOfGrant (take grant.there.0 story) stripe block grant.pipeline)
   asked_for = granted_request opening (take grant.there.0 story) (namespace_of opening (take grant.there.0 story)) at_place.request block grant.pipeline at_place.one_thread at_place.granted
 
+  -- a Grant that stands before has it
+  pub of_grant : (stripe : ℕ) × IsOfGrant (take grant.there.0 story) stripe block grant.pipeline
+  of_grant = asked_for.1
+
   pub no_lower : opening.next_id ≤ block.local
   no_lower =
       let front = take grant.there.0 story in
@@ -162,11 +162,11 @@ module _ (opening : Opening) (story : List Event) (legal : IsLegal opening story
 -- ---- by an ask of a line
 
 -- what is pending was asked
-record WasAsked (id : AskId) (request : Request) (story : List Event) : Type 0 where
-  seat : ℕ
-  other : AskId
-  there : Contains story (record { seat = seat; kind = Ask other request })
-  same : is_id id other ≡ true
+pub record WasAsked (id : AskId) (request : Request) (story : List Event) : Type 0 where
+  pub seat : ℕ
+  pub other : AskId
+  pub there : Contains story (record { seat = seat; kind = Ask other request })
+  pub same : is_id id other ≡ true
 
 asked_behind : (id : AskId) (request : Request) (first : Event) (story : List Event) → WasAsked id request story → WasAsked id request (first ∷ story)
 asked_behind id request first story asked =
@@ -203,7 +203,7 @@ pending_from id request (first ∷ story) before e = ⊎_elim
     (λ later. inr (asked_behind id request first story later))
     (pending_from id request story (pending_after id before first.kind) e)
 
-pending_asked : (id : AskId) (request : Request) (story : List Event) → pending id story ≡ Some request → WasAsked id request story
+pub pending_asked : (id : AskId) (request : Request) (story : List Event) → pending id story ≡ Some request → WasAsked id request story
 pending_asked id request story e = ⊎_elim (λ none. absurd cc) (λ asked. asked) (pending_from id request story None e)
 
 pub one_ask_id : (id other : AskId) → is_id id other ≡ true → id ≡ other

@@ -1,5 +1,5 @@
 -- Stories in two parts: what the second is behind the first, and what its events make of the namespace.
-use Rattle.std.proofs.Common.{◌≡◌, ℕ, zero, suc, ◌-◌, ◌+◌, ◌≤◌, Bool, true, List, [], ◌∷◌, ◌++◌, take, drop, refl, sym, ◌∙◌, ap, subst, append_assoc, append-nil, arith}
+use Rattle.std.proofs.Common.{◌≡◌, ℕ, zero, suc, ◌-◌, ◌≤◌, Bool, true, List, [], ◌∷◌, ◌++◌, take, drop, refl, sym, ◌∙◌, ap, subst, append_assoc, append-nil, arith}
 use Rattle.oz_namespace.specs.declared.namespace.Namespace.{Namespace}
 use Rattle.oz_core.specs.declared.event.Event.{Event}
 use Rattle.oz_core.specs.declared.opening.Opening.{Opening}
@@ -24,7 +24,7 @@ pub legal_rest : (opening : Opening) (before : List Event) (event : Event) (rest
 unfolding IsLegalFrom
 legal_rest opening before event rest legal = legal.1
 
-namespace_parts : (counts : ℕ → Bool) (before : List Event) (namespace : Namespace) (a b : List Event)
+pub namespace_parts : (counts : ℕ → Bool) (before : List Event) (namespace : Namespace) (a b : List Event)
     → namespace_from counts before namespace (a ++ b) ≡ namespace_from counts (before ++ a) (namespace_from counts before namespace a) b
 unfolding namespace_from
 namespace_parts counts before namespace [] b = ap (λ (l : List Event). namespace_from counts l namespace b) (sym (append-nil before))

@@ -1,12 +1,11 @@
 -- Blocks that left reach.
-use Rattle.std.proofs.Common.{◌≡◌, ⊎_elim, ℕ, zero, suc, ◌<◌, ◌≤◌, ◌-◌, Bool, true, List, [], ◌∷◌, ◌++◌, take, drop, Option, None, Some, Contains, inl, inr, refl, sym, ◌∙◌, ap, subst, append-nil, arith}
+use Rattle.std.proofs.Common.{◌≡◌, ⊎_elim, ℕ, zero, suc, ◌≤◌, ◌-◌, true, List, [], ◌∷◌, ◌++◌, take, drop, Option, Contains, inl, inr, sym, ap, subst, append-nil, arith}
 use Rattle.std.proofs.lemmas.List.{take-append-drop}
 use Rattle.std.proofs.lemmas.List.Elements.{Contains-append_left, Contains-push_cases, filter_map-append}
 use Rattle.oz_fields.specs.declared.block.Block.{Block}
 use Rattle.oz_namespace.specs.declared.namespace.Namespace.{Namespace}
 use Rattle.oz_requests.specs.declared.reply.Reply.{Reply}
 use Rattle.oz_requests.specs.declared.reply.Reply.TheVariants as replies
-use Rattle.oz_requests.specs.declared.request.AskId.{AskId}
 use Rattle.oz_requests.specs.declared.request.Request.{Request}
 use Rattle.oz_requests.specs.declared.request.Request.TheVariants.{AllocateBlock}
 use Rattle.oz_requests.specs.Names.{volume_in}
@@ -22,7 +21,7 @@ use Rattle.oz_core.specs.declared.event.EventKind.{EventKind}
 use Rattle.oz_core.specs.declared.event.EventKind.TheVariants.{Decide}
 use Rattle.oz_core.specs.declared.opening.Opening.{Opening}
 use Rattle.oz_core.specs.Asks.{pending}
-use Rattle.oz_core.specs.Law.{IsLegal, IsLegalFrom, IsEnabled, KindIsEnabled, DecideIsEnabled, GrantIsAllowed}
+use Rattle.oz_core.specs.Law.{IsLegal, IsLegalFrom, KindIsEnabled, GrantIsAllowed}
 use Rattle.oz_core.specs.Manager.{IsUsed, granted_block, namespace_step, namespace_after, namespace_of, namespace_at}
 use Rattle.oz_core.specs.Stories.{all_told}
 use Rattle.oz_kept.specs.laws.Places.{moved_over, legal_behind, legal_first, legal_rest, namespace_next, later_front}
@@ -37,10 +36,10 @@ used_still opening before more block (inr (inr (inr granted))) =
     inr (inr (inr (subst (λ (l : List Block). Contains l block) (sym (filter_map-append told before more))
     (Contains-append_left (all_told granted_block before) (all_told granted_block more) block granted))))
 
-in_none : {A : Type 0} (x : A) → Contains [] x → ⊥
+pub in_none : {A : Type 0} (x : A) → Contains [] x → ⊥
 in_none x among = absurd (omega (arith, among.1))
 
-in_one : {A : Type 0} (y x : A) → Contains (y ∷ []) x → y ≡ x
+pub in_one : {A : Type 0} (y x : A) → Contains (y ∷ []) x → y ≡ x
 in_one y x among = ⊎_elim (λ none. absurd (in_none x none)) (λ same. same) (Contains-push_cases [] y x among)
 
 -- a block that is granted wasn't used
@@ -65,7 +64,7 @@ step_away opening before seat (Decide id index reply batch) block enabled used a
     ⊎_elim away (granted_anew opening before (namespace_of opening before) enabled.request reply block enabled.one_thread enabled.granted used) grown
 step_away opening before seat kind block enabled used away reached = away reached
 
-stays_away : (opening : Opening) (block : Block) (rest before : List Event) (n : ℕ) → IsLegalFrom opening before rest → IsUsed opening before block
+pub stays_away : (opening : Opening) (block : Block) (rest before : List Event) (n : ℕ) → IsLegalFrom opening before rest → IsUsed opening before block
     → (IsReached (namespace_of opening before) block → ⊥) → IsReached (namespace_of opening (before ++ take n rest)) block → ⊥
 stays_away opening block [] before zero legal used away reached = away (subst (λ (l : List Event). IsReached (namespace_of opening l) block) (append-nil before) reached)
 stays_away opening block [] before (suc n) legal used away reached = away (subst (λ (l : List Event). IsReached (namespace_of opening l) block) (append-nil before) reached)

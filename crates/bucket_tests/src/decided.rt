@@ -1,9 +1,10 @@
 use crate::asked::{Kind, request};
 use crate::shelf::{full, shelf};
 use oz_cache::Cached;
+use oz_decision::Decision;
 use oz_fields::OutOfMemory;
 use oz_names::Code;
-use oz_om_bucket::{Decision, decide};
+use oz_om_bucket::decide;
 use oz_requests::Reply;
 use std::alloc::Global;
 use std::test::Fail;

@@ -4,10 +4,11 @@ ghost use Rattle.oz_requests.specs.Families.{family_of};
 
 use crate::asked::{Kind, request};
 use oz_cache::Cached;
+use oz_decision::Decision;
 use oz_epochs::Steps;
 use oz_fields::{Block, List, Name, OutOfMemory, TryClone};
 use oz_model::{Namespace, answer};
-use oz_om_bucket::{Decision, decide};
+use oz_om_bucket::decide;
 use oz_requests::{Family, Reply, Request};
 use oz_rows::{Change, RowKey};
 use oz_tables::Tables;

@@ -6,7 +6,8 @@ use Rattle.oz_cache.specs.Cache.{CacheView, newest, last_epoch}
 use Rattle.oz_journal.specs.Grammar.{IsJournal, TellsBodies}
 use Rattle.oz_journal.specs.Journal.{State, IsBeforeOrAfter}
 use Rattle.oz_world.specs.Moments.{Elapses, LeavesOnly}
-use Rattle.oz_om_bucket.specs.Meets.{Meets}
+use Rattle.oz_decision.specs.Meets.{Meets}
+use Rattle.oz_sound.specs.Sound.{IsSound}
 use Rattle.oz_requests.specs.declared.answer.Answer.TheVariants as told
 use Rattle.oz_requests.specs.declared.reply.Reply.{Reply}
 use Rattle.oz_requests.specs.declared.request.Request.{Request}
@@ -27,10 +28,10 @@ no_bytes (x ∷ l) is = absurd (omega (arith, is))
 -- a decision of the request that the line asks
 pub meets_as : (rows : Rows) (request asks : Request) (reply said : Reply) (bytes batch : List ℕ) (changes made : List Change) → request ≡ asks → reply ≡ said → bytes ≡ batch → changes ≡ made → MeetsAll rows request reply bytes changes → MeetsAll rows asks said batch made
 meets_as rows request asks reply said bytes batch changes made r s b c meets namespace stand =
-    subst (λ (x : Request). Meets rows namespace x said batch made) r
-    (subst (λ (x : Reply). Meets rows namespace request x batch made) s
-    (subst (λ (x : List ℕ). Meets rows namespace request reply x made) b
-    (subst (λ (x : List Change). Meets rows namespace request reply bytes x) c (meets namespace stand))))
+    subst (λ (x : Request). Meets IsSound rows namespace x said batch made) r
+    (subst (λ (x : Reply). Meets IsSound rows namespace request x batch made) s
+    (subst (λ (x : List ℕ). Meets IsSound rows namespace request reply x made) b
+    (subst (λ (x : List Change). Meets IsSound rows namespace request reply bytes x) c (meets namespace stand))))
 
 module _ {D : Type 0} (contents : D → Option (List ℕ)) (clock : D → ℕ) (image : D → Images) (count : D → ℕ) where
   abbrev at : State D → Seen

@@ -17,7 +17,7 @@ use Rattle.oz_cluster.specs.declared.status.Status.{Status}
 use Rattle.oz_cluster.specs.declared.status.Status.TheVariants as ends
 use Rattle.oz_namespace.specs.declared.namespace.Namespace.{Namespace}
 use Rattle.oz_namespace.specs.Namespace.{nothing}
-use Rattle.oz_om_bucket.specs.Meets.{Stand}
+use Rattle.oz_decision.specs.Meets.{Stand}
 use Rattle.oz_rows.specs.declared.key.RowKey.{RowKey}
 use Rattle.oz_rows.specs.declared.row.Row.{Row}
 use Rattle.oz_rows.specs.Rows.{RowFits}
@@ -319,8 +319,8 @@ module _ (words : List (List ℕ)) (left left_after : Option (List ℕ)) (disk_b
     (keeps : IfSome disk_before.told (λ bytes. Keeps loaded.told rows first)) (stable : (bytes : List ℕ) → loaded.told ≡ Some bytes → IsStable loaded.image loaded.clock bytes) (ended : IfSome disk_before.told (λ bytes. loaded.clock ≡ loaded_at disk_before.clock bytes))
     (spans : IfSome disk_before.told (λ bytes. IsLoadable bytes (disk_before.image disk_before.clock) → Spans IsLeftAlone disk_before.clock loaded.clock disk_before.image loaded.image)) (falls : disk_before.faults ≤ loaded.faults)
     (served : (namespace : Namespace) → IsServed (record { namespace = namespace; index = first }) script lines loaded.faults story index stopped disk_after)
-    (right : (namespace : Namespace) → Stand rows namespace → IsRight (record { namespace = namespace; index = first }) story rows_after index)
-    (held : (namespace : Namespace) → Stand rows namespace → IsLoaded rows first loaded → IsHeld (record { namespace = namespace; index = first }) story rows_after index loaded.clock disk_after) (time : Elapses loaded.clock disk_after.clock loaded.image disk_after.image)
+    (right : (namespace : Namespace) → Stand IsSound rows namespace → IsRight (record { namespace = namespace; index = first }) story rows_after index)
+    (held : (namespace : Namespace) → Stand IsSound rows namespace → IsLoaded rows first loaded → IsHeld (record { namespace = namespace; index = first }) story rows_after index loaded.clock disk_after) (time : Elapses loaded.clock disk_after.clock loaded.image disk_after.image)
     (all_served : (status ≡ ends.OutOfMemory) ⊎ (lines ≡ length script.lines)) (done : status ≡ ends.Done → stopped ≡ false) (named : status ≡ ends.Disk → stopped ≡ true) (printed : IsPrinted status (report_of (length script.lines) story) before after sink_rose) where
   -- what holds from any namespace on
   abbrev plain : IsServed (record { namespace = nothing; index = first }) script lines loaded.faults story index stopped disk_after
@@ -333,7 +333,7 @@ module _ (words : List (List ℕ)) (left left_after : Option (List ℕ)) (disk_b
     abbrev opening : Opening
     opening = record { namespace = namespace; index = first }
 
-    stand : Stand rows namespace
+    stand : Stand IsSound rows namespace
     stand = record {
       fit = fit;
       stands = subst (λ (r : Rows). StandsFor r namespace) rows_are coherent.stands;

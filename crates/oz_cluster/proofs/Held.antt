@@ -7,7 +7,8 @@ use Rattle.oz_journal.specs.Journal.{IsBeforeOrAfter}
 use Rattle.oz_world.specs.Moments.{Elapses, LeavesOnly}
 use Rattle.oz_model.specs.Answers.{after}
 use Rattle.oz_namespace.specs.declared.namespace.Namespace.{Namespace}
-use Rattle.oz_om_bucket.specs.Meets.{Stand, Meets}
+use Rattle.oz_decision.specs.Meets.{Stand, Meets}
+use Rattle.oz_sound.specs.Sound.{IsSound}
 use Rattle.oz_requests.specs.declared.answer.Answer.{Answer}
 use Rattle.oz_requests.specs.declared.reply.Reply.{Reply}
 use Rattle.oz_requests.specs.declared.request.Request.{Request}
@@ -33,9 +34,9 @@ are_same : (all : List RowEntry) (rows : Rows) → AreRows all rows → row_of a
 are_same all rows are = λ i key. are.rows_are key i
 
 -- rows that stand for a namespace are coherent
-pub coherent : (all : List RowEntry) (rows : Rows) (namespace : Namespace) → AreRows all rows → Stand rows namespace → IsCoherent all namespace
+pub coherent : (all : List RowEntry) (rows : Rows) (namespace : Namespace) → AreRows all rows → Stand IsSound rows namespace → IsCoherent all namespace
 coherent all rows namespace are stand =
-    let there = subst (λ (r : Rows). Stand r namespace) (sym (are_same all rows are)) stand in
+    let there = subst (λ (r : Rows). Stand IsSound r namespace) (sym (are_same all rows are)) stand in
     record { stands = there.stands; sound = there.sound }
 
 module _ (opening : Opening) (at : ℕ) (left : List ℕ) where
@@ -125,7 +126,7 @@ module _ (opening : Opening) (story : List Event) (rows : Rows) (index first : �
     }
 
     -- a batch was written
-    module _ (changes : List Change) (rows_after : Rows) (later : Seen) (stand : Stand rows namespace) (meets : Meets rows namespace request answer batch changes) (rows_are : (key : _) → rows_after key ≡ after_changes changes rows key) (below : index + 1 < 2 ^ 63)
+    module _ (changes : List Change) (rows_after : Rows) (later : Seen) (stand : Stand IsSound rows namespace) (meets : Meets IsSound rows namespace request answer batch changes) (rows_are : (key : _) → rows_after key ≡ after_changes changes rows key) (below : index + 1 < 2 ^ 63)
         (decided_sums : Sums opening (asked ++ decide_event client number request (index + 1) answer batch ∷ []) (index + 1) swapped stable moment None)
         (decided_leads : Leads opening (asked ++ decide_event client number request (index + 1) answer batch ∷ []) (after namespace request answer) (index + 1))
         (time : Elapses now.clock later.clock now.image later.image) (moments : (bodies : List (List ℕ)) → TellsBodies now.told bodies → LeavesOnly (IsBeforeOrAfter bodies (body_bytes (index + 1) batch)) now.clock later.clock later.image) where
@@ -199,7 +200,7 @@ module _ (opening : Opening) (story : List Event) (rows : Rows) (index first : �
           newer at left from to image = ⊎_elim (λ old. before_front at left old) (λ new. (after_front at left new).0) (moments there.0 there.1 at left from to image)
 
 -- nothing was asked yet
-pub held_first : (namespace : Namespace) (rows : Rows) (index : ℕ) (disk : Seen) → Stand rows namespace → IsLoaded rows index disk → Sums (record { namespace = namespace; index = index }) [] index index index 0 None → Leads (record { namespace = namespace; index = index }) [] namespace index → IsHeld (record { namespace = namespace; index = index }) [] rows index disk.clock disk
+pub held_first : (namespace : Namespace) (rows : Rows) (index : ℕ) (disk : Seen) → Stand IsSound rows namespace → IsLoaded rows index disk → Sums (record { namespace = namespace; index = index }) [] index index index 0 None → Leads (record { namespace = namespace; index = index }) [] namespace index → IsHeld (record { namespace = namespace; index = index }) [] rows index disk.clock disk
 held_first namespace rows index disk stand loaded sums leads = record {
   keeps = λ _. loaded.keeps;
   stops = λ at left from to image.

@@ -6,7 +6,8 @@ use Rattle.oz_journal.specs.Journal.{State}
 use Rattle.oz_world.specs.Moments.{Elapses}
 use Rattle.oz_model.specs.Answers.{after}
 use Rattle.oz_namespace.specs.declared.namespace.Namespace.{Namespace}
-use Rattle.oz_om_bucket.specs.Meets.{Stand}
+use Rattle.oz_decision.specs.Meets.{Stand}
+use Rattle.oz_sound.specs.Sound.{IsSound}
 use Rattle.oz_requests.specs.declared.answer.Answer.TheVariants as told
 use Rattle.oz_requests.specs.declared.reply.Reply.{Reply}
 use Rattle.oz_requests.specs.declared.request.Family.TheVariants.{Service, Buckets}
@@ -79,7 +80,7 @@ module _ (opening : Opening) (script : Script) (lines faults : ℕ) (line : Line
       (subst (λ (x : ℕ). IsServed opening script (lines + 1) faults s x stopped_after later) (sym is_i)
       (subst (λ (x : Bool). IsServed opening script (lines + 1) faults s i x later) (sym is_b) it))
 
-  right_as : (s : List Event) (r : Rows) (i : ℕ) (namespace : Namespace) → story_after ≡ s → rows_after ≡ r → index_after ≡ i → Stand r namespace → Leads opening s namespace i → IsRight opening story_after rows_after index_after
+  right_as : (s : List Event) (r : Rows) (i : ℕ) (namespace : Namespace) → story_after ≡ s → rows_after ≡ r → index_after ≡ i → Stand IsSound r namespace → Leads opening s namespace i → IsRight opening story_after rows_after index_after
   right_as s r i namespace is_s is_r is_i stand leads =
       subst (λ (x : List Event). IsRight opening x rows_after index_after) (sym is_s)
       (subst (λ (x : Rows). IsRight opening s x index_after) (sym is_r)
@@ -91,7 +92,7 @@ module _ (opening : Opening) (script : Script) (lines faults : ℕ) (line : Line
       (subst (λ (x : Rows). IsHeld opening s x index_after first later) (sym is_r)
       (subst (λ (x : ℕ). IsHeld opening s r x first later) (sym is_i) held))
 
-  leads_of : IsRight opening story rows index → (namespace : Namespace) × Stand rows namespace × Leads opening story namespace index
+  leads_of : IsRight opening story rows index → (namespace : Namespace) × Stand IsSound rows namespace × Leads opening story namespace index
   leads_of right = (right.namespace, right.stand, record { stands_for = right.stands_for; kept = right.kept; legal = right.legal })
 
   -- the manager had halted
@@ -129,10 +130,10 @@ module _ (opening : Opening) (script : Script) (lines faults : ℕ) (line : Line
         (kept_served opening script lines faults line there request asks story index stopped now alone served kept.running index kept.reply [] (omega arith) refl))
 
     -- the rows stand for one namespace alone
-    nothing_changes : (namespace : Namespace) → Stand rows namespace → after namespace request kept.reply ≡ namespace
+    nothing_changes : (namespace : Namespace) → Stand IsSound rows namespace → after namespace request kept.reply ≡ namespace
     nothing_changes namespace stand = one_namespace rows _ namespace (kept.meets namespace stand).leads.stands stand.stands
 
-    kept_decided : (namespace : Namespace) → Stand rows namespace → Leads opening story namespace index → Leads opening ((story ++ ask_event 1 (lines + 1) request ∷ []) ++ decide_event 1 (lines + 1) request index kept.reply [] ∷ []) namespace index
+    kept_decided : (namespace : Namespace) → Stand IsSound rows namespace → Leads opening story namespace index → Leads opening ((story ++ ask_event 1 (lines + 1) request ∷ []) ++ decide_event 1 (lines + 1) request index kept.reply [] ∷ []) namespace index
     kept_decided namespace stand leads = subst (λ (n : Namespace). Leads opening ((story ++ ask_event 1 (lines + 1) request ∷ []) ++ decide_event 1 (lines + 1) request index kept.reply [] ∷ []) n index) (nothing_changes namespace stand)
         (leads_decided opening script lines faults line there request asks story index stopped now alone served kept.running index kept.reply [] (omega arith) namespace (kept.meets namespace stand).answers (λ ne. absurd (ne (nothing_changes namespace stand))) (λ _. refl) (λ _. refl, λ _. refl) leads)
 
@@ -163,7 +164,7 @@ module _ (opening : Opening) (script : Script) (lines faults : ℕ) (line : Line
     rows_written : rows_after ≡ after_changes writes.changes rows
     rows_written = rows_are_same (after_changes writes.changes rows) rows_after writes.rows_are
 
-    leads_written : (namespace : Namespace) → Stand rows namespace → Leads opening story namespace index → Leads opening decided_story (after namespace request reply) (index + 1)
+    leads_written : (namespace : Namespace) → Stand IsSound rows namespace → Leads opening story namespace index → Leads opening decided_story (after namespace request reply) (index + 1)
     leads_written namespace stand leads = leads_decided opening script lines faults line there request asks story index stopped now alone served writes.running (index + 1) reply batch (omega arith) namespace (writes.meets namespace stand).answers (λ ne. refl) (λ same. absurd (writes.some ((writes.meets namespace stand).keeps (same, no_service line.command request asks)))) (λ none. absurd (writes.some_bytes none), λ e. absurd (omega (arith, e))) leads
 
     faults_later : faults ≤ later.faults

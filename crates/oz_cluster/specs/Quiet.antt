@@ -15,7 +15,8 @@ use Rattle.oz_lines.specs.declared.script.Script.{Script}
 use Rattle.oz_cluster.specs.Fits.{FitsFrom, told_lines}
 use Rattle.oz_cluster.specs.Law.{IsLegal}
 use Rattle.oz_namespace.specs.declared.namespace.Namespace.{Namespace}
-use Rattle.oz_om_bucket.specs.Meets.{Stand}
+use Rattle.oz_decision.specs.Meets.{Stand}
+use Rattle.oz_sound.specs.Sound.{IsSound}
 use Rattle.oz_rows.specs.RowMaps.{Rows}
 use Rattle.oz_cluster.specs.Opens.{Keeps}
 use Rattle.oz_cluster.specs.Stops.{IsWithin, StopsHold}
@@ -59,7 +60,7 @@ pub record IsServed (opening : Opening) (script : Script) (lines faults : ℕ) (
 -- So far the story is legal, and the rows stand for what it leads to.
 pub record IsRight (opening : Opening) (story : List Event) (rows : Rows) (index : ℕ) : Type 0 where
   pub namespace : Namespace
-  pub stand : Stand rows namespace
+  pub stand : Stand IsSound rows namespace
   pub stands_for : namespace_of opening story ≡ namespace
   pub kept : (most : ℕ) → index ≤ most → kept_namespace opening most story ≡ namespace
   pub legal : IsLegal opening story

@@ -8,7 +8,8 @@ use Rattle.oz_journal.specs.Grammar.{IsJournal, TellsBodies}
 use Rattle.oz_journal.specs.Journal.{IsBeforeOrAfter}
 use Rattle.oz_world.specs.Moments.{Elapses, LeavesOnly}
 use Rattle.oz_namespace.specs.declared.namespace.Namespace.{Namespace}
-use Rattle.oz_om_bucket.specs.Meets.{Stand, Meets}
+use Rattle.oz_decision.specs.Meets.{Stand, Meets}
+use Rattle.oz_sound.specs.Sound.{IsSound}
 use Rattle.oz_requests.specs.declared.answer.Answer.TheVariants as told
 use Rattle.oz_requests.specs.declared.reply.Reply.{Reply}
 use Rattle.oz_requests.specs.declared.request.Request.{Request}
@@ -37,7 +38,7 @@ taken line request story index reply batch = decided line request story index re
 -- a decision over rows meets what one thread does
 abbrev pub MeetsAll : Rows → Request → Reply → List ℕ → List Change → Type 0
 MeetsAll rows request reply batch changes =
-    (namespace : Namespace) → Stand rows namespace → Meets rows namespace request reply batch changes
+    (namespace : Namespace) → Stand IsSound rows namespace → Meets IsSound rows namespace request reply batch changes
 
 -- the rows, the index, the journal and the disk are as they were
 pub record StaysAsItWas (rows rows_after : Rows) (index index_after : ℕ) (stopped stopped_after : Bool)

@@ -23,12 +23,13 @@ ghost use Rattle.oz_cluster.specs.Steps.{ask_event, decide_event, swap_event, fl
 use crate::asking::{answer_of, request_of};
 use crate::events::{Event, EventKind, Node};
 use oz_cache::{Cached, Prepared};
+use oz_decision::Decision;
 use oz_epochs::Steps;
 use oz_fields::{List, OutOfMemory, TryClone};
 use oz_journal::{Frame, Journal};
 use oz_lines::Line;
 use oz_names::stripe_of as stripe_number;
-use oz_om_bucket::{Decision, decide};
+use oz_om_bucket::decide;
 use oz_requests::{Answer, AskId, Family, Reply, Request};
 use oz_rows::{Change, END_OF_INDEXES, Head, LAYOUT, put_head};
 use oz_world::{Disk, Failed, Gate, Point};

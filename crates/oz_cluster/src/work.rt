@@ -6,7 +6,8 @@ ghost use Rattle.oz_world.specs.Disk.{seen};
 ghost use Rattle.oz_cache.specs.Cache.{newest, last_epoch};
 ghost use Rattle.oz_world.specs.Moments.{Elapses};
 ghost use Rattle.oz_namespace.specs.declared.namespace.Namespace.{Namespace as AnyNamespace};
-ghost use Rattle.oz_om_bucket.specs.Meets.{Stand};
+ghost use Rattle.oz_decision.specs.Meets.{Stand};
+ghost use Rattle.oz_sound.specs.Sound.{IsSound};
 ghost use Rattle.oz_lines.specs.Numbered.{IsNumbered};
 ghost use Rattle.oz_lines.specs.Served.{later_index};
 ghost use Rattle.oz_cluster.specs.Manager.{IsSettled};
@@ -44,10 +45,10 @@ pub fn serve_all<R: Wait, D: Disk, G: Gate>(
     ensures settled { IsSettled manager.old → IsSettled manager.new }
 
     // Where the rows stand for a namespace, they go on doing so.
-    ensures right { (namespace : AnyNamespace) → Stand (newest manager.old.rows) namespace →
+    ensures right { (namespace : AnyNamespace) → Stand IsSound (newest manager.old.rows) namespace →
         IsRight (record { namespace = namespace; index = last_epoch manager.old.rows })
         manager.new.story.items (newest manager.new.rows) (last_epoch manager.new.rows) }
-    ensures held { (namespace : AnyNamespace) → Stand (newest manager.old.rows) namespace →
+    ensures held { (namespace : AnyNamespace) → Stand IsSound (newest manager.old.rows) namespace →
         IsLoaded (newest manager.old.rows) (last_epoch manager.old.rows)
         (seen (D.told manager.old.journal.disk) (D.clock manager.old.journal.disk)
         (D.image manager.old.journal.disk) (D.faults manager.old.journal.disk)) →

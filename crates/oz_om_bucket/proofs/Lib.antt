@@ -1,7 +1,6 @@
-pub mod Rising
-pub mod Writing
+pub mod Changing
+pub mod CreatingVolumes
+pub mod DeletingVolumes
+pub mod CreatingBuckets
+pub mod DeletingBuckets
 pub mod Meeting
-pub mod Between
-pub mod Counting
-pub mod Walks
-pub mod Snapshots

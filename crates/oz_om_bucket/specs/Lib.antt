@@ -1,4 +1,2 @@
-pub mod Meets
+pub mod Allowed
 pub mod Records
-pub mod Replies
-pub mod Walking

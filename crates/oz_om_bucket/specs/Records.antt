@@ -1,6 +1,6 @@
 -- What a request on volumes and buckets records that isn't refused: one row that is put or goes. No other request is
 -- decided here.
-use Rattle.std.specs.Prelude.{ℕ, List, [], ◌∷◌}
+use Rattle.std.specs.Prelude.{List, [], ◌∷◌}
 use Rattle.oz_requests.specs.declared.reply.Reply.{Reply}
 use Rattle.oz_requests.specs.declared.reply.Reply.TheVariants as replies
 use Rattle.oz_requests.specs.declared.request.Request.{Request}
@@ -13,7 +13,6 @@ use Rattle.oz_requests.specs.declared.request.Request.TheVariants.{MoveDeleted, 
 use Rattle.oz_rows.specs.declared.key.RowKey.TheVariants as keys
 use Rattle.oz_rows.specs.declared.row.Row.TheVariants as rows
 use Rattle.oz_rows.specs.declared.operation.Change.{Change}
-use Rattle.oz_rows.specs.Rows.{row_bytes, key_bytes}
 use Rattle.oz_rows.specs.RowMaps.{put, gone}
 
 abbrev pub changes_for : Request → List Change
@@ -44,32 +43,3 @@ changes_for (PurgeSnapshot volume bucket number) = []
 abbrev pub recorded_changes : Request → Reply → List Change
 recorded_changes request (replies.Code code) = []
 recorded_changes request reply = changes_for request
-
--- the same in bytes
-abbrev pub bytes_for : Request → List ℕ
-bytes_for (CreateVolume volume) = 1 ∷ row_bytes (keys.Volume volume) rows.Volume
-bytes_for (DeleteVolume volume) = 2 ∷ key_bytes (keys.Volume volume)
-bytes_for (CreateBucket volume bucket) = 1 ∷ row_bytes (keys.Bucket volume bucket) rows.Bucket
-bytes_for (DeleteBucket volume bucket) = 2 ∷ key_bytes (keys.Bucket volume bucket)
-bytes_for (InfoVolume volume) = []
-bytes_for (InfoBucket volume bucket) = []
-bytes_for (ListBuckets volume) = []
-bytes_for (CreateKey volume bucket key) = []
-bytes_for (AllocateBlock volume bucket key session exclude) = []
-bytes_for (CommitKey volume bucket key session pieces) = []
-bytes_for (DeleteKey volume bucket key) = []
-bytes_for (RenameKey volume bucket key to) = []
-bytes_for (LookupKey volume bucket snapshot key) = []
-bytes_for (ListKeys volume bucket snapshot prefix start count) = []
-bytes_for (ExpireOpen volume bucket) = []
-bytes_for (CreateSnapshot volume bucket snapshot) = []
-bytes_for (DeleteSnapshot volume bucket snapshot) = []
-bytes_for (ListSnapshots volume bucket) = []
-bytes_for (InfoSnapshot volume bucket snapshot) = []
-bytes_for (Purge volume rows) = []
-bytes_for (MoveDeleted volume bucket number to) = []
-bytes_for (PurgeSnapshot volume bucket number) = []
-
-abbrev pub recorded_bytes : Request → Reply → List ℕ
-recorded_bytes request (replies.Code code) = []
-recorded_bytes request reply = bytes_for request

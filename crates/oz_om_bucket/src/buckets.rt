@@ -1,113 +1,193 @@
 //! The requests on a bucket. The names were tested before.
 
-ghost use Rattle.std.specs.Prelude.{◌≡◌, [], ◌∷◌, true, IfOk};
-ghost use Rattle.oz_cache.specs.Cache.{newest};
+ghost use Rattle.std.specs.Prelude.{◌≡◌, [], ◌∷◌, false, true, None, IsSome, IfOk};
+ghost use Rattle.oz_decision.specs.Drafts.{row_by_row};
+ghost use Rattle.oz_decision.specs.Replies.{IsReply, ShowsThat};
+ghost use Rattle.oz_model.specs.Answers.{counts_of};
 ghost use Rattle.oz_model.specs.Buckets.{is_in_use, bucket_at};
-ghost use Rattle.oz_model.specs.Refusals.{first_of, no_volume, no_bucket};
+ghost use Rattle.oz_model.specs.Refusals.{first_of, no_volume, no_bucket, refusal};
 ghost use Rattle.oz_model.specs.Scope.{scope_of};
 ghost use Rattle.oz_names.specs.Names.{is_volume_name};
-ghost use Rattle.oz_om_bucket.specs.Replies.{IsReply, ShowsThat};
+ghost use Rattle.oz_om_bucket.specs.Records.{recorded_changes};
+ghost use Rattle.oz_om_bucket.specs.Allowed.{HasNoUse, IsAllowed, MayRecord};
+ghost use Rattle.oz_rows.specs.Operations.{batch_bytes};
 
-use crate::lookups::{
-    bucket_count, has_bucket, has_volume, key_count, session_count, snapshot_count,
+use oz_decision::{
+    CountedRows, Decision, Draft, bucket_count, has_row, key_count, session_count, snapshot_count,
 };
-use oz_cache::Cached;
 use oz_fields::{Name, OutOfMemory};
 use oz_names::{Code, MOST_BUCKETS};
 use oz_requests::{Counts, Reply, Request};
+use oz_rows::{Row, RowKey};
 use std::alloc::Global;
 
-pub(crate) fn create_bucket(
+pub(crate) fn create_bucket<M: CountedRows>(
     alloc: Global,
-    cached: &Cached,
+    rows: &M,
     volume: &Name,
     bucket: &Name,
-) -> Result<Reply, OutOfMemory>
+) -> Result<Decision, OutOfMemory>
     requires volume { is_volume_name volume.now ≡ true }
     requires bucket { is_volume_name bucket.now ≡ true }
-    ensures { IfOk result (IsReply (newest cached.now) (Request.CreateBucket volume.now bucket.now)) }
+    ensures reply { IfOk result (λ decision. IsReply (M.rows rows.now) (Request.CreateBucket volume.now bucket.now) decision.reply) }
+    ensures allowed { IfOk result (λ decision. MayRecord (M.rows rows.now) (Request.CreateBucket volume.now bucket.now) decision.reply) }
+    ensures changes { IfOk result (λ decision. decision.changes ≡ recorded_changes (Request.CreateBucket volume.now bucket.now) decision.reply) }
+    ensures operations { IfOk result (λ decision. decision.bytes ≡ batch_bytes (row_by_row decision.changes)) }
 {
-    if !has_volume(alloc, cached, volume)? {
-        return Ok(Reply::Code(Code::VolumeNotFound));
+    let key = RowKey::of_bucket(alloc, volume, bucket)?;
+    if let Some(code) = not_made(alloc, rows, volume, bucket, &key)? {
+        return Ok(Decision::unchanged(alloc, Reply::Code(code)));
     }
-    if has_bucket(alloc, cached, volume, bucket)? {
-        return Ok(Reply::Code(Code::BucketAlreadyExists));
-    }
-    if bucket_count(alloc, cached, volume)? >= MOST_BUCKETS {
-        Ok(Reply::Code(Code::BucketLimit))
-    } else {
-        Ok(Reply::Done)
-    }
+    let draft = Draft::new(alloc).put(alloc, key, Row::Bucket)?;
+    Ok(draft.with_reply(Reply::Done))
 }
 
-pub(crate) fn info_bucket(
+/// Why a bucket, whose row has this key, isn't made, where it isn't.
+fn not_made<M: CountedRows>(
     alloc: Global,
-    cached: &Cached,
+    rows: &M,
     volume: &Name,
     bucket: &Name,
-) -> Result<Reply, OutOfMemory>
-    requires volume { is_volume_name volume.now ≡ true }
-    requires bucket { is_volume_name bucket.now ≡ true }
-    ensures { IfOk result (IsReply (newest cached.now) (Request.InfoBucket volume.now bucket.now)) }
-{
-    if let Some(code) = missing(alloc, cached, volume, bucket)? {
-        return Ok(Reply::Code(code));
-    }
-    Ok(Reply::Counts(Counts {
-        keys: key_count(alloc, cached, volume, bucket)?,
-        sessions: session_count(alloc, cached, volume, bucket)?,
-        snapshots: snapshot_count(alloc, cached, volume, bucket)?,
-    }))
-}
-
-pub(crate) fn delete_bucket(
-    alloc: Global,
-    cached: &Cached,
-    volume: &Name,
-    bucket: &Name,
-) -> Result<Reply, OutOfMemory>
-    requires volume { is_volume_name volume.now ≡ true }
-    requires bucket { is_volume_name bucket.now ≡ true }
-    ensures { IfOk result (IsReply (newest cached.now) (Request.DeleteBucket volume.now bucket.now)) }
-{
-    if let Some(code) = missing(alloc, cached, volume, bucket)? {
-        return Ok(Reply::Code(code));
-    }
-    if in_use(alloc, cached, volume, bucket)? {
-        return Ok(Reply::Code(Code::BucketNotEmpty));
-    }
-    if snapshot_count(alloc, cached, volume, bucket)? > 0 {
-        Ok(Reply::Code(Code::ContainsSnapshot))
-    } else {
-        Ok(Reply::Done)
-    }
-}
-
-/// The code where the volume isn't there, or the bucket.
-fn missing(
-    alloc: Global,
-    cached: &Cached,
-    volume: &Name,
-    bucket: &Name,
+    key: &RowKey,
 ) -> Result<Option<Code>, OutOfMemory>
-    ensures { IfOk result (λ code. ShowsThat (newest cached.now) (λ namespace. code ≡ first_of (no_volume (scope_of namespace volume.now) ∷ no_bucket (scope_of namespace volume.now) bucket.now ∷ []))) }
+    requires volume { is_volume_name volume.now ≡ true }
+    requires bucket { is_volume_name bucket.now ≡ true }
+    requires key { key.now ≡ RowKey.Bucket volume.now bucket.now }
+    ensures code { IfOk result (λ code. ShowsThat (M.rows rows.now) (λ namespace. code ≡ refusal (scope_of namespace volume.now) (Request.CreateBucket volume.now bucket.now))) }
+    ensures none { IfOk result (λ code. code ≡ None → IsAllowed (M.rows rows.now) (Request.CreateBucket volume.now bucket.now)) }
 {
-    if !has_volume(alloc, cached, volume)? {
+    let of_volume = RowKey::of_volume(alloc, volume)?;
+    if !has_row(rows, &of_volume) {
         return Ok(Some(Code::VolumeNotFound));
     }
-    if has_bucket(alloc, cached, volume, bucket)? {
+    if has_row(rows, key) {
+        return Ok(Some(Code::BucketAlreadyExists));
+    }
+    if bucket_count(alloc, rows, volume)? >= MOST_BUCKETS {
+        return Ok(Some(Code::BucketLimit));
+    }
+    Ok(None)
+}
+
+pub(crate) fn info_bucket<M: CountedRows>(
+    alloc: Global,
+    rows: &M,
+    volume: &Name,
+    bucket: &Name,
+) -> Result<Decision, OutOfMemory>
+    requires volume { is_volume_name volume.now ≡ true }
+    requires bucket { is_volume_name bucket.now ≡ true }
+    ensures reply { IfOk result (λ decision. IsReply (M.rows rows.now) (Request.InfoBucket volume.now bucket.now) decision.reply) }
+    ensures allowed { IfOk result (λ decision. MayRecord (M.rows rows.now) (Request.InfoBucket volume.now bucket.now) decision.reply) }
+    ensures changes { IfOk result (λ decision. decision.changes ≡ recorded_changes (Request.InfoBucket volume.now bucket.now) decision.reply) }
+    ensures operations { IfOk result (λ decision. decision.bytes ≡ batch_bytes (row_by_row decision.changes)) }
+{
+    let key = RowKey::of_bucket(alloc, volume, bucket)?;
+    if let Some(code) = missing(alloc, rows, volume, bucket, &key)? {
+        return Ok(Decision::unchanged(alloc, Reply::Code(code)));
+    }
+    let counts = counted(alloc, rows, volume, bucket)?;
+    Ok(Decision::unchanged(alloc, Reply::Counts(counts)))
+}
+
+/// The code where the volume isn't there, or the bucket, whose row has this key.
+fn missing<M: CountedRows>(
+    alloc: Global,
+    rows: &M,
+    volume: &Name,
+    bucket: &Name,
+    key: &RowKey,
+) -> Result<Option<Code>, OutOfMemory>
+    requires { key.now ≡ RowKey.Bucket volume.now bucket.now }
+    ensures code { IfOk result (λ code. ShowsThat (M.rows rows.now) (λ namespace. code ≡ first_of (no_volume (scope_of namespace volume.now) ∷ no_bucket (scope_of namespace volume.now) bucket.now ∷ []))) }
+    ensures none { IfOk result (λ code. code ≡ None → IsSome (M.rows rows.now (RowKey.Bucket volume.now bucket.now))) }
+{
+    let of_volume = RowKey::of_volume(alloc, volume)?;
+    if !has_row(rows, &of_volume) {
+        return Ok(Some(Code::VolumeNotFound));
+    }
+    if has_row(rows, key) {
         Ok(None)
     } else {
         Ok(Some(Code::BucketNotFound))
     }
 }
 
-/// Whether the bucket has a key or a session.
-fn in_use(alloc: Global, cached: &Cached, volume: &Name, bucket: &Name) -> Result<bool, OutOfMemory>
-    ensures { IfOk result (λ used. ShowsThat (newest cached.now) (λ namespace. used ≡ is_in_use (bucket_at namespace volume.now bucket.now))) }
+/// How many keys, sessions and snapshots a bucket has.
+fn counted<M: CountedRows>(
+    alloc: Global,
+    rows: &M,
+    volume: &Name,
+    bucket: &Name,
+) -> Result<Counts, OutOfMemory>
+    ensures { IfOk result (λ counts. ShowsThat (M.rows rows.now) (λ namespace. counts ≡ counts_of (bucket_at namespace volume.now bucket.now))) }
 {
-    if key_count(alloc, cached, volume, bucket)? > 0 {
+    Ok(Counts {
+        keys: key_count(alloc, rows, volume, bucket)?,
+        sessions: session_count(alloc, rows, volume, bucket)?,
+        snapshots: snapshot_count(alloc, rows, volume, bucket)?,
+    })
+}
+
+pub(crate) fn delete_bucket<M: CountedRows>(
+    alloc: Global,
+    rows: &M,
+    volume: &Name,
+    bucket: &Name,
+) -> Result<Decision, OutOfMemory>
+    requires volume { is_volume_name volume.now ≡ true }
+    requires bucket { is_volume_name bucket.now ≡ true }
+    ensures reply { IfOk result (λ decision. IsReply (M.rows rows.now) (Request.DeleteBucket volume.now bucket.now) decision.reply) }
+    ensures allowed { IfOk result (λ decision. MayRecord (M.rows rows.now) (Request.DeleteBucket volume.now bucket.now) decision.reply) }
+    ensures changes { IfOk result (λ decision. decision.changes ≡ recorded_changes (Request.DeleteBucket volume.now bucket.now) decision.reply) }
+    ensures operations { IfOk result (λ decision. decision.bytes ≡ batch_bytes (row_by_row decision.changes)) }
+{
+    let key = RowKey::of_bucket(alloc, volume, bucket)?;
+    if let Some(code) = kept(alloc, rows, volume, bucket, &key)? {
+        return Ok(Decision::unchanged(alloc, Reply::Code(code)));
+    }
+    let draft = Draft::new(alloc).remove(alloc, key)?;
+    Ok(draft.with_reply(Reply::Done))
+}
+
+/// Why a bucket, whose row has this key, doesn't go, where it doesn't.
+fn kept<M: CountedRows>(
+    alloc: Global,
+    rows: &M,
+    volume: &Name,
+    bucket: &Name,
+    key: &RowKey,
+) -> Result<Option<Code>, OutOfMemory>
+    requires volume { is_volume_name volume.now ≡ true }
+    requires bucket { is_volume_name bucket.now ≡ true }
+    requires key { key.now ≡ RowKey.Bucket volume.now bucket.now }
+    ensures code { IfOk result (λ code. ShowsThat (M.rows rows.now) (λ namespace. code ≡ refusal (scope_of namespace volume.now) (Request.DeleteBucket volume.now bucket.now))) }
+    ensures none { IfOk result (λ code. code ≡ None → IsAllowed (M.rows rows.now) (Request.DeleteBucket volume.now bucket.now)) }
+{
+    if let Some(code) = missing(alloc, rows, volume, bucket, key)? {
+        return Ok(Some(code));
+    }
+    if in_use(alloc, rows, volume, bucket)? {
+        return Ok(Some(Code::BucketNotEmpty));
+    }
+    if snapshot_count(alloc, rows, volume, bucket)? > 0 {
+        return Ok(Some(Code::ContainsSnapshot));
+    }
+    Ok(None)
+}
+
+/// Whether the bucket has a key or a session.
+fn in_use<M: CountedRows>(
+    alloc: Global,
+    rows: &M,
+    volume: &Name,
+    bucket: &Name,
+) -> Result<bool, OutOfMemory>
+    ensures shows { IfOk result (λ used. ShowsThat (M.rows rows.now) (λ namespace. used ≡ is_in_use (bucket_at namespace volume.now bucket.now))) }
+    ensures none { IfOk result (λ used. used ≡ false → HasNoUse (M.rows rows.now) volume.now bucket.now) }
+{
+    if key_count(alloc, rows, volume, bucket)? > 0 {
         return Ok(true);
     }
-    Ok(session_count(alloc, cached, volume, bucket)? > 0)
+    Ok(session_count(alloc, rows, volume, bucket)? > 0)
 }

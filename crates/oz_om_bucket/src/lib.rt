@@ -3,11 +3,7 @@
 
 mod buckets;
 mod deciding;
-mod decision;
-mod lookups;
-mod recording;
+mod newest;
 mod volumes;
-mod walking;
 
 pub use deciding::decide;
-pub use decision::Decision;

@@ -1,5 +1,0 @@
-use Rattle.oz_om_bucket.proofs.Walks.{last_is}
-use Rattle.oz_om_bucket.proofs.walking.last_or.Goals as goal
-
-pub returns-in-len1-up : goal.returns-in-len1-up
-returns-in-len1-up c = last_is c.args.before.now c.last-item.result c.args.keys.now c.in-len1-up.len_at_least c.last-item.is

@@ -1,5 +1,5 @@
 -- What three requests change among the example's rows.
-use Rattle.std.specs.Prelude.{List, [], ◌∷◌, None, Some}
+use Rattle.std.specs.Prelude.{ℕ, zero, suc, ◌/◌, ◌%◌, List, [], ◌∷◌, None, Some}
 use Rattle.std.specs.FinMap.{remove}
 use Rattle.oz_fields.specs.declared.block.Block.{Block}
 use Rattle.oz_fields.specs.declared.block.Piece.{Piece}
@@ -47,3 +47,11 @@ standing_twice = put (keys.Deleted home photos 0 cat 7) (values.Deleted (block 1
 -- a session has a number that wasn't drawn
 abbrev pub undrawn : List Change
 undrawn = put (keys.Open home photos elk 13) (values.Open []) ∷ []
+
+-- so many keys come in, each with a name of its own
+abbrev pub key_named : ℕ → List ℕ
+key_named number = number / 64 ∷ number % 64 ∷ []
+
+abbrev pub crowding : ℕ → List Change
+crowding zero = []
+crowding (suc number) = put (keys.Key home photos (key_named number)) (values.Key number []) ∷ crowding number

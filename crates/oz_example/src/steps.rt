@@ -1,13 +1,14 @@
 //! That the example's rows stay sound as blocks move among them.
 
-ghost use Rattle.std.specs.Prelude.{None, Some, Option as Perhaps};
+ghost use Rattle.std.specs.Prelude.{ℕ, ◌<◌, None, Some, Option as Perhaps};
 ghost use Rattle.std.specs.FinMap.{from_entries};
 ghost use Rattle.oz_example.specs.Example.{rows, namespace, home, photos, buckets_of_home};
 ghost use Rattle.oz_example.specs.Steps.{committing, deleting, granting, photos_without_cat, new_block};
-ghost use Rattle.oz_example.specs.Steps.{forgetting, standing_twice, undrawn};
+ghost use Rattle.oz_example.specs.Steps.{crowding, forgetting, standing_twice, undrawn};
 ghost use Rattle.oz_fields.specs.declared.block.Block.{Block as AnyBlock};
 ghost use Rattle.oz_frames.specs.Buckets.{with_bucket};
 ghost use Rattle.oz_frames.specs.Moves.{BlocksMove};
+ghost use Rattle.oz_names.specs.declared.limits.TheConstants.{MOST_KEYS};
 ghost use Rattle.oz_rows.specs.RowMaps.{row_of, after_changes};
 ghost use Rattle.oz_sound.specs.Kept.{KeepsBlocks};
 ghost use Rattle.oz_sound.specs.Sound.{IsSoundButRenames, RenamesAreSound};
@@ -35,10 +36,12 @@ pub fn a_session_gets_a_block()
     ensures kept { KeepsBlocks (row_of rows) (after_changes granting (row_of rows)) (Some new_block) (λ block. ⊥) }
 {}
 
-/// Three batches that no request makes, and that no law of moved blocks takes: a block is lost, it stands in two rows,
-/// a number wasn't drawn.
+/// Four batches that no request makes, and that no law of moved blocks takes: a block is lost, it stands in two rows,
+/// a number wasn't drawn, and a bucket gets more keys than it may have.
 pub fn what_breaks_rows_is_no_move()
     ensures lost { (granted : Perhaps AnyBlock) → BlocksMove (row_of rows) (after_changes forgetting (row_of rows)) granted → ⊥ }
     ensures twice { (granted : Perhaps AnyBlock) → BlocksMove (row_of rows) (after_changes standing_twice (row_of rows)) granted → ⊥ }
+    ensures count { (granted : Perhaps AnyBlock) (count : ℕ) → MOST_KEYS < count →
+        BlocksMove (row_of rows) (after_changes (crowding count) (row_of rows)) granted → ⊥ }
     ensures number { (granted : Perhaps AnyBlock) → BlocksMove (row_of rows) (after_changes undrawn (row_of rows)) granted → ⊥ }
 {}

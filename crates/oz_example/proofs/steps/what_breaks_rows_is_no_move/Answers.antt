@@ -1,4 +1,4 @@
-use Rattle.oz_example.proofs.Breaking.{lost, twice, number}
+use Rattle.oz_example.proofs.Breaking.{lost, twice, count, number}
 use Rattle.oz_example.proofs.steps.what_breaks_rows_is_no_move.Goals as goal
 
 pub returns-clause-lost : goal.returns-clause-lost
@@ -9,3 +9,6 @@ returns-clause-twice c = twice
 
 pub returns-clause-number : goal.returns-clause-number
 returns-clause-number c = number
+
+pub returns-clause-count : goal.returns-clause-count
+returns-clause-count c = λ granted n lt moved. count n granted lt moved

@@ -158,7 +158,7 @@ pub enum EventKind {
 /// Why a datanode refused a block.
 #[derive(Clone, Copy, Debug, PartialEq, Eq)]
 pub enum PutRefusal {
-    /// It isn't running: a line stopped it, and the count is 0; or its disks have failed so often.
+    /// It isn't running. The count is 0, or, where its disks have failed, how often.
     Stopped {
         count: u64,
     },

@@ -4,7 +4,7 @@ ghost use Rattle.std.specs.Prelude.{◌≡◌, ◌↔◌, IsTrue};
 ghost use Rattle.std.specs.List.{list_any};
 ghost use Rattle.oz_model.specs.Reach.{blocks_of};
 ghost use Rattle.oz_core.specs.Asks.{is_id, is_own};
-ghost use Rattle.oz_core.specs.Law.{IsNamed, IsNamedOrOwn, BadIsEnabled, is_copied, comes_to_copies, was_copied};
+ghost use Rattle.oz_core.specs.Law.{IsNamed, IsNamedOrOwn, BadIsEnabled, may_be_copied, comes_to_copies, was_copied};
 ghost use Rattle.oz_core.specs.Law.{puts_or_copies, CopyIsEnabled};
 ghost use Rattle.oz_core.specs.Manager.{named_by};
 ghost use Rattle.oz_core.specs.Nodes.{is_block};
@@ -102,8 +102,8 @@ pub fn bad_is_enabled(
         && is_named_or_own(story, id, block)
 }
 
-fn is_copied(state: State) -> bool
-    ensures { result ≡ is_copied state }
+fn may_be_copied(state: State) -> bool
+    ensures { result ≡ may_be_copied state }
 {
     match state {
         State::QuasiClosed | State::Closed => true,
@@ -115,7 +115,7 @@ fn comes_to_copies(number: u64, kind: &EventKind) -> bool
     ensures { result ≡ comes_to_copies number kind.now }
 {
     match kind {
-        EventKind::Closed { container, state } => *container == number && is_copied(*state),
+        EventKind::Closed { container, state } => *container == number && may_be_copied(*state),
         _ => false,
     }
 }
@@ -133,7 +133,7 @@ fn was_copied(opening: &Opening, number: u64) -> bool
 {
     match opening.containers.get(number) {
         None => false,
-        Some(container) => is_copied(container.state),
+        Some(container) => may_be_copied(container.state),
     }
 }
 

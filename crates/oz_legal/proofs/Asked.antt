@@ -16,7 +16,7 @@ use Rattle.oz_core.specs.Law.{MayGo}
 use Rattle.oz_core.specs.Scm.{is_in_logs, logged, names_block}
 use Rattle.oz_core.specs.Seats.{stripe_seat}
 use Rattle.oz_core.specs.Stories.{all_told}
-use Rattle.oz_legal.specs.Words.{is_settled, AreSettled, purges_local, lets_go}
+use Rattle.oz_legal.specs.Words.{is_decided, AreDecided, purges_local, lets_go}
 use Rattle.oz_legal.proofs.Found.{false-true, both, neither, joined, nothing, Found, found, finds, at, same_id}
 
 -- ---- what is pending was asked
@@ -37,33 +37,33 @@ unasked id (event ∷ story) h =
     ap (λ (before : Option Request). fold (λ before (e : Event). pending_after id before e.kind) before story) (unasked-step id event.kind two.0)
     ∙ unasked id story two.1
 
--- ---- a line's asks, settled
+-- ---- a line's asks, decided
 
-settled-at : (client line : ℕ) (story : List Event) (earlier : AskId) → is_of_line client line earlier ≡ true → (kind : EventKind) → asks earlier kind ≡ true → is_settled client line story kind ≡ true → pending earlier story ≡ None
-settled-at client line story earlier of (kind.Ask other request) so settled =
-    let there : cond (is_of_line client line earlier) (is_none (pending earlier story)) true ≡ true = subst (λ (i : AskId). cond (is_of_line client line i) (is_none (pending i story)) true ≡ true) (same_id earlier other so) settled in
+decided-at : (client line : ℕ) (story : List Event) (earlier : AskId) → is_of_line client line earlier ≡ true → (kind : EventKind) → asks earlier kind ≡ true → is_decided client line story kind ≡ true → pending earlier story ≡ None
+decided-at client line story earlier of (kind.Ask other request) so decided =
+    let there : cond (is_of_line client line earlier) (is_none (pending earlier story)) true ≡ true = subst (λ (i : AskId). cond (is_of_line client line i) (is_none (pending i story)) true ≡ true) (same_id earlier other so) decided in
     nothing (pending earlier story) (subst (λ (b : Bool). cond b (is_none (pending earlier story)) true ≡ true) of there)
-settled-at client line story earlier of _ so settled = false-true so
+decided-at client line story earlier of _ so decided = false-true so
 
-settled-go : (client line : ℕ) (story : List Event) → list_all (λ (event : Event). is_settled client line story event.kind) story ≡ true → (earlier : AskId) → is_of_line client line earlier ≡ true → (b : Bool) → is_asked earlier story ≡ b → pending earlier story ≡ None
-settled-go client line story h earlier of true e =
+decided-go : (client line : ℕ) (story : List Event) → list_all (λ (event : Event). is_decided client line story event.kind) story ≡ true → (earlier : AskId) → is_of_line client line earlier ≡ true → (b : Bool) → is_asked earlier story ≡ b → pending earlier story ≡ None
+decided-go client line story h earlier of true e =
     let f : Found (λ (event : Event). asks earlier event.kind) story = found (λ (event : Event). asks earlier event.kind) story e in
-    settled-at client line story earlier of f.item.kind f.so (at (λ (event : Event). is_settled client line story event.kind) story f.item f.there h)
-settled-go client line story h earlier of false e = unasked earlier story e
+    decided-at client line story earlier of f.item.kind f.so (at (λ (event : Event). is_decided client line story event.kind) story f.item f.there h)
+decided-go client line story h earlier of false e = unasked earlier story e
 
-pub settled : (client line : ℕ) (story : List Event) → list_all (λ (event : Event). is_settled client line story event.kind) story ≡ true → AreSettled client line story
-settled client line story h earlier of = settled-go client line story h earlier of (is_asked earlier story) refl
+pub decided : (client line : ℕ) (story : List Event) → list_all (λ (event : Event). is_decided client line story event.kind) story ≡ true → AreDecided client line story
+decided client line story h earlier of = decided-go client line story h earlier of (is_asked earlier story) refl
 
-settles-ask : (client line : ℕ) (story : List Event) → AreSettled client line story → (id : AskId) → (b : Bool) → is_of_line client line id ≡ b → cond b (is_none (pending id story)) true ≡ true
-settles-ask client line story h id true e = ap (λ (o : Option Request). is_none o) (h id e)
-settles-ask client line story h id false e = refl
+decides-ask : (client line : ℕ) (story : List Event) → AreDecided client line story → (id : AskId) → (b : Bool) → is_of_line client line id ≡ b → cond b (is_none (pending id story)) true ≡ true
+decides-ask client line story h id true e = ap (λ (o : Option Request). is_none o) (h id e)
+decides-ask client line story h id false e = refl
 
-settles : (client line : ℕ) (story : List Event) → AreSettled client line story → (kind : EventKind) → is_settled client line story kind ≡ true
-settles client line story h (kind.Ask id request) = settles-ask client line story h id (is_of_line client line id) refl
-settles client line story h _ = refl
+decides : (client line : ℕ) (story : List Event) → AreDecided client line story → (kind : EventKind) → is_decided client line story kind ≡ true
+decides client line story h (kind.Ask id request) = decides-ask client line story h id (is_of_line client line id) refl
+decides client line story h _ = refl
 
-pub settled-by : (client line : ℕ) (story : List Event) → AreSettled client line story → list_all (λ (event : Event). is_settled client line story event.kind) story ≡ true
-settled-by client line story h = list_all-from_AllPass (λ (event : Event). is_settled client line story event.kind) story (λ k d l. settles client line story h _)
+pub decided-by : (client line : ℕ) (story : List Event) → AreDecided client line story → list_all (λ (event : Event). is_decided client line story event.kind) story ≡ true
+decided-by client line story h = list_all-from_AllPass (λ (event : Event). is_decided client line story event.kind) story (λ k d l. decides client line story h _)
 
 -- ---- a story's own log
 

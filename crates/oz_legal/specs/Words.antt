@@ -13,13 +13,13 @@ use Rattle.oz_core.specs.Seats.{stripe_seat}
 use Rattle.oz_core.specs.Stories.{all_told}
 
 -- what the line asked here isn't pending
-abbrev pub is_settled : ℕ → ℕ → List Event → EventKind → Bool
-is_settled client line story (Ask id request) = if is_of_line client line id then is_none (pending id story) else true
-is_settled client line story _ = true
+abbrev pub is_decided : ℕ → ℕ → List Event → EventKind → Bool
+is_decided client line story (Ask id request) = if is_of_line client line id then is_none (pending id story) else true
+is_decided client line story _ = true
 
 -- nothing that the line asked is
-abbrev pub AreSettled : ℕ → ℕ → List Event → Type 0
-AreSettled client line story = (earlier : AskId) → is_of_line client line earlier ≡ true → pending earlier story ≡ None
+abbrev pub AreDecided : ℕ → ℕ → List Event → Type 0
+AreDecided client line story = (earlier : AskId) → is_of_line client line earlier ≡ true → pending earlier story ≡ None
 
 -- a PurgeAsk of a block with this local id, all blocks of which are logged; and one that a stripe gave
 abbrev pub purges_local : List Event → ℕ → EventKind → Bool

@@ -8,7 +8,7 @@ ghost use Rattle.oz_core.specs.Law.{AskIsEnabled, MayGo, PurgesLogged};
 ghost use Rattle.oz_core.specs.Scm.{is_in_logs, logged};
 ghost use Rattle.oz_core.specs.Seats.{IsAskSeat};
 ghost use Rattle.oz_core.specs.Stories.{all_told, has_event};
-ghost use Rattle.oz_legal.specs.Words.{is_settled, purges_local, lets_go, AreSettled};
+ghost use Rattle.oz_legal.specs.Words.{is_decided, purges_local, lets_go, AreDecided};
 
 use oz_core::{Event, EventKind, Opening, SERVICE_CLIENT};
 use oz_fields::Block;
@@ -67,8 +67,8 @@ fn pending<'a>(id: AskId, story: &'a [Event]) -> Option<&'a Request>
     asked
 }
 
-fn is_settled(client: u16, line: u16, story: &[Event], kind: &EventKind) -> bool
-    ensures { result ≡ is_settled client line story.now kind.now }
+fn is_decided(client: u16, line: u16, story: &[Event], kind: &EventKind) -> bool
+    ensures { result ≡ is_decided client line story.now kind.now }
 {
     match kind {
         EventKind::Ask { id, .. } if is_of_line(client, line, *id) => pending(*id, story).is_none(),
@@ -76,19 +76,19 @@ fn is_settled(client: u16, line: u16, story: &[Event], kind: &EventKind) -> bool
     }
 }
 
-fn all_settled(client: u16, line: u16, story: &[Event]) -> bool
-    ensures { result ≡ list_all (λ event. is_settled client line story.now event.kind) story.now }
+fn all_decided(client: u16, line: u16, story: &[Event]) -> bool
+    ensures { result ≡ list_all (λ event. is_decided client line story.now event.kind) story.now }
 {
     story
         .iter()
-        .all(|event| is_settled(client, line, story, &event.kind))
+        .all(|event| is_decided(client, line, story, &event.kind))
 }
 
 /// Nothing that the line asked is pending.
-fn are_settled(client: u16, line: u16, story: &[Event]) -> bool
-    ensures { IsTrue result ↔ AreSettled client line story.now }
+fn are_decided(client: u16, line: u16, story: &[Event]) -> bool
+    ensures { IsTrue result ↔ AreDecided client line story.now }
 {
-    all_settled(client, line, story)
+    all_decided(client, line, story)
 }
 
 fn is_in_logs(story: &[Event], block: Block) -> bool
@@ -180,7 +180,7 @@ pub fn ask_is_enabled(
     let may = id.client == SERVICE_CLIENT
         || (!is_asked(id, story)
             && !is_told(id.client, id.line, story)
-            && are_settled(id.client, id.line, story)
+            && are_decided(id.client, id.line, story)
             && line_index(id.client, id.line, story) <= durable_index(opening, story));
     is_ask_seat(id, seat) && may && is_purge_logged(story, request)
 }

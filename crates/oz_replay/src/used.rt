@@ -3,7 +3,7 @@
 ghost use Rattle.std.specs.Prelude.{◌≡◌, ◌↔◌, ◌==◌, All, Contains, IfOk, IsTrue, false};
 ghost use Rattle.std.specs.List.{list_any};
 ghost use Rattle.std.specs.Option.{option_map_or};
-ghost use Rattle.oz_core.specs.Manager.{granted_block, granted_by, IsUsed, kept_block, WasUsed};
+ghost use Rattle.oz_core.specs.Manager.{granted_block, block_of_reply, IsUsed, kept_block, WasUsed};
 ghost use Rattle.oz_core.specs.Nodes.{is_block};
 ghost use Rattle.oz_core.specs.Scm.{is_logged_at_opening, names_block};
 ghost use Rattle.oz_core.specs.Stories.{all_told};
@@ -63,7 +63,7 @@ fn was_logged(opening: &Opening, block: Block) -> bool
 }
 
 fn grants(block: Block, reply: &Reply) -> bool
-    ensures { result ≡ option_map_or (is_block block) (granted_by reply.now) false }
+    ensures { result ≡ option_map_or (is_block block) (block_of_reply reply.now) false }
 {
     match reply {
         Reply::Granted(granted, _) => is_block(block, *granted),

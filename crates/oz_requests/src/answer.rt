@@ -14,7 +14,7 @@ pub enum Answer {
     Code(Code),
     /// No pipeline is up that a block could be granted on.
     NoPipeline,
-    /// Two of a block's three members can't take it.
+    /// Pipelines are up, and the line has given each of them up, since two of its three members didn't take a block.
     NoQuorum,
     /// None of the block's replicas gives the bytes of this piece, the first such one, counted from 0.
     NoReplica { piece: u16, block: Block },
@@ -22,7 +22,8 @@ pub enum Answer {
     IdsSpent,
     /// The manager's disk failed before what was decided for the line was stable. It may be there or not.
     Unacknowledged,
-    /// The manager's disk had failed when the line asked. Nothing was decided.
+    /// The manager's disk had failed when the line asked last. Nothing was decided of that; what the line asked before may
+    /// have been.
     ManagerStopped,
     /// The disk of the storage container manager had failed.
     ScmStopped,

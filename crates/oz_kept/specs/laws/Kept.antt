@@ -18,7 +18,7 @@ use Rattle.oz_core.specs.declared.event.EventKind.TheVariants.{Decide}
 use Rattle.oz_core.specs.declared.opening.Opening.{Opening}
 use Rattle.oz_core.specs.Asks.{pending}
 use Rattle.oz_core.specs.Law.{IsLegalFrom, KindIsEnabled, DecideIsEnabled}
-use Rattle.oz_core.specs.Manager.{last_index, decided_index, namespace_step, namespace_after, namespace_from, namespace_of, kept_block, granted_block, granted_by}
+use Rattle.oz_core.specs.Manager.{last_index, decided_index, namespace_step, namespace_after, namespace_from, namespace_of, kept_block, granted_block, block_of_reply}
 use Rattle.oz_core.specs.Stories.{all_told, newer}
 use Rattle.oz_kept.specs.laws.Places.{moved_over, legal_first, legal_rest, namespace_next, namespace_parts}
 
@@ -61,7 +61,7 @@ module _ (opening : Opening) (most : ℕ) where
       let out : nat_le index most ≡ false = lt-leb index most above in
       record {
         step = λ namespace. ap (λ (t : Bool). cond t (namespace_after (pending id before) namespace reply) namespace) out;
-        block = ap (λ (t : Bool). cond t (granted_by reply) None) out;
+        block = ap (λ (t : Bool). cond t (block_of_reply reply) None) out;
         above = above;
       }
 
@@ -100,7 +100,7 @@ module _ (opening : Opening) (most : ℕ) where
       inl (record {
         within = λ below. le;
         step = λ namespace. ap (λ (t : Bool). cond t (namespace_after (pending id before) namespace reply) namespace) counts;
-        block = ap (λ (t : Bool). cond t (granted_by reply) None) counts;
+        block = ap (λ (t : Bool). cond t (block_of_reply reply) None) counts;
       }))
       (cases_lt most index)
   alike_or_past before kind = inl (record { within = λ below. below; step = λ namespace. refl; block = refl })

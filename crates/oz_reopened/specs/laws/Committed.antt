@@ -23,7 +23,7 @@ use Rattle.oz_core.specs.Asks.{is_of_line, replies_to}
 use Rattle.oz_core.specs.Contents.{OpeningBytes, WasGranted, written_for, wrote}
 use Rattle.oz_core.specs.Fits.{FitsFrom}
 use Rattle.oz_core.specs.Law.{IsLegal}
-use Rattle.oz_core.specs.Steps.{Target, pieces_in, pieces_from, is_settled, granted_to, excluded, is_done, is_code, commit_of, block_step, put_step, next_of_put, session_in, opens_before, opening_line, is_open_at, target_of, commit_if, commit_step, single, step_of, next_step}
+use Rattle.oz_core.specs.Steps.{Target, pieces_needed, pieces_from, is_settled, granted_to, excluded, is_done, is_code, commit_of, block_step, put_step, next_of_put, session_in, opens_before, opening_line, is_open_at, target_of, commit_if, commit_step, single, step_of, next_step}
 use Rattle.oz_core.specs.Stories.{all_told}
 use Rattle.oz_kept.specs.laws.Reached.{in_none}
 use Rattle.oz_kept.specs.laws.Deleted.{first_or_later, front_legal, enabled_at}
@@ -62,7 +62,7 @@ put_pieces opening script story line to commits it there among = by (session_in 
 
     by : (session : Option ℕ) → Contains (pieces_of (put_step opening story line to commits session)) it → IsOfWritten script story it
     by None none = absurd (in_none it none)
-    by (Some session) some = written session (nat_lt (length (written_for line.client line.number story)) (pieces_in line.command)) some
+    by (Some session) some = written session (nat_lt (length (written_for line.client line.number story)) (pieces_needed line.command)) some
 
 passed_line : (p : Line → Bool) (l : List Line) (x : Line) → Contains (filter p l) x → Contains l x
 passed_line p [] x among = among

@@ -12,7 +12,7 @@ use Rattle.oz_requests.specs.declared.reply.Reply.TheVariants as replies
 use Rattle.oz_requests.specs.declared.request.AskId.{AskId}
 use Rattle.oz_requests.specs.declared.request.Request.{Request}
 use Rattle.oz_model.specs.Answers.{after}
-use Rattle.oz_model.specs.Buckets.{granted_by as given_by}
+use Rattle.oz_model.specs.Buckets.{granted_by}
 use Rattle.oz_model.specs.Reach.{IsReached}
 use Rattle.oz_model.specs.laws.Reaches.{reach_grows}
 use Rattle.oz_core.specs.declared.event.Event.{Event}
@@ -24,7 +24,7 @@ use Rattle.oz_core.specs.Coherent.{IsCoherent, IdsAreFresh}
 use Rattle.oz_core.specs.Contents.{OpeningBytes, HasContent, WasThere}
 use Rattle.oz_core.specs.Fits.{FitsFrom}
 use Rattle.oz_core.specs.Law.{IsLegal, IsLegalFrom, KindIsEnabled}
-use Rattle.oz_core.specs.Manager.{granted_block, granted_by, kept_block, namespace_step, namespace_after, namespace_from, namespace_of}
+use Rattle.oz_core.specs.Manager.{granted_block, block_of_reply, kept_block, namespace_step, namespace_after, namespace_from, namespace_of}
 use Rattle.oz_core.specs.Nodes.{holds}
 use Rattle.oz_core.specs.Scm.{next_id, containers}
 use Rattle.oz_core.specs.Stories.{all_told}
@@ -63,7 +63,7 @@ told_event {X} tells (first ∷ story) x among = by (tells first.kind) refl (tol
 some_block : (a b : Block) → Some a ≡ Some b → a ≡ b
 some_block a b e = cc
 
-one_reply : (reply : Reply) (block : Block) → granted_by reply ≡ Some block → (pipeline : ℕ) × (reply ≡ replies.Granted block pipeline)
+one_reply : (reply : Reply) (block : Block) → block_of_reply reply ≡ Some block → (pipeline : ℕ) × (reply ≡ replies.Granted block pipeline)
 one_reply (replies.Granted given pipeline) block e = (pipeline, ap (λ (b : Block). replies.Granted b pipeline) (some_block given block e))
 one_reply reply block e = absurd cc
 
@@ -72,7 +72,7 @@ pub record WasGrantedIn (opening : Opening) (story : List Event) (legal : IsLega
   pub grant : IsGrantedTo opening story legal block id
 
 decided_grant : (opening : Opening) (story : List Event) (legal : IsLegal opening story) (block : Block) (event : Event) (id : AskId) (index : ℕ) (reply : Reply) (batch : List ℕ)
-    → Contains story event → event.kind ≡ Decide id index reply batch → granted_by reply ≡ Some block → WasGrantedIn opening story legal block
+    → Contains story event → event.kind ≡ Decide id index reply batch → block_of_reply reply ≡ Some block → WasGrantedIn opening story legal block
 decided_grant opening story legal block event id index reply batch there is granted =
     let one = one_reply reply block granted in
     let same : event ≡ record { seat = event.seat; kind = Decide id index (replies.Granted block one.0) batch } =
@@ -88,7 +88,7 @@ kept_grant opening story legal most block among = by told.event.kind refl
     told : IsTold (kept_block most) story block
     told = told_event (kept_block most) story block among
 
-    counted : (t : Bool) (reply : Reply) → cond t (granted_by reply) None ≡ Some block → granted_by reply ≡ Some block
+    counted : (t : Bool) (reply : Reply) → cond t (block_of_reply reply) None ≡ Some block → block_of_reply reply ≡ Some block
     counted true reply e = e
     counted false reply e = absurd cc
 
@@ -117,7 +117,7 @@ module _ (opening : Opening) (story : List Event) (legal : IsLegal opening story
 
 -- ---- what the manager reaches
 
-given_is : (reply : Reply) (block : Block) → Contains (given_by reply) block → granted_by reply ≡ Some block
+given_is : (reply : Reply) (block : Block) → Contains (granted_by reply) block → block_of_reply reply ≡ Some block
 given_is (replies.Granted given pipeline) block among = ap Some (in_one given block among)
 given_is reply block among = absurd (in_none block among)
 

@@ -10,5 +10,7 @@ mod walking;
 pub use counted_rows::CountedRows;
 pub use decision::{Decision, LONGEST_BATCH};
 pub use draft::Draft;
-pub use lookups::{bucket_count, bucket_names, has_row, key_count, session_count, snapshot_count};
+pub use lookups::{
+    bucket_count, bucket_names, has_row, key_count, missing_bucket, session_count, snapshot_count,
+};
 pub use walking::keys_between;

@@ -1,8 +1,10 @@
 //! What the newest rows say of a volume or a bucket.
 
-ghost use Rattle.std.specs.Prelude.{◌≡◌, ◌<◌, ◌^◌, ◌∷◌, ◌++◌, [], ℕ, List as AnyList, None, length, is_some, IfOk};
+ghost use Rattle.std.specs.Prelude.{◌≡◌, ◌<◌, ◌^◌, ◌∷◌, ◌++◌, [], ℕ, List as AnyList, None, length, is_some, IsSome, IfOk};
 ghost use Rattle.std.specs.FinMap.{len, keys};
 ghost use Rattle.oz_model.specs.Buckets.{buckets_at, bucket_at};
+ghost use Rattle.oz_model.specs.Refusals.{first_of, no_volume, no_bucket};
+ghost use Rattle.oz_model.specs.Scope.{scope_of};
 ghost use Rattle.oz_rows.specs.Counts.{IsCount};
 ghost use Rattle.oz_decision.specs.Meets.{AreInGrammar};
 ghost use Rattle.oz_decision.specs.Replies.{ShowsThat};
@@ -11,6 +13,7 @@ ghost use Rattle.oz_sound.specs.StandsFor.{IsLive};
 use crate::counted_rows::CountedRows;
 use crate::walking::{buckets_named, keys_between, live_count};
 use oz_fields::{List, Name, OutOfMemory, TryClone};
+use oz_names::Code;
 use oz_rows::RowKey;
 use std::alloc::Global;
 
@@ -19,6 +22,29 @@ pub fn has_row<M: CountedRows>(rows: &M, key: &RowKey) -> bool
     ensures { result ≡ is_some (M.rows rows.now key.now) }
 {
     rows.get(key).is_some()
+}
+
+/// The code where the volume isn't there, or the bucket, whose row has this key. Most requests begin with it.
+pub fn missing_bucket<M: CountedRows>(
+    alloc: Global,
+    rows: &M,
+    volume: &Name,
+    bucket: &Name,
+    key: &RowKey,
+) -> Result<Option<Code>, OutOfMemory>
+    requires { key.now ≡ RowKey.Bucket volume.now bucket.now }
+    ensures code { IfOk result (λ code. ShowsThat (M.rows rows.now) (λ namespace. code ≡ first_of (no_volume (scope_of namespace volume.now) ∷ no_bucket (scope_of namespace volume.now) bucket.now ∷ []))) }
+    ensures none { IfOk result (λ code. code ≡ None → IsSome (M.rows rows.now (RowKey.Bucket volume.now bucket.now))) }
+{
+    let of_volume = RowKey::of_volume(alloc, volume)?;
+    if !has_row(rows, &of_volume) {
+        return Ok(Some(Code::VolumeNotFound));
+    }
+    if has_row(rows, key) {
+        Ok(None)
+    } else {
+        Ok(Some(Code::BucketNotFound))
+    }
 }
 
 /// The name that comes next in the order of names: the same, with a byte 0 behind it.

@@ -1,11 +1,11 @@
 //! The requests on a bucket. The names were tested before.
 
-ghost use Rattle.std.specs.Prelude.{◌≡◌, [], ◌∷◌, false, true, None, IsSome, IfOk};
+ghost use Rattle.std.specs.Prelude.{◌≡◌, false, true, None, IfOk};
 ghost use Rattle.oz_decision.specs.Drafts.{row_by_row};
 ghost use Rattle.oz_decision.specs.Replies.{IsReply, ShowsThat};
 ghost use Rattle.oz_model.specs.Answers.{counts_of};
 ghost use Rattle.oz_model.specs.Buckets.{is_in_use, bucket_at};
-ghost use Rattle.oz_model.specs.Refusals.{first_of, no_volume, no_bucket, refusal};
+ghost use Rattle.oz_model.specs.Refusals.{refusal};
 ghost use Rattle.oz_model.specs.Scope.{scope_of};
 ghost use Rattle.oz_names.specs.Names.{is_volume_name};
 ghost use Rattle.oz_om_bucket.specs.Records.{recorded_changes};
@@ -13,7 +13,8 @@ ghost use Rattle.oz_om_bucket.specs.Allowed.{HasNoUse, IsAllowed, MayRecord};
 ghost use Rattle.oz_rows.specs.Operations.{batch_bytes};
 
 use oz_decision::{
-    CountedRows, Decision, Draft, bucket_count, has_row, key_count, session_count, snapshot_count,
+    CountedRows, Decision, Draft, bucket_count, has_row, key_count, missing_bucket, session_count,
+    snapshot_count,
 };
 use oz_fields::{Name, OutOfMemory};
 use oz_names::{Code, MOST_BUCKETS};
@@ -83,34 +84,11 @@ pub(crate) fn info_bucket<M: CountedRows>(
     ensures operations { IfOk result (λ decision. decision.bytes ≡ batch_bytes (row_by_row decision.changes)) }
 {
     let key = RowKey::of_bucket(alloc, volume, bucket)?;
-    if let Some(code) = missing(alloc, rows, volume, bucket, &key)? {
+    if let Some(code) = missing_bucket(alloc, rows, volume, bucket, &key)? {
         return Ok(Decision::unchanged(alloc, Reply::Code(code)));
     }
     let counts = counted(alloc, rows, volume, bucket)?;
     Ok(Decision::unchanged(alloc, Reply::Counts(counts)))
-}
-
-/// The code where the volume isn't there, or the bucket, whose row has this key.
-fn missing<M: CountedRows>(
-    alloc: Global,
-    rows: &M,
-    volume: &Name,
-    bucket: &Name,
-    key: &RowKey,
-) -> Result<Option<Code>, OutOfMemory>
-    requires { key.now ≡ RowKey.Bucket volume.now bucket.now }
-    ensures code { IfOk result (λ code. ShowsThat (M.rows rows.now) (λ namespace. code ≡ first_of (no_volume (scope_of namespace volume.now) ∷ no_bucket (scope_of namespace volume.now) bucket.now ∷ []))) }
-    ensures none { IfOk result (λ code. code ≡ None → IsSome (M.rows rows.now (RowKey.Bucket volume.now bucket.now))) }
-{
-    let of_volume = RowKey::of_volume(alloc, volume)?;
-    if !has_row(rows, &of_volume) {
-        return Ok(Some(Code::VolumeNotFound));
-    }
-    if has_row(rows, key) {
-        Ok(None)
-    } else {
-        Ok(Some(Code::BucketNotFound))
-    }
 }
 
 /// How many keys, sessions and snapshots a bucket has.
@@ -164,7 +142,7 @@ fn kept<M: CountedRows>(
     ensures code { IfOk result (λ code. ShowsThat (M.rows rows.now) (λ namespace. code ≡ refusal (scope_of namespace volume.now) (Request.DeleteBucket volume.now bucket.now))) }
     ensures none { IfOk result (λ code. code ≡ None → IsAllowed (M.rows rows.now) (Request.DeleteBucket volume.now bucket.now)) }
 {
-    if let Some(code) = missing(alloc, rows, volume, bucket, key)? {
+    if let Some(code) = missing_bucket(alloc, rows, volume, bucket, key)? {
         return Ok(Some(code));
     }
     if in_use(alloc, rows, volume, bucket)? {

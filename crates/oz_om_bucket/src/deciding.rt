@@ -15,11 +15,11 @@ ghost use Rattle.oz_rows.specs.Operations.{batch_bytes};
 ghost use Rattle.oz_sound.specs.Sound.{IsSound, IsSoundButRenames};
 
 use crate::buckets::{create_bucket, delete_bucket, info_bucket};
-use crate::newest::Newest;
 use crate::volumes::{create_volume, delete_volume, info_volume, list_buckets};
 use oz_cache::Cached;
 use oz_decision::{CountedRows, Decision};
 use oz_fields::OutOfMemory;
+use oz_newest::Newest;
 use oz_requests::{Family, Reply, Request};
 use std::alloc::Global;
 

@@ -3,7 +3,6 @@
 
 mod buckets;
 mod deciding;
-mod newest;
 mod volumes;
 
 pub use deciding::decide;

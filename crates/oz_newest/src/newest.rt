@@ -1,4 +1,4 @@
-//! The newest rows of a cache, as rows that can be counted.
+//! The newest rows of a cache, as the rows that a deciding crate counts and looks up.
 
 use oz_cache::Cached;
 use oz_decision::CountedRows;
@@ -6,7 +6,7 @@ use oz_rows::{Row, RowKey};
 
 /// What a cache has above its tables, and what the tables have below it.
 #[derive(Clone, Copy)]
-pub(crate) struct Newest<'c> {
+pub struct Newest<'c> {
     pub cached: &'c Cached,
 }
 

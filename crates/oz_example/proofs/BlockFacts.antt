@@ -27,7 +27,7 @@ each_two test rows = each_block (λ key block. each_block (test key block) rows)
 pub two_pass : (test : RowKey → Block → RowKey → Block → Bool) (rows : List RowEntry) → each_two test rows ≡ true → (block twin : Block) (key other : RowKey) → StandsIn (row_of rows) block key → StandsIn (row_of rows) twin other → test key block other twin ≡ true
 two_pass test rows all block twin key other here there = block_passes (test key block) rows (block_passes (λ key block. each_block (test key block) rows) rows all block key here) twin other there
 
-buckets_same : (a b : Option (List ℕ × List ℕ)) → is_same_bucket a b ≡ true → a ≡ b
+pub buckets_same : (a b : Option (List ℕ × List ℕ)) → is_same_bucket a b ≡ true → a ≡ b
 buckets_same None None e = refl
 buckets_same (Some (volume, bucket)) (Some (other, another)) e =
     let same : keys.Bucket volume bucket ≡ keys.Bucket other another = same_is_one (keys.Bucket volume bucket) (keys.Bucket other another) e in

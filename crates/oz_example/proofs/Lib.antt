@@ -15,4 +15,6 @@ pub mod Found
 pub mod Standing
 pub mod Moves
 pub mod Shown
+pub mod Changed
+pub mod Renamed
 pub mod Breaking

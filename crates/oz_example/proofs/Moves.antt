@@ -24,10 +24,10 @@ use Rattle.oz_example.proofs.SoundRows.{rows_are_sound}
 abbrev all : Rows
 all = row_of rows
 
-most : IsSoundButRenames all
+pub most : IsSoundButRenames all
 most = record { blocks = rows_are_sound.blocks; names = rows_are_sound.names; numbers = rows_are_sound.numbers; counts = rows_are_sound.counts }
 
-bare : StripesAreBare all
+pub bare : StripesAreBare all
 bare = bare_stripes all (each_row RowFits rows rows_fit)
 
 -- ---- a session becomes a key

@@ -1,4 +1,4 @@
--- What three requests change among the example's rows.
+-- What four requests change among the example's rows.
 use Rattle.std.specs.Prelude.{ℕ, zero, suc, ◌/◌, ◌%◌, List, [], ◌∷◌, None, Some}
 use Rattle.std.specs.FinMap.{remove}
 use Rattle.oz_fields.specs.declared.block.Block.{Block}
@@ -10,7 +10,7 @@ use Rattle.oz_rows.specs.declared.operation.Change.{Change}
 use Rattle.oz_rows.specs.RowMaps.{put, gone}
 use Rattle.oz_frames.specs.Parts.{parted}
 use Rattle.oz_frames.specs.Sessions.{blocks_in}
-use Rattle.oz_example.specs.Example.{home, photos, cat, elk, fox, block, piece, cat_now, bucket_photos}
+use Rattle.oz_example.specs.Example.{home, photos, cat, elk, fox, pond, block, piece, cat_now, of_sea, bucket_photos}
 
 -- the session 11 becomes the key `fox`
 abbrev pub of_fox : List Piece
@@ -33,6 +33,11 @@ new_block = block 1 12
 
 abbrev pub granting : List Change
 granting = put (keys.Open home photos cat 10) (values.Open (block 1 9 ∷ block 1 10 ∷ new_block ∷ [])) ∷ []
+
+-- the key `pond` is renamed to `elk`, and no renamed row is written: the first one behind each snapshot names its block
+-- as it was there
+abbrev pub renaming : List Change
+renaming = parted (keys.Key home photos pond) None (keys.Key home photos elk) (Some (values.Key 4 of_sea))
 
 -- ---- what no request may do
 

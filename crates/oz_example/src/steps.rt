@@ -1,11 +1,12 @@
-//! That the example's rows stay sound as blocks move among them.
+//! That the example's rows stay sound as blocks move among them, and as one gets another name.
 
 ghost use Rattle.std.specs.Prelude.{ℕ, ◌<◌, None, Some, Option as Perhaps};
 ghost use Rattle.std.specs.FinMap.{from_entries};
 ghost use Rattle.oz_example.specs.Example.{rows, namespace, home, photos, buckets_of_home};
-ghost use Rattle.oz_example.specs.Steps.{committing, deleting, granting, photos_without_cat, new_block};
+ghost use Rattle.oz_example.specs.Steps.{committing, deleting, granting, renaming, photos_without_cat, new_block};
 ghost use Rattle.oz_example.specs.Steps.{crowding, forgetting, standing_twice, undrawn};
 ghost use Rattle.oz_fields.specs.declared.block.Block.{Block as AnyBlock};
+ghost use Rattle.oz_frames.specs.Apart.{only_in};
 ghost use Rattle.oz_frames.specs.Buckets.{with_bucket};
 ghost use Rattle.oz_frames.specs.Moves.{BlocksMove};
 ghost use Rattle.oz_names.specs.declared.limits.TheConstants.{MOST_KEYS};
@@ -34,6 +35,14 @@ pub fn a_key_goes()
 pub fn a_session_gets_a_block()
     ensures sound { IsSoundButRenames (after_changes granting (row_of rows)) }
     ensures kept { KeepsBlocks (row_of rows) (after_changes granting (row_of rows)) (Some new_block) (λ block. ⊥) }
+{}
+
+/// A key gets another name, and so does its block. The rows of its bucket alone are sound, with what renamed rows say, and
+/// so all of them are.
+pub fn a_key_is_renamed()
+    ensures alone { IsSoundButRenames (only_in home photos (after_changes renaming (row_of rows))) }
+    ensures sound { IsSoundButRenames (after_changes renaming (row_of rows)) }
+    ensures renames { RenamesAreSound (after_changes renaming (row_of rows)) }
 {}
 
 /// Four batches that no request makes, and that no law of moved blocks takes: a block is lost, it stands in two rows,

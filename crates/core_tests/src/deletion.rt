@@ -1,9 +1,5 @@
 //! Deletion, copies, and what is told: as in `journal`.
 
-use crate::making::{
-    BLOCK, ID, ack_del, closed, decide_at, delete, flushed, halt, log, opening, opening_of, purge,
-    put, retire, stop, told,
-};
 use oz_container::State;
 use oz_core::Node;
 use oz_fields::Block;
@@ -13,6 +9,10 @@ use oz_law::{
 };
 use oz_requests::{Answer, AskId, Reply, Values};
 use std::test::Fail;
+use story_parts::{
+    BLOCK, ID, ack_del, closed, decide_at, delete, flushed, halt, log, opening, opening_of, purge,
+    put, retire, stop, told,
+};
 
 #[test]
 fn a_transaction_is_logged(rt: HostRuntime) -> Result<(), Fail> {

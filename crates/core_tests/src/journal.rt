@@ -1,10 +1,10 @@
 //! The manager's journal, and halts: a story in which each may go on, and one in which one condition alone fails.
 
-use crate::making::{ID, decide_at, flushed, halt, opening, swap};
 use oz_core::Node;
 use oz_law::{flushed_is_enabled, halt_is_enabled, swap_is_enabled};
 use oz_requests::Reply;
 use std::test::Fail;
+use story_parts::{ID, decide_at, flushed, halt, opening, swap};
 
 #[test]
 fn a_swap(rt: HostRuntime) -> Result<(), Fail> {

@@ -6,8 +6,6 @@ mod deletion;
 #[cfg(test)]
 mod journal;
 #[cfg(test)]
-mod making;
-#[cfg(test)]
 mod nodes;
 #[cfg(test)]
 mod report;

@@ -1,6 +1,5 @@
 //! Datanodes that stop, start, are wiped and taken for up or down: as in `journal`.
 
-use crate::making::{closed, down, event, halt, opening, stop};
 use oz_container::State;
 use oz_core::{EventKind, Node};
 use oz_law::{
@@ -8,6 +7,7 @@ use oz_law::{
     wipe_is_enabled,
 };
 use std::test::Fail;
+use story_parts::{closed, down, event, halt, opening, stop};
 
 #[test]
 fn down_and_up(rt: HostRuntime) -> Result<(), Fail> {

@@ -1,6 +1,5 @@
 //! Reports beside texts that were written by hand.
 
-use crate::making::{BLOCK, ID, ask, decide, event, named, put, told};
 use oz_container::State;
 use oz_core::{Event, EventKind, Node, PutRefusal};
 use oz_fields::{List, Name, OutOfMemory};
@@ -9,6 +8,7 @@ use oz_requests::{Answer, AskId, Counts, Exclude, Reply, Request, Values};
 use std::alloc::Global;
 use std::process::Abort;
 use std::test::Fail;
+use story_parts::{BLOCK, ID, ask, decide, event, named, put, told};
 
 fn prints<R: Abort + AllocGlobal>(
     rt: &R,

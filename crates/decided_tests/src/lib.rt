@@ -1,11 +1,9 @@
-//! Tests of what the manager may decide, and of what it may ask to be deleted.
+//! Tests of what the manager may decide.
 #![tactic(auto)]
 
+#[cfg(test)]
+mod checking;
 #[cfg(test)]
 mod deciding;
 #[cfg(test)]
 mod granting;
-#[cfg(test)]
-mod making;
-#[cfg(test)]
-mod purging;

@@ -1,6 +1,9 @@
-//! Whether further events may follow a story: plain and slow programs, there for tests.
+//! Whether an event may follow a story, and where a story first breaks the law: plain and slow programs, there for tests.
 #![tactic(auto)]
 
-mod asking;
+mod enabling;
+mod parts;
+mod stories;
 
-pub use asking::ask_is_enabled;
+pub use enabling::enabled;
+pub use stories::legal;

@@ -1,5 +1,7 @@
 pub mod Alone
+pub mod Asked
 pub mod Changes
+pub mod Found
 pub mod Goes
 pub mod Granted
 pub mod Halted

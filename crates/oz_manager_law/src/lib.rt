@@ -1,6 +1,7 @@
-//! Whether the manager may decide or ask for a deletion: plain and slow programs, there for tests.
+//! Whether the manager may be asked, decide, or ask for a deletion: plain and slow programs, there for tests.
 #![tactic(auto)]
 
+mod asking;
 mod deciding;
 mod granting;
 mod late;
@@ -9,5 +10,6 @@ mod purging;
 mod replies;
 mod seats;
 
+pub use asking::ask_is_enabled;
 pub use deciding::decide_is_enabled;
 pub use purging::purge_ask_is_enabled;

@@ -1,0 +1,7 @@
+pub mod Members
+pub mod Reached
+pub mod Managed
+pub mod Absent
+pub mod Held
+pub mod Replicas
+pub mod Leaving

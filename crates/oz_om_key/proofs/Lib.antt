@@ -1,0 +1,4 @@
+pub mod Snapshots
+pub mod Listed
+pub mod Replies
+pub mod Meeting

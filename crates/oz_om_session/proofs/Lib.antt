@@ -1,0 +1,16 @@
+pub mod Tests
+pub mod Blocks
+pub mod Seen
+pub mod Shown
+pub mod Becoming
+pub mod Granting
+pub mod Granted
+pub mod GrantRecords
+pub mod GrantMeets
+pub mod CommitRows
+pub mod CommitBatch
+pub mod CommitMoves
+pub mod CommitGoes
+pub mod CommitDone
+pub mod CommitRecords
+pub mod CommitMeets

@@ -1,0 +1,4 @@
+pub mod Commits
+pub mod Picks
+pub mod Records
+pub mod Sessions

@@ -5,7 +5,8 @@ usage: bench/rows.py [ROUNDS] [FOLDER]
 
 It writes manager's disks by itself, with so many keys in buckets of 4,096, in the order of their names or in a mixed
 one, and has the program load each of them in FOLDER (/dev/shm, so that no disk is waited for). All times are the
-processor's, the program's and the system's together, the median of ROUNDS (5) runs. Printed are
+processor's, the program's and the system's together. Of what is compared each has ROUNDS (5) runs, in turn, and the least
+of them counts: whatever else the machine does only adds to a run. Printed are
 
     load KEYS ORDER MICROSECONDS        a row, while a disk of so many is loaded
     volume KEYS MICROSECONDS            a line that makes a volume, over so many keys
@@ -18,7 +19,6 @@ processor's, the program's and the system's together, the median of ROUNDS (5) r
 import os
 import random
 import resource
-import statistics
 import struct
 import subprocess
 import sys
@@ -29,7 +29,8 @@ ROUNDS = int(sys.argv[1]) if len(sys.argv) > 1 else 5
 FOLDER = sys.argv[2] if len(sys.argv) > 2 else "/dev/shm"
 SIZES = [1_024, 10_240, 102_400, 409_600]
 IN_BUCKET = 4_096
-LINES = 1_000
+LINES = 4_000
+BUCKETS = 1_000
 COPIES = 8
 EXPIRES = 1_000
 
@@ -107,8 +108,13 @@ def seconds_of(program, disk, script):
         return after.ru_utime + after.ru_stime - before.ru_utime - before.ru_stime
 
 
-def median_of(program, disk, script=b""):
-    return statistics.median(seconds_of(program, disk, script) for _ in range(ROUNDS))
+def least_of(program, runs):
+    """The least time of each of these runs, a disk and a script each, by its name."""
+    seen = {name: [] for name in runs}
+    for _ in range(ROUNDS):
+        for name, (disk, script) in runs.items():
+            seen[name].append(seconds_of(program, disk, script))
+    return {name: min(seconds) for name, seconds in seen.items()}
 
 
 def tell(name, *words):
@@ -120,24 +126,32 @@ def main():
     if program is None:
         subprocess.run([os.path.join(TOP, "ozone"), "--version"], stdout=subprocess.DEVNULL, check=True)
         program = os.path.join(TOP, "crates/oz_main/out/oz_main")
-    empty = median_of(program, b"\x00")
     volumes = b"".join(b"a volume create /new%d\n" % number for number in range(LINES))
-    made = b"a volume create /new\n" + b"".join(b"a bucket create /new/bk%d\n" % number for number in range(LINES))
+    made = b"a volume create /new\n" + b"".join(b"a bucket create /new/bk%d\n" % number for number in range(BUCKETS))
     for keys in SIZES:
-        mixed = disk_of(keys, True).bytes()
-        tell("load", keys, "mixed", (median_of(program, mixed) - empty) / keys * 1e6)
         in_order = disk_of(keys, False).bytes()
-        loaded = median_of(program, in_order)
-        tell("load", keys, "in order", (loaded - empty) / keys * 1e6)
-        tell("volume", keys, (median_of(program, in_order, volumes) - loaded) / LINES * 1e6)
-        tell("bucket", keys, (median_of(program, in_order, made) - loaded) / LINES * 1e6)
+        runs = {
+            "empty": (b"\x00", b""),
+            "mixed": (disk_of(keys, True).bytes(), b""),
+            "in order": (in_order, b""),
+            "volumes": (in_order, volumes),
+            "buckets": (in_order, made),
+            "expire": (disk_of(keys, False).add([drop_open(0)] * EXPIRES).bytes(), b""),
+        }
         buckets = (keys + IN_BUCKET - 1) // IN_BUCKET
-        for place, bucket in (("first", 0), ("middle", buckets // 2), ("last", buckets - 1)):
+        places = {"first": 0, "middle": buckets // 2, "last": buckets - 1}
+        for place, bucket in places.items():
             copies = [copy_keys(bucket, number) for number in range(1, 1 + COPIES)]
-            copied = disk_of(keys, False).add(copies).bytes()
-            tell("copy", keys, place, (median_of(program, copied) - loaded) / COPIES * 1e6)
-        expired = disk_of(keys, False).add([drop_open(0)] * EXPIRES).bytes()
-        tell("expire", keys, (median_of(program, expired) - loaded) / EXPIRES * 1e6)
+            runs[place] = disk_of(keys, False).add(copies).bytes(), b""
+        least = least_of(program, runs)
+        for order in ("mixed", "in order"):
+            tell("load", keys, order, (least[order] - least["empty"]) / keys * 1e6)
+        loaded = least["in order"]
+        tell("volume", keys, (least["volumes"] - loaded) / LINES * 1e6)
+        tell("bucket", keys, (least["buckets"] - loaded) / BUCKETS * 1e6)
+        for place in places:
+            tell("copy", keys, place, (least[place] - loaded) / COPIES * 1e6)
+        tell("expire", keys, (least["expire"] - loaded) / EXPIRES * 1e6)
 
 
 main()

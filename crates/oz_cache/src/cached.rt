@@ -19,7 +19,7 @@ use crate::pending::Pending;
 use crate::prepared::Prepared;
 use oz_epochs::{EpochList, Steps};
 use oz_fields::OutOfMemory;
-use oz_rows::{Change, Row, RowKey};
+use oz_rows::{Change, Row, RowKey, RowMap};
 use oz_tables::Tables;
 use std::alloc::Global;
 use std::marker::Model;
@@ -235,5 +235,22 @@ fn count_after(count: usize, before: bool, now: bool) -> usize
         count + 1
     } else {
         count.saturating_sub(1)
+    }
+}
+
+/// The newest rows, for who decides over them.
+impl RowMap for Cached {
+    ghost rows = { newest };
+
+    fn get(&self, key: &RowKey) -> Option<&Row> {
+        Cached::get(self, key)
+    }
+
+    fn next(&self, key: &RowKey) -> Option<(&RowKey, &Row)> {
+        Cached::next(self, key)
+    }
+
+    fn count(&self, from: &RowKey, to: &RowKey) -> usize {
+        Cached::count(self, from, to)
     }
 }

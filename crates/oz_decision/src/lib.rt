@@ -1,13 +1,11 @@
 //! What every decision on a request owes, over rows.
 #![tactic(auto)]
 
-mod counted_rows;
 mod decision;
 mod draft;
 mod lookups;
 mod walking;
 
-pub use counted_rows::CountedRows;
 pub use decision::{Decision, LONGEST_BATCH};
 pub use draft::Draft;
 pub use lookups::{

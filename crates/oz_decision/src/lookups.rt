@@ -10,22 +10,21 @@ ghost use Rattle.oz_decision.specs.Meets.{AreInGrammar};
 ghost use Rattle.oz_decision.specs.Replies.{ShowsThat};
 ghost use Rattle.oz_sound.specs.StandsFor.{IsLive};
 
-use crate::counted_rows::CountedRows;
 use crate::walking::{buckets_named, keys_between, live_count};
 use oz_fields::{List, Name, OutOfMemory, TryClone};
 use oz_names::Code;
-use oz_rows::RowKey;
+use oz_rows::{RowKey, RowMap};
 use std::alloc::Global;
 
 /// Whether a key has a row.
-pub fn has_row<M: CountedRows>(rows: &M, key: &RowKey) -> bool
+pub fn has_row<M: RowMap>(rows: &M, key: &RowKey) -> bool
     ensures { result ≡ is_some (M.rows rows.now key.now) }
 {
     rows.get(key).is_some()
 }
 
 /// The code where the volume isn't there, or the bucket, whose row has this key. Most requests begin with it.
-pub fn missing_bucket<M: CountedRows>(
+pub fn missing_bucket<M: RowMap>(
     alloc: Global,
     rows: &M,
     volume: &Name,
@@ -70,7 +69,7 @@ fn in_u32(count: usize) -> u32
 }
 
 /// How many keys from one on and below another have a row.
-fn counted<M: CountedRows>(rows: &M, from: RowKey, to: RowKey) -> u32
+fn counted<M: RowMap>(rows: &M, from: RowKey, to: RowKey) -> u32
     ensures { (count : ℕ) × IsCount (M.rows rows.now) from to count × (count < 2 ^ 32 → result ≡ count) × (result ≡ 0 → count ≡ 0) }
 {
     in_u32(rows.count(&from, &to))
@@ -93,11 +92,7 @@ fn bucket_bounds(alloc: Global, volume: &Name) -> Result<(RowKey, RowKey), OutOf
 }
 
 /// How many buckets a volume has.
-pub fn bucket_count<M: CountedRows>(
-    alloc: Global,
-    rows: &M,
-    volume: &Name,
-) -> Result<u32, OutOfMemory>
+pub fn bucket_count<M: RowMap>(alloc: Global, rows: &M, volume: &Name) -> Result<u32, OutOfMemory>
     ensures shows { IfOk result (λ count. ShowsThat (M.rows rows.now) (λ namespace. count ≡ len (buckets_at namespace volume.now))) }
     ensures none { IfOk result (λ count. count ≡ 0 → (bucket : AnyList ℕ) → M.rows rows.now (RowKey.Bucket volume.now bucket) ≡ None) }
 {
@@ -106,7 +101,7 @@ pub fn bucket_count<M: CountedRows>(
 }
 
 /// The names of a volume's buckets, in order.
-pub fn bucket_names<M: CountedRows>(
+pub fn bucket_names<M: RowMap>(
     alloc: Global,
     rows: &M,
     volume: &Name,
@@ -119,7 +114,7 @@ pub fn bucket_names<M: CountedRows>(
 }
 
 /// How many keys a bucket has.
-pub fn key_count<M: CountedRows>(
+pub fn key_count<M: RowMap>(
     alloc: Global,
     rows: &M,
     volume: &Name,
@@ -145,7 +140,7 @@ fn first_key(alloc: Global, volume: &Name, bucket: Name) -> Result<RowKey, OutOf
 }
 
 /// How many sessions a bucket has.
-pub fn session_count<M: CountedRows>(
+pub fn session_count<M: RowMap>(
     alloc: Global,
     rows: &M,
     volume: &Name,
@@ -172,7 +167,7 @@ fn first_open(alloc: Global, volume: &Name, bucket: Name) -> Result<RowKey, OutO
 }
 
 /// How many live snapshots a bucket has.
-pub fn snapshot_count<M: CountedRows>(
+pub fn snapshot_count<M: RowMap>(
     alloc: Global,
     rows: &M,
     volume: &Name,

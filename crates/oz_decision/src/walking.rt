@@ -5,13 +5,12 @@ ghost use Rattle.oz_rows.specs.Rows.{kind_of};
 ghost use Rattle.oz_rows.specs.Counts.{AreKeys};
 ghost use Rattle.oz_decision.specs.Walking.{last_or as last_key, IsStep, bucket_named, is_live};
 
-use crate::counted_rows::CountedRows;
 use oz_fields::{List, Name, OutOfMemory, TryClone};
-use oz_rows::{Row, RowKey, SnapshotState};
+use oz_rows::{Row, RowKey, RowMap, SnapshotState};
 use std::alloc::Global;
 
 /// The keys from one on and below another that have a row, in order. The first key itself has none.
-pub fn keys_between<M: CountedRows>(
+pub fn keys_between<M: RowMap>(
     alloc: Global,
     rows: &M,
     from: RowKey,
@@ -23,7 +22,7 @@ pub fn keys_between<M: CountedRows>(
     walked(alloc, rows, &from, &to)
 }
 
-fn walked<M: CountedRows>(
+fn walked<M: RowMap>(
     alloc: Global,
     rows: &M,
     from: &RowKey,
@@ -40,7 +39,7 @@ fn walked<M: CountedRows>(
     Ok(found)
 }
 
-fn step<M: CountedRows>(
+fn step<M: RowMap>(
     alloc: Global,
     rows: &M,
     from: &RowKey,
@@ -84,7 +83,7 @@ fn name_in(alloc: Global, key: &RowKey) -> Result<Name, OutOfMemory>
 }
 
 /// How many of these have the row of a snapshot that isn't marked.
-pub(crate) fn live_count<M: CountedRows>(rows: &M, keys: &[RowKey]) -> usize
+pub(crate) fn live_count<M: RowMap>(rows: &M, keys: &[RowKey]) -> usize
     ensures { result ≡ count_by (λ key. is_live (M.rows rows.now key)) keys.now }
 {
     let mut count = 0;
@@ -96,7 +95,7 @@ pub(crate) fn live_count<M: CountedRows>(rows: &M, keys: &[RowKey]) -> usize
     count
 }
 
-fn has_live<M: CountedRows>(rows: &M, key: &RowKey) -> bool
+fn has_live<M: RowMap>(rows: &M, key: &RowKey) -> bool
     ensures { result ≡ is_live (M.rows rows.now key.now) }
 {
     match rows.get(key) {

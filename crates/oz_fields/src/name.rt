@@ -3,14 +3,18 @@
 ghost use Rattle.std.specs.Prelude.{◌≡◌, IfOk};
 
 use crate::OutOfMemory;
+use smallvec::SmallVec;
 use std::alloc::Global;
 use std::cmp::Ordering;
 use std::marker::Model;
 
+/// A name of at most so many bytes stands in the value itself, and takes no memory.
+const SHORT: usize = 24;
+
 /// A name: bytes of any kind and number. The caller tests what else a name has to keep to.
 #[derive(Debug, Drop)]
 pub struct Name {
-    bytes: Vec<u8>,
+    bytes: SmallVec<u8, SHORT>,
 }
 
 impl Model for Name {
@@ -25,7 +29,7 @@ impl Name {
     pub fn copy(alloc: Global, bytes: &[u8]) -> Result<Name, OutOfMemory>
         ensures { IfOk result (λ name. name ≡ bytes.now) }
     {
-        let bytes = Vec::from_slice(alloc, bytes)?;
+        let bytes = SmallVec::from_slice(alloc, bytes)?;
         Ok(Name { bytes })
     }
 

@@ -13,16 +13,16 @@ ghost use Rattle.oz_om_bucket.specs.Allowed.{HasNoUse, IsAllowed, MayRecord};
 ghost use Rattle.oz_rows.specs.Operations.{batch_bytes};
 
 use oz_decision::{
-    CountedRows, Decision, Draft, bucket_count, has_row, key_count, missing_bucket, session_count,
+    Decision, Draft, RowMap, bucket_count, has_row, key_count, missing_bucket, session_count,
     snapshot_count,
 };
 use oz_fields::{Name, OutOfMemory};
 use oz_names::{Code, MOST_BUCKETS};
 use oz_requests::{Counts, Reply, Request};
-use oz_rows::{Row, RowKey};
+use oz_rows::{Row, RowKey, RowMap};
 use std::alloc::Global;
 
-pub(crate) fn create_bucket<M: CountedRows>(
+pub(crate) fn create_bucket<M: RowMap>(
     alloc: Global,
     rows: &M,
     volume: &Name,
@@ -44,7 +44,7 @@ pub(crate) fn create_bucket<M: CountedRows>(
 }
 
 /// Why a bucket, whose row has this key, isn't made, where it isn't.
-fn not_made<M: CountedRows>(
+fn not_made<M: RowMap>(
     alloc: Global,
     rows: &M,
     volume: &Name,
@@ -70,7 +70,7 @@ fn not_made<M: CountedRows>(
     Ok(None)
 }
 
-pub(crate) fn info_bucket<M: CountedRows>(
+pub(crate) fn info_bucket<M: RowMap>(
     alloc: Global,
     rows: &M,
     volume: &Name,
@@ -92,7 +92,7 @@ pub(crate) fn info_bucket<M: CountedRows>(
 }
 
 /// How many keys, sessions and snapshots a bucket has.
-fn counted<M: CountedRows>(
+fn counted<M: RowMap>(
     alloc: Global,
     rows: &M,
     volume: &Name,
@@ -107,7 +107,7 @@ fn counted<M: CountedRows>(
     })
 }
 
-pub(crate) fn delete_bucket<M: CountedRows>(
+pub(crate) fn delete_bucket<M: RowMap>(
     alloc: Global,
     rows: &M,
     volume: &Name,
@@ -129,7 +129,7 @@ pub(crate) fn delete_bucket<M: CountedRows>(
 }
 
 /// Why a bucket, whose row has this key, doesn't go, where it doesn't.
-fn kept<M: CountedRows>(
+fn kept<M: RowMap>(
     alloc: Global,
     rows: &M,
     volume: &Name,
@@ -155,7 +155,7 @@ fn kept<M: CountedRows>(
 }
 
 /// Whether the bucket has a key or a session.
-fn in_use<M: CountedRows>(
+fn in_use<M: RowMap>(
     alloc: Global,
     rows: &M,
     volume: &Name,

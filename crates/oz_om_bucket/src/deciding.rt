@@ -17,10 +17,10 @@ ghost use Rattle.oz_sound.specs.Sound.{IsSound, IsSoundButRenames};
 use crate::buckets::{create_bucket, delete_bucket, info_bucket};
 use crate::volumes::{create_volume, delete_volume, info_volume, list_buckets};
 use oz_cache::Cached;
-use oz_decision::{CountedRows, Decision};
+use oz_decision::Decision;
 use oz_fields::OutOfMemory;
-use oz_newest::Newest;
 use oz_requests::{Family, Reply, Request};
+use oz_rows::RowMap;
 use std::alloc::Global;
 
 /// Decides a request on volumes and buckets over the newest rows. It changes nothing.
@@ -46,11 +46,11 @@ pub fn decide(alloc: Global, cached: &Cached, request: &Request) -> Result<Decis
     if let Some(code) = request.name_fault() {
         return Ok(Decision::unchanged(alloc, Reply::Code(code)));
     }
-    decide_named(alloc, &Newest { cached }, request)
+    decide_named(alloc, cached, request)
 }
 
 /// Decides a request whose names were tested.
-fn decide_named<M: CountedRows>(
+fn decide_named<M: RowMap>(
     alloc: Global,
     rows: &M,
     request: &Request,

@@ -8,14 +8,14 @@ ghost use Rattle.oz_om_bucket.specs.Records.{recorded_changes};
 ghost use Rattle.oz_om_bucket.specs.Allowed.{MayRecord};
 ghost use Rattle.oz_rows.specs.Operations.{batch_bytes};
 
-use oz_decision::{CountedRows, Decision, Draft, bucket_count, bucket_names, has_row};
+use oz_decision::{Decision, Draft, bucket_count, bucket_names, has_row};
 use oz_fields::{Name, OutOfMemory};
 use oz_names::Code;
 use oz_requests::{Reply, Request};
-use oz_rows::{Row, RowKey};
+use oz_rows::{Row, RowKey, RowMap};
 use std::alloc::Global;
 
-pub(crate) fn create_volume<M: CountedRows>(
+pub(crate) fn create_volume<M: RowMap>(
     alloc: Global,
     rows: &M,
     volume: &Name,
@@ -35,7 +35,7 @@ pub(crate) fn create_volume<M: CountedRows>(
     Ok(draft.with_reply(Reply::Done))
 }
 
-pub(crate) fn info_volume<M: CountedRows>(
+pub(crate) fn info_volume<M: RowMap>(
     alloc: Global,
     rows: &M,
     volume: &Name,
@@ -55,7 +55,7 @@ pub(crate) fn info_volume<M: CountedRows>(
     Ok(Decision::unchanged(alloc, Reply::Count(count)))
 }
 
-pub(crate) fn delete_volume<M: CountedRows>(
+pub(crate) fn delete_volume<M: RowMap>(
     alloc: Global,
     rows: &M,
     volume: &Name,
@@ -79,7 +79,7 @@ pub(crate) fn delete_volume<M: CountedRows>(
     Ok(draft.with_reply(Reply::Done))
 }
 
-pub(crate) fn list_buckets<M: CountedRows>(
+pub(crate) fn list_buckets<M: RowMap>(
     alloc: Global,
     rows: &M,
     volume: &Name,

@@ -8,14 +8,14 @@ ghost use Rattle.oz_model.specs.Buckets.{bucket_at, keys_asked};
 ghost use Rattle.oz_om_key.specs.Places.{IsAsked, first_named, is_named as named_so, number_in as number_of};
 
 use crate::place::Source;
-use oz_decision::{CountedRows, keys_between, missing_bucket};
+use oz_decision::{keys_between, missing_bucket};
 use oz_fields::{Name, OutOfMemory};
 use oz_names::Code;
-use oz_rows::{Row, RowKey, SnapshotState};
+use oz_rows::{Row, RowKey, RowMap, SnapshotState};
 use std::alloc::Global;
 
 /// The code where the volume isn't there, or the bucket.
-pub(crate) fn missing_code<M: CountedRows>(
+pub(crate) fn missing_code<M: RowMap>(
     alloc: Global,
     rows: &M,
     volume: &Name,
@@ -29,7 +29,7 @@ pub(crate) fn missing_code<M: CountedRows>(
 }
 
 /// Where the keys of the bucket itself stand, or those of its snapshot of a name. None where no live snapshot has it.
-pub(crate) fn asked_source<M: CountedRows>(
+pub(crate) fn asked_source<M: RowMap>(
     alloc: Global,
     rows: &M,
     volume: &Name,
@@ -45,7 +45,7 @@ pub(crate) fn asked_source<M: CountedRows>(
 }
 
 /// Where the keys of the live snapshot of this name stand.
-fn snapshot_named<M: CountedRows>(
+fn snapshot_named<M: RowMap>(
     alloc: Global,
     rows: &M,
     volume: &Name,
@@ -71,7 +71,7 @@ fn next_name(alloc: Global, name: &Name) -> Result<Name, OutOfMemory>
 }
 
 /// The first of these keys whose row is that of a live snapshot of the name.
-fn named_among<M: CountedRows>(rows: &M, keys: &[RowKey], name: &Name) -> Option<Source>
+fn named_among<M: RowMap>(rows: &M, keys: &[RowKey], name: &Name) -> Option<Source>
     ensures { result ≡ first_named (M.rows rows.now) keys.now name.now }
 {
     for key in keys {
@@ -82,7 +82,7 @@ fn named_among<M: CountedRows>(rows: &M, keys: &[RowKey], name: &Name) -> Option
     None
 }
 
-fn is_named<M: CountedRows>(rows: &M, key: &RowKey, name: &Name) -> bool
+fn is_named<M: RowMap>(rows: &M, key: &RowKey, name: &Name) -> bool
     ensures { result ≡ named_so (M.rows rows.now key.now) name.now }
 {
     match rows.get(key) {

@@ -14,10 +14,10 @@ ghost use Rattle.oz_sound.specs.Sound.{IsSound, IsSoundButRenames};
 
 use crate::reading::{list_keys, lookup_key};
 use oz_cache::Cached;
-use oz_decision::{CountedRows, Decision};
+use oz_decision::Decision;
 use oz_fields::OutOfMemory;
-use oz_newest::Newest;
 use oz_requests::{Reply, Request};
+use oz_rows::RowMap;
 use std::alloc::Global;
 
 /// Decides a request on keys over the newest rows. It changes nothing.
@@ -43,11 +43,11 @@ pub fn decide(alloc: Global, cached: &Cached, request: &Request) -> Result<Decis
     if let Some(code) = request.name_fault() {
         return Ok(Decision::unchanged(alloc, Reply::Code(code)));
     }
-    decide_named(alloc, &Newest { cached }, request)
+    decide_named(alloc, cached, request)
 }
 
 /// Decides a request whose names were tested.
-fn decide_named<M: CountedRows>(
+fn decide_named<M: RowMap>(
     alloc: Global,
     rows: &M,
     request: &Request,

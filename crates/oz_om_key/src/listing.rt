@@ -8,14 +8,14 @@ ghost use Rattle.oz_namespace.specs.Namespace.{ByName};
 ghost use Rattle.oz_om_key.specs.Walking.{HaveRows, IsFound, IsLast, AreFirst};
 
 use crate::place::Place;
-use oz_decision::{CountedRows, has_row};
+use oz_decision::has_row;
 use oz_fields::{List, Name, OutOfMemory, TryClone};
-use oz_rows::RowKey;
+use oz_rows::{RowKey, RowMap};
 use std::alloc::Global;
 
 /// The names with a prefix and above a start, in order, at most so many. It costs a search for each of them, and two
 /// more.
-pub(crate) fn listed_names<M: CountedRows>(
+pub(crate) fn listed_names<M: RowMap>(
     alloc: Global,
     rows: &M,
     place: &Place<'_>,
@@ -35,7 +35,7 @@ pub(crate) fn listed_names<M: CountedRows>(
 }
 
 /// The row behind which names are listed, and the prefix itself, where it is the first of them.
-fn first_names<M: CountedRows>(
+fn first_names<M: RowMap>(
     alloc: Global,
     rows: &M,
     place: &Place<'_>,
@@ -57,7 +57,7 @@ fn first_names<M: CountedRows>(
 }
 
 /// The name itself, where its row is there.
-fn itself_if_there<M: CountedRows>(
+fn itself_if_there<M: RowMap>(
     alloc: Global,
     rows: &M,
     name: &Name,
@@ -73,7 +73,7 @@ fn itself_if_there<M: CountedRows>(
 }
 
 /// These first names and those behind them, at most so many in all.
-fn names_behind<M: CountedRows>(
+fn names_behind<M: RowMap>(
     alloc: Global,
     rows: &M,
     place: &Place<'_>,
@@ -101,7 +101,7 @@ fn names_behind<M: CountedRows>(
 }
 
 /// The next row and the name of its key, where that is one with the prefix.
-fn next_listed<'r, M: CountedRows>(
+fn next_listed<'r, M: RowMap>(
     rows: &'r M,
     place: &Place<'_>,
     prefix: &Name,

@@ -9,15 +9,14 @@ ghost use Rattle.oz_sound.specs.StandsFor.{pieces_in};
 use crate::asking::{asked_source, missing_code};
 use crate::listing::listed_names;
 use crate::place::Place;
-use oz_decision::CountedRows;
 use oz_fields::{List, Name, OutOfMemory, Piece, TryClone};
 use oz_names::Code;
 use oz_requests::{Reply, Request};
-use oz_rows::{Row, RowKey};
+use oz_rows::{Row, RowKey, RowMap};
 use std::alloc::Global;
 
 /// The pieces of a key, of the bucket itself or of its snapshot of a name.
-pub(crate) fn lookup_key<M: CountedRows>(
+pub(crate) fn lookup_key<M: RowMap>(
     alloc: Global,
     rows: &M,
     volume: &Name,
@@ -46,7 +45,7 @@ pub(crate) fn lookup_key<M: CountedRows>(
 }
 
 /// The pieces of a key, where its row is there.
-fn pieces_copied<M: CountedRows>(
+fn pieces_copied<M: RowMap>(
     alloc: Global,
     rows: &M,
     place: &Place<'_>,
@@ -62,7 +61,7 @@ fn pieces_copied<M: CountedRows>(
 }
 
 /// The pieces that stand in the row of a key, or in that of a snapshot's key.
-fn pieces_at<'r, M: CountedRows>(rows: &'r M, key: &RowKey) -> Option<&'r List<Piece>>
+fn pieces_at<'r, M: RowMap>(rows: &'r M, key: &RowKey) -> Option<&'r List<Piece>>
     ensures { option_copied result ≡ pieces_in (M.rows rows.now key.now) }
 {
     match rows.get(key) {
@@ -72,7 +71,7 @@ fn pieces_at<'r, M: CountedRows>(rows: &'r M, key: &RowKey) -> Option<&'r List<P
 }
 
 /// The names of keys, of the bucket itself or of its snapshot of a name.
-pub(crate) fn list_keys<M: CountedRows>(
+pub(crate) fn list_keys<M: RowMap>(
     alloc: Global,
     rows: &M,
     volume: &Name,

@@ -20,12 +20,11 @@ ghost use Rattle.oz_sound.specs.Sound.{IsSound, IsSoundButRenames};
 
 use crate::sessions::{missing_session, session_blocks};
 use oz_cache::Cached;
-use oz_decision::{CountedRows, Decision, Draft};
+use oz_decision::{Decision, Draft};
 use oz_fields::{Block, List, Name, OutOfMemory};
 use oz_names::{Code, MOST_BLOCKS};
-use oz_newest::Newest;
 use oz_requests::{Exclude, Family, Reply, Request};
-use oz_rows::{Row, RowKey};
+use oz_rows::{Row, RowKey, RowMap};
 use std::alloc::Global;
 
 /// Decides a request for a block over the newest rows. A session that isn't refused is granted the picked block, on the
@@ -67,11 +66,11 @@ pub fn decide_allocate(
     if let Some(code) = request.name_fault() {
         return Ok(Some(Decision::unchanged(alloc, Reply::Code(code))));
     }
-    allocate_named(alloc, &Newest { cached }, request, pick)
+    allocate_named(alloc, cached, request, pick)
 }
 
 /// Decides a request whose names were tested.
-fn allocate_named<M: CountedRows>(
+fn allocate_named<M: RowMap>(
     alloc: Global,
     rows: &M,
     request: &Request,
@@ -100,7 +99,7 @@ fn allocate_named<M: CountedRows>(
     }
 }
 
-fn allocate<M: CountedRows>(
+fn allocate<M: RowMap>(
     alloc: Global,
     rows: &M,
     volume: &Name,
@@ -143,7 +142,7 @@ fn allocate<M: CountedRows>(
 }
 
 /// Why a session, whose row has this key, gets no block, where it doesn't.
-fn not_granted<M: CountedRows>(
+fn not_granted<M: RowMap>(
     alloc: Global,
     rows: &M,
     volume: &Name,

@@ -20,12 +20,11 @@ ghost use Rattle.oz_sound.specs.Sound.{IsSound, IsSoundButRenames};
 use crate::pieces::{are_pieces_of, blocks_in, have_good_blocks, unused_blocks};
 use crate::sessions::{missing_session, session_blocks};
 use oz_cache::Cached;
-use oz_decision::{CountedRows, Decision, Draft};
+use oz_decision::{Decision, Draft};
 use oz_fields::{Block, List, Name, OutOfMemory, Piece, TryClone};
 use oz_names::Code;
-use oz_newest::Newest;
 use oz_requests::{Reply, Request};
-use oz_rows::{Row, RowKey};
+use oz_rows::{Row, RowKey, RowMap};
 use std::alloc::Global;
 
 /// Decides a commit over the newest rows: at most four operations. It changes nothing.
@@ -55,11 +54,11 @@ pub fn decide_commit(
     if let Some(code) = request.name_fault() {
         return Ok(Decision::unchanged(alloc, Reply::Code(code)));
     }
-    commit_named(alloc, &Newest { cached }, request)
+    commit_named(alloc, cached, request)
 }
 
 /// Decides a request whose names were tested.
-fn commit_named<M: CountedRows>(
+fn commit_named<M: RowMap>(
     alloc: Global,
     rows: &M,
     request: &Request,
@@ -83,7 +82,7 @@ fn commit_named<M: CountedRows>(
     }
 }
 
-fn commit<M: CountedRows>(
+fn commit<M: RowMap>(
     alloc: Global,
     rows: &M,
     volume: &Name,
@@ -108,7 +107,7 @@ fn commit<M: CountedRows>(
 }
 
 /// Decides a commit of the session whose row has this key, which is there.
-fn commit_open<M: CountedRows>(
+fn commit_open<M: RowMap>(
     alloc: Global,
     rows: &M,
     volume: &Name,
@@ -145,7 +144,7 @@ fn commit_open<M: CountedRows>(
 }
 
 /// The older version and the unused blocks stand in deleted rows; None where the pieces aren't such of the session.
-fn put_left<M: CountedRows>(
+fn put_left<M: RowMap>(
     alloc: Global,
     rows: &M,
     volume: &Name,
@@ -172,7 +171,7 @@ fn put_left<M: CountedRows>(
 }
 
 /// Whether the pieces are such of the session, and the key's row, if there is one, keeps the rules of rows.
-fn are_committed<M: CountedRows>(
+fn are_committed<M: RowMap>(
     rows: &M,
     of_session: &RowKey,
     of_key: &RowKey,
@@ -183,7 +182,7 @@ fn are_committed<M: CountedRows>(
     are_pieces_of(session_blocks(rows, of_session), pieces) && is_version(rows, of_key)
 }
 
-fn is_version<M: CountedRows>(rows: &M, of_key: &RowKey) -> bool
+fn is_version<M: RowMap>(rows: &M, of_key: &RowKey) -> bool
     ensures { result ≡ is_version (M.rows rows.now of_key.now) }
 {
     match rows.get(of_key) {
@@ -193,7 +192,7 @@ fn is_version<M: CountedRows>(rows: &M, of_key: &RowKey) -> bool
 }
 
 /// The blocks of the key's older version, none where there is no such key.
-fn older_blocks<M: CountedRows>(
+fn older_blocks<M: RowMap>(
     alloc: Global,
     rows: &M,
     of_key: &RowKey,

@@ -9,14 +9,14 @@ ghost use Rattle.oz_model.specs.Scope.{scope_of};
 ghost use Rattle.oz_om_session.specs.Records.{blocks_at};
 ghost use Rattle.oz_om_session.specs.Sessions.{IsOpen, is_good, are_good, is_open as is_open_row};
 
-use oz_decision::{CountedRows, missing_bucket};
+use oz_decision::missing_bucket;
 use oz_fields::{Block, GREATEST_BLOCK_NUMBER, Name, OutOfMemory};
 use oz_names::{Code, MOST_BLOCKS};
-use oz_rows::{Row, RowKey};
+use oz_rows::{Row, RowKey, RowMap};
 use std::alloc::Global;
 
 /// The code where the volume isn't there, or the bucket, or the session of this number, whose row has this key.
-pub(crate) fn missing_session<M: CountedRows>(
+pub(crate) fn missing_session<M: RowMap>(
     alloc: Global,
     rows: &M,
     volume: &Name,
@@ -43,7 +43,7 @@ pub(crate) fn missing_session<M: CountedRows>(
 }
 
 /// Whether a session of this number has the row of this key.
-fn is_open<M: CountedRows>(rows: &M, of_session: &RowKey, number: u64) -> bool
+fn is_open<M: RowMap>(rows: &M, of_session: &RowKey, number: u64) -> bool
     ensures { result ≡ is_open_row number (M.rows rows.now of_session.now) }
 {
     match rows.get(of_session) {
@@ -75,7 +75,7 @@ pub(crate) fn is_good(block: Block) -> bool
 }
 
 /// The blocks of the session whose row has this key.
-pub(crate) fn session_blocks<'r, M: CountedRows>(rows: &'r M, of_session: &RowKey) -> &'r [Block]
+pub(crate) fn session_blocks<'r, M: RowMap>(rows: &'r M, of_session: &RowKey) -> &'r [Block]
     ensures { result.now ≡ blocks_at (M.rows rows.now of_session.now) }
 {
     match rows.get(of_session) {

@@ -185,4 +185,8 @@ impl RowMap for Tables {
     fn next(&self, key: &RowKey) -> Option<(&RowKey, &Row)> {
         Tables::next(self, key)
     }
+
+    fn count(&self, from: &RowKey, to: &RowKey) -> usize {
+        Tables::count(self, from, to)
+    }
 }

@@ -26,7 +26,7 @@ keys_between-requires g c =
 
 pub returns : goal.returns
 returns g c =
-    let all = g.M.CountedRows.rows c.args.rows.now in
+    let all = g.M.RowMap.rows c.args.rows.now in
     let v = c.args.volume.now in
     let ks = c.deref.result.now in
     let from_is : c.in_ok-from.from ≡ keys.Bucket v [] = c.in_ok-from.ensures.from in

@@ -8,7 +8,7 @@ use Rattle.oz_decision.proofs.lookups.session_count.Goals as goal
 
 pub returns-clause-shows : goal.returns-clause-shows
 returns-clause-shows g c = λ namespace stand.
-    let all = g.M.CountedRows.rows c.args.rows.now in
+    let all = g.M.RowMap.rows c.args.rows.now in
     let from_is : c.in_ok-from.from ≡ keys.Open c.args.volume.now c.args.bucket.now [] 0 = search rules in
     let to_is : c.in_ok-to.to ≡ keys.Open c.args.volume.now (next c.args.bucket.now) [] 0 = search rules in
     let count = c.counted.ensures.0 in
@@ -18,7 +18,7 @@ returns-clause-shows g c = λ namespace stand.
 
 pub returns-clause-none : goal.returns-clause-none
 returns-clause-none g c = λ zero k n.
-    let all = g.M.CountedRows.rows c.args.rows.now in
+    let all = g.M.RowMap.rows c.args.rows.now in
     let from_is : c.in_ok-from.from ≡ keys.Open c.args.volume.now c.args.bucket.now [] 0 = search rules in
     let to_is : c.in_ok-to.to ≡ keys.Open c.args.volume.now (next c.args.bucket.now) [] 0 = search rules in
     let count = c.counted.ensures.0 in

@@ -24,7 +24,7 @@ keys_between-requires g c =
 
 pub returns-clause-shows : goal.returns-clause-shows
 returns-clause-shows g c = λ namespace stand.
-    let all = g.M.CountedRows.rows c.args.rows.now in
+    let all = g.M.RowMap.rows c.args.rows.now in
     let v = c.args.volume.now in
     let b = c.args.bucket.now in
     let ks = c.deref.result.now in
@@ -38,7 +38,7 @@ returns-clause-shows g c = λ namespace stand.
 
 pub returns-clause-none : goal.returns-clause-none
 returns-clause-none g c = λ zero fit n is.
-    let all = g.M.CountedRows.rows c.args.rows.now in
+    let all = g.M.RowMap.rows c.args.rows.now in
     let v = c.args.volume.now in
     let b = c.args.bucket.now in
     let ks = c.deref.result.now in

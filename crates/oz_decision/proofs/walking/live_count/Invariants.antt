@@ -4,6 +4,6 @@ use Rattle.oz_decision.proofs.walking.live_count.Given as goal
 
 abbrev pub invariant-loop-key : goal.invariant-loop-key
 invariant-loop-key g l = record {
-  counted : l.count ≡ count_by (λ key. is_live (g.M.CountedRows.rows l.rows key)) (take l.key-index l.keys);
+  counted : l.count ≡ count_by (λ key. is_live (g.M.RowMap.rows l.rows key)) (take l.key-index l.keys);
   small : l.count ≤ l.key-index;
 }

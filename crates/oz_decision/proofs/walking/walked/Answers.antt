@@ -4,7 +4,7 @@ use Rattle.oz_decision.proofs.walking.walked.Goals as goal
 
 pub loop-init : goal.loop-init
 loop-init g c = λ absent.
-    let all = g.M.CountedRows.rows c.args.rows.now in
+    let all = g.M.RowMap.rows c.args.rows.now in
     let from = c.args.from.now in
     let to = c.args.to.now in
     let whole : c.count-count.result ≡ c.count-count.result - 0 = omega arith in
@@ -13,7 +13,7 @@ loop-init g c = λ absent.
 
 pub loop-preserved : goal.loop-preserved
 loop-preserved g c = λ absent.
-    let all = g.M.CountedRows.rows c.args.rows.now in
+    let all = g.M.RowMap.rows c.args.rows.now in
     let from = c.args.from.now in
     let to = c.args.to.now in
     let count = c.count-count.result in
@@ -23,6 +23,6 @@ loop-preserved g c = λ absent.
 
 pub returns : goal.returns
 returns g c = λ absent.
-    let all = g.M.CountedRows.rows c.args.rows.now in
+    let all = g.M.RowMap.rows c.args.rows.now in
     let none : c.count-count.result - c.loop.counter ≡ 0 = omega arith in
     ends all c.args.from.now c.args.to.now c.loop.found.items (subst (λ left. Walked all c.args.from.now c.args.to.now c.loop.found.items left) none (c.loop.invariant absent))

@@ -5,4 +5,4 @@ pub returns-in-Some : goal.returns-in-Some
 returns-in-Some g c = rw c.in-Some.is c.snapshot_named.ensures
 
 pub returns-in-None : goal.returns-in-None
-returns-in-None g c = rw c.in-None.is (asked_itself (g.M.CountedRows.rows c.args.rows.now) c.args.volume.now c.args.bucket.now)
+returns-in-None g c = rw c.in-None.is (asked_itself (g.M.RowMap.rows c.args.rows.now) c.args.volume.now c.args.bucket.now)

@@ -9,7 +9,7 @@ use Rattle.oz_om_key.proofs.asking.snapshot_named.Goals as goal
 
 pub returns : goal.returns
 returns g c = λ namespace stand.
-    let all = g.M.CountedRows.rows c.args.rows.now in
+    let all = g.M.RowMap.rows c.args.rows.now in
     let v = c.args.volume.now in
     let b = c.args.bucket.now in
     let ks = c.in_ok-found.found.items in

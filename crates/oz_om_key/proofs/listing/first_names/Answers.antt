@@ -12,7 +12,7 @@ returns-in_ok-first-clause-first g c = λ keys have.
     let start = c.args.start.now in
     let prefix = c.args.prefix.now in
     let under = less_from (slice_cmp nat_cmp start prefix) (sym c.lt.ensures ∙ c.if-lt.true) in
-    begins_under (g.M.CountedRows.rows c.args.rows.now) place.volume.now place.bucket.now place.source keys have prefix start under c.in_ok-from.from c.in_ok-from.ensures c.in_ok-first.first.items c.in_ok-first.ensures
+    begins_under (g.M.RowMap.rows c.args.rows.now) place.volume.now place.bucket.now place.source keys have prefix start under c.in_ok-from.from c.in_ok-from.ensures c.in_ok-first.first.items c.in_ok-first.ensures
 
 pub returns-in_ok-row_key-clause-first : goal.returns-in_ok-row_key-clause-first
 returns-in_ok-row_key-clause-first g c = λ keys have.
@@ -20,5 +20,5 @@ returns-in_ok-row_key-clause-first g c = λ keys have.
     let start = c.args.start.now in
     let prefix = c.args.prefix.now in
     subst (AreFirst keys place.volume.now place.bucket.now place.source prefix start c.in_ok-row_key.field-0) (sym c.new.ensures.items)
-    (begins_at_start (g.M.CountedRows.rows c.args.rows.now) place.volume.now place.bucket.now place.source keys have prefix start
+    (begins_at_start (g.M.RowMap.rows c.args.rows.now) place.volume.now place.bucket.now place.source keys have prefix start
     (λ e. false≢true (sym (sym c.lt.ensures ∙ c.if-lt.false) ∙ ap is_lt e)) c.in_ok-row_key.field-0 c.in_ok-row_key.ensures)

@@ -14,7 +14,7 @@ returns-in-Some-clause-reply g c =
 
 pub put-requires : goal.put-requires
 put-requires g c =
-    let all = g.M.CountedRows.rows c.args.rows.now in
+    let all = g.M.RowMap.rows c.args.rows.now in
     let block = c.in-Some-pick.block in
     let blocks = c.in_ok-blocks.ensures ∙ ap (λ (l : List Block). l ++ block ∷ []) (c.session_blocks.ensures ∙ ap (λ q. blocks_at (all q)) c.in_ok-of_session.ensures) in
     rw (c.in_ok-of_session.ensures, blocks) (row_fits all c.args.volume.now c.args.bucket.now c.args.key.now c.args.session c.args.exclude.now c.requires.named (c.in_ok-code.ensures.none c.in_default.is) block (subst IsPick c.in-Some-pick.is c.requires.pick))

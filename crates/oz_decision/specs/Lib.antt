@@ -2,4 +2,6 @@ pub mod Meets
 pub mod Drafts
 pub mod Replies
 pub mod Walking
+pub mod Sessions
+pub mod Versions
 pub mod laws

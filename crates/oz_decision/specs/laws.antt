@@ -7,3 +7,7 @@ pub mod Walks
 pub mod Snapshots
 pub mod OneRow
 pub mod Refusing
+pub mod SessionRows
+pub mod Sessions
+pub mod Shown
+pub mod Versions

@@ -24,7 +24,7 @@ use Rattle.oz_kept.specs.laws.Contents.{GotIt, one_block, holder_got, front_ends
 use Rattle.oz_kept.specs.laws.Reached.{in_none}
 use Rattle.oz_reopened.specs.Left.{lengths_of}
 use Rattle.oz_reopened.specs.laws.Named.{told_event}
-use Rattle.oz_leaving.proofs.Members.{joins, comes, filtered, of_filtered, passing, same_test}
+use Rattle.oz_model.specs.laws.Members.{joins, comes, filtered, of_filtered, passing, same_test}
 use Rattle.oz_leaving.proofs.Absent.{changes, none_changes, stays_false, beyond}
 
 -- a Put's piece

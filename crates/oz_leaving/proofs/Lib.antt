@@ -1,5 +1,3 @@
-pub mod Members
-pub mod Reached
 pub mod Managed
 pub mod Absent
 pub mod Held

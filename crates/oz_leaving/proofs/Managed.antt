@@ -12,8 +12,8 @@ use Rattle.oz_core.specs.Manager.{kept_up_to, kept_block}
 use Rattle.oz_core.specs.Scm.{next_id, containers, last_txn, logs, is_retired, acknowledgers}
 use Rattle.oz_core.specs.Stories.{all_told}
 use Rattle.oz_reopened.specs.Left.{IsOfManager, IsLeftByManager, IsLeftByScm, AreAcknowledgers}
-use Rattle.oz_leaving.proofs.Members.{filtered, of_filtered, mapped, of_mapped}
-use Rattle.oz_leaving.proofs.Reached.{met, reached}
+use Rattle.oz_model.specs.laws.Members.{filtered, of_filtered, mapped, of_mapped}
+use Rattle.oz_model.specs.laws.Reached.{met, reached}
 
 module _ (opening : Opening) (story : List Event) (most : ℕ) where
   abbrev pub blocks_had : List Block

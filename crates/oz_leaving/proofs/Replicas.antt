@@ -20,7 +20,7 @@ use Rattle.oz_core.specs.Scm.{logs}
 use Rattle.oz_core.specs.Stories.{all_told, newer}
 use Rattle.oz_kept.specs.laws.Granted.{told_among}
 use Rattle.oz_reopened.specs.Left.{greatest_in, was_greatest, greatest_of, greatest_after, is_txn_of}
-use Rattle.oz_leaving.proofs.Members.{joins, mapped, of_mapped, passing, same_test}
+use Rattle.oz_model.specs.laws.Members.{joins, mapped, of_mapped, passing, same_test}
 use Rattle.oz_leaving.proofs.Absent.{changes, none_changes, stays_false, stays_zero, beyond}
 use Rattle.oz_leaving.proofs.Held.{found_get, passes_some}
 

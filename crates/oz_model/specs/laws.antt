@@ -6,3 +6,5 @@ pub mod Reaches
 pub mod Scopes
 pub mod Service
 pub mod Stripes
+pub mod Members
+pub mod Reached

@@ -20,7 +20,7 @@ use Rattle.oz_decision.specs.Meets.{Stand}
 use Rattle.oz_decision.specs.laws.Lookups.{there_are}
 use Rattle.oz_frames.specs.Buckets.{IsOutside}
 use Rattle.oz_frames.specs.laws.Becoming.{bucket_becomes}
-use Rattle.oz_om_session.proofs.Shown.{snapshots_again, snapshots_of_bucket, volume_there, stripes_again}
+use Rattle.oz_decision.specs.laws.Shown.{snapshots_again, snapshots_of_bucket, volume_there, stripes_again}
 
 -- rows of other buckets are as they were
 pub outside : (v b : List ℕ) (changes : List Change) → AllByRecursion (λ (change : Change). bucket_of_row change.key ≡ Some (v, b)) changes → (key : RowKey) → IsOutside v b key → (row : Option Row) → row_after changes key row ≡ row

@@ -13,28 +13,11 @@ use Rattle.oz_rows.specs.Counts.{AllDiffer}
 use Rattle.oz_rows.specs.Rows.{IsBlock, IsPiece, AreItems}
 use Rattle.oz_rows.specs.RowMaps.{is_block}
 use Rattle.oz_rows.specs.laws.Lengths.{no_longer}
-use Rattle.oz_om_session.specs.Records.{blocks_at, version_at, unused}
-use Rattle.oz_om_session.specs.Sessions.{is_good, is_version, are_committed}
-use Rattle.oz_om_session.proofs.Tests.{front, back, both, at_most, under, good_block}
-
-block_of : ℕ → ℕ → Block
-block_of container local = record { container = container; local = local }
-
-one_number : (a b : ℕ) → (a == b) ≡ true → a ≡ b
-one_number a b e = grind (arith, nat_tests, e)
-
-itself_number : (a : ℕ) → (a == a) ≡ true
-itself_number a = grind (arith, nat_tests)
-
-pub one_block : (a b : Block) → is_block a b ≡ true → a ≡ b
-unfolding block_of
-one_block a b e =
-    let container = one_number b.container a.container (front _ _ e) in
-    let local = one_number b.local a.local (back (b.container == a.container) (b.local == a.local) e) in
-    λ i. block_of (sym container i) (sym local i)
-
-pub block_itself : (a : Block) → is_block a a ≡ true
-block_itself a = both (a.container == a.container) _ (itself_number a.container) (itself_number a.local)
+use Rattle.oz_decision.specs.Sessions.{blocks_at, is_good}
+use Rattle.oz_decision.specs.Versions.{version_at, is_version}
+use Rattle.oz_om_session.specs.Records.{unused}
+use Rattle.oz_om_session.specs.Sessions.{are_committed}
+use Rattle.oz_decision.specs.laws.SessionRows.{front, back, both, at_most, under, good_block}
 
 -- the two tests of a block among others are one
 pub as_any : (blocks : List Block) (block : Block) → has_block blocks block ≡ list_any (is_block block) blocks
@@ -83,22 +66,6 @@ kept_fit test l fit = let few = kept_size test l in ((let most = fit.0 in omega 
 
 pub left_fit : (blocks : List Block) (pieces : List Piece) → AreItems IsBlock blocks → AreItems IsBlock (unused blocks pieces)
 left_fit blocks pieces fit = kept_fit (λ block. not (has_block (blocks_of pieces) block)) blocks fit
-
--- the blocks of good pieces
-good_blocks_of : (pieces : List Piece) → list_all (λ (piece : Piece). is_good piece.block) pieces ≡ true → AllByRecursion IsBlock (blocks_of pieces)
-good_blocks_of [] e = tt
-good_blocks_of (piece ∷ pieces) e = (good_block piece.block (front (is_good piece.block) _ e), good_blocks_of pieces (back (is_good piece.block) _ e))
-
-pub as_many : (pieces : List Piece) → length (blocks_of pieces) ≡ length pieces
-as_many [] = refl
-as_many (piece ∷ pieces) = omega (arith, as_many pieces)
-
-good_version : (version : Option Row) → is_version version ≡ true → AreItems IsBlock (version_at version)
-good_version (Some (rows.Key number pieces)) e = (
-  (let few = at_most (length pieces) 256 (front (nat_le (length pieces) 256) _ e) in let same = as_many pieces in omega (arith, few, same)),
-  good_blocks_of pieces (back (nat_le (length pieces) 256) _ e),
-)
-good_version version e = ((omega arith), tt)
 
 pub version_fits : (session version : Option Row) (pieces : List Piece) → are_committed session version pieces ≡ true → AreItems IsBlock (version_at version)
 version_fits session version pieces e = good_version version (back (are_pieces_of (blocks_at session) pieces) _ e)

@@ -23,9 +23,11 @@ use Rattle.oz_rows.specs.Rows.{IsBlock, AreItems}
 use Rattle.oz_decision.specs.Drafts.{row_by_row, operation_for}
 use Rattle.oz_decision.specs.Meets.{AreInGrammar, IsSafe}
 use Rattle.oz_decision.specs.laws.OneRow.{nothing_is_safe, put_is_safe, removal_is_safe, alone_is_short}
-use Rattle.oz_om_session.specs.Records.{blocks_at, version_at, unused, deleted, changes_of_left, changes_of_commit}
+use Rattle.oz_decision.specs.Sessions.{blocks_at}
+use Rattle.oz_decision.specs.Versions.{version_at, deleted}
+use Rattle.oz_om_session.specs.Records.{unused, changes_of_left, changes_of_commit}
 use Rattle.oz_om_session.specs.Sessions.{MayCommit}
-use Rattle.oz_om_session.proofs.Tests.{OpenRow, all_append, deleted_fits}
+use Rattle.oz_decision.specs.laws.SessionRows.{OpenRow, all_append, deleted_fits}
 use Rattle.oz_om_session.proofs.Blocks.{version_fits, left_fit}
 use Rattle.oz_om_session.proofs.CommitRows.{opened, session_fits, key_fits}
 

@@ -27,12 +27,14 @@ use Rattle.oz_sound.specs.Sound.{bucket_of_row, IsSoundButRenames, RenamesAreSou
 use Rattle.oz_sound.specs.StandsFor.{StandsFor, pieces_in}
 use Rattle.oz_sound.specs.laws.BucketChanges.{is_name, one_name, itself}
 use Rattle.oz_decision.specs.Meets.{AreInGrammar, Stand, Meets}
-use Rattle.oz_om_session.specs.Records.{blocks_at, version_at, unused, deleted}
+use Rattle.oz_decision.specs.Sessions.{blocks_at}
+use Rattle.oz_decision.specs.Versions.{version_at, deleted}
+use Rattle.oz_om_session.specs.Records.{unused}
 use Rattle.oz_om_session.specs.Sessions.{MayCommit}
-use Rattle.oz_om_session.proofs.Tests.{OpenRow, front, all_append}
+use Rattle.oz_decision.specs.laws.SessionRows.{OpenRow, front, all_append}
 use Rattle.oz_om_session.proofs.Blocks.{used, version_fits}
-use Rattle.oz_om_session.proofs.Seen.{session_is, session_stands}
-use Rattle.oz_om_session.proofs.Shown.{sessions_stand, number_itself, key_itself, pieces_at, bucket_put}
+use Rattle.oz_decision.specs.laws.Sessions.{session_is, session_stands}
+use Rattle.oz_decision.specs.laws.Shown.{sessions_stand, number_itself, key_itself, pieces_at, bucket_put}
 use Rattle.oz_om_session.proofs.Becoming.{Becomes, becomes_bucket, outside}
 use Rattle.oz_om_session.proofs.CommitRows.{opened, session_fits, key_fits}
 use Rattle.oz_om_session.proofs.CommitBatch.{bytes_of, changes, rows_join, untouched, deleted_all, left_all, as_before, is_safe}

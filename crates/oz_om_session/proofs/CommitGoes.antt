@@ -25,8 +25,9 @@ use Rattle.oz_frames.specs.laws.Bare.{bare_stripes}
 use Rattle.oz_frames.specs.laws.Committing.{becomes as session_becomes, keeps as session_keeps, key_stood}
 use Rattle.oz_frames.specs.laws.Moving.{at_most}
 use Rattle.oz_frames.specs.laws.Parting.{parted_moves}
-use Rattle.oz_om_session.specs.Records.{unused, deleted}
-use Rattle.oz_om_session.proofs.Tests.{deleted_fits}
+use Rattle.oz_decision.specs.Versions.{deleted}
+use Rattle.oz_om_session.specs.Records.{unused}
+use Rattle.oz_decision.specs.laws.SessionRows.{deleted_fits}
 use Rattle.oz_om_session.proofs.Blocks.{block_itself, in_kept, used, same_used, used_or_left, not_both, all_used, kept_fit, left_fit}
 use Rattle.oz_om_session.proofs.CommitMoves.{Goes, goes_same, moves, changes_fit, free}
 

@@ -28,8 +28,8 @@ use Rattle.oz_frames.specs.laws.Bare.{bare_stripes}
 use Rattle.oz_frames.specs.laws.Deleting.{becomes as key_becomes, keeps as key_keeps, names_stay as key_names}
 use Rattle.oz_frames.specs.laws.Moving.{at_most, sound_moved, blocks_kept, renames_moved}
 use Rattle.oz_frames.specs.laws.Parting.{parted_moves}
-use Rattle.oz_om_session.specs.Records.{version_at, deleted}
-use Rattle.oz_om_session.proofs.Tests.{deleted_fits}
+use Rattle.oz_decision.specs.Versions.{version_at, deleted}
+use Rattle.oz_decision.specs.laws.SessionRows.{deleted_fits}
 use Rattle.oz_om_session.proofs.Blocks.{block_itself}
 
 some_apart : {A : Type 0} {a : A} → Some a ≡ None → ⊥

@@ -26,24 +26,16 @@ use Rattle.oz_rows.specs.RowMaps.{Rows}
 use Rattle.oz_rows.specs.Rows.{IsPiece, KeyFits, RowFits}
 use Rattle.oz_sound.specs.Sound.{IsSoundButRenames}
 use Rattle.oz_decision.specs.Meets.{Stand}
-use Rattle.oz_om_session.specs.Records.{blocks_at}
-use Rattle.oz_om_session.specs.Sessions.{IsOpen, is_good, is_version, are_committed}
-use Rattle.oz_om_session.proofs.Tests.{OpenRow, open_row, front, both, from_at_most, block_is_good, volume_is, bucket_is, key_is}
+use Rattle.oz_decision.specs.Sessions.{blocks_at, IsOpen, is_good}
+use Rattle.oz_decision.specs.Versions.{is_version}
+use Rattle.oz_om_session.specs.Sessions.{are_committed}
+use Rattle.oz_decision.specs.laws.SessionRows.{OpenRow, open_row, front, both, from_at_most, block_is_good, volume_is, bucket_is, key_is}
 use Rattle.oz_om_session.proofs.Blocks.{pieces_are_fit}
-use Rattle.oz_om_session.proofs.Seen.{own_refusals, first_found, none_found, blocks_are, row_tells}
+use Rattle.oz_decision.specs.laws.Sessions.{own_refusals, first_found, none_found, blocks_are, row_tells}
 
 volume_there : (o : Option (ByName Bucket)) (b : List ℕ) → is_some (option_and_then (λ buckets. get buckets b) o) ≡ true → is_some o ≡ true
 volume_there None b e = absurd (false≢true e)
 volume_there (Some buckets) b e = refl
-
-each_good : (pieces : List Piece) → AllByRecursion IsPiece pieces → list_all (λ (piece : Piece). is_good piece.block) pieces ≡ true
-each_good [] all = refl
-each_good (piece ∷ pieces) all = both (is_good piece.block) _ (block_is_good piece.block all.0.0) (each_good pieces all.1)
-
--- a key's row in the grammar keeps the rules
-version_is_good : (v b k : List ℕ) (row : Row) → RowFits (keys.Key v b k) row → is_version (Some row) ≡ true
-version_is_good v b k (rows.Key number pieces) fits = both (nat_le (length pieces) 256) _ (from_at_most (length pieces) 256 fits.1.1.0) (each_good pieces fits.1.1.1)
-version_is_good v b k row fits = refl
 
 first_fails : (a b : Bool) → a && b ≡ false → b ≡ true → a ≡ false
 first_fails false b e f = refl

@@ -25,9 +25,9 @@ use Rattle.oz_frames.specs.laws.Bare.{bare_stripes}
 use Rattle.oz_frames.specs.laws.Granting.{block_is_granted}
 use Rattle.oz_frames.specs.laws.Moving.{sound_moved, blocks_kept, renames_moved}
 use Rattle.oz_om_session.specs.Sessions.{HasRoom}
-use Rattle.oz_om_session.proofs.Tests.{OpenRow, size_with_one}
+use Rattle.oz_decision.specs.laws.SessionRows.{OpenRow, size_with_one}
 use Rattle.oz_om_session.proofs.Becoming.{Becomes, becomes_bucket, outside}
-use Rattle.oz_om_session.proofs.Shown.{sessions_stand, is_number, number_itself, session_with, pieces_at, bucket_put}
+use Rattle.oz_decision.specs.laws.Shown.{sessions_stand, is_number, number_itself, session_with, pieces_at, bucket_put}
 use Rattle.oz_namespace.specs.declared.namespace.Namespace.{Namespace}
 use Rattle.oz_model.specs.Buckets.{bucket_at}
 use Rattle.oz_requests.specs.declared.request.Exclude.{Exclude}
@@ -38,8 +38,8 @@ use Rattle.oz_rows.specs.declared.key.RowKey.TheVariants as keys
 use Rattle.oz_rows.specs.RowMaps.{Rows}
 use Rattle.oz_sound.specs.Sound.{IsSoundButRenames}
 use Rattle.oz_decision.specs.Meets.{Stand}
-use Rattle.oz_om_session.specs.Records.{blocks_at}
-use Rattle.oz_om_session.proofs.Seen.{blocks_are, session_is, session_stands}
+use Rattle.oz_decision.specs.Sessions.{blocks_at}
+use Rattle.oz_decision.specs.laws.Sessions.{blocks_are, session_is, session_stands}
 use Rattle.oz_om_session.proofs.Granting.{is_safe, opened}
 
 module _ (all : Rows) (v b k : List ℕ) (n : ℕ) (exclude : Exclude) (named : name_fault (AllocateBlock v b k n exclude) ≡ None) (room : HasRoom all v b k n) (block : Block) (fits : IsBlock block) where

@@ -14,7 +14,7 @@ use Rattle.oz_decision.specs.Drafts.{row_by_row}
 use Rattle.oz_decision.specs.Meets.{AreInGrammar, IsSafe}
 use Rattle.oz_decision.specs.laws.OneRow.{put_is_safe, alone_is_short}
 use Rattle.oz_om_session.specs.Sessions.{HasRoom}
-use Rattle.oz_om_session.proofs.Tests.{OpenRow, open_row, volume_is, bucket_is, key_is, all_append, size_with_one}
+use Rattle.oz_decision.specs.laws.SessionRows.{OpenRow, open_row, volume_is, bucket_is, key_is, all_append, size_with_one}
 use Rattle.oz_names.specs.declared.code.Code.{Code}
 use Rattle.oz_names.specs.declared.code.Code.TheVariants.{SessionFull}
 use Rattle.oz_namespace.specs.declared.namespace.Namespace.{Namespace}
@@ -30,9 +30,8 @@ use Rattle.oz_rows.specs.declared.key.RowKey.TheVariants as keys
 use Rattle.oz_rows.specs.RowMaps.{Rows}
 use Rattle.oz_sound.specs.Sound.{IsSoundButRenames}
 use Rattle.oz_decision.specs.Meets.{Stand}
-use Rattle.oz_om_session.specs.Records.{blocks_at}
-use Rattle.oz_om_session.specs.Sessions.{is_open}
-use Rattle.oz_om_session.proofs.Seen.{own_refusals, first_found, none_found, blocks_are}
+use Rattle.oz_decision.specs.Sessions.{blocks_at, is_open}
+use Rattle.oz_decision.specs.laws.Sessions.{own_refusals, first_found, none_found, blocks_are}
 
 module _ (all : Rows) (v b : List ℕ) (namespace : Namespace) (stand : Stand IsSoundButRenames all namespace) (k : List ℕ) (n : ℕ) (exclude : Exclude) (named : name_fault (AllocateBlock v b k n exclude) ≡ None) where
   abbrev scope : Scope

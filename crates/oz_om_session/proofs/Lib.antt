@@ -1,7 +1,4 @@
-pub mod Tests
 pub mod Blocks
-pub mod Seen
-pub mod Shown
 pub mod Becoming
 pub mod Granting
 pub mod Granted

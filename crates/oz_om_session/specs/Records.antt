@@ -13,11 +13,8 @@ use Rattle.oz_rows.specs.declared.row.Row.{Row}
 use Rattle.oz_rows.specs.declared.row.Row.TheVariants as rows
 use Rattle.oz_rows.specs.declared.operation.Change.{Change}
 use Rattle.oz_rows.specs.RowMaps.{Rows, put, gone}
-
--- the blocks of a session's row
-abbrev pub blocks_at : Option Row → List Block
-blocks_at (Some (rows.Open blocks)) = blocks
-blocks_at row = []
+use Rattle.oz_decision.specs.Sessions.{blocks_at}
+use Rattle.oz_decision.specs.Versions.{version_at, deleted}
 
 -- the session that a request is for has this block behind its others
 abbrev pub changes_of_grant : Rows → Request → Block → List Change
@@ -31,20 +28,9 @@ abbrev pub recorded_grant : Rows → Request → Reply → List Change
 recorded_grant all request (replies.Granted block pipeline) = changes_of_grant all request block
 recorded_grant all request reply = []
 
--- the blocks of a key's row
-abbrev pub version_at : Option Row → List Block
-version_at (Some (rows.Key number pieces)) = blocks_of pieces
-version_at row = []
-
 -- the blocks in which no piece stands
 abbrev pub unused : List Block → List Piece → List Block
 unused blocks pieces = filter (λ block. not (has_block (blocks_of pieces) block)) blocks
-
--- blocks that a key has left stand in a deleted row of the bucket itself, where there are any
-abbrev pub deleted : List ℕ → List ℕ → List ℕ → List Block → List Change
-deleted volume bucket key [] = []
-deleted volume bucket key (first ∷ others) =
-    put (keys.Deleted volume bucket 0 key first.local) (rows.Deleted (first ∷ others)) ∷ []
 
 -- a key's older version, and what a session's pieces leave unused, become deleted rows
 abbrev pub changes_of_left : List ℕ → List ℕ → List ℕ → Option Row → Option Row → List Piece → List Change

@@ -1,9 +1,7 @@
 -- For calls inside this crate alone.
 
--- What the row of a session has to be where the session is asked for.
-use Rattle.std.specs.Prelude.{◌≡◌, ℕ, ◌<◌, ◌^◌, Bool, true, false, ◌&&◌, nat_le, nat_lt, List, length, Option, Some, IsSome}
-use Rattle.std.specs.List.{list_all}
-use Rattle.oz_fields.specs.declared.block.Block.{Block}
+-- What the row of a session has to be where it gets a block or becomes a key.
+use Rattle.std.specs.Prelude.{◌≡◌, ℕ, ◌<◌, Bool, true, ◌&&◌, List, length, Option}
 use Rattle.oz_fields.specs.declared.block.Piece.{Piece}
 use Rattle.oz_model.specs.Buckets.{are_pieces_of}
 use Rattle.oz_names.specs.declared.limits.TheConstants.{MOST_BLOCKS}
@@ -13,28 +11,9 @@ use Rattle.oz_requests.specs.declared.request.Request.{Request}
 use Rattle.oz_requests.specs.declared.request.Request.TheVariants.{AllocateBlock, CommitKey}
 use Rattle.oz_rows.specs.declared.key.RowKey.TheVariants as keys
 use Rattle.oz_rows.specs.declared.row.Row.{Row}
-use Rattle.oz_rows.specs.declared.row.Row.TheVariants as rows
-use Rattle.oz_rows.specs.Reading.{is_block_number}
 use Rattle.oz_rows.specs.RowMaps.{Rows}
-use Rattle.oz_om_session.specs.Records.{blocks_at}
-
--- the numbers of a block are as those of blocks have to be
-abbrev pub is_good : Block → Bool
-is_good block = is_block_number block.container && is_block_number block.local
-
-abbrev pub are_good : List Block → Bool
-are_good blocks = nat_le (length blocks) MOST_BLOCKS && list_all is_good blocks
-
--- the row of a session of this number that keeps the rules of rows
-abbrev pub is_open : ℕ → Option Row → Bool
-is_open number (Some (rows.Open blocks)) = nat_lt 0 number && are_good blocks
-is_open number row = false
-
--- the session is there, in a bucket that is
-pub record IsOpen (all : Rows) (volume bucket key : List ℕ) (number : ℕ) : Type 0 where
-  pub bucket_there : IsSome (all (keys.Bucket volume bucket))
-  pub session_there : is_open number (all (keys.Open volume bucket key number)) ≡ true
-  pub small : number < 2 ^ 64
+use Rattle.oz_decision.specs.Sessions.{IsOpen, blocks_at}
+use Rattle.oz_decision.specs.Versions.{is_version}
 
 -- and has room for a block more
 pub record HasRoom (all : Rows) (volume bucket key : List ℕ) (number : ℕ) : Type 0 where
@@ -46,15 +25,6 @@ abbrev pub MayRecordGrant : Rows → Request → Reply → Type 0
 MayRecordGrant all (AllocateBlock volume bucket key session exclude) (replies.Granted block pipeline) =
     HasRoom all volume bucket key session
 MayRecordGrant all request reply = Unit {0}
-
--- pieces as rows may have them stand in blocks whose numbers are as those of blocks have to be
-abbrev pub have_good : List Piece → Bool
-have_good pieces = nat_le (length pieces) MOST_BLOCKS && list_all (λ (piece : Piece). is_good piece.block) pieces
-
--- the row of a key, if there is one, keeps the rules of rows in its blocks
-abbrev pub is_version : Option Row → Bool
-is_version (Some (rows.Key number pieces)) = have_good pieces
-is_version row = true
 
 -- the pieces are such of the session's row, and the key's row keeps the rules
 abbrev pub are_committed : Option Row → Option Row → List Piece → Bool

@@ -10,7 +10,8 @@ ghost use Rattle.oz_model.specs.Refusals.{first_of, missing, codes, refusal};
 ghost use Rattle.oz_model.specs.Scope.{scope_of};
 ghost use Rattle.oz_namespace.specs.declared.namespace.Namespace.{Namespace as AnyNamespace};
 ghost use Rattle.oz_om_session.specs.Picks.{IsPick, IsNew};
-ghost use Rattle.oz_om_session.specs.Records.{blocks_at, recorded_grant};
+ghost use Rattle.oz_decision.specs.Sessions.{blocks_at};
+ghost use Rattle.oz_om_session.specs.Records.{recorded_grant};
 ghost use Rattle.oz_om_session.specs.Sessions.{HasRoom, MayRecordGrant};
 ghost use Rattle.oz_requests.specs.Families.{family_of};
 ghost use Rattle.oz_requests.specs.Names.{name_fault, volume_in};
@@ -18,9 +19,8 @@ ghost use Rattle.oz_rows.specs.declared.operation.TheConstants.{LONGEST_OPERATIO
 ghost use Rattle.oz_rows.specs.Operations.{batch_bytes};
 ghost use Rattle.oz_sound.specs.Sound.{IsSound, IsSoundButRenames};
 
-use crate::sessions::{missing_session, session_blocks};
 use oz_cache::Cached;
-use oz_decision::{Decision, Draft};
+use oz_decision::{Decision, Draft, missing_session, session_blocks};
 use oz_fields::{Block, List, Name, OutOfMemory};
 use oz_names::{Code, MOST_BLOCKS};
 use oz_requests::{Exclude, Family, Reply, Request};

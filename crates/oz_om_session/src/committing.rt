@@ -7,8 +7,9 @@ ghost use Rattle.oz_decision.specs.Meets.{AreInGrammar, IsSafe, Stand, Meets};
 ghost use Rattle.oz_decision.specs.Replies.{IsReply};
 ghost use Rattle.oz_namespace.specs.declared.namespace.Namespace.{Namespace as AnyNamespace};
 ghost use Rattle.oz_om_session.specs.Commits.{IsCommit};
-ghost use Rattle.oz_om_session.specs.Records.{blocks_at, changes_of_left, deleted, recorded_commit, version_at};
-ghost use Rattle.oz_om_session.specs.Sessions.{IsOpen, are_committed, is_version, MayRecordCommit};
+ghost use Rattle.oz_decision.specs.Sessions.{IsOpen, blocks_at};
+ghost use Rattle.oz_om_session.specs.Records.{changes_of_left, recorded_commit};
+ghost use Rattle.oz_om_session.specs.Sessions.{are_committed, MayRecordCommit};
 ghost use Rattle.oz_requests.specs.Names.{name_fault};
 ghost use Rattle.oz_rows.specs.declared.operation.TheConstants.{LONGEST_OPERATION};
 ghost use Rattle.oz_rows.specs.Operations.{batch_bytes};
@@ -17,11 +18,12 @@ ghost use Rattle.oz_rows.specs.RowMaps.{put, gone};
 ghost use Rattle.oz_rows.specs.Rows.{AreItems, IsBlock, KeyFits, RowFits};
 ghost use Rattle.oz_sound.specs.Sound.{IsSound, IsSoundButRenames};
 
-use crate::pieces::{are_pieces_of, blocks_in, have_good_blocks, unused_blocks};
-use crate::sessions::{missing_session, session_blocks};
+use crate::pieces::{are_pieces_of, unused_blocks};
 use oz_cache::Cached;
-use oz_decision::{Decision, Draft};
-use oz_fields::{Block, List, Name, OutOfMemory, Piece, TryClone};
+use oz_decision::{
+    Decision, Draft, is_version, missing_session, put_deleted, session_blocks, version_blocks,
+};
+use oz_fields::{List, Name, OutOfMemory, Piece, TryClone};
 use oz_names::Code;
 use oz_requests::{Reply, Request};
 use oz_rows::{Row, RowKey, RowMap};
@@ -164,7 +166,7 @@ fn put_left<M: RowMap>(
     if !are_committed(rows, of_session, of_key, pieces) {
         return Ok(None);
     }
-    let older = older_blocks(alloc, rows, of_key)?;
+    let older = version_blocks(alloc, rows, of_key)?;
     let unused = unused_blocks(alloc, session_blocks(rows, of_session), pieces)?;
     let draft = put_deleted(alloc, Draft::new(alloc), volume, bucket, key, older)?;
     Ok(Some(put_deleted(alloc, draft, volume, bucket, key, unused)?))
@@ -180,29 +182,6 @@ fn are_committed<M: RowMap>(
     ensures { result ≡ are_committed (M.rows rows.now of_session.now) (M.rows rows.now of_key.now) pieces.now }
 {
     are_pieces_of(session_blocks(rows, of_session), pieces) && is_version(rows, of_key)
-}
-
-fn is_version<M: RowMap>(rows: &M, of_key: &RowKey) -> bool
-    ensures { result ≡ is_version (M.rows rows.now of_key.now) }
-{
-    match rows.get(of_key) {
-        Some(Row::Key { pieces, .. }) => have_good_blocks(pieces.items()),
-        _ => true,
-    }
-}
-
-/// The blocks of the key's older version, none where there is no such key.
-fn older_blocks<M: RowMap>(
-    alloc: Global,
-    rows: &M,
-    of_key: &RowKey,
-) -> Result<List<Block>, OutOfMemory>
-    ensures { IfOk result (λ blocks. blocks ≡ version_at (M.rows rows.now of_key.now)) }
-{
-    match rows.get(of_key) {
-        Some(Row::Key { pieces, .. }) => blocks_in(alloc, pieces.items()),
-        _ => Ok(List::new(alloc)),
-    }
 }
 
 /// The session's row goes, and the key has the pieces.
@@ -225,25 +204,4 @@ fn put_key(
         pieces: pieces.try_clone(alloc)?,
     };
     draft.put(alloc, of_key, row)
-}
-
-/// Blocks that the key has left stand in a deleted row of the bucket itself; none stand in none.
-fn put_deleted(
-    alloc: Global,
-    draft: Draft,
-    volume: &Name,
-    bucket: &Name,
-    key: &Name,
-    blocks: List<Block>,
-) -> Result<Draft, OutOfMemory>
-    requires named { name_fault (Request.DeleteKey volume.now bucket.now key.now) ≡ None }
-    requires blocks { AreItems IsBlock blocks }
-    ensures bytes { IfOk result (λ more. more.bytes ≡ draft.bytes ++ batch_bytes (row_by_row (deleted volume.now bucket.now key.now blocks))) }
-    ensures changes { IfOk result (λ more. more.changes ≡ draft.changes ++ deleted volume.now bucket.now key.now blocks) }
-{
-    let Some(first) = blocks.items().first() else {
-        return Ok(draft);
-    };
-    let of_deleted = RowKey::of_deleted(alloc, volume, bucket, 0, key, first.local)?;
-    draft.put(alloc, of_deleted, Row::Deleted { blocks })
 }

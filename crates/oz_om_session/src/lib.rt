@@ -4,7 +4,6 @@
 mod allocating;
 mod committing;
 mod pieces;
-mod sessions;
 
 pub use allocating::decide_allocate;
 pub use committing::decide_commit;

@@ -4,7 +4,7 @@ use Rattle.oz_fields.specs.declared.block.Block.{Block}
 use Rattle.oz_namespace.specs.declared.namespace.Namespace.{Namespace}
 use Rattle.oz_model.specs.Gathered.{in_namespace}
 use Rattle.oz_model.specs.Reach.{IsReached}
-use Rattle.oz_model.proofs.Reached.{met, reached}
+use Rattle.oz_model.specs.laws.Reached.{met, reached}
 use Rattle.oz_model.proofs.reaching.reach.Goals as goal
 
 where_ok : {A E : Type 0} (P Q : A → Type 0) → ((x : A) → P x → Q x) → (result : Result A E) → IfOk result P → IfOk result Q

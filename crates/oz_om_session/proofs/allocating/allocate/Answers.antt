@@ -4,7 +4,7 @@ use Rattle.oz_model.specs.Scope.{scope_of}
 use Rattle.oz_model.specs.laws.Order.{refused_so}
 use Rattle.oz_requests.specs.declared.request.Request.TheVariants.{AllocateBlock}
 use Rattle.oz_om_session.specs.Picks.{IsPick}
-use Rattle.oz_om_session.specs.Records.{blocks_at}
+use Rattle.oz_decision.specs.Sessions.{blocks_at}
 use Rattle.oz_om_session.proofs.Granting.{row_fits}
 use Rattle.oz_om_session.proofs.allocating.allocate.Goals as goal
 

@@ -1,5 +1,5 @@
 use Rattle.std.proofs.Common.{sym, ◌∙◌}
-use Rattle.oz_om_session.specs.Records.{blocks_at}
+use Rattle.oz_decision.specs.Sessions.{blocks_at}
 use Rattle.oz_om_session.proofs.Blocks.{version_fits, left_fit}
 use Rattle.oz_om_session.proofs.committing.put_left.Goals as goal
 

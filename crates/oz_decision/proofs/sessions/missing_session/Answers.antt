@@ -1,7 +1,7 @@
 use Rattle.std.proofs.Common.{sym, ◌∙◌, ap}
-use Rattle.oz_om_session.specs.Sessions.{is_open}
-use Rattle.oz_om_session.proofs.Seen.{session_missing}
-use Rattle.oz_om_session.proofs.sessions.missing_session.Goals as goal
+use Rattle.oz_decision.specs.Sessions.{is_open}
+use Rattle.oz_decision.specs.laws.Sessions.{session_missing}
+use Rattle.oz_decision.proofs.sessions.missing_session.Goals as goal
 
 pub returns-then-is_open-clause-code : goal.returns-then-is_open-clause-code
 returns-then-is_open-clause-code g c = λ namespace stand.

@@ -6,17 +6,16 @@ ghost use Rattle.oz_decision.specs.Replies.{ShowsThat};
 ghost use Rattle.oz_model.specs.Buckets.{bucket_in};
 ghost use Rattle.oz_model.specs.Refusals.{first_of, no_volume, no_bucket, no_session};
 ghost use Rattle.oz_model.specs.Scope.{scope_of};
-ghost use Rattle.oz_om_session.specs.Records.{blocks_at};
-ghost use Rattle.oz_om_session.specs.Sessions.{IsOpen, is_good, are_good, is_open as is_open_row};
+ghost use Rattle.oz_decision.specs.Sessions.{blocks_at, IsOpen, is_good, are_good, is_open as is_open_row};
 
-use oz_decision::missing_bucket;
+use crate::lookups::missing_bucket;
 use oz_fields::{Block, GREATEST_BLOCK_NUMBER, Name, OutOfMemory};
 use oz_names::{Code, MOST_BLOCKS};
 use oz_rows::{Row, RowKey, RowMap};
 use std::alloc::Global;
 
 /// The code where the volume isn't there, or the bucket, or the session of this number, whose row has this key.
-pub(crate) fn missing_session<M: RowMap>(
+pub fn missing_session<M: RowMap>(
     alloc: Global,
     rows: &M,
     volume: &Name,
@@ -65,7 +64,7 @@ fn each_is_good(blocks: &[Block]) -> bool
 }
 
 /// Whether the numbers of a block are as those of blocks have to be.
-pub(crate) fn is_good(block: Block) -> bool
+pub fn is_good(block: Block) -> bool
     ensures { result ≡ is_good block }
 {
     1 <= block.container
@@ -75,7 +74,7 @@ pub(crate) fn is_good(block: Block) -> bool
 }
 
 /// The blocks of the session whose row has this key.
-pub(crate) fn session_blocks<'r, M: RowMap>(rows: &'r M, of_session: &RowKey) -> &'r [Block]
+pub fn session_blocks<'r, M: RowMap>(rows: &'r M, of_session: &RowKey) -> &'r [Block]
     ensures { result.now ≡ blocks_at (M.rows rows.now of_session.now) }
 {
     match rows.get(of_session) {

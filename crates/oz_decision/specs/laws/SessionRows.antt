@@ -15,8 +15,7 @@ use Rattle.oz_names.specs.laws.NameTests.{volume_name-from, key_name-passes}
 use Rattle.oz_requests.specs.declared.request.Request.TheVariants.{DeleteKey}
 use Rattle.oz_requests.specs.Names.{Named, volume_named, bucket_named, key_named, first_fault, name_fault}
 use Rattle.oz_decision.specs.laws.Refusing.{volume_fits, bucket_fits}
-use Rattle.oz_om_session.specs.Records.{blocks_at}
-use Rattle.oz_om_session.specs.Sessions.{is_good, are_good, is_open}
+use Rattle.oz_decision.specs.Sessions.{blocks_at, is_good, are_good, is_open}
 
 pub front : (a b : Bool) → a && b ≡ true → a ≡ true
 front true b e = refl

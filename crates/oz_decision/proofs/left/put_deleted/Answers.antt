@@ -1,5 +1,5 @@
-use Rattle.oz_om_session.proofs.Tests.{deleted_of}
-use Rattle.oz_om_session.proofs.committing.put_deleted.Goals as goal
+use Rattle.oz_decision.specs.laws.SessionRows.{deleted_of}
+use Rattle.oz_decision.proofs.left.put_deleted.Goals as goal
 
 pub put-requires : goal.put-requires
 put-requires c =

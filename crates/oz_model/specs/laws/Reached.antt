@@ -16,7 +16,7 @@ use Rattle.oz_namespace.specs.declared.namespace.Snapshot.{Snapshot}
 use Rattle.oz_namespace.specs.Namespace.{ByName}
 use Rattle.oz_model.specs.Gathered.{in_keys, in_sessions, in_snapshots, in_bucket, in_buckets, in_namespace}
 use Rattle.oz_model.specs.Reach.{blocks_of, InKeys, InSessions, InSnapshots, IsReached}
-use Rattle.oz_model.proofs.Members.{joins, comes, both, value_there, holder}
+use Rattle.oz_model.specs.laws.Members.{joins, comes, both, value_there, holder}
 
 names_apart : IsAntisymmetric (slice_cmp nat_cmp)
 names_apart = slice_cmp-IsAntisymmetric nat_cmp-IsAntisymmetric

@@ -25,9 +25,8 @@ use Rattle.oz_rows.specs.declared.row.Row.TheVariants as rows
 use Rattle.oz_rows.specs.RowMaps.{Rows}
 use Rattle.oz_sound.specs.Sound.{IsSoundButRenames}
 use Rattle.oz_decision.specs.Meets.{Stand}
-use Rattle.oz_om_session.specs.Records.{blocks_at}
-use Rattle.oz_om_session.specs.Sessions.{is_open}
-use Rattle.oz_om_session.proofs.Tests.{open_row, row_is_open}
+use Rattle.oz_decision.specs.Sessions.{blocks_at, is_open}
+use Rattle.oz_decision.specs.laws.SessionRows.{open_row, row_is_open}
 
 pub name_itself : (name : List ℕ) → is_same_name name name ≡ true
 name_itself name = nat_list_eq_equiv.refl name

@@ -24,7 +24,7 @@ use Rattle.oz_rows.specs.laws.Order.{itself, equal_from_test}
 use Rattle.oz_rows.specs.laws.Same.{same_is_one}
 use Rattle.oz_sound.specs.StandsFor.{SnapshotsStand, AreSnapshots, IsSnapshot, pieces_in, drawn_in}
 use Rattle.oz_sound.specs.laws.BucketChanges.{itself as itself_name}
-use Rattle.oz_om_session.specs.Records.{blocks_at}
+use Rattle.oz_decision.specs.Sessions.{blocks_at}
 
 abbrev pub is_number : ℕ → ℕ → Bool
 is_number m n = eq_by_cmp nat_cmp m n

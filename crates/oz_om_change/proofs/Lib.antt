@@ -1,0 +1,10 @@
+pub mod KeyRows
+pub mod Seen
+pub mod Batches
+pub mod Moves
+pub mod Renaming
+pub mod Becoming
+pub mod Deleted
+pub mod Renamed
+pub mod Records
+pub mod Meeting

@@ -1,4 +1,2 @@
 mod Blocks
 mod Empty
-mod Members
-mod Reached

@@ -21,5 +21,6 @@ IsInNoSnapshot all volume bucket key =
 
 -- No block that a live snapshot has gets another name, so no renamed row is wanted.
 abbrev pub KeepsNames : Rows → Request → Type 0
+KeepsNames all (DeleteKey volume bucket key) = Unit {0}
 KeepsNames all (RenameKey volume bucket key to) = IsInNoSnapshot all volume bucket key
-KeepsNames all request = Unit {0}
+KeepsNames all request = ⊥

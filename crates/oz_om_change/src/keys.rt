@@ -29,7 +29,6 @@ pub(crate) fn missing_key<M: RowMap>(
         ∷ no_key (bucket_in (scope_of namespace volume.now) bucket.now).keys key.now ∷ []))) }
     ensures none { IfOk result (λ code. code ≡ None → IsKey (M.rows rows.now) volume.now bucket.now key.now) }
 {
-    let _unused = key;
     let of_bucket = RowKey::of_bucket(alloc, volume, bucket)?;
     if let Some(code) = missing_bucket(alloc, rows, volume, bucket, &of_bucket)? {
         return Ok(Some(code));

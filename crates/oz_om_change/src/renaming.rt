@@ -1,6 +1,6 @@
 //! A key gets another name.
 
-ghost use Rattle.std.specs.Prelude.{◌≡◌, ◌++◌, ◌∷◌, None, Some, IfOk};
+ghost use Rattle.std.specs.Prelude.{◌≡◌, ◌∷◌, None, Some, IfOk};
 ghost use Rattle.oz_decision.specs.Drafts.{row_by_row};
 ghost use Rattle.oz_decision.specs.Replies.{IsReply, ShowsThat};
 ghost use Rattle.oz_model.specs.Refusals.{refusal};
@@ -63,7 +63,6 @@ fn not_renamed<M: RowMap>(
     ensures code { IfOk result (λ code. ShowsThat (M.rows rows.now) (λ namespace. code ≡ refusal (scope_of namespace volume.now) (Request.RenameKey volume.now bucket.now key.now to.now))) }
     ensures none { IfOk result (λ code. code ≡ None → MayRename (M.rows rows.now) volume.now bucket.now key.now to.now) }
 {
-    let _unused = to;
     if let Some(code) = missing_key(alloc, rows, volume, bucket, key, of_key)? {
         return Ok(Some(code));
     }

@@ -1,6 +1,7 @@
 -- What the test of a key's row tells, and which rows fit.
 use Rattle.std.proofs.Common.{◌≡◌, ◌<◌, ◌≤◌, ℕ, Bool, true, false, ◌&&◌, nat_le, nat_lt, List, [], ◌∷◌, length, Option, None, Some, is_some, cond, refl, sym, ◌∙◌, ap, subst, arith}
 use mathlib.Core.Bool.{false≢true}
+use Rattle.std.specs.Prelude.{◌^◌}
 use Rattle.std.proofs.lemmas.Option.{same_Some}
 use Rattle.std.specs.List.{AllByRecursion, list_all}
 use Rattle.oz_fields.specs.declared.block.Piece.{Piece}
@@ -54,7 +55,7 @@ pub record KeyRow (row : Option Row) : Type 0 where
   pub number_fits : IsNumber number
   pub pieces_fit : AreItems IsPiece pieces
 
-pub key_row : (row : Option Row) → is_key row ≡ true → number_at row < 18446744073709551616 → KeyRow row
+pub key_row : (row : Option Row) → is_key row ≡ true → number_at row < 2 ^ 64 → KeyRow row
 key_row (Some (rows.Key number pieces)) e small = record {
   number = number;
   pieces = pieces;

@@ -32,6 +32,13 @@ turned : (t : Bool) (code : Code) → cond t None (Some code) ≡ cond (not t) (
 turned true code = refl
 turned false code = refl
 
+-- what is refused has its code, and what isn't is done
+pub refused_by : (scope : Scope) (request : Request) (code : Option Code) (c : Code) → code ≡ Some c → code ≡ refusal scope request → AnswersIn scope request (replies.Code c)
+refused_by scope request code c is e = refused_so scope request c (sym e ∙ is)
+
+pub renamed_by : (scope : Scope) (v b k to : List ℕ) (code : Option Code) → code ≡ None → code ≡ refusal scope (RenameKey v b k to) → AnswersIn scope (RenameKey v b k to) replies.Done
+renamed_by scope v b k to code is e = sym (ap (λ o. reply_from o replies.Done) (sym e ∙ is))
+
 module _ (all : Rows) (v b : List ℕ) (namespace : Namespace) (stand : Stand IsSoundButRenames all namespace) where
   abbrev bucket : Bucket
   bucket = bucket_at namespace v b

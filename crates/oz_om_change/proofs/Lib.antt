@@ -2,7 +2,7 @@ pub mod KeyRows
 pub mod Seen
 pub mod Batches
 pub mod Moves
-pub mod Renaming
+pub mod RenameMoves
 pub mod Becoming
 pub mod Deleted
 pub mod Renamed

@@ -34,7 +34,7 @@ use Rattle.oz_om_change.proofs.KeyRows.{KeyRow, its_row, new_fits}
 use Rattle.oz_om_change.proofs.Seen.{pieces_are}
 use Rattle.oz_om_change.proofs.Batches.{bytes_of, renaming_follows}
 use Rattle.oz_om_change.proofs.Moves.{Goes}
-use Rattle.oz_om_change.proofs.Renaming.{renaming_goes, renaming_keeps_renames}
+use Rattle.oz_om_change.proofs.RenameMoves.{renaming_goes, renaming_keeps_renames}
 use Rattle.oz_om_change.proofs.Becoming.{Becomes, becomes_bucket, outside, name_is}
 
 module _ (all : Rows) (v b k to : List ℕ) (named : name_fault (RenameKey v b k to) ≡ None) (may : MayRename all v b k to) where

@@ -13,7 +13,7 @@ ghost use Rattle.oz_om_bucket.specs.Allowed.{HasNoUse, IsAllowed, MayRecord};
 ghost use Rattle.oz_rows.specs.Operations.{batch_bytes};
 
 use oz_decision::{
-    Decision, Draft, RowMap, bucket_count, has_row, key_count, missing_bucket, session_count,
+    Decision, Draft, bucket_count, has_row, key_count, missing_bucket, session_count,
     snapshot_count,
 };
 use oz_fields::{Name, OutOfMemory};

@@ -30,8 +30,8 @@ good_piece piece e =
 
 piece_is_good : (piece : Piece) → IsPiece piece → is_good_piece piece ≡ true
 piece_is_good piece is =
-    let some = is.1.0 in
-    both (is_good piece.block) _ (block_is_good piece.block is.0) (both (nat_lt 0 piece.length) _ (from_under 0 piece.length (omega (arith, some))) (from_at_most piece.length 65536 is.1.1))
+    let some = is.1 in
+    both (is_good piece.block) _ (block_is_good piece.block is.0) (both (nat_lt 0 piece.length) _ (from_under 0 piece.length (omega (arith, some))) (from_at_most piece.length 65536 is.2))
 
 each_piece : (pieces : List Piece) → list_all is_good_piece pieces ≡ true → AllByRecursion IsPiece pieces
 each_piece [] e = tt

@@ -1,6 +1,6 @@
 //! A key gets another name.
 
-ghost use Rattle.std.specs.Prelude.{◌≡◌, ◌∷◌, None, Some, IfOk};
+ghost use Rattle.std.specs.Prelude.{◌≡◌, ◌∷◌, ◌++◌, None, Some, IfOk};
 ghost use Rattle.oz_decision.specs.Drafts.{row_by_row};
 ghost use Rattle.oz_decision.specs.Replies.{IsReply, ShowsThat};
 ghost use Rattle.oz_model.specs.Refusals.{refusal};
@@ -19,7 +19,7 @@ use oz_decision::{Decision, Draft, has_row};
 use oz_fields::{Name, OutOfMemory, TryClone};
 use oz_names::Code;
 use oz_requests::Reply;
-use oz_rows::{RowKey, RowMap};
+use oz_rows::{Row, RowKey, RowMap};
 use std::alloc::Global;
 
 /// Decides that a key gets another name: what stood in its row stands in one of that name.
@@ -84,11 +84,31 @@ fn move_row<M: RowMap>(
     ensures bytes { IfOk result (λ draft. draft.bytes ≡ batch_bytes (row_by_row (gone from ∷ moved to (M.rows rows.now from)))) }
     ensures changes { IfOk result (λ draft. draft.changes ≡ gone from ∷ moved to (M.rows rows.now from)) }
 {
-    let row = match rows.get(&from) {
-        Some(row) => Some(row.try_clone(alloc)?),
-        None => None,
-    };
+    let row = copied_row(alloc, rows, &from)?;
     let draft = Draft::new(alloc).remove(alloc, from)?;
+    put_moved(alloc, draft, to, row)
+}
+
+fn copied_row<M: RowMap>(alloc: Global, rows: &M, key: &RowKey) -> Result<Option<Row>, OutOfMemory>
+    ensures { IfOk result (λ row. row ≡ M.rows rows.now key.now) }
+{
+    match rows.get(key) {
+        Some(row) => Ok(Some(row.try_clone(alloc)?)),
+        None => Ok(None),
+    }
+}
+
+/// What stood in a row, if there was one, stands in that of this key.
+fn put_moved(
+    alloc: Global,
+    draft: Draft,
+    to: RowKey,
+    row: Option<Row>,
+) -> Result<Draft, OutOfMemory>
+    requires { (stood : AnyRow) → row ≡ Some stood → RowFits to stood }
+    ensures bytes { IfOk result (λ more. more.bytes ≡ draft.bytes ++ batch_bytes (row_by_row (moved to row))) }
+    ensures changes { IfOk result (λ more. more.changes ≡ draft.changes ++ moved to row) }
+{
     match row {
         Some(row) => draft.put(alloc, to, row),
         None => Ok(draft),

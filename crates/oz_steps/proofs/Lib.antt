@@ -1,0 +1,5 @@
+mod Chosen
+mod Cut
+mod Firsts
+mod Next
+mod Settled

@@ -6,8 +6,8 @@ use Rattle.oz_core.specs.declared.event.Event.{Event}
 use Rattle.oz_core.specs.declared.opening.Opening.{Opening}
 use Rattle.oz_core.specs.Steps.{GrantedBlock, is_written, is_abandoned, is_settled, is_off, excluded, granted_to}
 use Rattle.oz_steps.specs.declared.came.Attempt.{Attempt}
-use Rattle.oz_steps.specs.declared.came.Fate.{Fate}
-use Rattle.oz_steps.specs.declared.came.Fate.TheVariants as fates
+use Rattle.oz_steps.specs.declared.fate.Fate.{Fate}
+use Rattle.oz_steps.specs.declared.fate.Fate.TheVariants as fates
 use Rattle.oz_steps.specs.declared.came.Granted.{Granted}
 use Rattle.oz_steps.specs.Grants.{IsFate, AreGrants, is_of_container, is_of_pipeline}
 use Rattle.oz_steps.specs.Grants.{excluded_by, is_fate_of_container, is_fate_of_pipeline}

@@ -8,8 +8,8 @@ use Rattle.oz_core.specs.declared.opening.Opening.{Opening}
 use Rattle.oz_core.specs.Steps.{GrantedBlock, is_written, is_abandoned, is_settled, is_off, is_of_node, refusing_members}
 use Rattle.oz_requests.specs.declared.request.Exclude.{Exclude}
 use Rattle.oz_steps.specs.declared.came.Attempt.{Attempt}
-use Rattle.oz_steps.specs.declared.came.Fate.{Fate}
-use Rattle.oz_steps.specs.declared.came.Fate.TheVariants as fates
+use Rattle.oz_steps.specs.declared.fate.Fate.{Fate}
+use Rattle.oz_steps.specs.declared.fate.Fate.TheVariants as fates
 use Rattle.oz_steps.specs.declared.came.Granted.{Granted}
 
 -- The story has it so: the block was written; it was given up, and not since two members can't take blocks at all; it

@@ -3,7 +3,8 @@
 ghost use Rattle.std.specs.Prelude.{◌≡◌, IfOk, filter, map};
 ghost use Rattle.oz_steps.specs.Grants.{excluded_by, is_of_container, is_of_pipeline};
 
-use crate::came::{Attempt, Fate};
+use crate::came::Attempt;
+use crate::fate::Fate;
 use oz_fields::{List, OutOfMemory};
 use oz_requests::Exclude;
 use std::alloc::Global;

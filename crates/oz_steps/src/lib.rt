@@ -3,12 +3,14 @@
 
 mod came;
 mod exclude;
+mod fate;
 mod label;
 mod pieces;
 mod requests;
 mod single;
 mod written;
 
-pub use came::{Attempt, Came, Fate, Granted};
+pub use came::{Attempt, Came, Granted, note_answers, note_reply};
+pub use fate::{Fate, fate_of};
 pub use label::Label;
 pub use requests::next_request;

@@ -3,7 +3,8 @@
 ghost use Rattle.std.specs.Prelude.{◌≡◌, IfOk};
 ghost use Rattle.oz_steps.specs.Grants.{has_fate_written, written_blocks};
 
-use crate::came::{Attempt, Fate};
+use crate::came::Attempt;
+use crate::fate::Fate;
 use oz_fields::{Block, OutOfMemory};
 use std::alloc::Global;
 

@@ -1,0 +1,6 @@
+mod Chosen
+mod Cut
+mod Fates
+mod Firsts
+mod Next
+mod Settled

@@ -1,0 +1,4 @@
+pub mod Single
+pub mod Grants
+pub mod Lines
+pub mod Came

@@ -1,0 +1,16 @@
+//! What a line asks the manager next, by what came back to it so far.
+#![tactic(auto)]
+
+mod came;
+mod exclude;
+mod fate;
+mod label;
+mod pieces;
+mod requests;
+mod single;
+mod written;
+
+pub use came::{Attempt, Came, Granted, note_answers, note_reply};
+pub use fate::{Fate, fate_of};
+pub use label::Label;
+pub use requests::next_request;

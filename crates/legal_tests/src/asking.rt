@@ -6,15 +6,39 @@ use std::test::Fail;
 #[test]
 fn who_asks(rt: HostRuntime) -> Result<(), Fail> {
     let cases = [
-        ("0 ask 1.1.1 InfoVolume vol", false, "a line, by the flusher"),
-        ("1 ask 1.1.1 InfoVolume vol", false, "a line, by the service job"),
+        (
+            "0 ask 1.1.1 InfoVolume vol",
+            false,
+            "a line, by the flusher",
+        ),
+        (
+            "1 ask 1.1.1 InfoVolume vol",
+            false,
+            "a line, by the service job",
+        ),
         ("2 ask 1.1.1 InfoVolume vol", true, "a line, by a worker"),
         ("35 ask 1.1.1 InfoVolume vol", false, "a line, by a stripe"),
         ("36 ask 1.1.1 InfoVolume vol", true, "a line, by the caller"),
-        ("0 ask 65535.0.0 InfoVolume vol", false, "the service job, by another"),
-        ("1 ask 65535.0.0 InfoVolume vol", true, "the service job, by its seat"),
-        ("2 ask 65535.0.0 InfoVolume vol", false, "the service job, by a worker"),
-        ("36 ask 65535.0.0 InfoVolume vol", false, "the service job, by the caller"),
+        (
+            "0 ask 65535.0.0 InfoVolume vol",
+            false,
+            "the service job, by another",
+        ),
+        (
+            "1 ask 65535.0.0 InfoVolume vol",
+            true,
+            "the service job, by its seat",
+        ),
+        (
+            "2 ask 65535.0.0 InfoVolume vol",
+            false,
+            "the service job, by a worker",
+        ),
+        (
+            "36 ask 65535.0.0 InfoVolume vol",
+            false,
+            "the service job, by the caller",
+        ),
     ];
     follow(&rt, "", "", &cases)
 }
@@ -59,7 +83,12 @@ fn a_line_waits_for_its_decisions_to_be_stable(rt: HostRuntime) -> Result<(), Fa
 #[test]
 fn a_line_that_was_told_asks_nothing(rt: HostRuntime) -> Result<(), Fail> {
     let ask = "2 ask 1.1.1 InfoVolume vol";
-    follow(&rt, "", "2 told 1 1 OUT_OF_MEMORY", &[(ask, false, "it was told")])
+    follow(
+        &rt,
+        "",
+        "2 told 1 1 OUT_OF_MEMORY",
+        &[(ask, false, "it was told")],
+    )
 }
 
 #[test]
@@ -99,5 +128,10 @@ fn a_row_is_purged_by_its_own_stripe(rt: HostRuntime) -> Result<(), Fail> {
     let logged = "22 purge_ask 5.6
         3 log 1 5 6";
     let ask = "1 ask 65535.0.0 Purge vol buc:0:key:6";
-    follow(&rt, "", logged, &[(ask, false, "another stripe asked for it")])
+    follow(
+        &rt,
+        "",
+        logged,
+        &[(ask, false, "another stripe asked for it")],
+    )
 }

@@ -88,7 +88,11 @@ fn members_that_hold_the_same(rt: HostRuntime) -> Result<(), Fail> {
     follow(&rt, FOUR_NODES, no_member_holds_more, &cases)?;
     let cases = [
         ("3 closed 5 closed", true, "but for what is being deleted"),
-        ("3 closed 5 quasi_closed", false, "but for what is being deleted"),
+        (
+            "3 closed 5 quasi_closed",
+            false,
+            "but for what is being deleted",
+        ),
     ];
     let what_is_held_goes = "3 closed 5 closing
         4 put 0 5.6 1.1.1 0 3
@@ -107,14 +111,23 @@ fn a_member_that_is_down(rt: HostRuntime) -> Result<(), Fail> {
         6 close_command 2 5";
     let cases = [
         ("3 closed 5 closed", false, "it is down"),
-        ("3 closed 5 quasi_closed", true, "those that are up have closed"),
+        (
+            "3 closed 5 quasi_closed",
+            true,
+            "those that are up have closed",
+        ),
     ];
     follow(&rt, FOUR_NODES, one_down, &cases)?;
     let none_up = "3 closed 5 closing
         3 down 0
         3 down 1
         3 down 2";
-    follow(&rt, FOUR_NODES, none_up, &[("3 closed 5 quasi_closed", false, "none is up")])
+    follow(
+        &rt,
+        FOUR_NODES,
+        none_up,
+        &[("3 closed 5 quasi_closed", false, "none is up")],
+    )
 }
 
 #[test]

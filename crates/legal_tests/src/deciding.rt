@@ -61,7 +61,11 @@ fn an_index_stays(rt: HostRuntime) -> Result<(), Fail> {
             false,
             "with an index",
         ),
-        ("21 decide 1.1.1 0 VOLUME_NOT_FOUND 1", false, "with a batch"),
+        (
+            "21 decide 1.1.1 0 VOLUME_NOT_FOUND 1",
+            false,
+            "with a batch",
+        ),
     ];
     follow(&rt, "", "2 ask 1.1.1 InfoVolume vol", &cases)
 }

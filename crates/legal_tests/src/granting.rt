@@ -37,7 +37,12 @@ fn an_open_container(rt: HostRuntime) -> Result<(), Fail> {
         container 4 0 open 961
         next_id 6
         bucket vol buc session 1 key -";
-    follow(&rt, filled, ASKED, &[("3 grant 1 4 0 6 64", false, "it has none")])
+    follow(
+        &rt,
+        filled,
+        ASKED,
+        &[("3 grant 1 4 0 6 64", false, "it has none")],
+    )
 }
 
 #[test]
@@ -108,8 +113,18 @@ fn who_grants(rt: HostRuntime) -> Result<(), Fail> {
 
 #[test]
 fn an_ask_of_the_stripe(rt: HostRuntime) -> Result<(), Fail> {
-    follow(&rt, CLOSED, "", &[("3 grant 1 5 0 6 64", false, "nothing is asked")])?;
-    follow(&rt, CLOSED, ASKED, &[("3 grant 2 5 0 6 64", false, "another stripe's ask")])
+    follow(
+        &rt,
+        CLOSED,
+        "",
+        &[("3 grant 1 5 0 6 64", false, "nothing is asked")],
+    )?;
+    follow(
+        &rt,
+        CLOSED,
+        ASKED,
+        &[("3 grant 2 5 0 6 64", false, "another stripe's ask")],
+    )
 }
 
 #[test]
@@ -174,11 +189,21 @@ fn a_stripe_whose_blocks_are_used(rt: HostRuntime) -> Result<(), Fail> {
         next_id 6
         bucket vol buc session 1 key -
         left 5 6 63";
-    follow(&rt, all_but_one, granted, &[("3 grant 1 6 0 70 64", false, "one is unused")])?;
+    follow(
+        &rt,
+        all_but_one,
+        granted,
+        &[("3 grant 1 6 0 70 64", false, "one is unused")],
+    )?;
     let all = "nodes 4
         container 4 0 closed 0
         next_id 6
         bucket vol buc session 1 key -
         left 5 6 64";
-    follow(&rt, all, granted, &[("3 grant 1 6 0 70 64", true, "all are used")])
+    follow(
+        &rt,
+        all,
+        granted,
+        &[("3 grant 1 6 0 70 64", true, "all are used")],
+    )
 }

@@ -16,11 +16,7 @@ fn what_is_left_is_purged(rt: HostRuntime) -> Result<(), Fail> {
         ("35 purge_ask 5.6", true, "by a stripe alone"),
         ("36 purge_ask 5.6", false, "by a stripe alone"),
         ("20 purge_ask -", false, "of nothing"),
-        (
-            "20 purge_ask 5.6,5.7",
-            false,
-            "of a block that wasn't used",
-        ),
+        ("20 purge_ask 5.6,5.7", false, "of a block that wasn't used"),
         (
             "0 halt manager 1
             20 purge_ask 5.6",
@@ -36,7 +32,12 @@ fn what_a_snapshot_reaches_is_kept(rt: HostRuntime) -> Result<(), Fail> {
     let opening = "bucket vol buc snapshot snap key 5.6:3
         left 5 6 1";
     let purge = "20 purge_ask 5.6";
-    follow(&rt, opening, "", &[(purge, false, "that a snapshot alone reaches")])
+    follow(
+        &rt,
+        opening,
+        "",
+        &[(purge, false, "that a snapshot alone reaches")],
+    )
 }
 
 #[test]

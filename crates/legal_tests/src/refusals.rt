@@ -51,7 +51,11 @@ fn a_datanode_whose_disks_failed(rt: HostRuntime) -> Result<(), Fail> {
 #[test]
 fn a_closed_replica(rt: HostRuntime) -> Result<(), Fail> {
     let cases = [
-        ("4 refused 0 5.6 1.1.1 not_open closing", false, "it is open"),
+        (
+            "4 refused 0 5.6 1.1.1 not_open closing",
+            false,
+            "it is open",
+        ),
         (
             "4 close_command 0 5
             4 refused 0 5.6 1.1.1 not_open closing",
@@ -104,8 +108,7 @@ fn who_refuses_what(rt: HostRuntime) -> Result<(), Fail> {
 /// to three more may be by the block itself, and only whole ones.
 #[test]
 fn a_full_datanode(rt: HostRuntime) -> Result<(), Fail> {
-    let opening =
-        "node 5.100:67108864,5.101:67108864,5.102:67108864,5.103:67108864 -";
+    let opening = "node 5.100:67108864,5.101:67108864,5.102:67108864,5.103:67108864 -";
     let cases = [
         (
             "4 refused 0 5.6 1.1.1 full 268435456 16384 268435456",

@@ -65,7 +65,11 @@ fn what_is_not_logged_is_not_deleted(rt: HostRuntime) -> Result<(), Fail> {
 fn what_a_snapshot_reaches_is_not_purged(rt: HostRuntime) -> Result<(), Fail> {
     let opening = "bucket vol buc snapshot snap key 5.6:3
         left 5 6 1";
-    break_at(&rt, opening, &[("21 purge_ask 5.6", Some(0), "a snapshot has it")])
+    break_at(
+        &rt,
+        opening,
+        &[("21 purge_ask 5.6", Some(0), "a snapshot has it")],
+    )
 }
 
 #[test]

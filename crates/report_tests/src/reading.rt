@@ -51,7 +51,10 @@ fn fields_that_say_nothing(rt: HostRuntime) -> Result<(), Fail> {
         ("2 ask 1.1.1 MakeVolume vol", "no request"),
         ("2 ask 1.1.1 CreateKey vol buc", "a name too few"),
         ("2 ask 1.1.1 Purge vol buc:0:key", "a part of a row too few"),
-        ("2 ask 1.1.1 CommitKey vol buc key 1 5.6", "a piece without a length"),
+        (
+            "2 ask 1.1.1 CommitKey vol buc key 1 5.6",
+            "a piece without a length",
+        ),
         ("21 decide 1.1.1 1 DONE -", "no reply"),
         ("2 told 1 1 OK", "no answer"),
         ("4 refused 0 5.6 1.1.1 broken 0", "no refusal"),

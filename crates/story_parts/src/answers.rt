@@ -37,14 +37,7 @@ fn states(words: &mut Words<'_>) -> Answer {
     let closed = words.u32();
     let deleting = words.u32();
     let deleted = words.u32();
-    Answer::Ok(Values::States([
-        open,
-        closing,
-        quasi_closed,
-        closed,
-        deleting,
-        deleted,
-    ]))
+    Answer::Ok(Values::States([open, closing, quasi_closed, closed, deleting, deleted]))
 }
 
 fn failure(words: &mut Words<'_>, word: &str) -> Answer {

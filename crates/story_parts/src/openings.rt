@@ -109,7 +109,10 @@ fn add_left(
             container,
             local: first.wrapping_add(place),
         };
-        opening.left.push(alloc, block).map_err(|refused| refused.1)?;
+        opening
+            .left
+            .push(alloc, block)
+            .map_err(|refused| refused.1)?;
     }
     Ok(())
 }

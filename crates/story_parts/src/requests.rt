@@ -2,7 +2,7 @@
 
 use crate::items::list;
 use crate::words::Words;
-use oz_fields::OutOfMemory;
+use oz_fields::{Name, OutOfMemory};
 use oz_requests::{Exclude, Request};
 use std::alloc::Global;
 
@@ -49,182 +49,221 @@ fn on_snapshots(alloc: Global, words: &mut Words<'_>, word: &str) -> Result<Requ
     }
 }
 
+/// A bucket by its name and its volume's.
+#[derive(Drop)]
+struct Place {
+    volume: Name,
+    bucket: Name,
+}
+
+fn place(alloc: Global, words: &mut Words<'_>) -> Result<Place, OutOfMemory> {
+    let volume = words.name(alloc)?;
+    let bucket = words.name(alloc)?;
+    Ok(Place { volume, bucket })
+}
+
+/// A key or a snapshot by its name and its bucket's.
+#[derive(Drop)]
+struct Path {
+    place: Place,
+    name: Name,
+}
+
+fn path(alloc: Global, words: &mut Words<'_>) -> Result<Path, OutOfMemory> {
+    let place = place(alloc, words)?;
+    let name = words.name(alloc)?;
+    Ok(Path { place, name })
+}
+
 fn create_volume(alloc: Global, words: &mut Words<'_>) -> Result<Request, OutOfMemory> {
-    Ok(Request::CreateVolume {
-        volume: words.name(alloc)?,
-    })
+    let volume = words.name(alloc)?;
+    Ok(Request::CreateVolume { volume })
 }
 
 fn info_volume(alloc: Global, words: &mut Words<'_>) -> Result<Request, OutOfMemory> {
-    Ok(Request::InfoVolume {
-        volume: words.name(alloc)?,
-    })
+    let volume = words.name(alloc)?;
+    Ok(Request::InfoVolume { volume })
 }
 
 fn delete_volume(alloc: Global, words: &mut Words<'_>) -> Result<Request, OutOfMemory> {
-    Ok(Request::DeleteVolume {
-        volume: words.name(alloc)?,
-    })
+    let volume = words.name(alloc)?;
+    Ok(Request::DeleteVolume { volume })
 }
 
 fn create_bucket(alloc: Global, words: &mut Words<'_>) -> Result<Request, OutOfMemory> {
-    Ok(Request::CreateBucket {
-        volume: words.name(alloc)?,
-        bucket: words.name(alloc)?,
-    })
+    let Place { volume, bucket } = place(alloc, words)?;
+    Ok(Request::CreateBucket { volume, bucket })
 }
 
 fn info_bucket(alloc: Global, words: &mut Words<'_>) -> Result<Request, OutOfMemory> {
-    Ok(Request::InfoBucket {
-        volume: words.name(alloc)?,
-        bucket: words.name(alloc)?,
-    })
+    let Place { volume, bucket } = place(alloc, words)?;
+    Ok(Request::InfoBucket { volume, bucket })
 }
 
 fn delete_bucket(alloc: Global, words: &mut Words<'_>) -> Result<Request, OutOfMemory> {
-    Ok(Request::DeleteBucket {
-        volume: words.name(alloc)?,
-        bucket: words.name(alloc)?,
-    })
+    let Place { volume, bucket } = place(alloc, words)?;
+    Ok(Request::DeleteBucket { volume, bucket })
 }
 
 fn list_buckets(alloc: Global, words: &mut Words<'_>) -> Result<Request, OutOfMemory> {
-    Ok(Request::ListBuckets {
-        volume: words.name(alloc)?,
-    })
+    let volume = words.name(alloc)?;
+    Ok(Request::ListBuckets { volume })
 }
 
 fn create_key(alloc: Global, words: &mut Words<'_>) -> Result<Request, OutOfMemory> {
+    let Path { place, name } = path(alloc, words)?;
     Ok(Request::CreateKey {
-        volume: words.name(alloc)?,
-        bucket: words.name(alloc)?,
-        key: words.name(alloc)?,
+        volume: place.volume,
+        bucket: place.bucket,
+        key: name,
     })
 }
 
 /// What is excluded are two lists, of containers and of pipelines.
 fn allocate_block(alloc: Global, words: &mut Words<'_>) -> Result<Request, OutOfMemory> {
+    let Path { place, name } = path(alloc, words)?;
+    let session = words.u64();
+    let exclude = exclude(alloc, words)?;
     Ok(Request::AllocateBlock {
-        volume: words.name(alloc)?,
-        bucket: words.name(alloc)?,
-        key: words.name(alloc)?,
-        session: words.u64(),
-        exclude: exclude(alloc, words)?,
+        volume: place.volume,
+        bucket: place.bucket,
+        key: name,
+        session,
+        exclude,
     })
 }
 
 fn exclude(alloc: Global, words: &mut Words<'_>) -> Result<Exclude, OutOfMemory> {
+    let containers = list(alloc, words)?;
+    let pipelines = list(alloc, words)?;
     Ok(Exclude {
-        containers: list(alloc, words)?,
-        pipelines: list(alloc, words)?,
+        containers,
+        pipelines,
     })
 }
 
 fn commit_key(alloc: Global, words: &mut Words<'_>) -> Result<Request, OutOfMemory> {
+    let Path { place, name } = path(alloc, words)?;
+    let session = words.u64();
+    let pieces = list(alloc, words)?;
     Ok(Request::CommitKey {
-        volume: words.name(alloc)?,
-        bucket: words.name(alloc)?,
-        key: words.name(alloc)?,
-        session: words.u64(),
-        pieces: list(alloc, words)?,
+        volume: place.volume,
+        bucket: place.bucket,
+        key: name,
+        session,
+        pieces,
     })
 }
 
 fn delete_key(alloc: Global, words: &mut Words<'_>) -> Result<Request, OutOfMemory> {
+    let Path { place, name } = path(alloc, words)?;
     Ok(Request::DeleteKey {
-        volume: words.name(alloc)?,
-        bucket: words.name(alloc)?,
-        key: words.name(alloc)?,
+        volume: place.volume,
+        bucket: place.bucket,
+        key: name,
     })
 }
 
 fn rename_key(alloc: Global, words: &mut Words<'_>) -> Result<Request, OutOfMemory> {
+    let Path { place, name } = path(alloc, words)?;
+    let to = words.name(alloc)?;
     Ok(Request::RenameKey {
-        volume: words.name(alloc)?,
-        bucket: words.name(alloc)?,
-        key: words.name(alloc)?,
-        to: words.name(alloc)?,
+        volume: place.volume,
+        bucket: place.bucket,
+        key: name,
+        to,
     })
 }
 
 fn lookup_key(alloc: Global, words: &mut Words<'_>) -> Result<Request, OutOfMemory> {
+    let Place { volume, bucket } = place(alloc, words)?;
+    let snapshot = words.name_or_none(alloc)?;
+    let key = words.name(alloc)?;
     Ok(Request::LookupKey {
-        volume: words.name(alloc)?,
-        bucket: words.name(alloc)?,
-        snapshot: words.name_or_none(alloc)?,
-        key: words.name(alloc)?,
+        volume,
+        bucket,
+        snapshot,
+        key,
     })
 }
 
 fn list_keys(alloc: Global, words: &mut Words<'_>) -> Result<Request, OutOfMemory> {
+    let Place { volume, bucket } = place(alloc, words)?;
+    let snapshot = words.name_or_none(alloc)?;
+    let prefix = words.name(alloc)?;
+    let start = words.name(alloc)?;
+    let count = words.u16();
     Ok(Request::ListKeys {
-        volume: words.name(alloc)?,
-        bucket: words.name(alloc)?,
-        snapshot: words.name_or_none(alloc)?,
-        prefix: words.name(alloc)?,
-        start: words.name(alloc)?,
-        count: words.u16(),
+        volume,
+        bucket,
+        snapshot,
+        prefix,
+        start,
+        count,
     })
 }
 
 fn expire_open(alloc: Global, words: &mut Words<'_>) -> Result<Request, OutOfMemory> {
-    Ok(Request::ExpireOpen {
-        volume: words.name(alloc)?,
-        bucket: words.name(alloc)?,
-    })
+    let Place { volume, bucket } = place(alloc, words)?;
+    Ok(Request::ExpireOpen { volume, bucket })
 }
 
 fn create_snapshot(alloc: Global, words: &mut Words<'_>) -> Result<Request, OutOfMemory> {
+    let Path { place, name } = path(alloc, words)?;
     Ok(Request::CreateSnapshot {
-        volume: words.name(alloc)?,
-        bucket: words.name(alloc)?,
-        snapshot: words.name(alloc)?,
+        volume: place.volume,
+        bucket: place.bucket,
+        snapshot: name,
     })
 }
 
 fn delete_snapshot(alloc: Global, words: &mut Words<'_>) -> Result<Request, OutOfMemory> {
+    let Path { place, name } = path(alloc, words)?;
     Ok(Request::DeleteSnapshot {
-        volume: words.name(alloc)?,
-        bucket: words.name(alloc)?,
-        snapshot: words.name(alloc)?,
+        volume: place.volume,
+        bucket: place.bucket,
+        snapshot: name,
     })
 }
 
 fn list_snapshots(alloc: Global, words: &mut Words<'_>) -> Result<Request, OutOfMemory> {
-    Ok(Request::ListSnapshots {
-        volume: words.name(alloc)?,
-        bucket: words.name(alloc)?,
-    })
+    let Place { volume, bucket } = place(alloc, words)?;
+    Ok(Request::ListSnapshots { volume, bucket })
 }
 
 fn info_snapshot(alloc: Global, words: &mut Words<'_>) -> Result<Request, OutOfMemory> {
+    let Path { place, name } = path(alloc, words)?;
     Ok(Request::InfoSnapshot {
-        volume: words.name(alloc)?,
-        bucket: words.name(alloc)?,
-        snapshot: words.name(alloc)?,
+        volume: place.volume,
+        bucket: place.bucket,
+        snapshot: name,
     })
 }
 
 fn purge(alloc: Global, words: &mut Words<'_>) -> Result<Request, OutOfMemory> {
-    Ok(Request::Purge {
-        volume: words.name(alloc)?,
-        rows: list(alloc, words)?,
-    })
+    let volume = words.name(alloc)?;
+    let rows = list(alloc, words)?;
+    Ok(Request::Purge { volume, rows })
 }
 
 fn move_deleted(alloc: Global, words: &mut Words<'_>) -> Result<Request, OutOfMemory> {
+    let Place { volume, bucket } = place(alloc, words)?;
+    let number = words.u64();
+    let to = words.u64();
     Ok(Request::MoveDeleted {
-        volume: words.name(alloc)?,
-        bucket: words.name(alloc)?,
-        number: words.u64(),
-        to: words.u64(),
+        volume,
+        bucket,
+        number,
+        to,
     })
 }
 
 fn purge_snapshot(alloc: Global, words: &mut Words<'_>) -> Result<Request, OutOfMemory> {
+    let Place { volume, bucket } = place(alloc, words)?;
+    let number = words.u64();
     Ok(Request::PurgeSnapshot {
-        volume: words.name(alloc)?,
-        bucket: words.name(alloc)?,
-        number: words.u64(),
+        volume,
+        bucket,
+        number,
     })
 }

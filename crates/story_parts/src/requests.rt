@@ -56,7 +56,7 @@ struct Place {
     bucket: Name,
 }
 
-fn place(alloc: Global, words: &mut Words<'_>) -> Result<Place, OutOfMemory> {
+fn read_place(alloc: Global, words: &mut Words<'_>) -> Result<Place, OutOfMemory> {
     let volume = words.name(alloc)?;
     let bucket = words.name(alloc)?;
     Ok(Place { volume, bucket })
@@ -69,8 +69,8 @@ struct Path {
     name: Name,
 }
 
-fn path(alloc: Global, words: &mut Words<'_>) -> Result<Path, OutOfMemory> {
-    let place = place(alloc, words)?;
+fn read_path(alloc: Global, words: &mut Words<'_>) -> Result<Path, OutOfMemory> {
+    let place = read_place(alloc, words)?;
     let name = words.name(alloc)?;
     Ok(Path { place, name })
 }
@@ -91,17 +91,17 @@ fn delete_volume(alloc: Global, words: &mut Words<'_>) -> Result<Request, OutOfM
 }
 
 fn create_bucket(alloc: Global, words: &mut Words<'_>) -> Result<Request, OutOfMemory> {
-    let Place { volume, bucket } = place(alloc, words)?;
+    let Place { volume, bucket } = read_place(alloc, words)?;
     Ok(Request::CreateBucket { volume, bucket })
 }
 
 fn info_bucket(alloc: Global, words: &mut Words<'_>) -> Result<Request, OutOfMemory> {
-    let Place { volume, bucket } = place(alloc, words)?;
+    let Place { volume, bucket } = read_place(alloc, words)?;
     Ok(Request::InfoBucket { volume, bucket })
 }
 
 fn delete_bucket(alloc: Global, words: &mut Words<'_>) -> Result<Request, OutOfMemory> {
-    let Place { volume, bucket } = place(alloc, words)?;
+    let Place { volume, bucket } = read_place(alloc, words)?;
     Ok(Request::DeleteBucket { volume, bucket })
 }
 
@@ -111,7 +111,7 @@ fn list_buckets(alloc: Global, words: &mut Words<'_>) -> Result<Request, OutOfMe
 }
 
 fn create_key(alloc: Global, words: &mut Words<'_>) -> Result<Request, OutOfMemory> {
-    let Path { place, name } = path(alloc, words)?;
+    let Path { place, name } = read_path(alloc, words)?;
     Ok(Request::CreateKey {
         volume: place.volume,
         bucket: place.bucket,
@@ -121,7 +121,7 @@ fn create_key(alloc: Global, words: &mut Words<'_>) -> Result<Request, OutOfMemo
 
 /// What is excluded are two lists, of containers and of pipelines.
 fn allocate_block(alloc: Global, words: &mut Words<'_>) -> Result<Request, OutOfMemory> {
-    let Path { place, name } = path(alloc, words)?;
+    let Path { place, name } = read_path(alloc, words)?;
     let session = words.u64();
     let exclude = exclude(alloc, words)?;
     Ok(Request::AllocateBlock {
@@ -143,7 +143,7 @@ fn exclude(alloc: Global, words: &mut Words<'_>) -> Result<Exclude, OutOfMemory>
 }
 
 fn commit_key(alloc: Global, words: &mut Words<'_>) -> Result<Request, OutOfMemory> {
-    let Path { place, name } = path(alloc, words)?;
+    let Path { place, name } = read_path(alloc, words)?;
     let session = words.u64();
     let pieces = list(alloc, words)?;
     Ok(Request::CommitKey {
@@ -156,7 +156,7 @@ fn commit_key(alloc: Global, words: &mut Words<'_>) -> Result<Request, OutOfMemo
 }
 
 fn delete_key(alloc: Global, words: &mut Words<'_>) -> Result<Request, OutOfMemory> {
-    let Path { place, name } = path(alloc, words)?;
+    let Path { place, name } = read_path(alloc, words)?;
     Ok(Request::DeleteKey {
         volume: place.volume,
         bucket: place.bucket,
@@ -165,7 +165,7 @@ fn delete_key(alloc: Global, words: &mut Words<'_>) -> Result<Request, OutOfMemo
 }
 
 fn rename_key(alloc: Global, words: &mut Words<'_>) -> Result<Request, OutOfMemory> {
-    let Path { place, name } = path(alloc, words)?;
+    let Path { place, name } = read_path(alloc, words)?;
     let to = words.name(alloc)?;
     Ok(Request::RenameKey {
         volume: place.volume,
@@ -176,7 +176,7 @@ fn rename_key(alloc: Global, words: &mut Words<'_>) -> Result<Request, OutOfMemo
 }
 
 fn lookup_key(alloc: Global, words: &mut Words<'_>) -> Result<Request, OutOfMemory> {
-    let Place { volume, bucket } = place(alloc, words)?;
+    let Place { volume, bucket } = read_place(alloc, words)?;
     let snapshot = words.name_or_none(alloc)?;
     let key = words.name(alloc)?;
     Ok(Request::LookupKey {
@@ -188,7 +188,7 @@ fn lookup_key(alloc: Global, words: &mut Words<'_>) -> Result<Request, OutOfMemo
 }
 
 fn list_keys(alloc: Global, words: &mut Words<'_>) -> Result<Request, OutOfMemory> {
-    let Place { volume, bucket } = place(alloc, words)?;
+    let Place { volume, bucket } = read_place(alloc, words)?;
     let snapshot = words.name_or_none(alloc)?;
     let prefix = words.name(alloc)?;
     let start = words.name(alloc)?;
@@ -204,12 +204,12 @@ fn list_keys(alloc: Global, words: &mut Words<'_>) -> Result<Request, OutOfMemor
 }
 
 fn expire_open(alloc: Global, words: &mut Words<'_>) -> Result<Request, OutOfMemory> {
-    let Place { volume, bucket } = place(alloc, words)?;
+    let Place { volume, bucket } = read_place(alloc, words)?;
     Ok(Request::ExpireOpen { volume, bucket })
 }
 
 fn create_snapshot(alloc: Global, words: &mut Words<'_>) -> Result<Request, OutOfMemory> {
-    let Path { place, name } = path(alloc, words)?;
+    let Path { place, name } = read_path(alloc, words)?;
     Ok(Request::CreateSnapshot {
         volume: place.volume,
         bucket: place.bucket,
@@ -218,7 +218,7 @@ fn create_snapshot(alloc: Global, words: &mut Words<'_>) -> Result<Request, OutO
 }
 
 fn delete_snapshot(alloc: Global, words: &mut Words<'_>) -> Result<Request, OutOfMemory> {
-    let Path { place, name } = path(alloc, words)?;
+    let Path { place, name } = read_path(alloc, words)?;
     Ok(Request::DeleteSnapshot {
         volume: place.volume,
         bucket: place.bucket,
@@ -227,12 +227,12 @@ fn delete_snapshot(alloc: Global, words: &mut Words<'_>) -> Result<Request, OutO
 }
 
 fn list_snapshots(alloc: Global, words: &mut Words<'_>) -> Result<Request, OutOfMemory> {
-    let Place { volume, bucket } = place(alloc, words)?;
+    let Place { volume, bucket } = read_place(alloc, words)?;
     Ok(Request::ListSnapshots { volume, bucket })
 }
 
 fn info_snapshot(alloc: Global, words: &mut Words<'_>) -> Result<Request, OutOfMemory> {
-    let Path { place, name } = path(alloc, words)?;
+    let Path { place, name } = read_path(alloc, words)?;
     Ok(Request::InfoSnapshot {
         volume: place.volume,
         bucket: place.bucket,
@@ -247,7 +247,7 @@ fn purge(alloc: Global, words: &mut Words<'_>) -> Result<Request, OutOfMemory> {
 }
 
 fn move_deleted(alloc: Global, words: &mut Words<'_>) -> Result<Request, OutOfMemory> {
-    let Place { volume, bucket } = place(alloc, words)?;
+    let Place { volume, bucket } = read_place(alloc, words)?;
     let number = words.u64();
     let to = words.u64();
     Ok(Request::MoveDeleted {
@@ -259,7 +259,7 @@ fn move_deleted(alloc: Global, words: &mut Words<'_>) -> Result<Request, OutOfMe
 }
 
 fn purge_snapshot(alloc: Global, words: &mut Words<'_>) -> Result<Request, OutOfMemory> {
-    let Place { volume, bucket } = place(alloc, words)?;
+    let Place { volume, bucket } = read_place(alloc, words)?;
     let number = words.u64();
     Ok(Request::PurgeSnapshot {
         volume,

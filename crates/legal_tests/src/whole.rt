@@ -1,219 +1,89 @@
 //! A whole story through every kind of event: it is legal, and its report is that which was written by hand.
 
-use crate::checking::{breaks_at, empty_store, go_on};
-use oz_container::State;
-use oz_core::{Event, EventKind, Node, PutRefusal};
-use oz_fields::{List, OutOfMemory};
+use crate::checking::break_at;
 use oz_report::text;
-use oz_requests::{Answer, AskId, Reply, Values};
-use std::alloc::Global;
 use std::test::Fail;
-use story_parts::{
-    BLOCK, ID, ack_del, allocate, ask, bad, change_at, close_command, closed, commit, copy,
-    create_key, decide_at, delete_key, delete_of, down, event, flushed, grant, halt, log, look_up,
-    pieces, purge, purge_row, put_of, refused, retire, start, stop, swap, told, up, wipe, wrote,
-};
+use story_parts::story_of;
 
-fn id(line: u16, step: u16) -> AskId {
-    AskId { line, step, ..ID }
-}
+/// Three datanodes that hold nothing, the container 4 that is closed, and an empty bucket. The next container is 5, and
+/// the next block's id 6.
+const EMPTY_STORE: &str = "nodes 3
+    container 4 0 closed 0
+    next_id 6
+    bucket vol buc nothing";
 
-fn done(line: u16) -> Event {
-    told(1, line, Answer::Ok(Values::Done))
-}
-
-/// Line 1 opens a session.
-fn open(alloc: Global) -> Result<Vec<Event>, OutOfMemory> {
-    let request = create_key(alloc)?;
-    let opened = change_at(alloc, id(1, 1), 1, Reply::Session(1))?;
-    Ok(vec![in alloc; ask(id(1, 1), request), opened, swap(1), flushed(1, 1)]?)
-}
-
-/// It gets a block.
-fn get(alloc: Global) -> Result<Vec<Event>, OutOfMemory> {
-    let request = allocate(alloc, List::new(alloc))?;
-    let granted = change_at(alloc, id(1, 2), 2, Reply::Granted(BLOCK, 0))?;
-    Ok(vec![in alloc;
-        ask(id(1, 2), request),
-        grant(1),
-        granted,
-        swap(2),
-        flushed(2, 2),
-    ]?)
-}
-
-/// All three members put the block.
-fn put_all(alloc: Global) -> Result<Vec<Event>, OutOfMemory> {
-    Ok(vec![in alloc;
-        put_of(0, BLOCK, id(1, 2)),
-        put_of(1, BLOCK, id(1, 2)),
-        put_of(2, BLOCK, id(1, 2)),
-        wrote(BLOCK, id(1, 2)),
-    ]?)
-}
-
-/// The key gets it.
-fn write(alloc: Global) -> Result<Vec<Event>, OutOfMemory> {
-    let request = commit(alloc)?;
-    let done = change_at(alloc, id(1, 3), 3, Reply::Done)?;
-    let length = told(1, 1, Answer::Ok(Values::Length(3)));
-    Ok(vec![in alloc;
-        ask(id(1, 3), request),
-        done,
-        swap(3),
-        flushed(3, 3),
-        length,
-    ]?)
-}
-
-/// Line 2 looks the key up.
-fn look(alloc: Global) -> Result<Vec<Event>, OutOfMemory> {
-    let request = look_up(alloc)?;
-    Ok(vec![in alloc; ask(id(2, 1), request)]?)
-}
-
-fn found(alloc: Global) -> Result<Event, OutOfMemory> {
-    let pieces = pieces(alloc)?;
-    Ok(decide_at(alloc, id(2, 1), 3, Reply::Pieces(pieces)))
-}
-
-fn given(alloc: Global) -> Result<Event, OutOfMemory> {
-    let bytes = List::of(Vec::from_slice(alloc, b"abc")?);
-    Ok(told(1, 2, Answer::Ok(Values::Bytes(bytes))))
-}
-
-/// It reads the key, one of whose replicas is bad.
-fn read(alloc: Global) -> Result<Vec<Event>, OutOfMemory> {
-    let mut story = look(alloc)?;
-    story.push(found(alloc)?)?;
-    story.push(bad(0, BLOCK, id(2, 1)))?;
-    story.push(given(alloc)?)?;
-    Ok(story)
-}
-
-/// Line 3 stops the datanode 1.
-fn stop_one(alloc: Global) -> Result<Vec<Event>, OutOfMemory> {
-    let refusal = refused(1, BLOCK, id(3, 0), PutRefusal::Stopped { count: 0 });
-    Ok(vec![in alloc; stop(1), down(1), refusal, done(3)]?)
-}
-
-/// Line 4 starts it, and line 5 wipes the datanode 2.
-fn start_and_wipe(alloc: Global) -> Result<Vec<Event>, OutOfMemory> {
-    Ok(vec![in alloc; start(1), up(1), done(4), wipe(2), done(5)]?)
-}
-
-/// Line 6 closes the container, whose members don't hold the same.
-fn quasi_close(alloc: Global) -> Result<Vec<Event>, OutOfMemory> {
-    Ok(vec![in alloc;
-        closed(5, State::Closing),
-        close_command(0, 5),
-        close_command(1, 5),
-        close_command(2, 5),
-        closed(5, State::QuasiClosed),
-    ]?)
-}
-
-/// A copy mends that.
-fn close(alloc: Global) -> Result<Vec<Event>, OutOfMemory> {
-    Ok(vec![in alloc; copy(0, 2, BLOCK), closed(5, State::Closed), done(6)]?)
-}
-
-/// Line 7 deletes the key.
-fn delete(alloc: Global) -> Result<Vec<Event>, OutOfMemory> {
-    let request = delete_key(alloc)?;
-    let gone = change_at(alloc, id(7, 1), 4, Reply::Done)?;
-    Ok(vec![in alloc;
-        ask(id(7, 1), request),
-        gone,
-        swap(4),
-        flushed(4, 4),
-        done(7),
-    ]?)
-}
-
-/// Its block is logged.
-fn log_block(alloc: Global) -> Result<Vec<Event>, OutOfMemory> {
-    let purged = purge(alloc, BLOCK)?;
-    let logged = log(alloc, 1, BLOCK)?;
-    Ok(vec![in alloc; purged, logged]?)
-}
-
-/// One of its members deletes it, which is noted.
-fn deleted_by(alloc: Global, dn: u8) -> Result<Vec<Event>, OutOfMemory> {
-    let locals = List::of(vec![in alloc; BLOCK.local]?);
-    Ok(vec![in alloc; delete_of(dn, 1, locals), ack_del(dn, 1)]?)
-}
-
-/// Line 8 drains: the transaction is retired, and the container goes.
-fn drain(alloc: Global) -> Result<Vec<Event>, OutOfMemory> {
-    Ok(vec![in alloc;
-        retire(1),
-        closed(5, State::Deleting),
-        closed(5, State::Deleted),
-    ]?)
-}
-
-/// The service job takes the deleted row away.
-fn take_row(alloc: Global) -> Result<Vec<Event>, OutOfMemory> {
-    let service = AskId {
-        client: 65_535,
-        line: 0,
-        step: 0,
-    };
-    let request = purge_row(alloc, BLOCK.local)?;
-    let gone = change_at(alloc, service, 5, Reply::Done)?;
-    let asked = event(
-        1,
-        EventKind::Ask {
-            id: service,
-            request,
-        },
-    );
-    Ok(vec![in alloc; asked, gone, swap(5), flushed(5, 5), done(8)]?)
-}
-
-/// All nodes' disks fail.
-fn fail(alloc: Global) -> Result<Vec<Event>, OutOfMemory> {
-    Ok(vec![in alloc;
-        halt(Node::Datanode(0)),
-        halt(Node::Scm),
-        halt(Node::Manager),
-    ]?)
-}
-
-/// The story up to the close.
-fn first_half(alloc: Global) -> Result<Vec<Event>, OutOfMemory> {
-    let mut story = open(alloc)?;
-    go_on(&mut story, get(alloc)?)?;
-    go_on(&mut story, put_all(alloc)?)?;
-    go_on(&mut story, write(alloc)?)?;
-    go_on(&mut story, read(alloc)?)?;
-    go_on(&mut story, stop_one(alloc)?)?;
-    go_on(&mut story, start_and_wipe(alloc)?)?;
-    Ok(story)
-}
-
-fn whole(alloc: Global) -> Result<Vec<Event>, OutOfMemory> {
-    let mut story = first_half(alloc)?;
-    go_on(&mut story, quasi_close(alloc)?)?;
-    go_on(&mut story, close(alloc)?)?;
-    go_on(&mut story, delete(alloc)?)?;
-    go_on(&mut story, log_block(alloc)?)?;
-    for dn in 0..3 {
-        go_on(&mut story, deleted_by(alloc, dn)?)?;
-    }
-    go_on(&mut story, drain(alloc)?)?;
-    go_on(&mut story, take_row(alloc)?)?;
-    go_on(&mut story, fail(alloc)?)?;
-    Ok(story)
-}
+/// Line 1 writes a key: it opens a session and gets a block, all three members put it, and the key gets it. Line 2 reads
+/// it, one of whose replicas is bad. Line 3 stops the datanode 1, line 4 starts it, and line 5 wipes the datanode 2. Line 6
+/// closes the container, whose members don't hold the same; a copy mends that. Line 7 deletes the key, and its block is
+/// logged, and deleted by its members, which is noted. Line 8 drains: the transaction is retired, the container goes, and
+/// the service job takes the deleted row away. At last all nodes' disks fail.
+const STORY: &str = "2 ask 1.1.1 CreateKey vol buc key
+    21 decide 1.1.1 1 session 1 1
+    0 swap 1
+    0 flushed 1 1
+    2 ask 1.1.2 AllocateBlock vol buc key 1 - -
+    3 grant 1 5 0 6 64
+    21 decide 1.1.2 2 granted 5.6 0 1
+    0 swap 2
+    0 flushed 2 2
+    4 put 0 5.6 1.1.2 0 3
+    5 put 1 5.6 1.1.2 0 3
+    6 put 2 5.6 1.1.2 0 3
+    2 wrote 5.6 1.1.2
+    2 ask 1.1.3 CommitKey vol buc key 1 5.6:3
+    21 decide 1.1.3 3 done 1
+    0 swap 3
+    0 flushed 3 3
+    2 told 1 1 length 3
+    2 ask 1.2.1 LookupKey vol buc - key
+    21 decide 1.2.1 3 pieces 5.6:3 -
+    4 bad 0 5.6 1.2.1
+    2 told 1 2 bytes abc
+    5 stop 1
+    3 down 1
+    5 refused 1 5.6 1.3.0 stopped 0
+    2 told 1 3 ok
+    5 start 1
+    3 up 1
+    2 told 1 4 ok
+    6 wipe 2
+    2 told 1 5 ok
+    3 closed 5 closing
+    4 close_command 0 5
+    5 close_command 1 5
+    6 close_command 2 5
+    3 closed 5 quasi_closed
+    6 copy 0 2 5.6
+    3 closed 5 closed
+    2 told 1 6 ok
+    2 ask 1.7.1 DeleteKey vol buc key
+    21 decide 1.7.1 4 done 1
+    0 swap 4
+    0 flushed 4 4
+    2 told 1 7 ok
+    21 purge_ask 5.6
+    3 log 1 5 6
+    4 delete 0 1 6
+    3 ack_del 0 1
+    5 delete 1 1 6
+    3 ack_del 1 1
+    6 delete 2 1 6
+    3 ack_del 2 1
+    3 retire 1
+    3 closed 5 deleting
+    3 closed 5 deleted
+    1 ask 65535.0.0 Purge vol buc:0:key:6
+    21 decide 65535.0.0 5 done 1
+    0 swap 5
+    0 flushed 5 5
+    2 told 1 8 ok
+    4 halt dn0 1
+    3 halt scm 1
+    0 halt manager 1";
 
 #[test]
 fn it_is_legal(rt: HostRuntime) -> Result<(), Fail> {
-    let story = whole(rt.alloc())?;
-    let opening = empty_store(rt.alloc())?;
-    breaks_at(&rt, &opening, &story, None, "the whole story")?;
-    Ok(())
+    break_at(&rt, EMPTY_STORE, &[(STORY, None, "the whole story")])
 }
 
 /// The digest is that of `abc`, by `sha256sum`.
@@ -237,7 +107,7 @@ fn its_report(rt: HostRuntime) -> Result<(), Fail> {
         h scm 1\n\
         h manager 1\n\
         end 8 of 8\n";
-    let printed = text(rt.alloc(), 8, &whole(rt.alloc())?)?;
+    let printed = text(rt.alloc(), 8, &story_of(rt.alloc(), STORY)?)?;
     assert!(rt; printed.as_slice() == wanted.as_bytes());
     Ok(())
 }

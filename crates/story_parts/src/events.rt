@@ -1,199 +1,195 @@
-//! Events, each by the seat that may give it.
+//! Kinds of events: the kind in small letters, and the fields.
 
-use crate::openings::ID;
-use oz_container::State;
-use oz_core::{Event, EventKind, Node, PutRefusal};
-use oz_fields::{Block, List, OutOfMemory};
-use oz_requests::{Answer, AskId, Reply, Request};
+use crate::answers::answer;
+use crate::items::list;
+use crate::replies::{refusal, reply};
+use crate::requests::request;
+use crate::words::Words;
+use oz_core::EventKind;
+use oz_fields::OutOfMemory;
 use std::alloc::Global;
 
-/// The seat of the stripe of the volume `vol`, whose bytes have the sum 337.
-pub const STRIPE_SEAT: u16 = 21;
-
-fn datanode_seat(dn: u8) -> u16 {
-    4 + u16::from(dn)
-}
-
-pub fn event(seat: u16, kind: EventKind) -> Event {
-    Event { seat, kind }
-}
-
-pub fn ask(id: AskId, request: Request) -> Event {
-    event(2, EventKind::Ask { id, request })
-}
-
-/// Decided with this batch.
-pub fn batch_at(id: AskId, index: u64, reply: Reply, batch: List<u8>) -> Event {
-    let kind = EventKind::Decide {
-        id,
-        index,
-        reply,
-        batch,
-    };
-    event(STRIPE_SEAT, kind)
-}
-
-/// Decided without a batch.
-pub fn decide_at(alloc: Global, id: AskId, index: u64, reply: Reply) -> Event {
-    batch_at(id, index, reply, List::new(alloc))
-}
-
-/// Decided with the index 7.
-pub fn decide(alloc: Global, id: AskId, reply: Reply) -> Event {
-    decide_at(alloc, id, 7, reply)
-}
-
-/// Decided as what changes something, with a batch of one byte.
-pub fn change_at(alloc: Global, id: AskId, index: u64, reply: Reply) -> Result<Event, OutOfMemory> {
-    Ok(batch_at(id, index, reply, List::of(vec![in alloc; 1]?)))
-}
-
-pub fn told(client: u16, line: u16, answer: Answer) -> Event {
-    let kind = EventKind::Told {
-        client,
-        line,
-        answer,
-    };
-    event(2, kind)
-}
-
-pub fn swap(index: u64) -> Event {
-    event(0, EventKind::Swap { index })
-}
-
-pub fn flushed(index: u64, moment: u64) -> Event {
-    event(0, EventKind::Flushed { index, moment })
-}
-
-fn node_seat(node: Node) -> u16 {
-    match node {
-        Node::Manager => 0,
-        Node::Scm => 3,
-        Node::Datanode(dn) => datanode_seat(dn),
+pub fn kind(alloc: Global, words: &mut Words<'_>) -> Result<EventKind, OutOfMemory> {
+    match words.word() {
+        "ask" => ask(alloc, words),
+        "decide" => decide(alloc, words),
+        "purge_ask" => purge_ask(alloc, words),
+        "log" => log(alloc, words),
+        "delete" => delete(alloc, words),
+        "told" => told(alloc, words),
+        "swap" => Ok(EventKind::Swap { index: words.u64() }),
+        "flushed" => Ok(flushed(words)),
+        "halt" => Ok(halt(words)),
+        "grant" => Ok(grant(words)),
+        "closed" => Ok(closed(words)),
+        "ack_del" => Ok(ack_del(words)),
+        "retire" => Ok(EventKind::Retire { txn: words.u64() }),
+        other => Ok(of_datanodes(words, other)),
     }
 }
 
-/// The first fault of the node's disks.
-pub fn halt(node: Node) -> Event {
-    event(node_seat(node), EventKind::Halt { node, count: 1 })
+fn of_datanodes(words: &mut Words<'_>, word: &str) -> EventKind {
+    match word {
+        "up" => EventKind::Up { dn: words.u8() },
+        "down" => EventKind::Down { dn: words.u8() },
+        "put" => put(words),
+        "refused" => refused(words),
+        "wrote" => wrote(words),
+        "bad" => bad(words),
+        "copy" => copy(words),
+        "stop" => EventKind::Stop { dn: words.u8() },
+        "start" => EventKind::Start { dn: words.u8() },
+        "wipe" => EventKind::Wipe { dn: words.u8() },
+        "close_command" => close_command(words),
+        _ => {
+            words.refuse();
+            EventKind::Swap { index: 0 }
+        }
+    }
 }
 
-/// The stripe gets the ids 6 to 69 in the container 5, on the pipeline 0.
-pub fn grant(stripe: u8) -> Event {
-    let kind = EventKind::Grant {
+fn ask(alloc: Global, words: &mut Words<'_>) -> Result<EventKind, OutOfMemory> {
+    let id = words.id();
+    let request = request(alloc, words)?;
+    Ok(EventKind::Ask { id, request })
+}
+
+fn decide(alloc: Global, words: &mut Words<'_>) -> Result<EventKind, OutOfMemory> {
+    Ok(EventKind::Decide {
+        id: words.id(),
+        index: words.u64(),
+        reply: reply(alloc, words)?,
+        batch: list(alloc, words)?,
+    })
+}
+
+fn purge_ask(alloc: Global, words: &mut Words<'_>) -> Result<EventKind, OutOfMemory> {
+    let blocks = list(alloc, words)?;
+    Ok(EventKind::PurgeAsk { blocks })
+}
+
+fn log(alloc: Global, words: &mut Words<'_>) -> Result<EventKind, OutOfMemory> {
+    let txn = words.u64();
+    let container = words.u64();
+    let locals = list(alloc, words)?;
+    Ok(EventKind::Log {
+        txn,
+        container,
+        locals,
+    })
+}
+
+fn delete(alloc: Global, words: &mut Words<'_>) -> Result<EventKind, OutOfMemory> {
+    let dn = words.u8();
+    let txn = words.u64();
+    let locals = list(alloc, words)?;
+    Ok(EventKind::Delete { dn, txn, locals })
+}
+
+fn told(alloc: Global, words: &mut Words<'_>) -> Result<EventKind, OutOfMemory> {
+    let client = words.u16();
+    let line = words.u16();
+    let answer = answer(alloc, words)?;
+    Ok(EventKind::Told {
+        client,
+        line,
+        answer,
+    })
+}
+
+fn flushed(words: &mut Words<'_>) -> EventKind {
+    let index = words.u64();
+    let moment = words.u64();
+    EventKind::Flushed { index, moment }
+}
+
+fn halt(words: &mut Words<'_>) -> EventKind {
+    let node = words.node();
+    let count = words.u64();
+    EventKind::Halt { node, count }
+}
+
+fn grant(words: &mut Words<'_>) -> EventKind {
+    let stripe = words.u8();
+    let container = words.u64();
+    let pipeline = words.u8();
+    let first = words.u64();
+    let count = words.u32();
+    EventKind::Grant {
         stripe,
-        container: 5,
-        pipeline: 0,
-        first: 6,
-        count: 64,
-    };
-    event(3, kind)
+        container,
+        pipeline,
+        first,
+        count,
+    }
 }
 
-pub fn up(dn: u8) -> Event {
-    event(3, EventKind::Up { dn })
+fn closed(words: &mut Words<'_>) -> EventKind {
+    let container = words.u64();
+    let state = words.state();
+    EventKind::Closed { container, state }
 }
 
-pub fn down(dn: u8) -> Event {
-    event(3, EventKind::Down { dn })
+fn ack_del(words: &mut Words<'_>) -> EventKind {
+    let dn = words.u8();
+    let txn = words.u64();
+    EventKind::AckDel { dn, txn }
 }
 
-/// Three bytes of the block's first piece, for `ID`.
-pub fn put(dn: u8, block: Block) -> Event {
-    put_of(dn, block, ID)
-}
-
-/// The same for another ask.
-pub fn put_of(dn: u8, block: Block, id: AskId) -> Event {
-    let kind = EventKind::Put {
+fn put(words: &mut Words<'_>) -> EventKind {
+    let dn = words.u8();
+    let block = words.block();
+    let id = words.id();
+    let first = words.u64();
+    let length = words.u32();
+    EventKind::Put {
         dn,
         block,
         id,
-        first: 0,
-        length: 3,
-    };
-    event(datanode_seat(dn), kind)
+        first,
+        length,
+    }
 }
 
-pub fn refused(dn: u8, block: Block, id: AskId, refusal: PutRefusal) -> Event {
-    let kind = EventKind::Refused {
+fn refused(words: &mut Words<'_>) -> EventKind {
+    let dn = words.u8();
+    let block = words.block();
+    let id = words.id();
+    let refusal = refusal(words);
+    EventKind::Refused {
         dn,
         block,
         id,
         refusal,
-    };
-    event(datanode_seat(dn), kind)
+    }
 }
 
-pub fn wrote(block: Block, id: AskId) -> Event {
-    event(2, EventKind::Wrote { block, id })
+fn wrote(words: &mut Words<'_>) -> EventKind {
+    let block = words.block();
+    let id = words.id();
+    EventKind::Wrote { block, id }
 }
 
-pub fn bad(dn: u8, block: Block, id: AskId) -> Event {
-    event(datanode_seat(dn), EventKind::Bad { dn, block, id })
+fn bad(words: &mut Words<'_>) -> EventKind {
+    let dn = words.u8();
+    let block = words.block();
+    let id = words.id();
+    EventKind::Bad { dn, block, id }
 }
 
-/// The stripe of `vol` asks that the block is deleted.
-pub fn purge(alloc: Global, block: Block) -> Result<Event, OutOfMemory> {
-    let kind = EventKind::PurgeAsk {
-        blocks: List::of(vec![in alloc; block]?),
-    };
-    Ok(event(STRIPE_SEAT, kind))
-}
-
-/// The transaction that deletes the block.
-pub fn log(alloc: Global, txn: u64, block: Block) -> Result<Event, OutOfMemory> {
-    let kind = EventKind::Log {
-        txn,
-        container: block.container,
-        locals: List::of(vec![in alloc; block.local]?),
-    };
-    Ok(event(3, kind))
-}
-
-/// The datanode applied the transaction, and held these of its blocks.
-pub fn delete_of(dn: u8, txn: u64, locals: List<u64>) -> Event {
-    event(datanode_seat(dn), EventKind::Delete { dn, txn, locals })
-}
-
-/// It held none.
-pub fn delete(alloc: Global, dn: u8, txn: u64) -> Event {
-    delete_of(dn, txn, List::new(alloc))
-}
-
-pub fn ack_del(dn: u8, txn: u64) -> Event {
-    event(3, EventKind::AckDel { dn, txn })
-}
-
-pub fn retire(txn: u64) -> Event {
-    event(3, EventKind::Retire { txn })
-}
-
-pub fn copy(source: u8, target: u8, block: Block) -> Event {
-    let kind = EventKind::Copy {
+fn copy(words: &mut Words<'_>) -> EventKind {
+    let source = words.u8();
+    let target = words.u8();
+    let block = words.block();
+    EventKind::Copy {
         source,
         target,
         block,
-    };
-    event(datanode_seat(target), kind)
+    }
 }
 
-pub fn stop(dn: u8) -> Event {
-    event(datanode_seat(dn), EventKind::Stop { dn })
-}
-
-pub fn start(dn: u8) -> Event {
-    event(datanode_seat(dn), EventKind::Start { dn })
-}
-
-pub fn wipe(dn: u8) -> Event {
-    event(datanode_seat(dn), EventKind::Wipe { dn })
-}
-
-pub fn close_command(dn: u8, container: u64) -> Event {
-    event(datanode_seat(dn), EventKind::CloseCommand { dn, container })
-}
-
-pub fn closed(container: u64, state: State) -> Event {
-    event(3, EventKind::Closed { container, state })
+fn close_command(words: &mut Words<'_>) -> EventKind {
+    let dn = words.u8();
+    let container = words.u64();
+    EventKind::CloseCommand { dn, container }
 }

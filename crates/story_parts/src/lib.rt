@@ -1,20 +1,24 @@
-//! Openings, requests and events, of which tests put stories together.
+//! Openings and stories that are read from texts, for tests: a line says a thing, in words with one blank between two.
+//!
+//! A story has a line for an event: the seat, the event's kind, and its fields in the order of its type. An opening
+//! begins with nothing, and has a line for each thing that is there. In both
+//!
+//! - an ask's id is `client.line.step`, a block `container.local`, a piece `container.local:length`;
+//! - the items of a list stand between commas, `6*3` is `6,6,6`, and `-` is a list of nothing;
+//! - a name is written as it is, and `-` is the empty name, or none where there may be none.
+//!
+//! A line that can't be read as a whole is an error.
 #![tactic(auto)]
 
+mod answers;
 mod events;
+mod items;
 mod openings;
+mod replies;
 mod requests;
+mod texts;
+mod unread;
+mod words;
 
-pub use events::{
-    STRIPE_SEAT, ack_del, ask, bad, batch_at, change_at, close_command, closed, copy, decide,
-    decide_at, delete, delete_of, down, event, flushed, grant, halt, log, purge, put, put_of,
-    refused, retire, start, stop, swap, told, up, wipe, wrote,
-};
-pub use openings::{
-    BLOCK, ID, empty_bucket, holding, keys, left, named, nothing, opening, opening_of, pieces,
-    with_bucket, with_key, with_node, with_session, with_snapshot,
-};
-pub use requests::{
-    allocate, allocate_but, commit, create_key, create_volume, delete_key, info_volume, look_up,
-    purge_nothing, purge_row,
-};
+pub use texts::{opening_of, story_of};
+pub use unread::Unread;

@@ -1,76 +1,12 @@
-//! What a run begins with.
+//! What a run begins with: a line for each thing.
 
-use oz_container::State;
-use oz_core::{Container, NodeOpening, Opening, Replica};
-use oz_fields::{Block, List, Name, OutOfMemory, Piece};
+use crate::items::list;
+use crate::words::Words;
+use oz_core::{Container, NodeOpening, Opening, Unretired};
+use oz_dellog::Txn;
+use oz_fields::{Block, List, OutOfMemory};
 use oz_namespace::{Bucket, NameMap, Namespace, NumberMap, Session, Snapshot};
-use oz_requests::AskId;
 use std::alloc::Global;
-
-pub const BLOCK: Block = Block {
-    container: 5,
-    local: 6,
-};
-
-/// The first ask of the client 1's line 1.
-pub const ID: AskId = AskId {
-    client: 1,
-    line: 1,
-    step: 1,
-};
-
-pub fn named(alloc: Global, name: &str) -> Result<Name, OutOfMemory> {
-    Name::copy(alloc, name.as_bytes())
-}
-
-/// One piece of three bytes, in the block.
-pub fn pieces(alloc: Global) -> Result<List<Piece>, OutOfMemory> {
-    let piece = Piece {
-        block: BLOCK,
-        length: 3,
-    };
-    Ok(List::of(vec![in alloc; piece]?))
-}
-
-/// The key `key`, which has the block.
-pub fn keys(alloc: Global) -> Result<NameMap<List<Piece>>, OutOfMemory> {
-    let mut keys = NameMap::new(alloc);
-    keys.insert(alloc, named(alloc, "key")?, pieces(alloc)?)?;
-    Ok(keys)
-}
-
-pub fn empty_bucket(alloc: Global) -> Bucket {
-    Bucket::new(alloc)
-}
-
-/// A bucket whose key has the block.
-pub fn with_key(alloc: Global) -> Result<Bucket, OutOfMemory> {
-    let mut bucket = Bucket::new(alloc);
-    bucket.keys = keys(alloc)?;
-    Ok(bucket)
-}
-
-/// A bucket whose snapshot `snap` alone has the block.
-pub fn with_snapshot(alloc: Global) -> Result<Bucket, OutOfMemory> {
-    let snapshot = Snapshot {
-        name: named(alloc, "snap")?,
-        keys: keys(alloc)?,
-    };
-    let mut bucket = Bucket::new(alloc);
-    bucket.snapshots = List::of(vec![in alloc; snapshot]?);
-    Ok(bucket)
-}
-
-/// A bucket in which the session 1 writes the key `key`.
-pub fn with_session(alloc: Global) -> Result<Bucket, OutOfMemory> {
-    let session = Session {
-        key: named(alloc, "key")?,
-        blocks: List::new(alloc),
-    };
-    let mut bucket = Bucket::new(alloc);
-    bucket.sessions.insert(alloc, 1, session)?;
-    Ok(bucket)
-}
 
 /// Nothing is there, and no datanode.
 pub fn nothing(alloc: Global) -> Opening {
@@ -86,79 +22,173 @@ pub fn nothing(alloc: Global) -> Opening {
     }
 }
 
-/// Three datanodes that hold nothing, and this container on the pipeline 0, if one is named.
-pub fn opening(alloc: Global, made: Option<(u64, State)>) -> Result<Opening, OutOfMemory> {
-    opening_of(alloc, 3, made)
-}
-
-/// The same of so many datanodes.
-pub fn opening_of(
-    alloc: Global,
-    count: u8,
-    made: Option<(u64, State)>,
-) -> Result<Opening, OutOfMemory> {
-    let mut opening = nothing(alloc);
-    if let Some((number, state)) = made {
-        let container = Container {
-            pipeline: 0,
-            state,
-            granted: 0,
-        };
-        opening.containers.insert(alloc, number, container)?;
+/// What a line says is there too.
+///
+/// - `nodes 3`: so many further datanodes, which hold nothing.
+/// - `node 5.6:3 5:open:0`: a further datanode with the pieces that it holds, and its replicas.
+/// - `container 5 0 open 0`: a container with its pipeline, its state, and how many ids were granted in it.
+/// - `next_id 6`: the id of the next block.
+/// - `left 5 6 64`: blocks are still to be deleted: of this container, from this local id on, so many.
+/// - `unretired 1 5 6 -`: a transaction of a container, with its local ids, and who acknowledged it.
+/// - `bucket vol buc` and what is in it, `nothing`, `key key 5.6:3`, `session 1 key -` with its blocks, or
+///   `snapshot snap key 5.6:3` with a key. Its volume has no other one.
+pub fn add(alloc: Global, words: &mut Words<'_>, opening: &mut Opening) -> Result<(), OutOfMemory> {
+    match words.word() {
+        "nodes" => add_nodes(alloc, words, opening),
+        "node" => add_node(alloc, words, opening),
+        "container" => add_container(alloc, words, opening),
+        "next_id" => {
+            opening.next_id = words.u64();
+            Ok(())
+        }
+        "left" => add_left(alloc, words, opening),
+        "unretired" => add_unretired(alloc, words, opening),
+        "bucket" => add_bucket(alloc, words, opening),
+        _ => {
+            words.refuse();
+            Ok(())
+        }
     }
-    opening.nodes = empty_nodes(alloc, count)?;
-    Ok(opening)
 }
 
-fn empty_nodes(alloc: Global, count: u8) -> Result<List<NodeOpening>, OutOfMemory> {
-    let mut nodes = Vec::new(alloc);
-    for _ in 0..count {
-        nodes.push(NodeOpening {
+fn push_node(alloc: Global, opening: &mut Opening, node: NodeOpening) -> Result<(), OutOfMemory> {
+    opening.nodes.push(alloc, node).map_err(|refused| refused.1)
+}
+
+fn add_nodes(
+    alloc: Global,
+    words: &mut Words<'_>,
+    opening: &mut Opening,
+) -> Result<(), OutOfMemory> {
+    for _ in 0..words.u8() {
+        let node = NodeOpening {
             held: List::new(alloc),
             replicas: List::new(alloc),
-        })?;
+        };
+        push_node(alloc, opening, node)?;
     }
-    Ok(List::of(nodes))
+    Ok(())
 }
 
-/// A datanode that holds these pieces' blocks, in replicas that were changed so.
-pub fn holding(held: List<Piece>, replicas: List<Replica>) -> NodeOpening {
-    NodeOpening { held, replicas }
-}
-
-/// One more datanode, with the next number.
-pub fn with_node(
+fn add_node(
     alloc: Global,
-    opening: Opening,
-    node: NodeOpening,
-) -> Result<Opening, OutOfMemory> {
-    let mut opening = opening;
+    words: &mut Words<'_>,
+    opening: &mut Opening,
+) -> Result<(), OutOfMemory> {
+    let held = list(alloc, words)?;
+    let replicas = list(alloc, words)?;
+    push_node(alloc, opening, NodeOpening { held, replicas })
+}
+
+fn add_container(
+    alloc: Global,
+    words: &mut Words<'_>,
+    opening: &mut Opening,
+) -> Result<(), OutOfMemory> {
+    let number = words.u64();
+    let pipeline = words.u8();
+    let state = words.state();
+    let granted = words.u64();
+    let container = Container {
+        pipeline,
+        state,
+        granted,
+    };
+    opening.containers.insert(alloc, number, container)
+}
+
+fn add_left(
+    alloc: Global,
+    words: &mut Words<'_>,
+    opening: &mut Opening,
+) -> Result<(), OutOfMemory> {
+    let container = words.u64();
+    let first = words.u64();
+    for place in 0..words.u64() {
+        let block = Block {
+            container,
+            local: first.wrapping_add(place),
+        };
+        opening
+            .left
+            .push(alloc, block)
+            .map_err(|refused| refused.1)?;
+    }
+    Ok(())
+}
+
+fn add_unretired(
+    alloc: Global,
+    words: &mut Words<'_>,
+    opening: &mut Opening,
+) -> Result<(), OutOfMemory> {
+    let number = words.u64();
+    let container = words.u64();
+    let txn = Txn {
+        number,
+        container,
+        locals: list(alloc, words)?,
+    };
+    let acknowledgers = list(alloc, words)?;
     opening
-        .nodes
-        .push(alloc, node)
-        .map_err(|refused| refused.1)?;
-    Ok(opening)
+        .unretired
+        .push(alloc, Unretired { txn, acknowledgers })
+        .map_err(|refused| refused.1)
 }
 
-/// The volume `vol` has this bucket as `buc`.
-pub fn with_bucket(
+fn add_bucket(
     alloc: Global,
-    opening: Opening,
-    bucket: Bucket,
-) -> Result<Opening, OutOfMemory> {
+    words: &mut Words<'_>,
+    opening: &mut Opening,
+) -> Result<(), OutOfMemory> {
+    let volume = words.name(alloc)?;
+    let name = words.name(alloc)?;
     let mut buckets = NameMap::new(alloc);
-    buckets.insert(alloc, named(alloc, "buc")?, bucket)?;
-    let mut opening = opening;
-    opening
-        .namespace
-        .volumes
-        .insert(alloc, named(alloc, "vol")?, buckets)?;
-    Ok(opening)
+    buckets.insert(alloc, name, bucket(alloc, words)?)?;
+    opening.namespace.volumes.insert(alloc, volume, buckets)
 }
 
-/// The block is still to be deleted.
-pub fn left(alloc: Global, opening: Opening) -> Result<Opening, OutOfMemory> {
-    let mut opening = opening;
-    opening.left = List::of(vec![in alloc; BLOCK]?);
-    Ok(opening)
+fn bucket(alloc: Global, words: &mut Words<'_>) -> Result<Bucket, OutOfMemory> {
+    let mut bucket = Bucket::new(alloc);
+    match words.word() {
+        "nothing" => {}
+        "key" => add_key(alloc, words, &mut bucket)?,
+        "session" => add_session(alloc, words, &mut bucket)?,
+        "snapshot" => add_snapshot(alloc, words, &mut bucket)?,
+        _ => words.refuse(),
+    }
+    Ok(bucket)
+}
+
+fn add_key(alloc: Global, words: &mut Words<'_>, bucket: &mut Bucket) -> Result<(), OutOfMemory> {
+    let key = words.name(alloc)?;
+    bucket.keys.insert(alloc, key, list(alloc, words)?)
+}
+
+fn add_session(
+    alloc: Global,
+    words: &mut Words<'_>,
+    bucket: &mut Bucket,
+) -> Result<(), OutOfMemory> {
+    let number = words.u64();
+    let session = Session {
+        key: words.name(alloc)?,
+        blocks: list(alloc, words)?,
+    };
+    bucket.sessions.insert(alloc, number, session)
+}
+
+fn add_snapshot(
+    alloc: Global,
+    words: &mut Words<'_>,
+    bucket: &mut Bucket,
+) -> Result<(), OutOfMemory> {
+    let name = words.name(alloc)?;
+    let key = words.name(alloc)?;
+    let mut keys = NameMap::new(alloc);
+    keys.insert(alloc, key, list(alloc, words)?)?;
+    bucket
+        .snapshots
+        .push(alloc, Snapshot { name, keys })
+        .map_err(|refused| refused.1)
 }

@@ -1,0 +1,278 @@
+//! The value in the turn.
+
+ghost use Rattle.std.specs.Prelude.{◌≡◌, ◌≢◌, ℕ, ◌+◌, ◌<◌, ◌≤◌, ◌↔◌, [], ◌∷◌, ◌++◌, length, max, slice_index, IsTrue, OnOk, OnErr};
+ghost use Rattle.oz_buffer.specs.Books.{IsLater, taken_by, wanted_by};
+ghost use Rattle.oz_buffer.specs.Buffer.{AllFollow, Follows, IsDecide, IsNote, IsSwap, batch_in, buffer_of};
+ghost use Rattle.oz_core.specs.Manager.{last_index, durable_index, halt_of};
+
+use crate::OutOfMemory;
+use crate::copies::event_copied;
+use crate::opened::Opened;
+use crate::ready::Ready;
+use crate::rooms::{buffer_batch, no_rooms, room_taken};
+use crate::summary::Summary;
+use oz_core::{Event, EventKind, Node};
+use oz_turn::Told;
+use std::alloc::Global;
+use std::marker::{Model, PhantomData};
+use std::mem;
+
+/// The most bytes that a buffer takes.
+pub const LARGEST_BUFFER: usize = 1_073_741_824;
+
+/// Why there is no room.
+#[derive(Clone, Copy, Debug, PartialEq, Eq)]
+pub enum Reserve {
+    /// The buffer has `held` bytes, and `asked` more are too many for it. Once it is flushed there is room.
+    Later { held: u64, asked: u64 },
+    OutOfMemory,
+}
+
+/// The story of an opening, what was decided since the last Swap, and a room for each seat.
+#[derive(Drop)]
+pub struct Ledger<O: Opened> {
+    story: Vec<Event>,
+    buffer: Vec<u8>,
+    spare: usize,
+    rooms: [u64; 64],
+    total: usize,
+    summary: Summary,
+    of: PhantomData<O>,
+}
+
+impl<O: Opened> Model for Ledger<O> {
+    ghost use Rattle.std.specs.Prelude.{vec_capacity};
+    ghost use Rattle.oz_buffer.specs.Books.{Book, IsKept};
+    ghost use Rattle.oz_buffer.specs.Buffer.{Follows};
+
+    ghost Value = { Book };
+
+    ghost view = { λ l. record { story = l.story.items; rooms = l.rooms; spare = l.spare } };
+
+    ghost invariant = { λ l. IsKept (Follows O.coherent O.opening O.bytes O.script) O.opening l.story.items l.summary
+        l.buffer.items l.rooms l.total l.spare (vec_capacity l.story) (vec_capacity l.buffer) };
+}
+
+impl<O: Opened> Told for Ledger<O> {
+    ghost use Rattle.std.specs.Prelude.{slice_index};
+
+    type Entry = Event;
+
+    ghost entries = { λ l. l.story };
+
+    ghost seat_of = { λ event. event.seat };
+
+    ghost room = { λ l n. slice_index l.rooms n };
+
+    fn entries(&self) -> &[Event] {
+        self.story.as_slice()
+    }
+
+    fn copy(alloc: Global, entry: &Event) -> Result<Event, OutOfMemory> {
+        event_copied(alloc, entry)
+    }
+}
+
+impl<O: Opened> Ledger<O> {
+    /// No events yet, behind an opening whose last transaction index is this. It takes no memory.
+    pub fn over(alloc: Global, last_index: u64) -> Ledger<O>
+        requires { last_index ≡ O.opening.last_index }
+        ensures story { result.story ≡ [] }
+        ensures rooms { (n : ℕ) → slice_index result.rooms n ≡ 0 }
+        ensures spare { result.spare ≡ 0 }
+    {
+        Ledger {
+            story: Vec::new(alloc),
+            buffer: Vec::new(alloc),
+            spare: 0,
+            rooms: no_rooms(),
+            total: 0,
+            summary: Summary::new(last_index),
+            of: PhantomData,
+        }
+    }
+
+    /// Makes a seat's room four greater, for a Decide and the Swap, Flushed and Halt that it may bring with it, and has the
+    /// buffer take so many bytes more.
+    pub fn reserve(&mut self, seat: u16, bytes: u32) -> Result<(), Reserve>
+        requires seat { seat < 64 }
+        requires bytes { bytes ≤ 67108864 }
+        ensures story { self.new.story ≡ self.old.story }
+        ensures room { OnOk result (slice_index self.new.rooms seat ≡ slice_index self.old.rooms seat + 4) }
+        ensures others { (n : ℕ) → n ≢ seat → slice_index self.new.rooms n ≡ slice_index self.old.rooms n }
+        ensures spare { OnOk result (bytes ≤ self.new.spare) }
+        ensures later { IsLater (length (buffer_of self.old.story)) bytes result }
+        ensures err { OnErr result (self.new ≡ self.old) }
+    {
+        let held = self.buffer.len();
+        let asked = bytes as usize;
+        if held > LARGEST_BUFFER - asked {
+            return Err(Reserve::Later {
+                held: held as u64,
+                asked: u64::from(bytes),
+            });
+        }
+        match self.make_room(seat, 4, asked) {
+            Ok(()) => Ok(()),
+            Err(_error) => Err(Reserve::OutOfMemory),
+        }
+    }
+
+    /// Makes a seat's room greater by so many events.
+    pub fn reserve_notes(&mut self, seat: u16, events: u32) -> Result<(), OutOfMemory>
+        requires seat { seat < 64 }
+        requires events { events ≤ 64 }
+        ensures story { self.new.story ≡ self.old.story }
+        ensures room { OnOk result (slice_index self.new.rooms seat ≡ slice_index self.old.rooms seat + events) }
+        ensures others { (n : ℕ) → n ≢ seat → slice_index self.new.rooms n ≡ slice_index self.old.rooms n }
+        ensures spare { self.new.spare ≡ self.old.spare }
+        ensures err { OnErr result (self.new ≡ self.old) }
+    {
+        self.make_room(seat, events, 0)
+    }
+
+    fn make_room(&mut self, seat: u16, events: u32, bytes: usize) -> Result<(), OutOfMemory>
+        requires seat { seat < 64 }
+        requires events { events ≤ 64 }
+        ensures story { self.new.story ≡ self.old.story }
+        ensures room { OnOk result (slice_index self.new.rooms seat ≡ slice_index self.old.rooms seat + events) }
+        ensures others { (n : ℕ) → n ≢ seat → slice_index self.new.rooms n ≡ slice_index self.old.rooms n }
+        ensures spare { OnOk result (self.new.spare ≡ max self.old.spare bytes) }
+        ensures err { OnErr result (self.new ≡ self.old) }
+    {
+        let Some(places) = self.total.checked_add(events as usize + 3) else {
+            return Err(OutOfMemory);
+        };
+        self.story.reserve(places)?;
+        self.buffer.reserve(bytes)?;
+        self.rooms[usize::from(seat)] += u64::from(events);
+        self.total += events as usize;
+        self.spare = self.spare.max(bytes);
+        Ok(())
+    }
+
+    /// Gives back room that a seat doesn't need.
+    pub fn release(&mut self, seat: u16, events: u32)
+        requires seat { seat < 64 }
+        requires events { events ≤ slice_index self.old.rooms seat }
+        ensures story { self.new.story ≡ self.old.story }
+        ensures room { slice_index self.new.rooms seat + events ≡ slice_index self.old.rooms seat }
+        ensures others { (n : ℕ) → n ≢ seat → slice_index self.new.rooms n ≡ slice_index self.old.rooms n }
+        ensures spare { self.new.spare ≡ self.old.spare }
+    {
+        self.rooms[usize::from(seat)] -= u64::from(events);
+        self.total -= events as usize;
+    }
+
+    /// The last transaction index that was decided.
+    pub fn last_index(&self) -> u64
+        ensures { result ≡ last_index O.opening self.now.story }
+    {
+        self.summary.last
+    }
+
+    /// The last transaction index that is stable.
+    pub fn durable_index(&self) -> u64
+        ensures { result ≡ durable_index O.opening self.now.story }
+    {
+        self.summary.durable
+    }
+
+    /// A node's count of faults as it halted, None where it has no Halt.
+    pub fn halt(&self, node: Node) -> Option<u64>
+        ensures { result ≡ halt_of node self.now.story }
+    {
+        self.summary.count(node)
+    }
+
+    /// Each event may follow those before it. It does nothing when it runs.
+    pub fn all_follow(&self)
+        ensures { AllFollow (Follows O.coherent O.opening O.bytes O.script) [] self.now.story }
+    {
+        let _events = self.story.len();
+    }
+
+    /// Appends a Decide from its seat's room; the buffer gets its batch.
+    pub fn decide(&mut self, event: Event)
+        requires seat { event.seat < 64 }
+        requires decides { IsDecide event.kind }
+        requires room { wanted_by (batch_in event.kind) ≤ slice_index self.old.rooms event.seat }
+        requires spare { length (batch_in event.kind) ≤ self.old.spare }
+        requires follows { Follows O.coherent O.opening O.bytes O.script self.old.story event }
+        ensures story { self.new.story ≡ self.old.story ++ event ∷ [] }
+        ensures room { slice_index self.new.rooms event.seat + taken_by (buffer_of self.old.story) (batch_in event.kind)
+            ≡ slice_index self.old.rooms event.seat }
+        ensures others { (n : ℕ) → n ≢ event.seat → slice_index self.new.rooms n ≡ slice_index self.old.rooms n }
+        ensures spare { self.new.spare + length (batch_in event.kind) ≡ self.old.spare }
+    {
+        let taken = room_taken(self.buffer.as_slice(), &event.kind);
+        let bytes = buffer_batch(&mut self.buffer, &event.kind);
+        self.spare -= bytes;
+        self.rooms[usize::from(event.seat)] -= u64::from(taken);
+        self.total -= usize::from(taken);
+        self.summary.add(&event.kind);
+        self.story.push_reserved(event);
+    }
+
+    /// Appends an event of another kind from its seat's room.
+    pub fn note(&mut self, event: Event)
+        requires seat { event.seat < 64 }
+        requires kind { IsNote event.kind }
+        requires room { 1 ≤ slice_index self.old.rooms event.seat }
+        requires follows { Follows O.coherent O.opening O.bytes O.script self.old.story event }
+        ensures story { self.new.story ≡ self.old.story ++ event ∷ [] }
+        ensures room { slice_index self.new.rooms event.seat + 1 ≡ slice_index self.old.rooms event.seat }
+        ensures others { (n : ℕ) → n ≢ event.seat → slice_index self.new.rooms n ≡ slice_index self.old.rooms n }
+        ensures spare { self.new.spare ≡ self.old.spare }
+    {
+        self.rooms[usize::from(event.seat)] -= 1;
+        self.total -= 1;
+        self.summary.add(&event.kind);
+        self.story.push_reserved(event);
+    }
+
+    /// Appends a Swap; what the buffer had is ready to be written, and its seat has room for what comes of that: a Flushed and
+    /// a Halt.
+    pub fn swap(&mut self, event: Event, ready: &mut Ready)
+        requires seat { event.seat < 64 }
+        requires kind { IsSwap event.kind }
+        requires empty { ready.old ≡ [] }
+        requires some { buffer_of self.old.story ≢ [] }
+        requires follows { Follows O.coherent O.opening O.bytes O.script self.old.story event }
+        ensures story { self.new.story ≡ self.old.story ++ event ∷ [] }
+        ensures ready { ready.new ≡ buffer_of self.old.story }
+        ensures room { slice_index self.new.rooms event.seat ≡ slice_index self.old.rooms event.seat + 2 }
+        ensures others { (n : ℕ) → n ≢ event.seat → slice_index self.new.rooms n ≡ slice_index self.old.rooms n }
+        ensures spare { self.new.spare ≡ 0 }
+    {
+        mem::swap(&mut self.buffer, &mut ready.bytes);
+        self.spare = 0;
+        self.rooms[usize::from(event.seat)] += 2;
+        self.total += 2;
+        self.story.push_reserved(event);
+    }
+
+    /// Whether anything was decided that no Swap has taken.
+    pub fn has_buffered(&self) -> bool
+        ensures { IsTrue result ↔ (buffer_of self.now.story ≢ []) }
+    {
+        !self.buffer.is_empty()
+    }
+
+    /// The story itself. It takes no memory.
+    pub fn into_story(self) -> Vec<Event>
+        ensures story { result.items ≡ self.story }
+        ensures follow { AllFollow (Follows O.coherent O.opening O.bytes O.script) [] result.items }
+    {
+        let Ledger {
+            story,
+            buffer: _,
+            spare: _,
+            rooms: _,
+            total: _,
+            summary: _,
+            of: _,
+        } = self;
+        story
+    }
+}

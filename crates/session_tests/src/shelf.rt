@@ -76,11 +76,7 @@ pub fn put_session(alloc: Global, rows: &mut Vec<Change>, blocks: u16) -> Result
 }
 
 /// Enters changes under the next epoch.
-pub fn enter(
-    alloc: Global,
-    cached: &mut Cached,
-    changes: List<Change>,
-) -> Result<(), OutOfMemory> {
+pub fn enter(alloc: Global, cached: &mut Cached, changes: List<Change>) -> Result<(), OutOfMemory> {
     let epoch = cached.last_epoch();
     let prepared = cached.prepare(alloc, changes.into_items())?;
     if epoch < 1 << 62 {

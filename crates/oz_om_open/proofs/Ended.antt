@@ -1,5 +1,5 @@
 -- What the end of a bucket's sessions does to the rows, and to the namespace for which they stand.
-use Rattle.std.proofs.Common.{◌≡◌, ◌≢◌, ◌↔◌, ◌≤◌, ℕ, Bool, true, false, List, [], ◌∷◌, ◌++◌, length, Option, None, Some, IsSome, is_some, refl, sym, ◌∙◌, ap, subst, arith, append-nil}
+use Rattle.std.proofs.Common.{◌≡◌, ◌≢◌, ◌↔◌, ◌≤◌, ℕ, List, [], ◌∷◌, length, Option, None, Some, IsSome, is_some, sym, ◌∙◌, ap, subst, arith, append-nil}
 use mathlib.Core.Bool.{false≢true}
 use Rattle.std.specs.FinMap.{get, insert, len, get-empty}
 use Rattle.std.specs.Ordering.{nat_cmp}
@@ -7,7 +7,6 @@ use Rattle.oz_effects.specs.Batches.{IsBatchOf}
 use Rattle.oz_effects.specs.Effects.{operation_changes}
 use Rattle.oz_effects.specs.laws.Joined.{wide_is_batch}
 use Rattle.oz_effects.specs.laws.Steps.{nothing_is_batch}
-use Rattle.oz_fields.specs.declared.block.Block.{Block}
 use Rattle.oz_namespace.specs.declared.namespace.Bucket.{Bucket}
 use Rattle.oz_namespace.specs.declared.namespace.Namespace.{Namespace}
 use Rattle.oz_namespace.specs.declared.namespace.Session.{Session}
@@ -33,7 +32,6 @@ use Rattle.oz_rows.specs.declared.row.Row.TheVariants as rows
 use Rattle.oz_rows.specs.Operations.{OperationFits, batch_bytes, operation_bytes}
 use Rattle.oz_rows.specs.Rows.{ValueFits, kind_of}
 use Rattle.oz_rows.specs.RowMaps.{Rows, AreRows, KeysRise, row_of, after_changes}
-use Rattle.oz_rows.specs.laws.Sizes.{operation_size}
 use Rattle.oz_sound.specs.Sound.{IsSoundButRenames, RenamesAreSound}
 use Rattle.oz_sound.specs.StandsFor.{StandsFor, SnapshotsStand, pieces_in}
 use Rattle.oz_decision.specs.Meets.{AreInGrammar, IsSafe, Stand, Meets}

@@ -3,21 +3,20 @@ use Rattle.std.proofs.Common.{◌≡◌, ◌≢◌, ℕ, Bool, true, false, ◌|
 use mathlib.Core.Bool.{false≢true}
 use Rattle.std.proofs.lemmas.Option.{same_Some}
 use Rattle.std.specs.List.{AllByRecursion, list_any}
-use Rattle.oz_effects.specs.Effects.{has_block, is_in_a_key, operation_changes}
+use Rattle.oz_effects.specs.Effects.{has_block, is_in_a_key}
 use Rattle.oz_fields.specs.declared.block.Block.{Block}
 use Rattle.oz_fields.specs.declared.block.Piece.{Piece}
 use Rattle.oz_names.specs.Names.{stripe_of}
 use Rattle.oz_rows.specs.declared.entry.RowEntry.{RowEntry}
 use Rattle.oz_rows.specs.declared.key.RowKey.{RowKey}
 use Rattle.oz_rows.specs.declared.key.RowKey.TheVariants as keys
-use Rattle.oz_rows.specs.declared.operation.Operation.TheVariants.{DropOpen}
 use Rattle.oz_rows.specs.declared.row.Row.{Row}
 use Rattle.oz_rows.specs.declared.row.Row.TheVariants as rows
 use Rattle.oz_rows.specs.RowMaps.{Rows, KeysRise, is_block, row_of}
-use Rattle.oz_rows.specs.Rows.{IsBlock, KeyFits, RowFits, ValueFits, kind_of}
+use Rattle.oz_rows.specs.Rows.{IsBlock, RowFits, ValueFits, kind_of}
 use Rattle.oz_stripes.specs.laws.Lists.{each_found}
 use Rattle.oz_sound.specs.Kept.{HasHome}
-use Rattle.oz_sound.specs.Sound.{StandsIn, blocks_of, bucket_of_row, IsHome, IsKeeper, IsUsing, IsSoundButRenames, RenamesAreSound}
+use Rattle.oz_sound.specs.Sound.{StandsIn, blocks_of, bucket_of_row, IsHome, IsKeeper, IsUsing, IsSoundButRenames}
 use Rattle.oz_sound.specs.StandsFor.{drawn_in}
 use Rattle.oz_decision.specs.Meets.{AreInGrammar}
 use Rattle.oz_decision.specs.laws.Versions.{one_block, block_itself}

@@ -1,5 +1,5 @@
 -- The newest rows of a cache as a list.
-use Rattle.std.proofs.Common.{◌≡◌, List}
+use Rattle.std.proofs.Common.{List}
 use Rattle.oz_cache.specs.Cache.{CacheView, batched_changes, newest}
 use Rattle.oz_rows.specs.declared.entry.RowEntry.{RowEntry}
 use Rattle.oz_rows.specs.RowMaps.{AreRows, KeysRise}

@@ -1,11 +1,11 @@
 -- What an opened session does to the rows, and to the namespace for which they stand.
-use Rattle.std.proofs.Common.{◌≡◌, ◌≢◌, ◌↔◌, ◌≤◌, ◌<◌, ◌+◌, ℕ, Bool, true, false, ◌&&◌, nat_le, List, [], ◌∷◌, Option, None, Some, IsSome, is_some, cond, refl, sym, ◌∙◌, ap, subst, arith, inl}
+use Rattle.std.proofs.Common.{◌≡◌, ◌≢◌, ◌↔◌, ◌≤◌, ◌<◌, ◌+◌, ℕ, Bool, true, false, ◌&&◌, nat_le, List, [], Option, None, Some, IsSome, is_some, cond, refl, sym, ◌∙◌, ap, subst, arith, inl}
 use mathlib.Core.Bool.{false≢true}
 use Rattle.std.proofs.lemmas.Bool.Decides.{nat_tests}
 use Rattle.std.proofs.lemmas.Cmp.{nat_cmp_total}
 use Rattle.std.proofs.lemmas.Option.{same_Some}
 use Rattle.std.specs.Prelude.{slice_index, slice_set}
-use Rattle.std.specs.FinMap.{len, get, insert, get-insert, len-insert}
+use Rattle.std.specs.FinMap.{len, get, get-insert, len-insert}
 use Rattle.std.specs.List.{list_any}
 use Rattle.oz_fields.specs.declared.block.Block.{Block}
 use Rattle.oz_names.specs.Names.{stripe_of}
@@ -38,7 +38,6 @@ use Rattle.oz_decision.specs.Meets.{Stand, Meets}
 use Rattle.oz_decision.specs.Sessions.{blocks_at}
 use Rattle.oz_decision.specs.laws.Lookups.{absent_from, there_are}
 use Rattle.oz_decision.specs.laws.Refusing.{passed, not_refused}
-use Rattle.oz_decision.specs.laws.SessionRows.{over}
 use Rattle.oz_decision.specs.laws.Sessions.{session_stands}
 use Rattle.oz_decision.specs.laws.Shown.{is_number, one_number, number_itself, key_itself, pieces_at, volume_there, snapshots_again, snapshots_of_bucket}
 use Rattle.oz_frames.specs.Buckets.{IsOutside, BucketBecomes, with_bucket}

@@ -1,6 +1,7 @@
 -- A session is opened: what is refused, and what the two rows are to any rows.
-use Rattle.std.proofs.Common.{◌≡◌, ◌≤◌, ◌<◌, ◌+◌, ℕ, Bool, true, false, nat_le, List, [], ◌∷◌, ◌++◌, length, Option, None, Some, IsSome, is_some, cond, refl, sym, ◌∙◌, ap, subst, arith, append-nil}
+use Rattle.std.proofs.Common.{◌≡◌, ◌≤◌, ◌<◌, ◌+◌, ℕ, Bool, false, nat_le, List, [], ◌∷◌, ◌++◌, length, Option, None, Some, IsSome, is_some, cond, sym, ◌∙◌, ap, subst, arith, append-nil}
 use mathlib.Core.Bool.{false≢true}
+use Rattle.std.proofs.lemmas.Bool.Decides.{nat_tests}
 use Rattle.std.proofs.lemmas.Option.{same_Some}
 use Rattle.oz_effects.specs.Batches.{IsBatchOf}
 use Rattle.oz_effects.specs.laws.Joined.{batches_are_one}
@@ -13,7 +14,6 @@ use Rattle.oz_model.specs.Buckets.{bucket_at, is_full, are_spent, next_number}
 use Rattle.oz_model.specs.Refusals.{Refusal, where_so, first_of, no_volume, no_bucket, refusal}
 use Rattle.oz_model.specs.Scope.{scope_of}
 use Rattle.oz_model.specs.declared.scope.Scope.{Scope}
-use Rattle.oz_requests.specs.declared.reply.Reply.{Reply}
 use Rattle.oz_requests.specs.declared.reply.Reply.TheVariants as replies
 use Rattle.oz_requests.specs.declared.request.Request.TheVariants.{CreateKey}
 use Rattle.oz_requests.specs.Names.{name_fault}
@@ -32,9 +32,11 @@ use Rattle.oz_decision.specs.Meets.{AreInGrammar, IsSafe, Stand}
 use Rattle.oz_decision.specs.laws.OneRow.{put_is_safe, alone_is_short}
 use Rattle.oz_decision.specs.laws.SessionRows.{volume_is, bucket_is, key_is}
 use Rattle.oz_decision.specs.laws.Sessions.{own_refusals, first_found, none_found}
-use Rattle.oz_om_open.specs.Allowed.{MayCreate}
 use Rattle.oz_om_open.specs.Records.{changes_of_create}
 use Rattle.oz_om_open.proofs.Numbers.{stripe_is, drawn_shown}
+
+pub from_under : (a b : ℕ) → b < a → nat_le a b ≡ false
+from_under a b e = grind (arith, nat_tests, e)
 
 -- what is refused
 module _ (all : Rows) (v b k : List ℕ) (named : name_fault (CreateKey v b k) ≡ None) (namespace : Namespace) (stand : Stand IsSoundButRenames all namespace) where

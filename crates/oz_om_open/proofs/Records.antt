@@ -21,9 +21,9 @@ use Rattle.oz_decision.specs.declared.decision.Decision.{Decision}
 use Rattle.oz_decision.specs.Meets.{AreInGrammar, IsSafe, Stand, Meets}
 use Rattle.oz_decision.specs.Replies.{IsReply}
 use Rattle.oz_decision.specs.laws.OneRow.{has_bytes, nothing_is_safe, nothing_changes, stand_but_renames, meets_in_all}
-use Rattle.oz_om_open.specs.Allowed.{MayCreate, MayRecord}
+use Rattle.oz_om_open.specs.Allowed.{MayRecord}
 use Rattle.oz_om_open.specs.Opens.{IsOpening}
-use Rattle.oz_om_open.specs.Records.{AreExpired, AreRecorded, changes_of_create, operations_for}
+use Rattle.oz_om_open.specs.Records.{AreRecorded, operations_for}
 use Rattle.oz_om_open.proofs.Opening.{is_safe as create_is_safe, is_short as create_is_short}
 use Rattle.oz_om_open.proofs.Opened.{least, meets as create_meets, renames_stay as create_keeps_renames}
 use Rattle.oz_om_open.proofs.Ended.{is_safe as expire_is_safe, is_short as expire_is_short, meets as expire_meets, renames_stay as expire_keeps_renames}

@@ -1,5 +1,5 @@
 -- A bucket has as many keys and sessions as its rows show.
-use Rattle.std.proofs.Common.{◌≡◌, ◌↔◌, ◌+◌, ◌≤◌, ℕ, Bool, true, false, ◌&&◌, ◌||◌, List, [], ◌∷◌, ◌++◌, map, length, suc, Option, None, Some, IsSome, is_some, refl, sym, ◌∙◌, ap, subst, arith}
+use Rattle.std.proofs.Common.{◌≡◌, ◌↔◌, ◌+◌, ℕ, Bool, true, false, ◌&&◌, ◌||◌, List, [], ◌∷◌, ◌++◌, map, length, suc, Option, None, Some, IsSome, is_some, refl, sym, ◌∙◌, ap, subst, arith}
 use mathlib.Core.Bool.{false≢true}
 use Rattle.std.proofs.lemmas.Cmp.{nat_cmp_total, nat_list_cmp_total}
 use Rattle.std.proofs.lemmas.List.Folds.{list_any-append}
@@ -23,7 +23,7 @@ use Rattle.oz_decision.specs.Meets.{AreInGrammar}
 use Rattle.oz_decision.specs.laws.Lookups.{has_pieces}
 use Rattle.oz_decision.specs.laws.Rising.{each_in_turn, len_keys}
 use Rattle.oz_decision.specs.laws.SessionRows.{front, back, both}
-use Rattle.oz_decision.specs.laws.Shown.{is_number, one_number, number_itself}
+use Rattle.oz_decision.specs.laws.Shown.{is_number, one_number}
 
 -- a key, or a session with its key
 abbrev Use : Type 0

@@ -12,9 +12,9 @@ returns-in-Some-clause-reply g c =
 pub returns-clause-reply : goal.returns-clause-reply
 returns-clause-reply g c =
     let all = g.M.RowMap.rows c.args.rows.now in
-    rw c.with_reply.ensures.reply (λ namespace stand. answers all c.args.volume.now c.args.bucket.now c.args.key.now c.requires namespace stand c.drawn_numbers.result c.drawn_numbers.ensures (sym c.in_default.is ∙ c.in_ok-code.ensures.code namespace stand))
+    rw c.with_reply.ensures.reply (λ namespace stand. answers all c.args.volume.now c.args.bucket.now c.args.key.now c.requires namespace stand c.drawn_numbers-drawn.result c.drawn_numbers-drawn.ensures (sym c.in_default.is ∙ c.in_ok-code.ensures.code namespace stand))
 
 pub returns-clause-allowed : goal.returns-clause-allowed
 returns-clause-allowed g c =
     let few = c.in_ok-code.ensures.few c.in_default.is in
-    rw c.with_reply.ensures.reply (record { bucket_there = c.in_ok-code.ensures.there c.in_default.is; next = ap (λ d. d + 1) c.drawn_numbers.ensures; few = omega (arith, few) })
+    rw c.with_reply.ensures.reply (record { bucket_there = c.in_ok-code.ensures.there c.in_default.is; next = ap (λ d. d + 1) c.drawn_numbers-drawn.ensures; few = omega (arith, few) })

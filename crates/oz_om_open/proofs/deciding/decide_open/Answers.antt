@@ -3,6 +3,7 @@ use Rattle.oz_cache.specs.Cache.{newest}
 use Rattle.oz_model.specs.Answers.{Answers}
 use Rattle.oz_namespace.specs.declared.namespace.Namespace.{Namespace}
 use Rattle.oz_requests.specs.Names.{name_fault}
+use Rattle.oz_rows.specs.RowMaps.{KeysRise}
 use Rattle.oz_sound.specs.Sound.{IsSound, IsSoundButRenames}
 use Rattle.oz_decision.specs.Meets.{AreInGrammar, IsSafe, Stand, Meets}
 use Rattle.oz_decision.specs.laws.OneRow.{nothing_is_safe, stand_but_renames}
@@ -37,7 +38,7 @@ returns-clause-meets c =
     let all = newest c.args.cached.now in
     let request = c.args.request.now in
     let named : name_fault request ≡ None = search rules in
-    let rise = rw (sym c.durable.ensures) c.rows_are_in_order.ensures in
+    let rise : KeysRise c.args.cached.now.durable.rows = rw (sym c.durable.ensures) c.rows_are_in_order.ensures in
     let it = c.open_named.ensures in
     decided all request c.open_named.result (λ d. (namespace : Namespace) → Stand IsSound all namespace → Meets IsSound all namespace request d.reply d.bytes d.changes) it.reply it.allowed it.changes it.operations
     (λ d is namespace stand. as_recorded all request d is (λ b. Meets IsSound all namespace request d.reply b d.changes) (meets_all all request named (entries_of c.args.cached.now rise) (are_listed c.args.cached.now rise) namespace stand d.reply d.changes c.requires is.allowed is.changes (is.reply namespace (stand_but_renames all namespace stand))))
@@ -48,7 +49,7 @@ returns-clause-but_renames c =
     let all = newest c.args.cached.now in
     let request = c.args.request.now in
     let named : name_fault request ≡ None = search rules in
-    let rise = rw (sym c.durable.ensures) c.rows_are_in_order.ensures in
+    let rise : KeysRise c.args.cached.now.durable.rows = rw (sym c.durable.ensures) c.rows_are_in_order.ensures in
     let it = c.open_named.ensures in
     decided all request c.open_named.result (λ d. (namespace : Namespace) → Stand IsSoundButRenames all namespace → Meets IsSoundButRenames all namespace request d.reply d.bytes d.changes) it.reply it.allowed it.changes it.operations
     (λ d is namespace stand. as_recorded all request d is (λ b. Meets IsSoundButRenames all namespace request d.reply b d.changes) (meets all request named (entries_of c.args.cached.now rise) (are_listed c.args.cached.now rise) namespace stand d.reply d.changes c.requires is.allowed is.changes (is.reply namespace stand)))
@@ -58,7 +59,7 @@ returns-clause-safe c =
     let all = newest c.args.cached.now in
     let request = c.args.request.now in
     let named : name_fault request ≡ None = search rules in
-    let rise = rw (sym c.durable.ensures) c.rows_are_in_order.ensures in
+    let rise : KeysRise c.args.cached.now.durable.rows = rw (sym c.durable.ensures) c.rows_are_in_order.ensures in
     let it = c.open_named.ensures in
     decided all request c.open_named.result (λ d. AreInGrammar all → IsSafe all d.bytes d.changes) it.reply it.allowed it.changes it.operations
     (λ d is fit. as_recorded all request d is (λ b. IsSafe all b d.changes) (safe all request named (entries_of c.args.cached.now rise) (are_listed c.args.cached.now rise) d.reply d.changes c.requires is.allowed is.changes fit))

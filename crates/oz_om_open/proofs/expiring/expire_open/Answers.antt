@@ -1,7 +1,3 @@
-use Rattle.std.proofs.Common.{◌∙◌, sym}
-use Rattle.oz_model.specs.Scope.{scope_of}
-use Rattle.oz_model.specs.laws.Order.{refused_so}
-use Rattle.oz_requests.specs.declared.request.Request.TheVariants.{ExpireOpen}
 use Rattle.oz_om_open.proofs.Ended.{missing, answers}
 use Rattle.oz_om_open.proofs.expiring.expire_open.Goals as goal
 

@@ -1,0 +1,9 @@
+pub mod Numbers
+pub mod Using
+pub mod Opening
+pub mod Opened
+pub mod Dropping
+pub mod Expired
+pub mod Ended
+pub mod Listed
+pub mod Records

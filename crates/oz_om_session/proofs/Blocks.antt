@@ -17,6 +17,7 @@ use Rattle.oz_decision.specs.Sessions.{blocks_at, is_good}
 use Rattle.oz_decision.specs.Versions.{version_at, is_version}
 use Rattle.oz_om_session.specs.Records.{unused}
 use Rattle.oz_om_session.specs.Sessions.{are_committed}
+use Rattle.oz_decision.specs.laws.Versions.{one_block, block_itself, as_many, good_version}
 use Rattle.oz_decision.specs.laws.SessionRows.{front, back, both, at_most, under, good_block}
 
 -- the two tests of a block among others are one

@@ -28,7 +28,8 @@ use Rattle.oz_frames.specs.laws.Parting.{parted_moves}
 use Rattle.oz_decision.specs.Versions.{deleted}
 use Rattle.oz_om_session.specs.Records.{unused}
 use Rattle.oz_decision.specs.laws.SessionRows.{deleted_fits}
-use Rattle.oz_om_session.proofs.Blocks.{block_itself, in_kept, used, same_used, used_or_left, not_both, all_used, kept_fit, left_fit}
+use Rattle.oz_decision.specs.laws.Versions.{block_itself}
+use Rattle.oz_om_session.proofs.Blocks.{in_kept, used, same_used, used_or_left, not_both, all_used, kept_fit, left_fit}
 use Rattle.oz_om_session.proofs.CommitMoves.{Goes, goes_same, moves, changes_fit, free}
 
 some_apart : {A : Type 0} {a : A} → Some a ≡ None → ⊥

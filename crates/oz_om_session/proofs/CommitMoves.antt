@@ -30,7 +30,7 @@ use Rattle.oz_frames.specs.laws.Moving.{at_most, sound_moved, blocks_kept, renam
 use Rattle.oz_frames.specs.laws.Parting.{parted_moves}
 use Rattle.oz_decision.specs.Versions.{version_at, deleted}
 use Rattle.oz_decision.specs.laws.SessionRows.{deleted_fits}
-use Rattle.oz_om_session.proofs.Blocks.{block_itself}
+use Rattle.oz_decision.specs.laws.Versions.{block_itself}
 
 some_apart : {A : Type 0} {a : A} → Some a ≡ None → ⊥
 some_apart e = false≢true (sym (ap is_some e))

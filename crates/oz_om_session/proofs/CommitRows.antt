@@ -29,6 +29,7 @@ use Rattle.oz_decision.specs.Meets.{Stand}
 use Rattle.oz_decision.specs.Sessions.{blocks_at, IsOpen, is_good}
 use Rattle.oz_decision.specs.Versions.{is_version}
 use Rattle.oz_om_session.specs.Sessions.{are_committed}
+use Rattle.oz_decision.specs.laws.Versions.{version_is_good}
 use Rattle.oz_decision.specs.laws.SessionRows.{OpenRow, open_row, front, both, from_at_most, block_is_good, volume_is, bucket_is, key_is}
 use Rattle.oz_om_session.proofs.Blocks.{pieces_are_fit}
 use Rattle.oz_decision.specs.laws.Sessions.{own_refusals, first_found, none_found, blocks_are, row_tells}

@@ -44,9 +44,11 @@ pub fn request_of(alloc: Global, asked: &Asked) -> Result<Vec<Request>, OutOfMem
     let mut requests = Vec::with_capacity(alloc, 1)?;
     match asked.kind {
         Kind::CreateVolume | Kind::DeleteVolume => add_on_volume(alloc, &mut requests, asked)?,
-        Kind::CreateBucket | Kind::InfoBucket | Kind::DeleteBucket | Kind::ExpireOpen | Kind::ListKeys => {
-            add_on_bucket(alloc, &mut requests, asked)?
-        }
+        Kind::CreateBucket
+        | Kind::InfoBucket
+        | Kind::DeleteBucket
+        | Kind::ExpireOpen
+        | Kind::ListKeys => { add_on_bucket(alloc, &mut requests, asked)? }
         Kind::CreateKey | Kind::DeleteKey | Kind::RenameKey | Kind::LookupKey => {
             add_on_key(alloc, &mut requests, asked)?
         }
@@ -60,7 +62,11 @@ fn add(requests: &mut Vec<Request>, request: Request) -> Result<(), OutOfMemory>
     Ok(())
 }
 
-fn add_on_volume(alloc: Global, requests: &mut Vec<Request>, asked: &Asked) -> Result<(), OutOfMemory> {
+fn add_on_volume(
+    alloc: Global,
+    requests: &mut Vec<Request>,
+    asked: &Asked,
+) -> Result<(), OutOfMemory> {
     let volume = named(alloc, asked.volume)?;
     let request = match asked.kind {
         Kind::DeleteVolume => Request::DeleteVolume { volume },
@@ -69,7 +75,11 @@ fn add_on_volume(alloc: Global, requests: &mut Vec<Request>, asked: &Asked) -> R
     add(requests, request)
 }
 
-fn add_on_bucket(alloc: Global, requests: &mut Vec<Request>, asked: &Asked) -> Result<(), OutOfMemory> {
+fn add_on_bucket(
+    alloc: Global,
+    requests: &mut Vec<Request>,
+    asked: &Asked,
+) -> Result<(), OutOfMemory> {
     let volume = named(alloc, asked.volume)?;
     let bucket = named(alloc, asked.bucket)?;
     if asked.kind == Kind::ListKeys {
@@ -107,38 +117,89 @@ fn list(volume: Name, bucket: Name, prefix: Name, start: Name) -> Request {
     }
 }
 
-fn add_on_key(alloc: Global, requests: &mut Vec<Request>, asked: &Asked) -> Result<(), OutOfMemory> {
+fn add_on_key(
+    alloc: Global,
+    requests: &mut Vec<Request>,
+    asked: &Asked,
+) -> Result<(), OutOfMemory> {
     let volume = named(alloc, asked.volume)?;
     let bucket = named(alloc, asked.bucket)?;
     let key = named(alloc, asked.key)?;
     if asked.kind == Kind::RenameKey {
         let to = named(alloc, asked.to)?;
-        return add(requests, Request::RenameKey { volume, bucket, key, to });
+        return add(
+            requests,
+            Request::RenameKey {
+                volume,
+                bucket,
+                key,
+                to,
+            },
+        );
     }
     add(requests, on_key(asked.kind, volume, bucket, key))
 }
 
 fn on_key(kind: Kind, volume: Name, bucket: Name, key: Name) -> Request {
     match kind {
-        Kind::CreateKey => Request::CreateKey { volume, bucket, key },
-        Kind::DeleteKey => Request::DeleteKey { volume, bucket, key },
-        _ => Request::LookupKey { volume, bucket, snapshot: None, key },
+        Kind::CreateKey => Request::CreateKey {
+            volume,
+            bucket,
+            key,
+        },
+        Kind::DeleteKey => Request::DeleteKey {
+            volume,
+            bucket,
+            key,
+        },
+        _ => Request::LookupKey {
+            volume,
+            bucket,
+            snapshot: None,
+            key,
+        },
     }
 }
 
-fn add_on_session(alloc: Global, requests: &mut Vec<Request>, asked: &Asked) -> Result<(), OutOfMemory> {
+fn add_on_session(
+    alloc: Global,
+    requests: &mut Vec<Request>,
+    asked: &Asked,
+) -> Result<(), OutOfMemory> {
     let volume = named(alloc, asked.volume)?;
     let bucket = named(alloc, asked.bucket)?;
     let key = named(alloc, asked.key)?;
     let pieces = List::of(Vec::from_slice(alloc, asked.pieces.as_slice())?);
-    add(requests, on_session(alloc, asked, volume, bucket, key, pieces))
+    add(
+        requests,
+        on_session(alloc, asked, volume, bucket, key, pieces),
+    )
 }
 
-fn on_session(alloc: Global, asked: &Asked, volume: Name, bucket: Name, key: Name, pieces: List<Piece>) -> Request {
+fn on_session(
+    alloc: Global,
+    asked: &Asked,
+    volume: Name,
+    bucket: Name,
+    key: Name,
+    pieces: List<Piece>,
+) -> Request {
     let session = asked.session;
     match asked.kind {
-        Kind::CommitKey => Request::CommitKey { volume, bucket, key, session, pieces },
-        _ => Request::AllocateBlock { volume, bucket, key, session, exclude: nothing(alloc) },
+        Kind::CommitKey => Request::CommitKey {
+            volume,
+            bucket,
+            key,
+            session,
+            pieces,
+        },
+        _ => Request::AllocateBlock {
+            volume,
+            bucket,
+            key,
+            session,
+            exclude: nothing(alloc),
+        },
     }
 }
 

@@ -22,7 +22,9 @@ pub fn decided(
         Request::AllocateBlock { .. } => {
             oz_om_session::decide_allocate(alloc, cached, request, Some((block, 0)))
         }
-        Request::CommitKey { .. } => Ok(Some(oz_om_session::decide_commit(alloc, cached, request)?)),
+        Request::CommitKey { .. } => Ok(Some(oz_om_session::decide_commit(
+            alloc, cached, request,
+        )?)),
         Request::DeleteKey { .. } | Request::RenameKey { .. } => {
             Ok(Some(oz_om_change::decide_change(alloc, cached, request)?))
         }

@@ -35,7 +35,9 @@ const KINDS: [Kind; 24] = [
     Kind::ExpireOpen,
 ];
 
-const VOLUMES: [&str; 8] = ["vol-a", "vol-a", "vol-a", "vol-a", "vol-a", "vol-c", "vol-c", "No"];
+const VOLUMES: [&str; 8] = [
+    "vol-a", "vol-a", "vol-a", "vol-a", "vol-a", "vol-c", "vol-c", "No",
+];
 
 const BUCKETS: [&str; 8] = ["bk-a", "bk-a", "bk-a", "bk-a", "bk-b", "bk-b", "bk-b", "-"];
 
@@ -77,16 +79,26 @@ fn blocks_of(alloc: Global, cached: &Cached, opened: &Opened) -> Result<Vec<Bloc
 }
 
 /// Most of the blocks, in either order; seldom one that isn't among them, or a length that no piece has.
-fn pieces_in(alloc: Global, words: &mut Pcg32, blocks: &[Block]) -> Result<Vec<Piece>, OutOfMemory> {
+fn pieces_in(
+    alloc: Global,
+    words: &mut Pcg32,
+    blocks: &[Block],
+) -> Result<Vec<Piece>, OutOfMemory> {
     let mut pieces = Vec::new(alloc);
     for block in blocks {
         if below(words, 4) > 0 {
             let length = 1 + below(words, 65_537);
-            pieces.push(Piece { block: *block, length })?;
+            pieces.push(Piece {
+                block: *block,
+                length,
+            })?;
         }
     }
     if below(words, 16) == 0 {
-        pieces.push(Piece { block: block_of(u64::from(below(words, 64))), length: 1 })?;
+        pieces.push(Piece {
+            block: block_of(u64::from(below(words, 64))),
+            length: 1,
+        })?;
     }
     if below(words, 2) == 0 {
         pieces.as_mut_slice().reverse();
@@ -102,7 +114,10 @@ pub fn drawn(
     opened: &[Opened],
 ) -> Result<Asked, OutOfMemory> {
     let mut asked = Asked {
-        kind: KINDS.get(below(words, 24) as usize).copied().unwrap_or(Kind::InfoBucket),
+        kind: KINDS
+            .get(below(words, 24) as usize)
+            .copied()
+            .unwrap_or(Kind::InfoBucket),
         volume: one_of(words, &VOLUMES),
         bucket: one_of(words, &BUCKETS),
         key: one_of(words, &KEYS),

@@ -79,7 +79,12 @@ fn note(store: &mut Store, asked: &Asked, reply: &Reply) -> Result<(), OutOfMemo
 }
 
 /// Answers a request and goes on to the namespace that is left. Tells whether the reply is this one.
-fn answer_alike(alloc: Global, store: &mut Store, request: &Request, reply: &Reply) -> Result<bool, OutOfMemory> {
+fn answer_alike(
+    alloc: Global,
+    store: &mut Store,
+    request: &Request,
+    reply: &Reply,
+) -> Result<bool, OutOfMemory> {
     let block = block_of(store.granted);
     let (answered, left) = answer(alloc, &store.namespace, request, Some((block, 0)))?;
     store.namespace = left;
@@ -87,22 +92,39 @@ fn answer_alike(alloc: Global, store: &mut Store, request: &Request, reply: &Rep
 }
 
 /// Decides a request over rows, answers it over a namespace, and compares. Tells whether it changed anything.
-fn try_one<R: Abort>(rt: &R, alloc: Global, store: &mut Store, asked: &Asked, request: &Request) -> Result<bool, Fail> {
+fn try_one<R: Abort>(
+    rt: &R,
+    alloc: Global,
+    store: &mut Store,
+    asked: &Asked,
+    request: &Request,
+) -> Result<bool, Fail> {
     let Some(decision) = decided(alloc, &store.cached, request, block_of(store.granted))? else {
         return Err(Fail::from("no decision"));
     };
     let Decision { reply, changes, .. } = decision;
-    assert!(rt; answer_alike(alloc, store, request, &reply)?, "another reply");
+    assert!(rt;
+        answer_alike(alloc, store, request, &reply)?,
+        "another reply"
+    );
     let changed = !changes.is_empty();
     if changed {
         enter(alloc, &mut store.cached, changes)?;
     }
     note(store, asked, &reply)?;
-    assert!(rt; stand(alloc, &store.cached, &store.namespace, store.granted)?, "other rows");
+    assert!(rt;
+        stand(alloc, &store.cached, &store.namespace, store.granted)?,
+        "other rows"
+    );
     Ok(changed)
 }
 
-fn try_drawn<R: Abort>(rt: &R, alloc: Global, words: &mut Pcg32, store: &mut Store) -> Result<bool, Fail> {
+fn try_drawn<R: Abort>(
+    rt: &R,
+    alloc: Global,
+    words: &mut Pcg32,
+    store: &mut Store,
+) -> Result<bool, Fail> {
     let asked = drawn(alloc, words, &store.cached, store.opened.as_slice())?;
     for request in &request_of(alloc, &asked)? {
         if try_one(rt, alloc, store, &asked, request)? {

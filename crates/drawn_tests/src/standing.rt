@@ -56,9 +56,18 @@ fn bucket_in<'n>(namespace: &'n Namespace, volume: &Name, bucket: &Name) -> Opti
     namespace.volumes.get(volume)?.get(bucket)
 }
 
-fn has_key(namespace: &Namespace, volume: &Name, bucket: &Name, key: &Name, pieces: &[Piece]) -> bool {
+fn has_key(
+    namespace: &Namespace,
+    volume: &Name,
+    bucket: &Name,
+    key: &Name,
+    pieces: &[Piece],
+) -> bool {
     match bucket_in(namespace, volume, bucket) {
-        Some(bucket) => bucket.keys.get(key).is_some_and(|found| found.items() == pieces),
+        Some(bucket) => bucket
+            .keys
+            .get(key)
+            .is_some_and(|found| found.items() == pieces),
         None => false,
     }
 }
@@ -72,10 +81,8 @@ fn has_session(
     blocks: &[Block],
 ) -> bool {
     match bucket_in(namespace, volume, bucket) {
-        Some(bucket) => bucket
-            .sessions
-            .get(number)
-            .is_some_and(|found| found.key == *key && found.blocks.items() == blocks),
+        Some(bucket) => bucket.sessions.get(number).is_some_and(|found| found.key == *key
+            && found.blocks.items() == blocks),
         None => false,
     }
 }
@@ -84,13 +91,26 @@ fn has_session(
 fn is_shown(namespace: &Namespace, key: &RowKey, row: &Row) -> bool {
     match (key, row) {
         (RowKey::Volume { volume }, Row::Volume) => namespace.volumes.get(volume).is_some(),
-        (RowKey::Bucket { volume, bucket }, Row::Bucket) => bucket_in(namespace, volume, bucket).is_some(),
-        (RowKey::Key { volume, bucket, key }, Row::Key { pieces, .. }) => {
-            has_key(namespace, volume, bucket, key, pieces.items())
-        }
-        (RowKey::Open { volume, bucket, key, number }, Row::Open { blocks }) => {
-            has_session(namespace, volume, bucket, key, *number, blocks.items())
-        }
+        (RowKey::Bucket { volume, bucket }, Row::Bucket) => bucket_in(
+            namespace, volume, bucket,
+        ).is_some(),
+        (
+            RowKey::Key {
+                volume,
+                bucket,
+                key,
+            },
+            Row::Key { pieces, .. },
+        ) => { has_key(namespace, volume, bucket, key, pieces.items()) }
+        (
+            RowKey::Open {
+                volume,
+                bucket,
+                key,
+                number,
+            },
+            Row::Open { blocks },
+        ) => { has_session(namespace, volume, bucket, key, *number, blocks.items()) }
         (RowKey::Stripe { stripe }, Row::Stripe { number }) => {
             namespace.stripes.get(usize::from(*stripe)) == Some(number)
         }

@@ -1,6 +1,9 @@
 use crate::asked::{HERE, Place, code_in, delete, is_done, rename};
 use crate::shelf::shelf;
+use oz_cache::Cached;
+use oz_fields::OutOfMemory;
 use oz_names::Code;
+use std::alloc::Global;
 use std::test::Fail;
 
 /// A volume, a bucket, a key and its new name, and the code that refuses it.
@@ -83,14 +86,27 @@ fn names_at_the_edges_are_names(rt: HostRuntime) -> Result<(), Fail> {
     Ok(())
 }
 
+/// A name of so many bytes.
+fn long_name(alloc: Global, size: usize) -> Result<Vec<u8>, OutOfMemory> {
+    let mut name = Vec::with_capacity(alloc, size)?;
+    for _ in 0..size {
+        name.push(b'k')?;
+    }
+    Ok(name)
+}
+
+/// Whether a key may be called by so many bytes.
+fn may_be_called(alloc: Global, cached: &Cached, size: usize) -> Result<Option<Code>, OutOfMemory> {
+    let name = long_name(alloc, size)?;
+    let decision = rename(alloc, cached, HERE, b"two", name.as_slice())?;
+    Ok(code_in(&decision))
+}
+
 #[test]
 fn a_name_has_at_most_1024_bytes(rt: HostRuntime) -> Result<(), Fail> {
     let cached = shelf(rt.alloc())?;
-    let longest = [b'k'; 1024];
-    let decision = rename(rt.alloc(), &cached, HERE, b"two", &longest)?;
-    assert!(rt; is_done(&decision));
-    let longer = [b'k'; 1025];
-    let refused = rename(rt.alloc(), &cached, HERE, b"two", &longer)?;
-    assert!(rt; code_in(&refused) == Some(Code::InvalidKeyName));
+    for (size, code) in [(1_024, None), (1_025, Some(Code::InvalidKeyName))] {
+        assert!(rt; may_be_called(rt.alloc(), &cached, size)? == code, "{size}");
+    }
     Ok(())
 }

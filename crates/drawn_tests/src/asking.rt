@@ -1,6 +1,6 @@
 //! What is asked, in a plain form: names as texts, numbers, and pieces by their blocks.
 
-ghost use Rattle.std.specs.Prelude.{◌≡◌, IfOk, All};
+ghost use Rattle.oz_rows.specs.Rows.{IsBlock};
 
 use oz_fields::{Block, List, Name, OutOfMemory, Piece};
 use oz_requests::{Exclude, Request};
@@ -211,7 +211,10 @@ fn nothing(alloc: Global) -> Exclude {
 }
 
 /// A block by its number, in a container of four blocks each.
-pub fn block_of(number: u64) -> Block {
+pub fn block_of(number: u32) -> Block
+    ensures { IsBlock result }
+{
+    let number = u64::from(number);
     Block {
         container: 1 + number / 4,
         local: 1 + number,

@@ -1,5 +1,7 @@
 //! Each request by the crate that decides it.
 
+ghost use Rattle.oz_rows.specs.Rows.{IsBlock};
+
 use oz_cache::Cached;
 use oz_decision::Decision;
 use oz_fields::{Block, OutOfMemory};
@@ -12,7 +14,9 @@ pub fn decided(
     cached: &Cached,
     request: &Request,
     block: Block,
-) -> Result<Option<Decision>, OutOfMemory> {
+) -> Result<Option<Decision>, OutOfMemory>
+    requires { IsBlock block }
+{
     match request {
         Request::CreateVolume { .. }
         | Request::DeleteVolume { .. }

@@ -87,7 +87,7 @@ fn pieces_in(
     let mut pieces = Vec::new(alloc);
     for block in blocks {
         if below(words, 4) > 0 {
-            let length = 1 + below(words, 65_537);
+            let length = below(words, 65_537).saturating_add(1);
             pieces.push(Piece {
                 block: *block,
                 length,
@@ -96,7 +96,7 @@ fn pieces_in(
     }
     if below(words, 16) == 0 {
         pieces.push(Piece {
-            block: block_of(u64::from(below(words, 64))),
+            block: block_of(below(words, 64)),
             length: 1,
         })?;
     }

@@ -48,59 +48,33 @@ fn refused(alloc: Global, cached: &Cached, key: &[u8]) -> Result<Option<Code>, O
     Ok(code_in(&decide_open(alloc, cached, &request)?))
 }
 
-/// A bucket with so many keys, and perhaps a session.
-fn filled(alloc: Global, keys: u32, has_session: bool) -> Result<Cached, OutOfMemory> {
-    let mut rows = bucket(alloc)?;
-    put_keys(alloc, &mut rows, keys)?;
-    if has_session {
-        put_session(alloc, &mut rows, 0)?;
-    }
-    over(alloc, rows)
-}
-
-/// The code that refuses a session in such a bucket.
-fn refused_in(alloc: Global, keys: u32, has_session: bool) -> Result<Option<Code>, OutOfMemory> {
-    let cached = filled(alloc, keys, has_session)?;
-    refused(alloc, &cached, b"k")
-}
-
-/// So many keys, whether there is a session too, and the code that refuses one more.
-const FILLED: [(u32, bool, Option<Code>); 3] = [
-    (4_095, false, None),
-    (4_096, false, Some(Code::BucketFull)),
-    (4_095, true, Some(Code::BucketFull)),
-];
-
 #[test]
 fn a_bucket_has_at_most_4096_keys_and_sessions(rt: HostRuntime) -> Result<(), Fail> {
-    for (keys, has_session, code) in FILLED {
-        assert!(rt;
-            refused_in(rt.alloc(), keys, has_session)? == code,
-            "{keys}"
-        );
-    }
+    let alloc = rt.alloc();
+    let mut rows = bucket(alloc)?;
+    put_keys(alloc, &mut rows, 4_096)?;
+    assert!(rt; refused(alloc, &over(alloc, rows)?, b"k")? == Some(Code::BucketFull));
+    let mut rows = bucket(alloc)?;
+    put_keys(alloc, &mut rows, 4_095)?;
+    assert!(rt; refused(alloc, &over(alloc, rows)?, b"k")?.is_none());
     Ok(())
 }
 
-fn long_name(alloc: Global, size: usize) -> Result<Vec<u8>, OutOfMemory> {
-    let mut name = Vec::with_capacity(alloc, size)?;
-    for _ in 0..size {
-        name.push(b'k')?;
-    }
-    Ok(name)
-}
-
-/// The code that refuses a session on a key whose name has so many bytes.
-fn refused_name(alloc: Global, size: usize) -> Result<Option<Code>, OutOfMemory> {
-    let cached = filled(alloc, 0, false)?;
-    let name = long_name(alloc, size)?;
-    refused(alloc, &cached, name.as_slice())
+#[test]
+fn sessions_count_with_keys(rt: HostRuntime) -> Result<(), Fail> {
+    let alloc = rt.alloc();
+    let mut rows = bucket(alloc)?;
+    put_keys(alloc, &mut rows, 4_095)?;
+    put_session(alloc, &mut rows, 0)?;
+    assert!(rt; refused(alloc, &over(alloc, rows)?, b"k")? == Some(Code::BucketFull));
+    Ok(())
 }
 
 #[test]
 fn a_key_has_a_name_of_at_most_1024_bytes(rt: HostRuntime) -> Result<(), Fail> {
-    for (size, code) in [(1_024, None), (1_025, Some(Code::InvalidKeyName))] {
-        assert!(rt; refused_name(rt.alloc(), size)? == code, "{size}");
-    }
+    let alloc = rt.alloc();
+    let cached = over(alloc, bucket(alloc)?)?;
+    assert!(rt; refused(alloc, &cached, &[b'k'; 1_024])?.is_none());
+    assert!(rt; refused(alloc, &cached, &[b'k'; 1_025])? == Some(Code::InvalidKeyName));
     Ok(())
 }

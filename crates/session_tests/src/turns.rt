@@ -11,84 +11,60 @@ use oz_requests::Reply;
 use std::alloc::Global;
 use std::test::Fail;
 
-fn decided_create(alloc: Global, cached: &Cached) -> Result<Decision, OutOfMemory> {
-    decide_open(alloc, cached, &create(alloc, b"k")?)
-}
-
-fn decided_expire(alloc: Global, cached: &Cached) -> Result<Decision, OutOfMemory> {
-    decide_open(alloc, cached, &expire(alloc)?)
-}
-
-/// With the block of container 1 whose local id is one more than the session's number.
-fn decided_block(
-    alloc: Global,
-    cached: &Cached,
-    session: u16,
-) -> Result<Option<Decision>, OutOfMemory> {
-    let number = u64::from(session);
-    let block = Block {
-        container: 1,
-        local: number + 1,
-    };
-    decide_allocate(alloc, cached, &allocate(alloc, number)?, Some((block, 0)))
-}
-
-/// Of that block.
-fn decided_commit(alloc: Global, cached: &Cached, session: u16) -> Result<Decision, OutOfMemory> {
-    let number = u64::from(session);
-    let block = Block {
-        container: 1,
-        local: number + 1,
-    };
-    decide_commit(alloc, cached, &commit(alloc, number, block)?)
-}
-
-fn session_in(reply: &Reply) -> Option<u64> {
-    match reply {
-        Reply::Session(number) => Some(*number),
-        _ => None,
-    }
-}
-
-fn count_in(reply: &Reply) -> Option<u32> {
-    match reply {
-        Reply::Count(count) => Some(*count),
-        _ => None,
-    }
-}
-
-/// Opens a session, and tells its number.
+/// Opens a session on the key `k`, and tells its number.
 fn opened(alloc: Global, cached: &mut Cached) -> Result<Option<u64>, OutOfMemory> {
-    let decision = decided_create(alloc, cached)?;
-    let number = session_in(&decision.reply);
-    enter(alloc, cached, decision.changes)?;
-    Ok(number)
+    let request = create(alloc, b"k")?;
+    let Decision { reply, changes, .. } = decide_open(alloc, cached, &request)?;
+    enter(alloc, cached, changes)?;
+    match reply {
+        Reply::Session(number) => Ok(Some(number)),
+        _ => Ok(None),
+    }
 }
 
-/// Grants a session a block, and tells whether it was.
+/// Grants the block of container 1 with the session's number as its local id, and tells whether it was.
 fn granted(alloc: Global, cached: &mut Cached, session: u16) -> Result<bool, OutOfMemory> {
-    let Some(decision) = decided_block(alloc, cached, session)? else {
-        return Ok(false);
+    let number = u64::from(session);
+    let block = Block {
+        container: 1,
+        local: number + 1,
     };
-    let is_granted = matches!(&decision.reply, Reply::Granted(_, _));
-    enter(alloc, cached, decision.changes)?;
-    Ok(is_granted)
+    let request = allocate(alloc, number)?;
+    match decide_allocate(alloc, cached, &request, Some((block, 0)))? {
+        Some(Decision { reply, changes, .. }) => {
+            enter(alloc, cached, changes)?;
+            Ok(matches!(&reply, Reply::Granted(_, _)))
+        }
+        None => Ok(false),
+    }
 }
 
-/// Commits a session with its block, and tells whether it was done.
+/// Commits a session with that block, and tells whether it was done.
 fn committed(alloc: Global, cached: &mut Cached, session: u16) -> Result<bool, OutOfMemory> {
-    let decision = decided_commit(alloc, cached, session)?;
-    let is_done = matches!(&decision.reply, Reply::Done);
-    enter(alloc, cached, decision.changes)?;
-    Ok(is_done)
+    let number = u64::from(session);
+    let block = Block {
+        container: 1,
+        local: number + 1,
+    };
+    let request = commit(alloc, number, block)?;
+    let Decision { reply, changes, .. } = decide_commit(alloc, cached, &request)?;
+    enter(alloc, cached, changes)?;
+    Ok(matches!(&reply, Reply::Done))
 }
 
 /// Ends all sessions, and tells how many there were and how many bytes were written.
 fn expired(alloc: Global, cached: &mut Cached) -> Result<Option<(u32, usize)>, OutOfMemory> {
-    let decision = decided_expire(alloc, cached)?;
-    let told = count_in(&decision.reply).map(|count| (count, decision.bytes.len()));
-    enter(alloc, cached, decision.changes)?;
-    Ok(told)
+    let request = expire(alloc)?;
+    let Decision {
+        reply,
+        bytes,
+        changes,
+    } = decide_open(alloc, cached, &request)?;
+    enter(alloc, cached, changes)?;
+    match reply {
+        Reply::Count(count) => Ok(Some((count, bytes.len()))),
+        _ => Ok(None),
+    }
 }
 
 #[test]

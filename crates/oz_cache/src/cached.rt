@@ -26,7 +26,6 @@ use std::marker::Model;
 use std::sync::ledger::Ledger;
 
 /// Tables with newer rows above them, as one map from keys to rows.
-#[derive(Drop)]
 pub struct Cached {
     pending: Pending,
     newer: Newer,
@@ -51,6 +50,16 @@ impl Model for Cached {
       last : AreLastOf c.pending.batches c.newer.rows;
       ends : AllBy (epoch_after c.pending.durable.last_index c.pending.batches) c.newer.epochs;
     } };
+}
+
+/// Who lets cached rows go needn't know how they are kept.
+impl Drop for Cached {
+    fn drop(self) {
+        let Cached {
+            pending: _,
+            newer: _,
+        } = self;
+    }
 }
 
 impl Cached {

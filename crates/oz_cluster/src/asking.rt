@@ -57,15 +57,15 @@ pub fn request_of(alloc: Global, command: &Command) -> Result<Request, OutOfMemo
 }
 
 /// What a line is told whose request had this reply.
-pub fn answer_of(reply: Reply) -> Answer
-    ensures { result ≡ answer_due reply }
+pub fn answer_of(alloc: Global, reply: &Reply) -> Result<Answer, OutOfMemory>
+    ensures { IfOk result (λ answer. answer ≡ answer_due reply.now) }
 {
-    match reply {
+    Ok(match reply {
         Reply::Done => Answer::Ok(Values::Done),
-        Reply::Count(count) => Answer::Ok(Values::Buckets(count)),
-        Reply::Counts(counts) => Answer::Ok(Values::Counts(counts)),
-        Reply::Names(names) => Answer::Ok(Values::Names(names)),
+        Reply::Count(count) => Answer::Ok(Values::Buckets(*count)),
+        Reply::Counts(counts) => Answer::Ok(Values::Counts(*counts)),
+        Reply::Names(names) => Answer::Ok(Values::Names(names.try_clone(alloc)?)),
         Reply::Session(_) | Reply::Granted(..) | Reply::Pieces(_) => Answer::Ok(Values::Done),
-        Reply::Code(code) => Answer::Code(code),
-    }
+        Reply::Code(code) => Answer::Code(*code),
+    })
 }

@@ -385,7 +385,7 @@ impl<D: Disk> Manager<D> {
     {
         let (client, number) = (line.client, line.number);
         let Decision { reply, bytes, .. } = decision;
-        let answer = answer_of(reply.try_clone(alloc)?);
+        let answer = answer_of(alloc, &reply)?;
         let index = self.rows.last_epoch();
         self.record_decision(client, number, request, index, reply, bytes);
         self.tell(client, number, answer);
@@ -426,7 +426,7 @@ impl<D: Disk> Manager<D> {
             bytes,
             changes,
         } = decision;
-        let answer = answer_of(reply.try_clone(alloc)?);
+        let answer = answer_of(alloc, &reply)?;
         let Planned {
             index,
             batch,

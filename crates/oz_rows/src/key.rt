@@ -6,7 +6,7 @@ use oz_fields::Name;
 
 /// What names a row: its kind, and the key fields of that kind. The number of a kind stands first in
 /// its bytes; the kinds are in the order of their numbers, from 1 on.
-#[derive(Debug, Drop, PartialEq, Eq, PartialOrd, Ord)]
+#[derive(Debug, PartialEq, Eq, PartialOrd, Ord)]
 pub enum RowKey {
     Volume {
         volume: Name,
@@ -58,6 +58,55 @@ pub enum RowKey {
     Stripe {
         stripe: u8,
     },
+}
+
+/// Who lets a row's key go needn't know its kind.
+impl Drop for RowKey {
+    fn drop(self) {
+        match self {
+            RowKey::Volume { volume: _ } => (),
+            RowKey::Bucket {
+                volume: _,
+                bucket: _,
+            } => (),
+            RowKey::Key {
+                volume: _,
+                bucket: _,
+                key: _,
+            } => (),
+            RowKey::Open {
+                volume: _,
+                bucket: _,
+                key: _,
+                number: _,
+            } => (),
+            RowKey::Deleted {
+                volume: _,
+                bucket: _,
+                owner: _,
+                key: _,
+                local: _,
+            } => (),
+            RowKey::Snapshot {
+                volume: _,
+                bucket: _,
+                number: _,
+            } => (),
+            RowKey::SnapshotKey {
+                volume: _,
+                bucket: _,
+                snapshot: _,
+                key: _,
+            } => (),
+            RowKey::Renamed {
+                volume: _,
+                bucket: _,
+                owner: _,
+                local: _,
+            } => (),
+            RowKey::Stripe { stripe: _ } => (),
+        }
+    }
 }
 
 impl RowKey {

@@ -18,7 +18,7 @@ pub const LONGEST_OPERATION: usize = 6_304;
 pub const MOST_REMOVALS: usize = 1_024;
 
 /// A change of the manager's rows, as its journal keeps it.
-#[derive(Debug, Drop, PartialEq, Eq)]
+#[derive(Debug, PartialEq, Eq)]
 pub enum Operation {
     /// The row has this value.
     Put {
@@ -53,6 +53,36 @@ pub enum Operation {
         volume: Name,
         bucket: Name,
     },
+}
+
+/// Who lets an operation go needn't know its kind.
+impl Drop for Operation {
+    fn drop(self) {
+        match self {
+            Operation::Put { key: _, row: _ } => (),
+            Operation::Remove { key: _ } => (),
+            Operation::CopyKeys {
+                volume: _,
+                bucket: _,
+                number: _,
+            } => (),
+            Operation::MoveDeleted {
+                volume: _,
+                bucket: _,
+                from: _,
+                to: _,
+            } => (),
+            Operation::DropKeys {
+                volume: _,
+                bucket: _,
+                number: _,
+            } => (),
+            Operation::DropOpen {
+                volume: _,
+                bucket: _,
+            } => (),
+        }
+    }
 }
 
 /// What a body begins with: its layout, and the last transaction index that it reaches.

@@ -4,7 +4,7 @@ use oz_fields::{Block, List, Name, OutOfMemory, Piece, TryClone};
 use std::alloc::Global;
 
 /// What a row of each kind holds.
-#[derive(Debug, Drop, PartialEq, Eq)]
+#[derive(Debug, PartialEq, Eq)]
 pub enum Row {
     Volume,
     Bucket,
@@ -38,6 +38,33 @@ pub enum Row {
     Stripe {
         number: u64,
     },
+}
+
+/// Who lets a row go needn't know its kind.
+impl Drop for Row {
+    fn drop(self) {
+        match self {
+            Row::Volume => (),
+            Row::Bucket => (),
+            Row::Key {
+                number: _,
+                pieces: _,
+            } => (),
+            Row::Open { blocks: _ } => (),
+            Row::Deleted { blocks: _ } => (),
+            Row::Snapshot {
+                name: _,
+                previous: _,
+                state: _,
+            } => (),
+            Row::SnapshotKey {
+                number: _,
+                pieces: _,
+            } => (),
+            Row::Renamed { key: _ } => (),
+            Row::Stripe { number: _ } => (),
+        }
+    }
 }
 
 impl TryClone for Row {

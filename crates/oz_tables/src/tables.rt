@@ -13,7 +13,7 @@ use std::alloc::Global;
 use std::marker::Model;
 
 /// Rows by their keys, and the index of the last transaction that they stand for.
-#[derive(Debug, Drop)]
+#[derive(Debug)]
 pub struct Tables {
     entries: SortedMap<RowKey, Row>,
     last_index: u64,
@@ -29,6 +29,16 @@ impl Model for Tables {
       last_index = t.last_index;
       spare = t.entries.spare;
     } };
+}
+
+/// Who lets tables go needn't know how they are kept.
+impl Drop for Tables {
+    fn drop(self) {
+        let Tables {
+            entries: _,
+            last_index: _,
+        } = self;
+    }
 }
 
 impl Tables {

@@ -16,8 +16,8 @@ fn opened(alloc: Global, cached: &mut Cached) -> Result<Option<u64>, OutOfMemory
     let request = create(alloc, b"k")?;
     let Decision { reply, changes, .. } = decide_open(alloc, cached, &request)?;
     enter(alloc, cached, changes)?;
-    match reply {
-        Reply::Session(number) => Ok(Some(number)),
+    match &reply {
+        Reply::Session(number) => Ok(Some(*number)),
         _ => Ok(None),
     }
 }
@@ -61,8 +61,8 @@ fn expired(alloc: Global, cached: &mut Cached) -> Result<Option<(u32, usize)>, O
         changes,
     } = decide_open(alloc, cached, &request)?;
     enter(alloc, cached, changes)?;
-    match reply {
-        Reply::Count(count) => Ok(Some((count, bytes.len()))),
+    match &reply {
+        Reply::Count(count) => Ok(Some((*count, bytes.len()))),
         _ => Ok(None),
     }
 }

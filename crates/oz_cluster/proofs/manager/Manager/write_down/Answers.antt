@@ -3,7 +3,6 @@ use Rattle.oz_cache.specs.Cache.{CacheView, newest, last_epoch}
 use Rattle.oz_requests.specs.declared.answer.Answer.TheVariants as told
 use Rattle.oz_rows.specs.declared.key.RowKey.{RowKey}
 use Rattle.oz_rows.specs.RowMaps.{row_after}
-use Rattle.oz_cluster.specs.Fits.{answer_of}
 use Rattle.oz_cluster.specs.Body.{body_bytes}
 use Rattle.oz_cluster.specs.Steps.{ask_event, decide_event, swap_event, flushed_event, halt_event, told_event}
 use Rattle.oz_cluster.proofs.Did.{did_end, did_make, did_halt}
@@ -44,7 +43,7 @@ returns-clause-serves g c =
     let changes = c.args.decision.changes in
     let before = c.record_decision.new.self.journal in
     let after = c.make_stable.new.self.journal in
-    let answer = c.in_ok-answer_of.ensures in
+    let answer = c.in_ok-answer.ensures in
     let index = c.in_ok-index.ensures.index in
     let batch = c.in_ok-index.ensures.batch in
     let entered = c.in_ok-index.ensures.changes in

@@ -1,6 +1,4 @@
-mod Chosen
 mod Cut
 mod Fates
 mod Firsts
-mod Next
-mod Settled
+mod Once

@@ -1,5 +1,5 @@
 -- What came back to a line, as a story has it.
-use Rattle.std.specs.Prelude.{◌≡◌, Bool, true, false, List, Option, None, Some}
+use Rattle.std.specs.Prelude.{◌≡◌, List, Option, None, Some}
 use Rattle.oz_command.specs.declared.command.Command.{Command}
 use Rattle.oz_command.specs.declared.command.Command.TheVariants as commands
 use Rattle.oz_requests.specs.declared.request.Request.{Request}
@@ -19,10 +19,6 @@ use Rattle.oz_steps.specs.Grants.{AreGrants, written_blocks}
 -- the commit of what a label stands for
 abbrev pub commit_of_label : Label → Request
 commit_of_label label = requests.CommitKey label.volume label.bucket label.key label.session label.pieces
-
-abbrev pub is_commit : Command → Bool
-is_commit (commands.KeyCommit name) = true
-is_commit _ = false
 
 -- The label that a line commits stands for what the last line that opened it wrote, or isn't open.
 abbrev pub IsLabel : Script → List Event → Line → Command → Option Label → Type 0

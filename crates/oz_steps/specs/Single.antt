@@ -1,18 +1,33 @@
 -- The commands that ask once.
-use Rattle.std.specs.Prelude.{◌≡◌, Bool, true, false, ◌||◌, List, Some}
+use Rattle.std.specs.Prelude.{Bool, true, false, ◌||◌, Option, None, Some}
 use Rattle.oz_command.specs.declared.command.Command.{Command}
 use Rattle.oz_command.specs.declared.command.Command.TheVariants as commands
 use Rattle.oz_requests.specs.declared.request.Request.{Request}
-use Rattle.oz_lines.specs.declared.script.Line.{Line}
-use Rattle.oz_lines.specs.declared.script.Script.{Script}
-use Rattle.oz_core.specs.declared.event.Event.{Event}
-use Rattle.oz_core.specs.declared.opening.Opening.{Opening}
-use Rattle.oz_core.specs.Steps.{step_of, single}
+use Rattle.oz_requests.specs.declared.request.Request.TheVariants as requests
 
--- This is the one request of a line with this command, whatever its story.
-abbrev pub IsSingle : Command → Request → Type 0
-IsSingle command request = (opening : Opening) (script : Script) (story : List Event) (line : Line)
-    → step_of opening script story line command ≡ single story line (Some request)
+-- the one request of a command that has one alone
+abbrev pub single_of : Command → Option Request
+single_of (commands.VolumeCreate volume) = Some (requests.CreateVolume volume)
+single_of (commands.VolumeDelete volume) = Some (requests.DeleteVolume volume)
+single_of (commands.VolumeInfo volume) = Some (requests.InfoVolume volume)
+single_of (commands.BucketCreate volume bucket) = Some (requests.CreateBucket volume bucket)
+single_of (commands.BucketDelete volume bucket) = Some (requests.DeleteBucket volume bucket)
+single_of (commands.BucketInfo volume bucket) = Some (requests.InfoBucket volume bucket)
+single_of (commands.BucketList volume) = Some (requests.ListBuckets volume)
+single_of (commands.KeyPut volume bucket key payload) = None
+single_of (commands.KeyOpen label volume bucket key payload) = None
+single_of (commands.KeyCommit label) = None
+single_of (commands.KeyGet volume bucket snapshot key) = Some (requests.LookupKey volume bucket snapshot key)
+single_of (commands.KeyDelete volume bucket key) = Some (requests.DeleteKey volume bucket key)
+single_of (commands.KeyRename volume bucket key to) = Some (requests.RenameKey volume bucket key to)
+single_of (commands.KeyList volume bucket snapshot prefix start count) =
+    Some (requests.ListKeys volume bucket snapshot prefix start count)
+single_of (commands.KeyExpire volume bucket) = Some (requests.ExpireOpen volume bucket)
+single_of (commands.SnapshotCreate volume bucket snapshot) = Some (requests.CreateSnapshot volume bucket snapshot)
+single_of (commands.SnapshotDelete volume bucket snapshot) = Some (requests.DeleteSnapshot volume bucket snapshot)
+single_of (commands.SnapshotInfo volume bucket snapshot) = Some (requests.InfoSnapshot volume bucket snapshot)
+single_of (commands.SnapshotList volume bucket) = Some (requests.ListSnapshots volume bucket)
+single_of (commands.Admin command) = None
 
 -- Those on a volume, on a bucket, on its keys, and on its snapshots.
 abbrev pub is_on_volume : Command → Bool

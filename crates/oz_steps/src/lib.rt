@@ -13,4 +13,6 @@ mod written;
 pub use came::{Attempt, Came, Granted, note_answers, note_reply};
 pub use fate::{Fate, fate_of};
 pub use label::Label;
-pub use requests::next_request;
+pub use pieces::{data_length, pieces_needed, pieces_of};
+pub use requests::{next_request, session_in};
+pub use written::written_blocks;

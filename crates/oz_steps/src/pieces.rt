@@ -19,7 +19,7 @@ fn length_of(payload: &Data) -> u64
 }
 
 /// How many bytes a command puts.
-pub(crate) fn data_length(command: &Command) -> u64
+pub fn data_length(command: &Command) -> u64
     ensures { result ≡ data_length command.now }
 {
     match command {
@@ -46,14 +46,14 @@ pub(crate) fn data_length(command: &Command) -> u64
 }
 
 /// How many pieces its data has.
-pub(crate) fn pieces_needed(command: &Command) -> u64
+pub fn pieces_needed(command: &Command) -> u64
     ensures { result ≡ pieces_needed command.now }
 {
     data_length(command).div_ceil(u64::from(LONGEST_PIECE))
 }
 
 /// The blocks as the pieces of the data, in the order of its bytes.
-pub(crate) fn pieces_of(
+pub fn pieces_of(
     alloc: Global,
     command: &Command,
     blocks: &[Block],

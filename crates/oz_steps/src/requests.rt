@@ -1,11 +1,11 @@
 //! What a line asks the manager next.
 
-ghost use Rattle.std.specs.Prelude.{◌≡◌, ◌<◌, IfOk, true};
+ghost use Rattle.std.specs.Prelude.{◌≡◌, ◌<◌, IfOk, Some, true};
 ghost use Rattle.std.specs.List.{list_any};
-ghost use Rattle.oz_core.specs.Steps.{block_step, commit_of, is_code, is_done, next_of_put, next_step, opened_session};
-ghost use Rattle.oz_core.specs.Steps.{session_in, step_of, target, write_step};
-ghost use Rattle.oz_steps.specs.Lines.{ShowsThat, commit_of_label, is_commit};
-ghost use Rattle.oz_steps.specs.Single.{asks_once};
+ghost use Rattle.oz_core.specs.Steps.{is_code, is_done, next_step, opened_session, session_in, target};
+ghost use Rattle.oz_steps.specs.Lines.{ShowsThat, commit_of_label};
+ghost use Rattle.oz_steps.specs.Requests.{block_by, command_by, commit_by, once_by, put_by, request_by, write_by};
+ghost use Rattle.oz_steps.specs.Single.{asks_once, single_of};
 
 use crate::came::Came;
 use crate::exclude::exclude_of;
@@ -58,7 +58,7 @@ fn opened_session(reply: &Reply) -> Option<u64>
 }
 
 /// The session that a line opened.
-pub(crate) fn session_in(replies: &[Reply]) -> Option<u64>
+pub fn session_in(replies: &[Reply]) -> Option<u64>
     ensures { result ≡ session_in replies.now }
 {
     let mut session = None;
@@ -76,7 +76,8 @@ pub fn next_request(
     label: &Option<Label>,
     came: &Came,
 ) -> Result<Option<Request>, OutOfMemory>
-    ensures { IfOk result (λ request. ShowsThat command.now label.now came.now
+    ensures is { IfOk result (λ request. request ≡ request_by command.now label.now came.now) }
+    ensures so { IfOk result (λ request. ShowsThat command.now label.now came.now
         (λ opening script story line. next_step opening script story line ≡ request)) }
 {
     if is_refused(&came.replies) {
@@ -92,8 +93,7 @@ fn step_of(
     label: &Option<Label>,
     came: &Came,
 ) -> Result<Option<Request>, OutOfMemory>
-    ensures { IfOk result (λ request. ShowsThat command.now label.now came.now
-        (λ opening script story line. step_of opening script story line command.now ≡ request)) }
+    ensures { IfOk result (λ request. request ≡ command_by command.now label.now came.now) }
 {
     match command {
         Command::KeyPut {
@@ -108,7 +108,7 @@ fn step_of(
             key,
             ..
         } => next_of_put(alloc, command, volume, bucket, key, false, came),
-        Command::KeyCommit { .. } => commit_request(alloc, command, label, came),
+        Command::KeyCommit { .. } => commit_request(alloc, label, came),
         Command::Admin(_) => Ok(None),
         Command::VolumeCreate { .. }
         | Command::VolumeDelete { .. }
@@ -132,8 +132,7 @@ fn step_of(
 /// The request of a line that asks once.
 fn single(alloc: Global, command: &Command, came: &Came) -> Result<Option<Request>, OutOfMemory>
     requires { asks_once command.now ≡ true }
-    ensures { IfOk result (λ request. (label : _) → ShowsThat command.now label came.now
-        (λ opening script story line. step_of opening script story line command.now ≡ request)) }
+    ensures { IfOk result (λ request. request ≡ once_by came.now (single_of command.now)) }
 {
     if !came.replies.is_empty() {
         return Ok(None);
@@ -144,13 +143,10 @@ fn single(alloc: Global, command: &Command, came: &Came) -> Result<Option<Reques
 /// The commit of what the label stands for.
 fn commit_request(
     alloc: Global,
-    command: &Command,
     label: &Option<Label>,
     came: &Came,
 ) -> Result<Option<Request>, OutOfMemory>
-    requires { is_commit command.now ≡ true }
-    ensures { IfOk result (λ request. ShowsThat command.now label.now came.now
-        (λ opening script story line. step_of opening script story line command.now ≡ request)) }
+    ensures { IfOk result (λ request. request ≡ once_by came.now (commit_by label.now)) }
 {
     if !came.replies.is_empty() {
         return Ok(None);
@@ -183,9 +179,8 @@ fn next_of_put(
     commits: bool,
     came: &Came,
 ) -> Result<Option<Request>, OutOfMemory>
-    ensures { IfOk result (λ request. (label : _) → ShowsThat command.now label came.now
-        (λ opening script story line.
-        next_of_put opening story line (target volume.now bucket.now key.now) commits ≡ request)) }
+    ensures { IfOk result (λ request. request
+        ≡ put_by command.now came.now (target volume.now bucket.now key.now) commits (session_in came.now.replies)) }
 {
     match session_in(came.replies.items()) {
         Some(session) => write_step(alloc, command, volume, bucket, key, commits, session, came),
@@ -203,13 +198,12 @@ fn write_step(
     session: u64,
     came: &Came,
 ) -> Result<Option<Request>, OutOfMemory>
-    ensures { IfOk result (λ request. (label : _) → ShowsThat command.now label came.now
-        (λ opening script story line.
-        write_step opening story line (target volume.now bucket.now key.now) commits session ≡ request)) }
+    ensures { IfOk result (λ request. request
+        ≡ write_by command.now came.now (target volume.now bucket.now key.now) commits session) }
 {
     let written = written_blocks(alloc, came.attempts.items())?;
     if (written.len() as u64) < pieces_needed(command) {
-        return block_step(alloc, command, volume, bucket, key, session, came);
+        return block_step(alloc, volume, bucket, key, session, came);
     }
     if !commits || is_committed(&came.replies) {
         return Ok(None);
@@ -221,18 +215,15 @@ fn write_step(
 /// A further block, once nothing is being written.
 fn block_step(
     alloc: Global,
-    command: &Command,
     volume: &Name,
     bucket: &Name,
     key: &Name,
     session: u64,
     came: &Came,
 ) -> Result<Option<Request>, OutOfMemory>
-    ensures { IfOk result (λ request. (label : _) → ShowsThat command.now label came.now
-        (λ opening script story line.
-        block_step opening story line (target volume.now bucket.now key.now) session ≡ request)) }
+    ensures { IfOk result (λ request. request
+        ≡ block_by came.now (target volume.now bucket.now key.now) session) }
 {
-    let _unused = command;
     if came.writing.is_some() {
         return Ok(None);
     }

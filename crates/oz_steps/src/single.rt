@@ -1,7 +1,7 @@
 //! The commands that ask once.
 
 ghost use Rattle.std.specs.Prelude.{◌≡◌, IfOk, true};
-ghost use Rattle.oz_steps.specs.Single.{IsSingle, asks_once, is_on_bucket, is_on_key, is_on_snapshot, is_on_volume};
+ghost use Rattle.oz_steps.specs.Single.{asks_once, is_on_bucket, is_on_key, is_on_snapshot, is_on_volume, single_of};
 
 use oz_command::Command;
 use oz_fields::{Name, OutOfMemory, TryClone};
@@ -202,7 +202,7 @@ fn list_keys(
 
 fn on_volume(alloc: Global, command: &Command) -> Result<Request, OutOfMemory>
     requires { is_on_volume command.now ≡ true }
-    ensures { IfOk result (λ request. IsSingle command.now request) }
+    ensures { IfOk result (λ request. single_of command.now ≡ Some request) }
 {
     match command {
         Command::VolumeCreate { volume } => create_volume(alloc, volume),
@@ -215,7 +215,7 @@ fn on_volume(alloc: Global, command: &Command) -> Result<Request, OutOfMemory>
 
 fn on_bucket(alloc: Global, command: &Command) -> Result<Request, OutOfMemory>
     requires { is_on_bucket command.now ≡ true }
-    ensures { IfOk result (λ request. IsSingle command.now request) }
+    ensures { IfOk result (λ request. single_of command.now ≡ Some request) }
 {
     match command {
         Command::BucketCreate { volume, bucket } => create_bucket(alloc, volume, bucket),
@@ -229,7 +229,7 @@ fn on_bucket(alloc: Global, command: &Command) -> Result<Request, OutOfMemory>
 
 fn on_snapshot(alloc: Global, command: &Command) -> Result<Request, OutOfMemory>
     requires { is_on_snapshot command.now ≡ true }
-    ensures { IfOk result (λ request. IsSingle command.now request) }
+    ensures { IfOk result (λ request. single_of command.now ≡ Some request) }
 {
     match command {
         Command::SnapshotCreate {
@@ -253,7 +253,7 @@ fn on_snapshot(alloc: Global, command: &Command) -> Result<Request, OutOfMemory>
 
 fn on_key(alloc: Global, command: &Command) -> Result<Request, OutOfMemory>
     requires { is_on_key command.now ≡ true }
-    ensures { IfOk result (λ request. IsSingle command.now request) }
+    ensures { IfOk result (λ request. single_of command.now ≡ Some request) }
 {
     match command {
         Command::KeyGet {
@@ -288,7 +288,7 @@ fn on_key(alloc: Global, command: &Command) -> Result<Request, OutOfMemory>
 /// What such a command asks.
 pub(crate) fn request_of(alloc: Global, command: &Command) -> Result<Request, OutOfMemory>
     requires { asks_once command.now ≡ true }
-    ensures { IfOk result (λ request. IsSingle command.now request) }
+    ensures { IfOk result (λ request. single_of command.now ≡ Some request) }
 {
     match command {
         Command::VolumeCreate { .. }

@@ -17,7 +17,8 @@ fn has_fate_written(attempt: &Attempt) -> bool
     }
 }
 
-pub(crate) fn written_blocks(alloc: Global, attempts: &[Attempt]) -> Result<Vec<Block>, OutOfMemory>
+/// The blocks that were written, in order.
+pub fn written_blocks(alloc: Global, attempts: &[Attempt]) -> Result<Vec<Block>, OutOfMemory>
     ensures { IfOk result (λ blocks. blocks.items ≡ written_blocks attempts.now) }
 {
     attempts

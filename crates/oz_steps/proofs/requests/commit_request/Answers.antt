@@ -1,10 +1,8 @@
-use Rattle.std.proofs.Common.{true, ◌∙◌, ap, rules}
-use Rattle.std.specs.List.{list_any}
-use Rattle.oz_requests.specs.declared.reply.Reply.{Reply}
-use Rattle.oz_steps.proofs.Next.{any-reply, commit-again}
+use Rattle.std.proofs.Common.{sym, rules}
+use Rattle.oz_steps.specs.Requests.{commit_by}
+use Rattle.oz_steps.proofs.Once.{none-again}
 use Rattle.oz_steps.proofs.requests.commit_request.Goals as goal
 
 pub returns-then-not-is_empty : goal.returns-then-not-is_empty
-returns-then-not-is_empty c = λ o s st l is.
-    commit-again o s st l c.args.command.now c.requires
-    (ap (list_any (λ (reply : Reply). true)) is.replies ∙ any-reply c.args.came.now.replies (λ e. search (rules, e)))
+returns-then-not-is_empty c =
+    sym (none-again c.args.came.now (commit_by c.args.label.now) (λ e. search (rules, e)))

@@ -11,7 +11,7 @@ use Rattle.oz_steps.specs.declared.fate.Fate.TheVariants as fates
 use Rattle.oz_steps.specs.declared.came.Granted.{Granted}
 use Rattle.oz_steps.specs.Grants.{IsFate, AreGrants, is_of_container, is_of_pipeline}
 use Rattle.oz_steps.specs.Grants.{excluded_by, is_fate_of_container, is_fate_of_pipeline}
-use Rattle.oz_steps.proofs.Chosen.{taken-one, left-one}
+use Rattle.oz_steps.specs.laws.Chosen.{taken-one, left-one}
 
 and-no : (a b : Bool) → b ≡ true → (a && not b) ≡ false
 and-no true b so = rw so refl

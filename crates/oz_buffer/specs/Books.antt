@@ -1,5 +1,6 @@
 -- What contracts see of a ledger, and what it keeps.
 use Rattle.std.specs.Prelude.{◌≡◌, ℕ, ◌+◌, ◌≤◌, ◌<◌, List, [], ◌∷◌, length, sum, Result, Err}
+use Rattle.oz_batches.specs.declared.batches.TheConstants.{LARGEST_BUFFER}
 use Rattle.oz_core.specs.declared.event.Event.{Event}
 use Rattle.oz_core.specs.declared.event.Node.{Node}
 use Rattle.oz_core.specs.declared.opening.Opening.{Opening}
@@ -8,7 +9,6 @@ use Rattle.oz_buffer.specs.Buffer.{AllFollow, buffer_of}
 use Rattle.oz_buffer.specs.Summaries.{count_in}
 use Rattle.oz_buffer.specs.declared.ledger.Reserve.{Reserve}
 use Rattle.oz_buffer.specs.declared.ledger.Reserve.TheVariants.{Later}
-use Rattle.oz_buffer.specs.declared.ledger.TheConstants.{LARGEST_BUFFER}
 use Rattle.oz_buffer.specs.declared.summary.Summary.{Summary}
 
 -- The story, each seat's room, which is the number of events that it may still append without a refusal, and how many
@@ -40,10 +40,9 @@ IsLater held asked result =
     (LARGEST_BUFFER < held + asked → result ≡ Err (Later held asked))
     × ((h a : ℕ) → result ≡ Err (Later h a) → LARGEST_BUFFER < held + asked)
 
--- The summary is that of the story, and there is memory for all rooms, for what the buffer brings with it, and for the
--- bytes that it may still take.
+-- The summary is that of the story, and there is memory for all rooms and for what the buffer brings with it.
 pub record IsKept (Follow : List Event → Event → Type 0) (opening : Opening) (story : List Event) (summary : Summary)
-    (buffer rooms : List ℕ) (total spare capacity bytes : ℕ) : Type 0 where
+    (buffer rooms : List ℕ) (total capacity : ℕ) : Type 0 where
   pub follow : AllFollow Follow [] story
   pub last : summary.last ≡ last_index opening story
   pub durable : summary.durable ≡ durable_index opening story
@@ -52,4 +51,3 @@ pub record IsKept (Follow : List Event → Event → Type 0) (opening : Opening)
   pub counted : total ≡ sum rooms
   pub seats : length rooms ≡ 64
   pub fits : length story + sum rooms + still_to_come buffer ≤ capacity
-  pub bytes_fit : length buffer + spare ≤ bytes

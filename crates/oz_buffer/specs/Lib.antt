@@ -1,3 +1,5 @@
 pub mod Buffer
 pub mod Books
+pub mod Openings
 pub mod Summaries
+pub mod laws

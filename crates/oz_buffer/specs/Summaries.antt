@@ -1,7 +1,7 @@
 -- For calls inside this crate alone.
 
 -- What is kept beside a story, so that no call walks it.
-use Rattle.std.specs.Prelude.{ℕ, List, Option, None, slice_index_or}
+use Rattle.std.specs.Prelude.{ℕ, Option, None, slice_index_or}
 use Rattle.oz_core.specs.declared.event.Node.{Node}
 use Rattle.oz_core.specs.declared.event.Node.TheVariants.{Manager, Scm, Datanode}
 use Rattle.oz_buffer.specs.declared.summary.Summary.{Summary}

@@ -1,6 +1,7 @@
 //! The value in the turn.
 
 ghost use Rattle.std.specs.Prelude.{◌≡◌, ◌≢◌, ℕ, ◌+◌, ◌<◌, ◌≤◌, ◌↔◌, [], ◌∷◌, ◌++◌, length, max, slice_index, IsTrue, OnOk, OnErr};
+ghost use Rattle.oz_batches.specs.declared.batches.TheConstants.{LARGEST_BUFFER, LONGEST_BATCH};
 ghost use Rattle.oz_buffer.specs.Books.{IsLater, taken_by, wanted_by};
 ghost use Rattle.oz_buffer.specs.Buffer.{AllFollow, Follows, IsDecide, IsNote, IsSwap, batch_in, buffer_of};
 ghost use Rattle.oz_core.specs.Manager.{last_index, durable_index, halt_of};
@@ -11,14 +12,12 @@ use crate::opened::Opened;
 use crate::ready::Ready;
 use crate::rooms::{buffer_batch, no_rooms, room_taken};
 use crate::summary::Summary;
+use oz_batches::{Batches, LARGEST_BUFFER, LONGEST_BATCH};
 use oz_core::{Event, EventKind, Node};
 use oz_turn::Told;
 use std::alloc::Global;
 use std::marker::{Model, PhantomData};
 use std::mem;
-
-/// The most bytes that a buffer takes.
-pub const LARGEST_BUFFER: usize = 1_073_741_824;
 
 /// Why there is no room.
 #[derive(Clone, Copy, Debug, PartialEq, Eq)]
@@ -32,8 +31,7 @@ pub enum Reserve {
 #[derive(Drop)]
 pub struct Ledger<O: Opened> {
     story: Vec<Event>,
-    buffer: Vec<u8>,
-    spare: usize,
+    buffer: Batches,
     rooms: [u64; 64],
     total: usize,
     summary: Summary,
@@ -47,10 +45,10 @@ impl<O: Opened> Model for Ledger<O> {
 
     ghost Value = { Book };
 
-    ghost view = { λ l. record { story = l.story.items; rooms = l.rooms; spare = l.spare } };
+    ghost view = { λ l. record { story = l.story.items; rooms = l.rooms; spare = l.buffer.spare } };
 
     ghost invariant = { λ l. IsKept (Follows O.coherent O.opening O.bytes O.script) O.opening l.story.items l.summary
-        l.buffer.items l.rooms l.total l.spare (vec_capacity l.story) (vec_capacity l.buffer) };
+        l.buffer.bytes l.rooms l.total (vec_capacity l.story) };
 }
 
 impl<O: Opened> Told for Ledger<O> {
@@ -83,8 +81,7 @@ impl<O: Opened> Ledger<O> {
     {
         Ledger {
             story: Vec::new(alloc),
-            buffer: Vec::new(alloc),
-            spare: 0,
+            buffer: Batches::new(alloc),
             rooms: no_rooms(),
             total: 0,
             summary: Summary::new(last_index),
@@ -94,9 +91,9 @@ impl<O: Opened> Ledger<O> {
 
     /// Makes a seat's room four greater, for a Decide and the Swap, Flushed and Halt that it may bring with it, and has the
     /// buffer take so many bytes more.
-    pub fn reserve(&mut self, seat: u16, bytes: u32) -> Result<(), Reserve>
+    pub fn reserve(&mut self, _alloc: Global, seat: u16, bytes: u32) -> Result<(), Reserve>
         requires seat { seat < 64 }
-        requires bytes { bytes ≤ 67108864 }
+        requires bytes { bytes ≤ LONGEST_BATCH }
         ensures story { self.new.story ≡ self.old.story }
         ensures room { OnOk result (slice_index self.new.rooms seat ≡ slice_index self.old.rooms seat + 4) }
         ensures others { (n : ℕ) → n ≢ seat → slice_index self.new.rooms n ≡ slice_index self.old.rooms n }
@@ -119,7 +116,12 @@ impl<O: Opened> Ledger<O> {
     }
 
     /// Makes a seat's room greater by so many events.
-    pub fn reserve_notes(&mut self, seat: u16, events: u32) -> Result<(), OutOfMemory>
+    pub fn reserve_notes(
+        &mut self,
+        _alloc: Global,
+        seat: u16,
+        events: u32,
+    ) -> Result<(), OutOfMemory>
         requires seat { seat < 64 }
         requires events { events ≤ 64 }
         ensures story { self.new.story ≡ self.old.story }
@@ -134,6 +136,7 @@ impl<O: Opened> Ledger<O> {
     fn make_room(&mut self, seat: u16, events: u32, bytes: usize) -> Result<(), OutOfMemory>
         requires seat { seat < 64 }
         requires events { events ≤ 64 }
+        requires bytes { 0 < bytes → length (buffer_of self.old.story) + bytes ≤ LARGEST_BUFFER }
         ensures story { self.new.story ≡ self.old.story }
         ensures room { OnOk result (slice_index self.new.rooms seat ≡ slice_index self.old.rooms seat + events) }
         ensures others { (n : ℕ) → n ≢ seat → slice_index self.new.rooms n ≡ slice_index self.old.rooms n }
@@ -147,7 +150,6 @@ impl<O: Opened> Ledger<O> {
         self.buffer.reserve(bytes)?;
         self.rooms[usize::from(seat)] += u64::from(events);
         self.total += events as usize;
-        self.spare = self.spare.max(bytes);
         Ok(())
     }
 
@@ -205,9 +207,8 @@ impl<O: Opened> Ledger<O> {
         ensures others { (n : ℕ) → n ≢ event.seat → slice_index self.new.rooms n ≡ slice_index self.old.rooms n }
         ensures spare { self.new.spare + length (batch_in event.kind) ≡ self.old.spare }
     {
-        let taken = room_taken(self.buffer.as_slice(), &event.kind);
-        let bytes = buffer_batch(&mut self.buffer, &event.kind);
-        self.spare -= bytes;
+        let taken = room_taken(&self.buffer, &event.kind);
+        buffer_batch(&mut self.buffer, &event.kind);
         self.rooms[usize::from(event.seat)] -= u64::from(taken);
         self.total -= usize::from(taken);
         self.summary.add(&event.kind);
@@ -236,17 +237,17 @@ impl<O: Opened> Ledger<O> {
     pub fn swap(&mut self, event: Event, ready: &mut Ready)
         requires seat { event.seat < 64 }
         requires kind { IsSwap event.kind }
-        requires empty { ready.old ≡ [] }
+        requires empty { ready.old.bytes ≡ [] }
         requires some { buffer_of self.old.story ≢ [] }
         requires follows { Follows O.coherent O.opening O.bytes O.script self.old.story event }
         ensures story { self.new.story ≡ self.old.story ++ event ∷ [] }
-        ensures ready { ready.new ≡ buffer_of self.old.story }
+        ensures ready { ready.new.bytes ≡ buffer_of self.old.story }
         ensures room { slice_index self.new.rooms event.seat ≡ slice_index self.old.rooms event.seat + 2 }
         ensures others { (n : ℕ) → n ≢ event.seat → slice_index self.new.rooms n ≡ slice_index self.old.rooms n }
         ensures spare { self.new.spare ≡ 0 }
     {
-        mem::swap(&mut self.buffer, &mut ready.bytes);
-        self.spare = 0;
+        mem::swap(&mut self.buffer, ready);
+        self.buffer.unreserve();
         self.rooms[usize::from(event.seat)] += 2;
         self.total += 2;
         self.story.push_reserved(event);
@@ -267,7 +268,6 @@ impl<O: Opened> Ledger<O> {
         let Ledger {
             story,
             buffer: _,
-            spare: _,
             rooms: _,
             total: _,
             summary: _,

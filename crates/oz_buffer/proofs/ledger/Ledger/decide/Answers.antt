@@ -1,12 +1,11 @@
-use Rattle.std.proofs.Common.{rules, ◌≡◌, ◌+◌, ◌-◌, ◌<◌, ◌≤◌, List, [], ◌∷◌, ◌++◌, None, length, slice_index_or, slice_set, refl, sym, ap, ◌∙◌, arith}
-use Rattle.std.specs.Prelude.{sum}
+use Rattle.std.proofs.Common.{rules, ◌≡◌, ◌-◌, ◌<◌, ◌≤◌, List, ◌++◌, None, length, slice_index_or, sym, ap, ◌∙◌, arith}
 use Rattle.std.proofs.lemmas.List.Sums.{sum_by-set}
 use Rattle.oz_core.specs.Manager.{decided_index, stable_index, halt_count}
 use Rattle.oz_core.specs.Stories.{newer}
-use Rattle.std.proofs.lemmas.List.{length-append}
 use Rattle.oz_buffer.specs.Books.{still_to_come}
 use Rattle.oz_buffer.specs.Buffer.{batch_in}
-use Rattle.oz_buffer.proofs.Stories.{follow-push, told-push, buffer-push, decided, no_more_taken, paid_for}
+use Rattle.oz_buffer.proofs.Stories.{no_more_taken, paid_for}
+use Rattle.oz_buffer.specs.laws.Following.{follow-push, told-push, buffer-push, decided}
 use Rattle.oz_buffer.proofs.ledger.Ledger.decide.Goals as goal
 
 pub invariant_of-self : goal.invariant_of-self
@@ -17,9 +16,9 @@ invariant_of-self g c =
     let event = c.args.event in
     let kind = event.kind in
     let rooms = c.self.inside.rooms in
-    let buffer = c.self.inside.buffer.items in
+    let buffer = c.self.inside.buffer.bytes in
     let batch = batch_in kind in
-    let bytes = c.buffer_batch-bytes.ensures.bytes in
+    let bytes = c.buffer_batch.ensures.bytes in
     let within : c.from-2.result < length rooms = search rules in
     let taken : c.from.result ≡ Rattle.oz_buffer.specs.Books.taken_by buffer batch = search rules in
     let same : c.from-3.result ≡ c.from.result = search rules in
@@ -35,5 +34,4 @@ invariant_of-self g c =
       counted = (let was = old.counted in omega (arith, change, taken, same, most, room, was));
       seats = search rules;
       fits = (let was = old.fits in let paid = paid_for buffer batch in let cap = c.push_reserved.ensures.capacity in omega (arith, change, taken, most, room, was, paid, cap, ap length items, ap still_to_come bytes));
-      bytes_fit = (let was = old.bytes_fit in let cap = c.buffer_batch-bytes.ensures.capacity in let size = c.buffer_batch-bytes.ensures.size in omega (arith, was, cap, size, ap length bytes, length-append buffer batch));
     }

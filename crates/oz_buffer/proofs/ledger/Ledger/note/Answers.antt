@@ -1,9 +1,8 @@
-use Rattle.std.proofs.Common.{rules, ◌≡◌, ◌+◌, ◌-◌, ◌<◌, ◌≤◌, List, [], ◌∷◌, ◌++◌, None, length, slice_index_or, slice_set, refl, sym, ap, ◌∙◌, arith}
-use Rattle.std.specs.Prelude.{sum}
+use Rattle.std.proofs.Common.{rules, ◌-◌, ◌<◌, ◌≤◌, None, length, slice_index_or, sym, ap, ◌∙◌, arith}
 use Rattle.std.proofs.lemmas.List.Sums.{sum_by-set}
 use Rattle.oz_core.specs.Manager.{decided_index, stable_index, halt_count}
 use Rattle.oz_core.specs.Stories.{newer}
-use Rattle.oz_buffer.proofs.Stories.{follow-push, told-push, buffer-push, noted}
+use Rattle.oz_buffer.specs.laws.Following.{follow-push, told-push, buffer-push, noted}
 use Rattle.oz_buffer.proofs.ledger.Ledger.note.Goals as goal
 
 pub invariant_of-self : goal.invariant_of-self
@@ -25,5 +24,4 @@ invariant_of-self g c =
       counted = (let was = old.counted in omega (arith, change));
       seats = search rules;
       fits = (let was = old.fits in let len = c.push_reserved.ensures.len in let cap = c.push_reserved.ensures.capacity in omega (arith, change, ap length items));
-      bytes_fit = old.bytes_fit;
     }

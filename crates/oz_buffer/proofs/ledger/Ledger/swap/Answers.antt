@@ -1,10 +1,9 @@
-use Rattle.std.proofs.Common.{rules, ◌≡◌, ◌+◌, ◌-◌, ◌<◌, ◌≤◌, List, [], ◌∷◌, ◌++◌, None, length, slice_index_or, slice_set, refl, sym, ap, ◌∙◌, arith}
-use Rattle.std.specs.Prelude.{sum}
+use Rattle.std.proofs.Common.{rules, ◌≡◌, ◌+◌, ◌<◌, [], None, length, slice_index_or, sym, ap, ◌∙◌, arith}
 use Rattle.std.proofs.lemmas.List.Sums.{sum_by-set}
 use Rattle.oz_core.specs.Manager.{decided_index, stable_index, halt_count}
-use Rattle.oz_core.specs.Stories.{newer}
 use Rattle.oz_buffer.specs.Buffer.{buffer_of}
-use Rattle.oz_buffer.proofs.Stories.{follow-push, untold-push, buffer-push, swapped, swap_decides_none, swap_is_not_stable, swap_halts_none, three_to_come}
+use Rattle.oz_buffer.proofs.Stories.{swap_decides_none, swap_is_not_stable, swap_halts_none, three_to_come}
+use Rattle.oz_buffer.specs.laws.Following.{follow-push, untold-push, buffer-push, swapped}
 use Rattle.oz_buffer.proofs.ledger.Ledger.swap.Goals as goal
 
 pub invariant_of-self : goal.invariant_of-self
@@ -15,11 +14,11 @@ invariant_of-self g c =
     let event = c.args.event in
     let kind = event.kind in
     let rooms = c.self.inside.rooms in
-    let empty : c.swap.new.x.items ≡ [] = search rules in
+    let empty : c.unreserve.new.self.bytes ≡ [] = search rules in
     let within : c.from.result < length rooms = search rules in
     let change = sum_by-set (λ x. x) rooms c.from.result (slice_index_or rooms c.from.result 0 + 2) 0 within in
     let same : buffer_of c.args.self.now.story ≡ buffer_of story = search rules in
-    let three = three_to_come c.self.inside.buffer.items (λ e. c.requires.some (same ∙ sym old.buffered ∙ e)) in
+    let three = three_to_come c.self.inside.buffer.bytes (λ e. c.requires.some (same ∙ sym old.buffered ∙ e)) in
     record {
       follow = rw items (follow-push _ story event old.follow (search rules));
       last = rw items (old.last ∙ sym (untold-push decided_index _ story event (swap_decides_none kind c.requires.kind)));
@@ -29,5 +28,4 @@ invariant_of-self g c =
       counted = (let was = old.counted in omega (arith, change));
       seats = search rules;
       fits = rw empty (let was = old.fits in let cap = c.push_reserved.ensures.capacity in omega (arith, change, three, was, cap, ap length items));
-      bytes_fit = rw empty (omega arith);
     }

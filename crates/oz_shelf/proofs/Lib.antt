@@ -1,0 +1,5 @@
+pub mod FreeSlots
+pub mod Freeing
+pub mod Making
+pub mod Resting
+pub mod Writing

@@ -1,0 +1,196 @@
+-- What writes, syncs and edits do to slots that are in order.
+use Rattle.std.proofs.Common.{◌≡◌, inl, inr, ℕ, ◌-◌, ◌<◌, ◌≤◌, eqb, Bool, true, false, cond, ◌||◌, ◌↔◌, IsTrue, All, Contains, List, [], ◌∷◌, ◌++◌, length, Option, None, Some, is_some, IfSome, refl, sym, ap, ◌∙◌, subst, arith, eqb-true, eq-eqb}
+use Rattle.std.proofs.lemmas.Bool.{cases_lt, false≢true}
+use Rattle.std.proofs.lemmas.List.Elements.{All-contains}
+use Rattle.std.specs.Option.{option_map}
+use Rattle.oz_chunk.specs.Slots.{start_of, slot_bytes, padded, IsWithin, Keeps}
+use Rattle.oz_chunk.specs.Taken.{is_taken, AllTakenBelow, Marks}
+use Rattle.oz_chunk.specs.laws.Keeping.{stands, torn_keeps}
+use Rattle.oz_entries.specs.declared.row.Chunk.{Chunk}
+use Rattle.oz_entries.specs.Node.{HaveFreeSlots, or_slots}
+use Rattle.oz_entries.specs.Held.{any_in}
+use Rattle.oz_world.specs.Disk.{Images, Seen, Torn, Moves, overwritten, IsStable}
+use Rattle.oz_world.specs.Moments.{Spans}
+use Rattle.oz_fields.specs.declared.block.Block.{Block}
+use Rattle.oz_shelf.specs.Shelf.{ShelfView, Rests, HaveSame, AreSettled, KeepsTold}
+use Rattle.oz_shelf.proofs.FreeSlots.{or_slots_split, or_slots_push, free_any, unused_parts}
+
+-- each image of a later moment came from one of the first, or the moment is the same
+came : (step : List ℕ → List ℕ → Type 0) (from to : ℕ) (old new : Images) → ((bytes : List ℕ) → step bytes bytes) → Spans step from to old new → (left : List ℕ) → new to left → (bytes : List ℕ) × old from bytes × step bytes left
+came step from to old new none spans left here = elim (cases_lt from to) [
+  | inl later ↦ spans.made to left later (omega arith) here
+  | inr past ↦
+      let same : to ≡ from = omega (arith, past, spans.elapses.later) in
+      (left, (spans.elapses.kept from left (omega arith)).0 (subst (λ (n : ℕ). new n left) same here), none left)
+]
+
+-- a step that keeps some slots leaves them settled
+pub settled_after : (kept : ℕ → Bool) (before after : Seen) → AreSettled kept before → KeepsTold kept before.told after.told → Moves (λ x y. Unit {0}) before.told after.told → Spans (Keeps kept) before.clock after.clock before.image after.image
+    → AreSettled kept after
+settled_after kept before after settled told moves spans = by before.told after.told refl refl
+  where
+    by : (old new : Option (List ℕ)) → old ≡ before.told → new ≡ after.told → IfSome new (λ bytes. (left : List ℕ) → after.image after.clock left → HaveSame kept bytes left)
+    by old None was is = tt
+    by None (Some bytes) was is = absurd (never (subst (λ (o : Option (List ℕ)). Moves (λ x y. Unit {0}) o after.told) (sym was) moves))
+      where
+        never : after.told ≡ None → ⊥
+        never none = cc
+    by (Some first) (Some bytes) was is = λ left here slot is_kept.
+        let found = came (Keeps kept) before.clock after.clock before.image after.image (λ l s k w. (w, refl)) spans left here in
+        let was_settled : (x : List ℕ) → before.image before.clock x → HaveSame kept first x = subst (λ (o : Option (List ℕ)). IfSome o (λ b. (x : List ℕ) → before.image before.clock x → HaveSame kept b x)) (sym was) settled in
+        let same = was_settled found.0 found.1 slot is_kept in
+        let on : Keeps kept first bytes = subst (λ (o : Option (List ℕ)). IfSome o (λ n. Keeps kept first n)) (sym is) (subst (λ (o : Option (List ℕ)). KeepsTold kept o after.told) (sym was) told) in
+        let now = on slot is_kept same.0 in
+        let then = found.2 slot is_kept same.1 in
+        (now.0, then.0, then.1 ∙ (same.2 ∙ sym now.1))
+
+-- a stable disk is settled
+pub settled_stable : (kept : ℕ → Bool) (disk : Seen) → IfSome disk.told (λ bytes. (slot : ℕ) → kept slot ≡ true → IsWithin slot bytes) → IfSome disk.told (IsStable disk.image disk.clock) → AreSettled kept disk
+settled_stable kept disk within stable = by disk.told within stable
+  where
+    by : (o : Option (List ℕ)) → IfSome o (λ bytes. (slot : ℕ) → kept slot ≡ true → IsWithin slot bytes) → IfSome o (IsStable disk.image disk.clock) → IfSome o (λ bytes. (left : List ℕ) → disk.image disk.clock left → HaveSame kept bytes left)
+    by None within stable = tt
+    by (Some bytes) within stable = λ left here slot is_kept.
+        let same = stable left here in
+        let there = within slot is_kept in
+        (there, subst (λ (l : List ℕ). IsWithin slot l) (sym same) there, ap (slot_bytes slot) same)
+
+-- the lowest free slot begins within the disk
+pub begins_within : (taken : List Bool) (slot : ℕ) (bytes : List ℕ) → AllTakenBelow slot taken → ((other : ℕ) → is_taken taken other ≡ true → IsWithin other bytes) → start_of slot ≤ length bytes
+begins_within taken slot bytes below within = elim (cases_lt 0 slot) [
+  | inl more ↦ omega (arith, more, within (slot - 1) (below (slot - 1) (omega (arith, more))))
+  | inr none ↦ omega (arith, none)
+]
+
+-- a torn write keeps the other slots of what is told
+pub moves_keep : (kept : ℕ → Bool) (slot : ℕ) (before after : Option (List ℕ)) → kept slot ≡ false → Moves (Torn (start_of slot) 16384) before after → KeepsTold kept before after
+moves_keep kept slot None after apart moves = tt
+moves_keep kept slot (Some bytes) None apart moves = tt
+moves_keep kept slot (Some bytes) (Some other) apart moves = torn_keeps kept slot bytes other apart moves
+
+-- as told before
+pub moves_any : (step : List ℕ → List ℕ → Type 0) (before after : Option (List ℕ)) → Moves step before after → Moves (λ x y. Unit {0}) before after
+moves_any step None after moves = moves
+moves_any step (Some bytes) None moves = moves
+moves_any step (Some bytes) (Some other) moves = tt
+
+-- the slots that are taken once a chunk was written to one that was free
+pub taken_on : (used : ℕ → Bool) (chunks : List Chunk) (chunk : Chunk) (before between after : List Bool) → ((s : ℕ) → is_taken before s ≡ or_slots used chunks s) → Marks chunk.slot true before between → ((s : ℕ) → is_taken after s ≡ is_taken between s)
+    → (s : ℕ) → is_taken after s ≡ or_slots used (chunks ++ chunk ∷ []) s
+taken_on used chunks chunk before between after all marks same s =
+    same s ∙ (marks s ∙ (ap (λ (b : Bool). cond (eqb s chunk.slot) true b) (all s) ∙ (turned (eqb s chunk.slot) (eqb chunk.slot s) (or_slots used chunks s) (flip s chunk.slot) ∙ sym (or_slots_push used chunks chunk s))))
+  where
+    turned : (a b o : Bool) → a ≡ b → cond a true o ≡ (o || b)
+    turned true b true e = refl
+    turned true b false e = e
+    turned false b true e = refl
+    turned false b false e = e
+
+    flip : (x y : ℕ) → eqb x y ≡ eqb y x
+    flip x y = grind arith
+
+pub taken_anew : (used : ℕ → Bool) (chunks : List Chunk) (chunk : Chunk) (before between after : List Bool) → HaveFreeSlots used chunks → is_taken before chunk.slot ≡ false → ((s : ℕ) → is_taken before s ≡ or_slots used chunks s) → Marks chunk.slot true before between
+    → ((s : ℕ) → is_taken after s ≡ cond (any_in chunks s) false (is_taken between s)) → (s : ℕ) → is_taken after s ≡ or_slots used (chunk ∷ []) s
+taken_anew used chunks chunk before between after free unused all marks gone s =
+    gone s ∙ (ap (λ (b : Bool). cond (any_in chunks s) false b) (marks s ∙ ap (λ (b : Bool). cond (eqb s chunk.slot) true b) (all s ∙ or_slots_split used chunks s)) ∙ by (any_in chunks s) refl)
+  where
+    flip : (x y : ℕ) → eqb x y ≡ eqb y x
+    flip x y = grind arith
+
+    none : any_in chunks chunk.slot ≡ false
+    none = (unused_parts used chunks chunk.slot (sym (all chunk.slot) ∙ unused)).1
+
+    apart : any_in chunks s ≡ true → eqb chunk.slot s ≡ false
+    apart has = differ (eqb chunk.slot s) refl
+      where
+        differ : (b : Bool) → b ≡ eqb chunk.slot s → eqb chunk.slot s ≡ false
+        differ false is = sym is
+        differ true is = absurd (false≢true (sym none ∙ (ap (any_in chunks) (eqb-true chunk.slot s (sym is)) ∙ has)))
+
+    by : (b : Bool) → b ≡ any_in chunks s → cond b false (cond (eqb s chunk.slot) true (used s || b)) ≡ (used s || eqb chunk.slot s)
+    by true is = sym (ap (λ (u : Bool). u || eqb chunk.slot s) (free_any used chunks free s (sym is)) ∙ apart (sym is))
+    by false is = ap (λ (e : Bool). cond e true (used s || false)) (flip s chunk.slot) ∙ last (eqb chunk.slot s) (used s)
+      where
+        last : (e u : Bool) → cond e true (u || false) ≡ (u || e)
+        last true true = refl
+        last true false = refl
+        last false true = refl
+        last false false = refl
+
+-- what was written lies within the disk, and so does what lay there before
+pub within_after : (slot : ℕ) (chunk : List ℕ) (before after : Option (List ℕ)) → length chunk ≤ 16384 → after ≡ option_map (overwritten (start_of slot) (padded chunk)) before → IfSome before (λ bytes. start_of slot ≤ length bytes) → IfSome after (IsWithin slot)
+within_after slot chunk before after small is there = subst (λ (o : Option (List ℕ)). IfSome o (IsWithin slot)) (sym is) (by before there)
+  where
+    by : (o : Option (List ℕ)) → IfSome o (λ bytes. start_of slot ≤ length bytes) → IfSome (option_map (overwritten (start_of slot) (padded chunk)) o) (IsWithin slot)
+    by None there = tt
+    by (Some bytes) there = (stands slot chunk bytes there small).0
+
+pub stands_after : (slot : ℕ) (chunk : List ℕ) (before after : Option (List ℕ)) → length chunk ≤ 16384 → after ≡ option_map (overwritten (start_of slot) (padded chunk)) before → IfSome before (λ bytes. start_of slot ≤ length bytes)
+    → IfSome after (λ disk. slot_bytes slot disk ≡ padded chunk)
+stands_after slot chunk before after small is there = subst (λ (o : Option (List ℕ)). IfSome o (λ disk. slot_bytes slot disk ≡ padded chunk)) (sym is) (by before there)
+  where
+    by : (o : Option (List ℕ)) → IfSome o (λ bytes. start_of slot ≤ length bytes) → IfSome (option_map (overwritten (start_of slot) (padded chunk)) o) (λ disk. slot_bytes slot disk ≡ padded chunk)
+    by None there = tt
+    by (Some bytes) there = (stands slot chunk bytes there small).1
+
+-- slots that lay within the disk lie there still
+pub within_still : (taken : ℕ → Bool) (pos count : ℕ) (before after : Option (List ℕ)) → Moves (Torn pos count) before after → IfSome before (λ bytes. (slot : ℕ) → taken slot ≡ true → IsWithin slot bytes) → IfSome after (λ bytes. (slot : ℕ) → taken slot ≡ true → IsWithin slot bytes)
+within_still taken pos count before None moves within = tt
+within_still taken pos count None (Some other) moves within = absurd cc
+within_still taken pos count (Some bytes) (Some other) moves within = λ slot is. omega (arith, within slot is, moves.no_shorter)
+
+-- those that were taken, and one more
+pub within_more : (before after : ℕ → Bool) (slot : ℕ) (told : Option (List ℕ)) → ((s : ℕ) → after s ≡ true → (s ≡ slot → ⊥) → before s ≡ true) → IfSome told (λ bytes. (s : ℕ) → before s ≡ true → IsWithin s bytes) → IfSome told (IsWithin slot)
+    → IfSome told (λ bytes. (s : ℕ) → after s ≡ true → IsWithin s bytes)
+within_more before after slot None others within this = tt
+within_more before after slot (Some bytes) others within this = λ s is. by s is (eqb s slot) refl
+  where
+    by : (s : ℕ) → after s ≡ true → (b : Bool) → b ≡ eqb s slot → IsWithin s bytes
+    by s is true same = subst (λ (n : ℕ). IsWithin n bytes) (sym (eqb-true s slot (sym same))) this
+    by s is false apart = within s (others s is (λ e. false≢true (apart ∙ eq-eqb s slot e)))
+
+-- two tests with one meaning
+pub one_test : (a b : Bool) → (a ≡ true → b ≡ true) → (b ≡ true → a ≡ true) → a ≡ b
+one_test true b to from = sym (to refl)
+one_test false true to from = from refl
+one_test false false to from = refl
+
+-- what is loaded is in order
+pub load_rests : {D : Type 0} (used : ℕ → Bool) (shelf : ShelfView D) (disk : Seen) (told : Option (List ℕ)) (held : List ℕ) → shelf.draft.chunks ≡ [] → ((s : ℕ) → IsTrue (is_taken shelf.slots.taken s) ↔ ((s < 16384) × Contains held s))
+    → ((s : ℕ) → s < 16384 → IsTrue (used s) ↔ Contains held s) → ((s : ℕ) → used s ≡ true → s < 16384) → IfSome told (λ bytes. All (λ s. IsWithin s bytes) held) → disk.told ≡ told → IfSome told (IsStable disk.image disk.clock) → Rests used shelf disk
+load_rests used shelf disk told held none taken is_held below within same stable = record {
+  free = subst (HaveFreeSlots used) (sym none) tt;
+  taken = λ s. taken_is s ∙ ap (λ (l : List Chunk). or_slots used l s) (sym none);
+  within = subst (λ (o : Option (List ℕ)). IfSome o (λ bytes. (s : ℕ) → is_taken shelf.slots.taken s ≡ true → IsWithin s bytes)) (sym same) (all told within);
+  settled = settled_stable used disk (subst (λ (o : Option (List ℕ)). IfSome o (λ bytes. (s : ℕ) → used s ≡ true → IsWithin s bytes)) (sym same) (all_used told within)) (subst (λ (o : Option (List ℕ)). IfSome o (IsStable disk.image disk.clock)) (sym same) stable);
+} where
+  taken_is : (s : ℕ) → is_taken shelf.slots.taken s ≡ used s
+  taken_is s = one_test (is_taken shelf.slots.taken s) (used s) (λ is. let both = (taken s).0 is in (is_held s both.0).1 both.1) (λ is. (taken s).1 (below s is, (is_held s (below s is)).0 is))
+
+  all : (o : Option (List ℕ)) → IfSome o (λ bytes. All (λ s. IsWithin s bytes) held) → IfSome o (λ bytes. (s : ℕ) → is_taken shelf.slots.taken s ≡ true → IsWithin s bytes)
+  all None w = tt
+  all (Some bytes) w = λ s is. All-contains (λ n. IsWithin n bytes) held s w ((taken s).0 is).1
+
+  all_used : (o : Option (List ℕ)) → IfSome o (λ bytes. All (λ s. IsWithin s bytes) held) → IfSome o (λ bytes. (s : ℕ) → used s ≡ true → IsWithin s bytes)
+  all_used None w = tt
+  all_used (Some bytes) w = λ s is. all (Some bytes) w s (taken_is s ∙ is)
+
+-- the slots that are taken while blocks use others than before, all with the same meaning
+pub rests_as : {D : Type 0} (used later : ℕ → Bool) (old new : ShelfView D) (before after : Seen) → Rests used old before → ((s : ℕ) → is_taken new.slots.taken s ≡ true → is_taken old.slots.taken s ≡ true) → HaveFreeSlots later new.draft.chunks
+    → ((s : ℕ) → is_taken new.slots.taken s ≡ or_slots later new.draft.chunks s) → after.told ≡ before.told → AreSettled later after → Rests later new after
+rests_as used later old new before after rests fewer free taken told settled = record {
+  free = free;
+  taken = taken;
+  within = subst (λ (o : Option (List ℕ)). IfSome o (λ bytes. (s : ℕ) → is_taken new.slots.taken s ≡ true → IsWithin s bytes)) (sym told) (all before.told rests.within);
+  settled = settled;
+} where
+  all : (o : Option (List ℕ)) → IfSome o (λ bytes. (s : ℕ) → is_taken old.slots.taken s ≡ true → IsWithin s bytes) → IfSome o (λ bytes. (s : ℕ) → is_taken new.slots.taken s ≡ true → IsWithin s bytes)
+  all None w = tt
+  all (Some bytes) w = λ s is. w s (fewer s is)
+
+-- slots of some blocks, once a row more has those of the draft
+pub used_with : (has used : Bool) (block : Block) (user : Option Block) → used ≡ is_some user → is_some (cond has (Some block) user) ≡ (used || has)
+used_with true true block user is = refl
+used_with true false block user is = refl
+used_with false true block user is = sym is
+used_with false false block user is = sym is

@@ -1,0 +1,8 @@
+mod Lists
+mod Results
+mod Placing
+mod Asked
+mod Over
+mod Telling
+mod Going
+mod Stories

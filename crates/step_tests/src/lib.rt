@@ -1,0 +1,16 @@
+//! Tests of the steps of a line. A step is shown as a text, and each test is a table of what comes back and of the step
+//! behind it.
+#![tactic(auto)]
+
+mod asked;
+mod back;
+mod going;
+#[cfg(test)]
+mod labels;
+#[cfg(test)]
+mod once;
+#[cfg(test)]
+mod putting;
+#[cfg(test)]
+mod reading;
+mod shown;

@@ -2,8 +2,11 @@
 //! behind it.
 #![tactic(auto)]
 
+#[cfg(test)]
 mod asked;
+#[cfg(test)]
 mod back;
+#[cfg(test)]
 mod going;
 #[cfg(test)]
 mod labels;
@@ -13,4 +16,5 @@ mod once;
 mod putting;
 #[cfg(test)]
 mod reading;
+#[cfg(test)]
 mod shown;

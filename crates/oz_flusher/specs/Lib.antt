@@ -1,0 +1,5 @@
+pub mod Steps
+pub mod Taken
+pub mod Quiet
+pub mod Flushes
+pub mod Stops

@@ -1,0 +1,15 @@
+use Rattle.oz_locks.proofs.Seated.{adds_one, last_before, whole_entered}
+use Rattle.oz_locks.proofs.stripe.Stripe.enter.Goals as goal
+
+pub invariant_of-self : goal.invariant_of-self
+invariant_of-self g c =
+    let t = c.give.ensures in
+    let d = c.requires.decides in
+    whole_entered _ _ _ _ _ _ _ _ _ _ _ _ _ _ _ _ _ _ _ _ _ _ c.self.view_is c.self.invariant t.seat t.mine t.seen d.1 d.2 d.3 c.requires.above c.requires.unflushed
+    c.enter.ensures.entered c.enter.ensures.durable c.withdraw.ensures c.pin_all.ensures.items
+
+pub give-requires-clause-entry : goal.give-requires-clause-entry
+give-requires-clause-entry g c = let d = c.requires.decides in adds_one _ _ _ _ _ _ _ _ _ _ _ _ _ _ _ _ c.requires.tells_seats c.self.view_is c.self.invariant d.1
+
+pub enter-requires-clause-above : goal.enter-requires-clause-above
+enter-requires-clause-above g c = last_before _ _ _ _ _ _ _ _ _ _ _ _ c.self.view_is c.self.invariant c.requires.above c.requires.unflushed

@@ -1,0 +1,18 @@
+//! The rows of the manager in sixteen stripes, each behind a lock of its own, with the seat whose Decides they are.
+#![tactic(auto)]
+
+mod laws;
+mod loaded;
+mod pins;
+mod pool;
+mod resting;
+mod stripe;
+mod stripes;
+
+pub use laws::stripes_stay_in_order;
+pub use loaded::Loaded;
+pub use pins::{Pin, pins_for};
+pub use pool::FreeBlock;
+pub use resting::Resting;
+pub use stripe::Stripe;
+pub use stripes::{StripeGuard, Stripes};

@@ -1,0 +1,319 @@
+//! One stripe: its rows, and the seat whose Decides they are.
+
+ghost use Rattle.std.specs.Prelude.{◌≡◌, ℕ, ◌+◌, ◌<◌, ◌≤◌, List as AnyList, [], ◌∷◌, ◌++◌, length, true, is_ok, if◌then◌else◌, All, Contains, None, Some, IfOk, OnOk, MatchOption};
+ghost use Rattle.oz_fields.specs.declared.block.TheConstants.{GREATEST_BLOCK_NUMBER};
+ghost use Rattle.std.specs.List.{AllByRecursion};
+ghost use Rattle.oz_cache.specs.Cache.{batch_of, batched_changes, later, newest, up_to};
+ghost use Rattle.oz_core.specs.Asks.{is_told};
+ghost use Rattle.oz_core.specs.Grants.{IsExcluded};
+ghost use Rattle.oz_core.specs.Seats.{stripe_seat};
+ghost use Rattle.oz_core.specs.declared.event.Event.{Event as AnyEvent};
+ghost use Rattle.oz_effects.specs.Batches.{IsBatchOf};
+ghost use Rattle.oz_locks.specs.Decides.{AddsDecide};
+ghost use Rattle.oz_locks.specs.Flushes.{flushed_in};
+ghost use Rattle.oz_locks.specs.Pins.{without_line};
+ghost use Rattle.oz_locks.specs.Pool.{blocks_of_grant, used_by, without};
+ghost use Rattle.oz_locks.specs.declared.pool.FreeBlock.{FreeBlock as AnyBlock};
+ghost use Rattle.oz_locks.specs.Stripe.{IsKept, IsAtRest};
+ghost use Rattle.oz_locks.specs.Rows.{AreReplayed};
+ghost use Rattle.oz_locks.specs.Writes.{Write as AnyWrite, writes_of};
+ghost use Rattle.oz_names.specs.declared.limits.TheConstants.{STRIPES};
+ghost use Rattle.oz_rows.specs.RowMaps.{row_of, row_after};
+ghost use Rattle.oz_rows.specs.declared.key.RowKey.{RowKey as AnyKey};
+ghost use Rattle.oz_rows.specs.declared.operation.TheConstants.{END_OF_INDEXES};
+ghost use Rattle.oz_stripes.specs.Stripes.{only};
+ghost use Rattle.oz_turn.specs.Seat.{IsReady, IsNewSeat, mine_of, seen_of};
+ghost use Rattle.oz_turn.specs.Told.{own_entries, BeginsWith, KeepsOtherRooms};
+ghost use Rattle.oz_turn.specs.Turn.{turn_id};
+
+use crate::loaded::Loaded;
+use crate::pins::{Pin, pin_all, unpin_line};
+use crate::pool::{FreeBlock, add_blocks, first_allowed, withdraw};
+use oz_cache::{Cached, Prepared};
+use oz_core::{Event, EventKind};
+use oz_epochs::Steps;
+use oz_fields::{Block, OutOfMemory};
+use oz_requests::Exclude;
+use oz_rows::Change;
+use oz_turn::{Held, Ring, Seat, Told, Turn};
+use std::alloc::Global;
+use std::marker::{Model, PhantomData};
+use std::sync::Wait;
+use std::sync::ledger::Ledger;
+
+/// The rows of one stripe's volumes and its stripe row, the blocks that it may grant, those that lines work with, and the seat
+/// whose Decides the rows are.
+#[derive(Drop)]
+pub struct Stripe<T: Told<Entry = Event>, L: Loaded, R: Ring> {
+    number: u8,
+    cached: Cached,
+    flushed: u64,
+    pool: Vec<FreeBlock>,
+    pins: Vec<Pin>,
+    seat: Seat<T>,
+    of: PhantomData<(L, R)>,
+}
+
+impl<T: Told<Entry = Event>, L: Loaded, R: Ring> Model for Stripe<T, L, R> {
+    ghost use Rattle.std.specs.Prelude.{◌-◌, length, vec_capacity};
+    ghost use Rattle.oz_locks.specs.Stripe.{StripeView, IsKept};
+    ghost use Rattle.oz_locks.specs.Seats.{IsSeated, seen_as};
+
+    ghost Value = { StripeView T };
+
+    ghost view = { λ s. seen_as s.number s.cached s.flushed s.pool.items s.pins.items
+        (vec_capacity s.pins - length s.pins.items) s.seat };
+
+    ghost invariant = { λ s. IsSeated R.turn s.number s.seat × IsKept L.rows L.last_index (seen_as s.number s.cached s.flushed
+        s.pool.items s.pins.items (vec_capacity s.pins - length s.pins.items) s.seat) };
+}
+
+impl<T: Told<Entry = Event>, L: Loaded, R: Ring> Stripe<T, L, R> {
+    /// A stripe that has decided nothing yet. It takes no memory.
+    pub fn make(alloc: Global, number: u8, cached: Cached, seat: Seat<T>) -> Stripe<T, L, R>
+        requires number { number < STRIPES }
+        requires seat { IsNewSeat R.turn (stripe_seat number) seat }
+        requires rows { (key : AnyKey) → row_of cached.durable.rows key ≡ only number L.rows key }
+        requires last_index { cached.durable.last_index ≡ L.last_index }
+        requires entered { cached.entered ≡ [] }
+        ensures number { result.number ≡ number }
+        ensures cache { result.cache ≡ cached }
+        ensures empty { (result.pool ≡ []) × (result.pins ≡ []) }
+        ensures events { (result.mine ≡ []) × (result.seen ≡ []) }
+        ensures rests { IsAtRest L.last_index result }
+    {
+        let flushed = cached.last_epoch();
+        Stripe {
+            number,
+            cached,
+            flushed,
+            pool: Vec::new(alloc),
+            pins: Vec::new(alloc),
+            seat,
+            of: PhantomData,
+        }
+    }
+
+    /// The rows and the seat. It takes no memory.
+    pub fn into_parts(self) -> (Cached, Seat<T>)
+        requires { self.taken ≡ None }
+        ensures cached { result.0 ≡ self.cache }
+        ensures ready { IsReady R.turn (stripe_seat self.number) result.1 }
+        ensures events { (mine_of result.1 ≡ self.mine) × (seen_of result.1 ≡ self.seen) }
+    {
+        let Stripe {
+            number: _,
+            cached,
+            flushed: _,
+            pool: _,
+            pins: _,
+            seat,
+            of: _,
+        } = self;
+        (cached, seat)
+    }
+
+    /// What holds of every stripe; so its newest rows are its Decides replayed. It does nothing when it runs.
+    pub fn is_kept(&self)
+        ensures kept { IsKept L.rows L.last_index self.now }
+        ensures rows { AreReplayed (only self.now.number L.rows) (writes_of self.now.mine) (newest self.now.cache) }
+    {
+        let _number = &self.number;
+    }
+
+    pub fn number(&self) -> u8
+        ensures { result ≡ self.now.number }
+    {
+        self.number
+    }
+
+    /// The rows, for who decides over them.
+    pub fn cached(&self) -> &Cached
+        ensures { result.now ≡ self.now.cache }
+    {
+        &self.cached
+    }
+
+    /// The blocks that lines work with.
+    pub fn pins(&self) -> &[Pin]
+        ensures { result.now ≡ self.now.pins }
+    {
+        self.pins.as_slice()
+    }
+
+    /// Takes all memory that these changes need. Where it runs out, the changes are gone.
+    pub fn prepare(&mut self, alloc: Global, changes: Vec<Change>) -> Result<Prepared, OutOfMemory>
+        ensures changes { IfOk result (λ prepared. prepared ≡ changes.items) }
+        ensures room { OnOk result (length changes.items ≤ self.new.cache.spare) }
+        ensures kept { self.old.cache.spare ≤ self.new.cache.spare }
+        ensures rows { self.new.cache.durable.rows ≡ self.old.cache.durable.rows }
+        ensures last_index { self.new.cache.durable.last_index ≡ self.old.cache.durable.last_index }
+        ensures entered { self.new.cache.entered ≡ self.old.cache.entered }
+        ensures same { self.new ≡ record self.old { cache = self.new.cache } }
+    {
+        self.cached.prepare(alloc, changes)
+    }
+
+    /// Makes room for so many more pins.
+    pub fn reserve_pins(&mut self, pins: usize) -> Result<(), OutOfMemory>
+        ensures room { OnOk result (pins ≤ self.new.pin_room) }
+        ensures kept { self.old.pin_room ≤ self.new.pin_room }
+        ensures same { self.new ≡ record self.old { pin_room = self.new.pin_room } }
+    {
+        self.pins.reserve(pins)
+    }
+
+    /// Waits for the seat's turn.
+    pub fn take<W: Wait>(&mut self, rt: &W, turn: &Turn<T>) -> (T, Held)
+        requires turn { turn_id turn.now ≡ R.turn }
+        requires free { self.old.taken ≡ None }
+        ensures same { self.new ≡ record self.old { seen = T.entries result.0; taken = Some result.0 } }
+
+        // The story goes on from what the seat had seen, and its own Decides in it are those that it gave.
+        ensures begins { BeginsWith (T.entries result.0) self.old.seen }
+        ensures own { own_entries T.seat_of (stripe_seat self.old.number) (T.entries result.0) ≡ self.old.mine }
+        ensures room { T.room result.0 (stripe_seat self.old.number) ≡ self.old.room }
+    {
+        turn.take(rt, &mut self.seat)
+    }
+
+    /// Gives the value back with the story that it had.
+    pub fn give_back(&mut self, turn: &Turn<T>, value: T, held: Held)
+        requires turn { turn_id turn.now ≡ R.turn }
+        requires story { T.entries value ≡ self.old.seen }
+        requires rooms { KeepsOtherRooms T.room (stripe_seat self.old.number) self.old.taken value }
+        ensures { self.new ≡ record self.old { room = T.room value (stripe_seat self.old.number); taken = None } }
+    {
+        turn.give_back(&mut self.seat, value, held);
+    }
+
+    /// Gives the value back with a Decide of the stripe that changes no rows, and pins what it named.
+    pub fn note(&mut self, turn: &Turn<T>, value: T, held: Held, index: u64, pins: &[Pin]) -> u64
+        requires turn { turn_id turn.now ≡ R.turn }
+        requires tells_seats { (event : AnyEvent) → T.seat_of event ≡ event.seat }
+        requires decides { AddsDecide self.old (T.entries value) index [] None pins.now }
+        requires rooms { KeepsOtherRooms T.room (stripe_seat self.old.number) self.old.taken value }
+        requires pins { length pins.now ≤ self.old.pin_room }
+        ensures length { result ≡ length (T.entries value) }
+        ensures mine { (event : AnyEvent) → T.entries value ≡ self.old.seen ++ event ∷ []
+            → self.new.mine ≡ self.old.mine ++ event ∷ [] }
+        ensures flushed { flushed_in L.last_index self.new.seen ≡ flushed_in L.last_index self.old.seen }
+        ensures pinned { self.old.pin_room ≤ self.new.pin_room + length pins.now }
+        ensures same { self.new ≡ record self.old {
+          pins = self.old.pins ++ pins.now;
+          pin_room = self.new.pin_room;
+          mine = self.new.mine;
+          seen = T.entries value;
+          room = T.room value (stripe_seat self.old.number);
+          taken = None;
+        } }
+    {
+        let _ = index;
+        pin_all(&mut self.pins, pins);
+        turn.give(&mut self.seat, value, held)
+    }
+
+    /// Gives the value back with a Decide of the stripe, and enters the changes of its batch. The block that it granted leaves
+    /// the pool, and what it named is pinned. It takes no memory.
+    pub fn enter(
+        &mut self,
+        turn: &Turn<T>,
+        value: T,
+        held: Held,
+        index: u64,
+        changes: Prepared,
+        granted: Option<Block>,
+        pins: &[Pin],
+    ) -> u64
+        requires turn { turn_id turn.now ≡ R.turn }
+        requires tells_seats { (event : AnyEvent) → T.seat_of event ≡ event.seat }
+        requires decides { (batch : AnyList ℕ) × AddsDecide self.old (T.entries value) index batch granted pins.now
+            × (1 ≤ length batch) × IsBatchOf (newest self.old.cache) batch changes }
+        requires rooms { KeepsOtherRooms T.room (stripe_seat self.old.number) self.old.taken value }
+        requires above { AllByRecursion (λ (write : AnyWrite). write.index < index) (writes_of self.old.mine) }
+        requires unflushed { self.old.flushed < index }
+        requires limit { index < END_OF_INDEXES }
+        requires room { length changes ≤ self.old.cache.spare }
+        requires pins { length pins.now ≤ self.old.pin_room }
+        ensures length { result ≡ length (T.entries value) }
+        ensures mine { (event : AnyEvent) → T.entries value ≡ self.old.seen ++ event ∷ []
+            → self.new.mine ≡ self.old.mine ++ event ∷ [] }
+        ensures flushed { flushed_in L.last_index self.new.seen ≡ flushed_in L.last_index self.old.seen }
+        ensures entered { self.new.cache.entered ≡ self.old.cache.entered ++ batch_of index changes ∷ [] }
+        ensures durable { self.new.cache.durable ≡ self.old.cache.durable }
+        ensures newest { (key : AnyKey) → newest self.new.cache key ≡ row_after changes key (newest self.old.cache key) }
+        ensures spare { self.old.cache.spare ≤ self.new.cache.spare + length changes }
+        ensures pinned { self.old.pin_room ≤ self.new.pin_room + length pins.now }
+        ensures same { self.new ≡ record self.old {
+          cache = self.new.cache;
+          pool = without granted self.old.pool;
+          pins = self.old.pins ++ pins.now;
+          pin_room = self.new.pin_room;
+          mine = self.new.mine;
+          seen = T.entries value;
+          room = T.room value (stripe_seat self.old.number);
+          taken = None;
+        } }
+    {
+        self.cached.enter(index, changes);
+        withdraw(&mut self.pool, granted);
+        pin_all(&mut self.pins, pins);
+        turn.give(&mut self.seat, value, held)
+    }
+
+    /// Brings what is flushed down into the tables. It takes no memory.
+    pub fn flushed<S: Ledger>(&mut self, index: u64, steps: &mut Steps<S>)
+        requires index { index ≡ flushed_in L.last_index self.old.seen }
+        requires rises { self.old.flushed ≤ index }
+        ensures rows { (key : AnyKey) → row_of self.new.cache.durable.rows key
+            ≡ row_after (batched_changes (up_to index self.old.cache.entered)) key (row_of self.old.cache.durable.rows key) }
+        ensures entered { self.new.cache.entered ≡ later index self.old.cache.entered }
+        ensures newest { (key : AnyKey) → newest self.new.cache key ≡ newest self.old.cache key }
+        ensures spare { self.old.cache.spare ≤ self.new.cache.spare }
+        ensures steps { steps.new + length self.new.cache.epochs ≤ steps.old + length self.old.cache.epochs + 1 }
+        ensures same { self.new ≡ record self.old { cache = self.new.cache; flushed = index } }
+    {
+        self.cached.flushed(index, steps);
+        self.flushed = index;
+    }
+
+    /// The blocks of a Grant to the stripe come into the pool, behind the others.
+    pub fn grant(
+        &mut self,
+        container: u64,
+        pipeline: u8,
+        first: u64,
+        count: u32,
+    ) -> Result<(), OutOfMemory>
+        requires seen { (seat : ℕ) × Contains self.old.seen
+            (record { seat = seat; kind = EventKind.Grant self.old.number container pipeline first count }) }
+        requires within { first + count ≤ GREATEST_BLOCK_NUMBER }
+        requires unused { (free : AnyBlock) → Contains (blocks_of_grant container pipeline first count) free
+            → Contains (used_by self.old.mine) free.block → ⊥ }
+        ensures { self.new ≡ record self.old {
+          pool = if is_ok result then self.old.pool ++ blocks_of_grant container pipeline first count else self.old.pool;
+        } }
+    {
+        self.pool.reserve(count as usize)?;
+        add_blocks(&mut self.pool, container, pipeline, first, count);
+        Ok(())
+    }
+
+    /// A block of the pool that an ask doesn't exclude. It stays in the pool until a Decide grants it.
+    pub fn pick(&self, exclude: &Exclude) -> Option<FreeBlock>
+        ensures { MatchOption result
+            (All (λ free. IsExcluded exclude.now free.block free.pipeline) self.now.pool)
+            (λ free. Contains self.now.pool free × (IsExcluded exclude.now free.block free.pipeline → ⊥)) }
+    {
+        first_allowed(self.pool.as_slice(), exclude)
+    }
+
+    /// The pins of a line go, once its Told was seen.
+    pub fn unpin(&mut self, client: u16, line: u16)
+        requires { is_told client line self.old.seen ≡ true }
+        ensures room { self.old.pin_room ≤ self.new.pin_room }
+        ensures same { self.new ≡ record self.old { pins = without_line client line self.old.pins; pin_room = self.new.pin_room } }
+    {
+        unpin_line(&mut self.pins, client, line);
+    }
+}

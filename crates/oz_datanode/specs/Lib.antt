@@ -1,0 +1,2 @@
+pub mod Datanode
+pub mod Steps

@@ -1,0 +1,174 @@
+//! A datanode over its two disks.
+
+ghost use Rattle.std.specs.Prelude.{◌≡◌, ℕ, List, true, false, length, Err, [], Some, IfOk, IfErr, OnErr, IfSome};
+ghost use Rattle.oz_block.specs.Blocks.{StandsFor, IsDamagedDisk};
+ghost use Rattle.oz_datanode.specs.Datanode.{Runs, IsLowestPast};
+ghost use Rattle.oz_datanode.specs.declared.refusal.NodeRefusal.TheVariants as refusals;
+ghost use Rattle.oz_entries.specs.Node.{Node};
+ghost use Rattle.oz_world.specs.Disk.{IsStable};
+ghost use Rattle.oz_world.specs.Faults.{Rose};
+
+use crate::disks::NodeDisks;
+use crate::fault::NodeFault;
+use crate::loading::{journal_fault, slot_fault, used_slots};
+use crate::refusal::NodeRefusal;
+use oz_block::Blocks;
+use oz_container::State;
+use oz_shelf::Shelf;
+use oz_world::Disk;
+use std::alloc::Global;
+use std::marker::Model;
+
+/// A datanode.
+#[derive(Drop)]
+pub struct Datanode<D: Disk> {
+    id: u8,
+    blocks: Blocks<D>,
+    shelf: Shelf<D>,
+    stopped: bool,
+}
+
+impl<D: Disk> Model for Datanode<D> {
+    ghost use Rattle.std.specs.Prelude.{◌≡◌, ◌||◌, false};
+    ghost use Rattle.oz_block.specs.Blocks.{node_in as node_in_blocks};
+    ghost use Rattle.oz_datanode.specs.Datanode.{State as NodeState};
+    ghost use Rattle.oz_datanode.specs.Steps.{is_in_use};
+    ghost use Rattle.oz_shelf.specs.Shelf.{Rests};
+    ghost use Rattle.oz_world.specs.Disk.{seen};
+
+    ghost Value = { NodeState D };
+
+    ghost view = { λ node.
+        record { id = node.id; blocks = node.blocks; shelf = node.shelf; stopped = node.stopped } };
+
+    ghost invariant = { λ node. (node.blocks.stopped || node.shelf.failed) ≡ false →
+        Rests (is_in_use (node_in_blocks node.blocks)) node.shelf
+        (seen (D.told node.shelf.slots.disk) (D.clock node.shelf.slots.disk) (D.image node.shelf.slots.disk)
+        (D.faults node.shelf.slots.disk)) };
+}
+
+impl<D: Disk> Datanode<D> {
+    ghost use Rattle.oz_datanode.specs.Datanode.{node_in, meta_of, slots_of, is_halted, count_of};
+    ghost use Rattle.oz_datanode.specs.Datanode.{meta_after, slots_after};
+
+    /// What the disks have. The journal is loaded first, and then the slots that its blocks use. Both disks come back
+    /// where it can't.
+    pub fn load(
+        alloc: Global,
+        id: u8,
+        disks: NodeDisks<D>,
+    ) -> Result<Datanode<D>, (NodeDisks<D>, NodeFault)>
+        ensures id { IfOk result (λ node. node.id ≡ id) }
+        ensures stands { IfOk result (λ node. IfSome (D.told disks.meta) (λ bytes. StandsFor bytes (node_in node))) }
+        ensures running { IfOk result (λ node. Runs D.faults node) }
+        ensures draft { IfOk result (λ node. node.shelf.draft.chunks ≡ []) }
+
+        // When each fault comes.
+        ensures journal { IfErr result (λ refused. (offset : ℕ) → refused.1 ≡ NodeFault.Damaged false offset →
+            IfSome (D.told disks.meta) (λ bytes. IsDamagedDisk bytes offset)) }
+        ensures past { IfErr result (λ refused. (offset : ℕ) → refused.1 ≡ NodeFault.Damaged true offset →
+            IfSome (D.told disks.meta) (λ bytes. IfSome (D.told disks.slots) (λ slots.
+            (node : Node) × StandsFor bytes node × IsLowestPast node (length slots) offset))) }
+        ensures journal_disk { IfErr result (λ refused. refused.1 ≡ NodeFault.Disk false →
+            Rose (D.faults disks.meta) (D.faults (meta_after result))) }
+        ensures slots_disk { IfErr result (λ refused. refused.1 ≡ NodeFault.Disk true →
+            Rose (D.faults disks.slots) (D.faults (slots_after result))) }
+
+        // What the disks tell afterwards.
+        ensures contents { D.told (slots_after result) ≡ D.told disks.slots }
+    {
+        let NodeDisks { meta, slots } = disks;
+        let blocks = match Blocks::load(alloc, meta) {
+            Ok(blocks) => blocks,
+            Err((meta, fault)) => return Err((NodeDisks { meta, slots }, journal_fault(fault))),
+        };
+        let Ok(used) = used_slots(alloc, &blocks) else {
+            let meta = blocks.into_disk();
+            return Err((NodeDisks { meta, slots }, NodeFault::OutOfMemory));
+        };
+        match Shelf::load(alloc, slots, &used) {
+            Ok(shelf) => Ok(Datanode {
+                id,
+                blocks,
+                shelf,
+                stopped: false,
+            }),
+            Err((slots, fault)) => {
+                let meta = blocks.into_disk();
+                Err((NodeDisks { meta, slots }, slot_fault(fault)))
+            }
+        }
+    }
+
+    /// Whether a call on one of the disks has failed. While none has, what the journal tells stands for what is held, and
+    /// is stable.
+    pub fn halted(&self) -> bool
+        ensures halted { result ≡ is_halted self.now }
+        ensures at_rest { result ≡ false → (bytes : List ℕ) → D.told (meta_of self.now) ≡ Some bytes →
+            StandsFor bytes (node_in self.now)
+            × IsStable (D.image (meta_of self.now)) (D.clock (meta_of self.now)) bytes }
+    {
+        self.blocks.stopped() || self.shelf.failed()
+    }
+
+    /// The refusal where one of the disks has failed.
+    fn halt(&self) -> NodeRefusal
+        ensures { result ≡ refusals.Stopped (count_of D.faults self.now) }
+    {
+        NodeRefusal::Stopped {
+            count: self.count(),
+        }
+    }
+
+    /// How often both disks have failed, at most `u64::MAX`.
+    pub fn count(&self) -> u64
+        ensures { result ≡ count_of D.faults self.now }
+    {
+        self.blocks.faults().saturating_add(self.shelf.faults())
+    }
+
+    /// The number that it was given.
+    pub fn id(&self) -> u8
+        ensures { result ≡ self.now.id }
+    {
+        self.id
+    }
+
+    /// The state of a replica.
+    pub fn state(&self, container: u64) -> State
+        ensures { result ≡ (node_in self.now).states container }
+    {
+        self.blocks.state(container)
+    }
+
+    /// Stops it. It keeps what it holds.
+    pub fn stop(&mut self)
+        ensures { self.new ≡ record self.old { stopped = true } }
+    {
+        self.stopped = true;
+    }
+
+    /// Has it run again with what it held. It calls no disk.
+    pub fn start(&mut self) -> Result<(), NodeRefusal>
+        ensures started { is_halted self.old ≡ false →
+            OnErr result ⊥ × (self.new ≡ record self.old { stopped = false }) }
+        ensures halted { is_halted self.old ≡ true →
+            (result ≡ Err (refusals.Stopped (count_of D.faults self.old))) × (self.new ≡ self.old) }
+    {
+        if self.halted() {
+            return Err(self.halt());
+        }
+        self.stopped = false;
+        Ok(())
+    }
+
+    pub fn into_disks(self) -> NodeDisks<D>
+        ensures meta { result.meta ≡ meta_of self }
+        ensures slots { result.slots ≡ slots_of self }
+    {
+        NodeDisks {
+            meta: self.blocks.into_disk(),
+            slots: self.shelf.into_disk(),
+        }
+    }
+}

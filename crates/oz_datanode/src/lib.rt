@@ -1,0 +1,13 @@
+//! One datanode: the blocks that were put and copied, less those that were deleted, over a journal and a disk of slots.
+#![tactic(auto)]
+
+mod datanode;
+mod disks;
+mod fault;
+mod loading;
+mod refusal;
+
+pub use datanode::Datanode;
+pub use disks::NodeDisks;
+pub use fault::NodeFault;
+pub use refusal::NodeRefusal;

@@ -1,12 +1,11 @@
 -- What the slots that were listed tell of a datanode that is loaded.
-use Rattle.std.proofs.Common.{◌≡◌, ◌↔◌, ℕ, ◌<◌, ◌≤◌, Bool, true, false, IsTrue, Contains, List, length, Option, None, Some, IfSome, sym, ap, subst, ◌∙◌}
+use Rattle.std.proofs.Common.{◌≡◌, ◌↔◌, ℕ, ◌<◌, ◌≤◌, true, IsTrue, Contains, List, length, Option, None, Some, IfSome, sym, ap, subst}
 use Rattle.std.proofs.lemmas.List.Elements.{All-contains}
 use Rattle.oz_block.specs.Blocks.{StandsFor}
 use Rattle.oz_chunk.specs.Slots.{end_of, IsLowestPast as IsPast}
 use Rattle.oz_chunk.specs.declared.fault.SlotFault.{SlotFault}
 use Rattle.oz_chunk.specs.declared.fault.SlotFault.TheVariants as faults
 use Rattle.oz_entries.specs.Node.{Node, is_used}
-use Rattle.oz_datanode.specs.declared.fault.NodeFault.{NodeFault}
 use Rattle.oz_datanode.specs.declared.fault.NodeFault.TheVariants as nodes
 use Rattle.oz_datanode.specs.Datanode.{IsLowestPast}
 use Rattle.oz_datanode.specs.Steps.{is_in_use, slot_fault_of}

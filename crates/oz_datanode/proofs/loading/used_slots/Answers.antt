@@ -1,4 +1,4 @@
-use Rattle.std.proofs.Common.{ℕ, List, sym, subst, ◌∙◌, arith}
+use Rattle.std.proofs.Common.{ℕ, List, sym, subst, arith}
 use Rattle.oz_block.specs.Blocks.{node_in}
 use Rattle.oz_entries.specs.Node.{is_used}
 use Rattle.oz_datanode.proofs.Listing.{Lists, lists_none, lists_more, lists_all, lists_only}

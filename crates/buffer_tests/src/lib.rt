@@ -1,0 +1,11 @@
+//! Tests of the ledger and the flusher.
+#![tactic(auto)]
+
+#[cfg(test)]
+mod beside;
+#[cfg(test)]
+mod flushes;
+#[cfg(test)]
+mod ledgers;
+#[cfg(test)]
+mod store;

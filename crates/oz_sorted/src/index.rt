@@ -13,6 +13,7 @@ use crate::entry::Entry;
 use crate::place::Place;
 use crate::search::position;
 use std::alloc::Global;
+use std::cell::Cell;
 use std::marker::Model;
 
 /// How many entries each half of a split chunk has.
@@ -26,6 +27,9 @@ pub(crate) struct Index<K, V> {
     spares: Vec<Chunk<K, V>>,
     /// The chunk of the last edit, which is tried first, so that a run of rising keys is one walk.
     near: usize,
+    /// The chunk of the last look-up that the last edit's wasn't right for, which is tried next, so that a walk over
+    /// keys in their order is one too.
+    seen: Cell<usize>,
 }
 
 impl<K, V> Model for Index<K, V> {
@@ -54,6 +58,7 @@ impl<K, V> Index<K, V> {
             chunks: Vec::new(alloc),
             spares: Vec::new(alloc),
             near: 0,
+            seen: Cell::new(0),
         }
     }
 
@@ -122,9 +127,16 @@ impl<K, V> Index<K, V> {
         if self.is_for(self.near, key) {
             return self.near;
         }
-        self.chunks
+        let seen = self.seen.get();
+        if self.is_for(seen, key) {
+            return seen;
+        }
+        let chunk = self
+            .chunks
             .partition_point(|chunk| chunk.begins_by(key))
-            .saturating_sub(1)
+            .saturating_sub(1);
+        self.seen.set(chunk);
+        chunk
     }
 
     /// Whether there is this chunk, and its first key isn't above this one, and the first of the chunk behind it is.

@@ -3,7 +3,7 @@
 use oz_container::State;
 use oz_core::PutRefusal;
 use oz_fields::{Block, List, Name, OutOfMemory, Piece};
-use oz_line::{Got, Written};
+use oz_client::{Got, Written};
 use oz_names::Code;
 use oz_requests::{Answer, Counts, Reply, Values};
 use std::alloc::Global;

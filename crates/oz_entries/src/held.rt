@@ -3,6 +3,7 @@
 ghost use Rattle.std.specs.Prelude.{◌≡◌, ◌↔◌, ◌<◌, ◌^◌, ℕ, true, false, IsTrue, Contains};
 ghost use Rattle.std.specs.Prelude.{None, option_copied, IfOk, OnOk, if◌then◌else◌};
 ghost use Rattle.std.specs.List.Sorted.{IsStrictlyIncreasing};
+ghost use Rattle.oz_chunk.specs.declared.table.TheConstants.{SLOTS as SLOT_COUNT};
 ghost use Rattle.oz_entries.specs.Node.{empty_node, is_held, is_used, is_same_block, is_in, without, with_row};
 ghost use Rattle.oz_entries.specs.Node.{with_state, with_number, names_some, HaveFreeSlots};
 ghost use Rattle.oz_entries.specs.Held.{node_of, AreSame, IsSound, IsNamed, HasRoom, is_freed};
@@ -88,6 +89,28 @@ impl Held {
             Some(user) => user.is_some(),
             None => false,
         }
+    }
+
+    /// The rows in the order of their blocks, None where there is only room for one.
+    pub fn rows(&self) -> &BTreeMap<Block, Option<BlockRow>>
+        ensures { result.now.entries ≡ self.now.rows }
+    {
+        &self.rows
+    }
+
+    /// The replicas that were named, in the order of their containers.
+    pub fn replicas(&self) -> &BTreeMap<u64, Replica>
+        ensures { result.now.entries ≡ self.now.replicas }
+    {
+        &self.replicas
+    }
+
+    /// A block uses the slots of its row, which are among those that there are, and no other slots are used.
+    pub fn uses_slots_of_rows(&self)
+        ensures sound { IsSound (node_of self.now) }
+        ensures within { (slot : ℕ) → is_used (node_of self.now) slot ≡ true → slot < SLOT_COUNT }
+    {
+        let _ = &self.users;
     }
 
     /// Makes the room that a block's row takes. It stands for the same.

@@ -1,4 +1,5 @@
 pub mod Changing
 pub mod Handing
+pub mod Listed
 pub mod Places
 pub mod Sizes

@@ -30,7 +30,7 @@ use std::marker::Model;
 #[derive(Drop)]
 pub struct Blocks<D: Disk> {
     journal: Journal<D>,
-    held: Held,
+    pub(crate) held: Held,
 }
 
 impl<D: Disk> Model for Blocks<D> {

@@ -5,6 +5,8 @@ mod adding;
 mod blocks;
 mod fault;
 mod laws;
+mod listing;
+mod lists;
 mod loading;
 mod planning;
 

@@ -1,5 +1,6 @@
 pub mod FreeSlots
 pub mod Freeing
 pub mod Making
+pub mod Releasing
 pub mod Resting
 pub mod Writing

@@ -2,6 +2,7 @@
 #![tactic(auto)]
 
 mod draft;
+mod release;
 mod shelf;
 
 pub use draft::Part;

@@ -32,7 +32,7 @@ pub enum Unwritten {
 /// The slots, the chunks that were written and not put, and whether a call on the disk has failed.
 #[derive(Drop)]
 pub struct Shelf<D: Disk> {
-    slots: Slots<D>,
+    pub(crate) slots: Slots<D>,
     draft: Draft,
     failed: bool,
 }

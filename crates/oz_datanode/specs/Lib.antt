@@ -1,2 +1,3 @@
 pub mod Datanode
+pub mod Pairs
 pub mod Steps

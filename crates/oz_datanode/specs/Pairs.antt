@@ -50,7 +50,7 @@ HaveAll contents node slots =
 -- its two disks, each block for which the one stands would have its content on the other. Both are said of disks that
 -- tell their contents.
 pub record PairHolds (contents : Block → Content) (node : Node) (journal slots : Seen) : Type 0 where
-  pub read : IfSome slots.told (HaveAll contents node)
+  pub read : IsSome journal.told → IfSome slots.told (HaveAll contents node)
   pub left : IsSome journal.told → IsSome slots.told → (bytes other : List ℕ) → journal.image journal.clock bytes
       → slots.image slots.clock other → (kept : Node) → StandsFor bytes kept → HaveAll contents kept other
 

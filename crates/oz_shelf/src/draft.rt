@@ -1,6 +1,6 @@
 //! The chunks that were written of a block that isn't put yet.
 
-ghost use Rattle.std.specs.Prelude.{◌≡◌, ◌+◌, ◌<◌, ◌++◌, ◌∷◌, ◌==◌, ◌&&◌, [], length, min, IfOk};
+ghost use Rattle.std.specs.Prelude.{◌≡◌, ◌+◌, ◌<◌, ◌++◌, ◌∷◌, ◌==◌, ◌&&◌, nat_lt, [], length, min, IfOk};
 ghost use Rattle.oz_chunk.specs.declared.table.TheConstants.{SLOT_SIZE as SLOT_BYTES};
 ghost use Rattle.oz_entries.specs.Node.{is_same_block};
 ghost use Rattle.oz_shelf.specs.Shelf.{empty_draft, follows, makes, makes_from};
@@ -87,7 +87,8 @@ impl Draft {
 
     /// The row of a block of so many bytes that has these chunks.
     pub(crate) fn row(&self, alloc: Global, size: u32) -> Result<BlockRow, OutOfMemory>
-        ensures { IfOk result (λ row. row ≡ record { length = size; chunks = self.now.chunks }) }
+        ensures row { IfOk result (λ row. row ≡ record { length = size; chunks = self.now.chunks }) }
+        ensures each { length self.now.chunks ≡ length self.now.parts }
     {
         let chunks = self.chunks.to_vec(alloc)?;
         Ok(BlockRow {
@@ -143,7 +144,7 @@ fn makes(parts: &[Part], size: u32) -> bool
 
 /// Whether a part stands in this place, where so many bytes are left.
 fn fits(part: Part, place: usize, left: u64) -> bool
-    ensures { result ≡ ((part.place == place) && (part.size == min left SLOT_BYTES)) }
+    ensures { result ≡ (nat_lt 0 left && (part.place == place) && (part.size == min left SLOT_BYTES)) }
 {
-    part.place as usize == place && part.size as u64 == left.min(SLOT_SIZE)
+    0 < left && part.place as usize == place && part.size as u64 == left.min(SLOT_SIZE)
 }

@@ -54,13 +54,21 @@ pub record PairHolds (contents : Block → Content) (node : Node) (journal slots
   pub left : IsSome journal.told → IsSome slots.told → (bytes other : List ℕ) → journal.image journal.clock bytes
       → slots.image slots.clock other → (kept : Node) → StandsFor bytes kept → HaveAll contents kept other
 
--- so does a datanode, by what is seen of its disks
+-- what is seen of the journal of a datanode, and of the disk of its slots
+abbrev pub journal_seen : {D : Type 0} → (D → Option (List ℕ)) → (D → ℕ) → (D → Images) → (D → ℕ) → State D → Seen
+journal_seen told clock image faults state =
+    seen (told (meta_of state)) (clock (meta_of state)) (image (meta_of state)) (faults (meta_of state))
+
+abbrev pub slots_seen : {D : Type 0} → (D → Option (List ℕ)) → (D → ℕ) → (D → Images) → (D → ℕ) → State D → Seen
+slots_seen told clock image faults state =
+    seen (told (slots_of state)) (clock (slots_of state)) (image (slots_of state)) (faults (slots_of state))
+
+-- so does a datanode
 abbrev pub NodeHolds : {D : Type 0} → (D → Option (List ℕ)) → (D → ℕ) → (D → Images) → (D → ℕ) → (Block → Content)
     → State D → Type 0
 NodeHolds told clock image faults contents state =
-    PairHolds contents (node_in state)
-    (seen (told (meta_of state)) (clock (meta_of state)) (image (meta_of state)) (faults (meta_of state)))
-    (seen (told (slots_of state)) (clock (slots_of state)) (image (slots_of state)) (faults (slots_of state)))
+    PairHolds contents (node_in state) (journal_seen told clock image faults state)
+    (slots_seen told clock image faults state)
 
 -- a block's content is this, and each other one's is what it was
 abbrev pub with_content : Block → Content → (Block → Content) → Block → Content

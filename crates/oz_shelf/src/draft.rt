@@ -1,8 +1,8 @@
 //! The chunks that were written of a block that isn't put yet.
 
-ghost use Rattle.std.specs.Prelude.{◌≡◌, ◌+◌, ◌<◌, ◌++◌, ◌∷◌, ◌==◌, ◌&&◌, nat_lt, [], length, min, IfOk};
+ghost use Rattle.std.specs.Prelude.{◌≡◌, ◌+◌, ◌<◌, ◌++◌, ◌∷◌, ◌==◌, ◌&&◌, nat_lt, [], true, length, min, IfOk};
 ghost use Rattle.oz_chunk.specs.declared.table.TheConstants.{SLOT_SIZE as SLOT_BYTES};
-ghost use Rattle.oz_entries.specs.Node.{is_same_block};
+ghost use Rattle.oz_entries.specs.Node.{is_same_block, chunk_count};
 ghost use Rattle.oz_shelf.specs.Shelf.{empty_draft, follows, makes, makes_from};
 
 use oz_chunk::SLOT_SIZE;
@@ -73,7 +73,8 @@ impl Draft {
 
     /// Whether the chunks make so many bytes of a block.
     pub(crate) fn makes(&self, block: Block, size: u32) -> bool
-        ensures { result ≡ makes self.now block size }
+        ensures makes { result ≡ makes self.now block size }
+        ensures count { result ≡ true → length self.now.chunks ≡ chunk_count size }
     {
         self.block == block && makes(&self.parts, size)
     }
@@ -87,8 +88,7 @@ impl Draft {
 
     /// The row of a block of so many bytes that has these chunks.
     pub(crate) fn row(&self, alloc: Global, size: u32) -> Result<BlockRow, OutOfMemory>
-        ensures row { IfOk result (λ row. row ≡ record { length = size; chunks = self.now.chunks }) }
-        ensures each { length self.now.chunks ≡ length self.now.parts }
+        ensures { IfOk result (λ row. row ≡ record { length = size; chunks = self.now.chunks }) }
     {
         let chunks = self.chunks.to_vec(alloc)?;
         Ok(BlockRow {

@@ -1,18 +1,19 @@
 -- What writes, syncs and edits do to slots that are in order.
-use Rattle.std.proofs.Common.{◌≡◌, inl, inr, ℕ, ◌-◌, ◌<◌, ◌≤◌, eqb, Bool, true, false, cond, ◌||◌, ◌↔◌, IsTrue, All, Contains, List, [], ◌∷◌, ◌++◌, length, Option, None, Some, is_some, IfSome, refl, sym, ap, ◌∙◌, subst, arith, eqb-true, eq-eqb}
+use Rattle.std.proofs.Common.{◌≡◌, inl, inr, ℕ, ◌-◌, ◌<◌, ◌≤◌, eqb, Bool, true, false, cond, ◌||◌, ◌↔◌, IsTrue, All, Contains, List, [], ◌∷◌, ◌++◌, length, Option, None, Some, is_some, IfSome, Result, Ok, refl, sym, ap, ◌∙◌, subst, arith, eqb-true, eq-eqb}
 use Rattle.std.proofs.lemmas.Bool.{cases_lt, false≢true}
 use Rattle.std.proofs.lemmas.List.Elements.{All-contains}
 use Rattle.std.specs.Option.{option_map}
-use Rattle.oz_chunk.specs.Slots.{start_of, slot_bytes, padded, IsWithin, Keeps}
+use Rattle.oz_chunk.specs.Disk.{Syncs}
+use Rattle.oz_chunk.specs.Slots.{State as Slots, start_of, slot_bytes, padded, IsWithin, Keeps}
 use Rattle.oz_chunk.specs.Taken.{is_taken, AllTakenBelow, Marks}
 use Rattle.oz_chunk.specs.laws.Keeping.{stands, torn_keeps}
 use Rattle.oz_entries.specs.declared.row.Chunk.{Chunk}
 use Rattle.oz_entries.specs.Node.{HaveFreeSlots, or_slots}
 use Rattle.oz_entries.specs.Held.{any_in}
-use Rattle.oz_world.specs.Disk.{Images, Seen, Torn, Moves, overwritten, IsStable}
+use Rattle.oz_world.specs.Disk.{Images, Seen, Same, Torn, Moves, TellsAsBefore, overwritten, IsStable}
 use Rattle.oz_world.specs.Moments.{Spans}
 use Rattle.oz_fields.specs.declared.block.Block.{Block}
-use Rattle.oz_shelf.specs.Shelf.{ShelfView, Rests, HaveSame, AreSettled, KeepsTold}
+use Rattle.oz_shelf.specs.Shelf.{DraftView, ShelfView, Rests, HaveSame, AreSettled, KeepsTold}
 use Rattle.oz_shelf.proofs.FreeSlots.{or_slots_split, or_slots_push, free_any, unused_parts}
 
 -- each image of a later moment came from one of the first, or the moment is the same
@@ -210,7 +211,7 @@ begin_rests used old new before after rests free none told settled = rests_as us
 
 -- what was written is that of blocks
 pub forget_rests : {D : Type 0} (used later : ℕ → Bool) (old new : ShelfView D) (before after : Seen) → Rests used old before → ((s : ℕ) → later s ≡ (used s || any_in old.draft.chunks s)) → new.slots ≡ old.slots → new.draft.chunks ≡ [] → after.told ≡ before.told → AreSettled later after → Rests later new after
-forget_rests used later old new before after rests more same none told settled =
+forget_rests {D = D} used later old new before after rests more same none told settled =
     let still : (s : ℕ) → is_taken new.slots.taken s ≡ is_taken old.slots.taken s = λ s. ap (λ (slots : Slots D). is_taken slots.taken s) same in
     rests_as used later old new before after rests (λ s is. sym (still s) ∙ is) (subst (HaveFreeSlots later) (sym none) tt) (λ s. still s ∙ (rests.taken s ∙ (or_slots_split used old.draft.chunks s ∙ (sym (more s) ∙ ap (λ (l : List Chunk). or_slots later l s) (sym none))))) told settled
 
@@ -243,3 +244,9 @@ sync_rests used old new before after result rests syncs taken draft =
 pub sync_settles : {D T E : Type 0} (used : ℕ → Bool) (old new : ShelfView D) (before after : Seen) (x : T) → Rests used old before → Syncs {T = T} {E = E} before after (Ok x) → new.slots.taken ≡ old.slots.taken → AreSettled (is_taken new.slots.taken) after
 sync_settles used old new before after x rests syncs taken =
     settled_stable (is_taken new.slots.taken) after (subst (λ (o : Option (List ℕ)). IfSome o (λ bytes. (s : ℕ) → is_taken new.slots.taken s ≡ true → IsWithin s bytes)) (sym syncs.told) (subst (λ (l : List Bool). IfSome before.told (λ bytes. (s : ℕ) → is_taken l s ≡ true → IsWithin s bytes)) (sym taken) rests.within)) syncs.stable
+
+-- a disk tells after a write where it told before
+pub moves_tell : (step : List ℕ → List ℕ → Type 0) (before after : Option (List ℕ)) → Moves step before after → TellsAsBefore before after
+moves_tell step None after moves = (λ none. moves, λ none. refl)
+moves_tell step (Some bytes) None moves = absurd moves
+moves_tell step (Some bytes) (Some other) moves = (λ none. absurd cc, λ none. absurd cc)

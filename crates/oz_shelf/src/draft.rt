@@ -117,11 +117,12 @@ impl Draft {
     /// One chunk more.
     pub(crate) fn add(&mut self, part: Part, chunk: Chunk)
         requires { length self.old.parts < 4 }
-        ensures { self.new ≡ record {
+        ensures added { self.new ≡ record {
           block = self.old.block;
           parts = self.old.parts ++ part ∷ [];
           chunks = self.old.chunks ++ chunk ∷ [];
         } }
+        ensures each { length self.new.parts ≡ length self.new.chunks }
     {
         self.parts.push(part).unwrap();
         self.chunks.push(chunk).unwrap();

@@ -1,6 +1,6 @@
 //! The slots of a datanode, and what was written to them of a block that isn't put yet.
 
-ghost use Rattle.std.specs.Prelude.{◌≡◌, ◌≤◌, ◌<◌, ◌+◌, [], ℕ, Bool, true, false, length, is_err};
+ghost use Rattle.std.specs.Prelude.{◌≡◌, ◌≤◌, ◌<◌, ◌+◌, ◌*◌, [], ℕ, Bool, true, false, length, is_err};
 ghost use Rattle.std.specs.Prelude.{IfOk, IfErr, OnOk, OnErr, IfSome, Contains, IsTrue, ◌↔◌, slice_range, if◌then◌else◌, ◌||◌, Err};
 ghost use Rattle.oz_chunk.specs.Disk.{Syncs, Empties};
 ghost use Rattle.oz_chunk.specs.Slots.{start_of, IsWithin, IsLowestPast};
@@ -11,7 +11,7 @@ ghost use Rattle.oz_chunk.specs.declared.fault.SlotFull.{SlotFull as Full};
 ghost use Rattle.oz_shelf.specs.Answers.{says_failed};
 ghost use Rattle.oz_entries.specs.Held.{any_in};
 ghost use Rattle.oz_entries.specs.Node.{is_same_block, chunk_count};
-ghost use Rattle.oz_world.specs.Disk.{seen, Stands};
+ghost use Rattle.oz_world.specs.Disk.{seen, Stands, TellsAsBefore};
 ghost use Rattle.oz_world.specs.Faults.{Rose, HasCause};
 
 use crate::draft::{Draft, Part};
@@ -189,6 +189,11 @@ impl<D: Disk> Shelf<D> {
         ensures full { IfErr result (λ why. (full : Full) → why ≡ Unwritten.Full full →
             AllTakenBelow SLOTS self.old.slots.taken
             × (full ≡ record { used = CAPACITY; asked = SLOT_BYTES; capacity = CAPACITY }) × (self.new ≡ self.old)) }
+        ensures begun { OnOk result (place ≡ 0 → (length self.new.draft.chunks ≡ 1)
+            × (makes self.new.draft block (length bytes.now) ≡ true)) }
+        ensures grown { OnOk result ((size : ℕ) → makes self.old.draft block size ≡ true → size ≡ place * SLOT_BYTES →
+            (follows self.old.draft block place ≡ true) × (length self.old.draft.chunks ≡ place)
+            × (makes self.new.draft block (size + length bytes.now) ≡ true)) }
         ensures crowded { AllTakenBelow SLOTS self.old.slots.taken →
             result ≡ Err (Unwritten.Full (record { used = CAPACITY; asked = SLOT_BYTES; capacity = CAPACITY })) }
         ensures failed { self.new.failed ≡ says_failed result }
@@ -196,6 +201,7 @@ impl<D: Disk> Shelf<D> {
         ensures cause { self.new.failed ≡ true → Rose (D.faults self.old.slots.disk) (D.faults self.new.slots.disk) }
         ensures kept { KeepsTold (is_taken self.old.slots.taken) (D.told self.old.slots.disk)
             (D.told self.new.slots.disk) }
+        ensures telling { TellsAsBefore (D.told self.old.slots.disk) (D.told self.new.slots.disk) }
         ensures settled { (used : ℕ → Bool) →
             Rests used self.old (seen (D.told self.old.slots.disk) (D.clock self.old.slots.disk)
             (D.image self.old.slots.disk) (D.faults self.old.slots.disk)) →

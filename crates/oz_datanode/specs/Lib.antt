@@ -1,2 +1,4 @@
 pub mod Datanode
+pub mod Pairs
 pub mod Steps
+pub mod Writing

@@ -1,3 +1,4 @@
+pub mod Editing
 pub mod FreeSlots
 pub mod Freeing
 pub mod Making

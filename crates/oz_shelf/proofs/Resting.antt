@@ -1,18 +1,19 @@
 -- What writes, syncs and edits do to slots that are in order.
-use Rattle.std.proofs.Common.{◌≡◌, inl, inr, ℕ, ◌-◌, ◌<◌, ◌≤◌, eqb, Bool, true, false, cond, ◌||◌, ◌↔◌, IsTrue, All, Contains, List, [], ◌∷◌, ◌++◌, length, Option, None, Some, is_some, IfSome, refl, sym, ap, ◌∙◌, subst, arith, eqb-true, eq-eqb}
+use Rattle.std.proofs.Common.{◌≡◌, inl, inr, ℕ, ◌-◌, ◌<◌, ◌≤◌, eqb, Bool, true, false, cond, ◌||◌, ◌↔◌, IsTrue, All, Contains, List, [], ◌∷◌, ◌++◌, length, Option, None, Some, is_some, IfSome, Result, Ok, refl, sym, ap, ◌∙◌, subst, arith, eqb-true, eq-eqb}
 use Rattle.std.proofs.lemmas.Bool.{cases_lt, false≢true}
 use Rattle.std.proofs.lemmas.List.Elements.{All-contains}
 use Rattle.std.specs.Option.{option_map}
-use Rattle.oz_chunk.specs.Slots.{start_of, slot_bytes, padded, IsWithin, Keeps}
+use Rattle.oz_chunk.specs.Disk.{Syncs}
+use Rattle.oz_chunk.specs.Slots.{State as Slots, start_of, slot_bytes, padded, IsWithin, Keeps}
 use Rattle.oz_chunk.specs.Taken.{is_taken, AllTakenBelow, Marks}
 use Rattle.oz_chunk.specs.laws.Keeping.{stands, torn_keeps}
 use Rattle.oz_entries.specs.declared.row.Chunk.{Chunk}
 use Rattle.oz_entries.specs.Node.{HaveFreeSlots, or_slots}
 use Rattle.oz_entries.specs.Held.{any_in}
-use Rattle.oz_world.specs.Disk.{Images, Seen, Torn, Moves, overwritten, IsStable}
+use Rattle.oz_world.specs.Disk.{Images, Seen, Same, Torn, Moves, TellsAsBefore, overwritten, IsStable}
 use Rattle.oz_world.specs.Moments.{Spans}
 use Rattle.oz_fields.specs.declared.block.Block.{Block}
-use Rattle.oz_shelf.specs.Shelf.{ShelfView, Rests, HaveSame, AreSettled, KeepsTold}
+use Rattle.oz_shelf.specs.Shelf.{DraftView, ShelfView, Rests, HaveSame, AreSettled, KeepsTold}
 use Rattle.oz_shelf.proofs.FreeSlots.{or_slots_split, or_slots_push, free_any, unused_parts}
 
 -- each image of a later moment came from one of the first, or the moment is the same
@@ -194,3 +195,58 @@ used_with true true block user is = refl
 used_with true false block user is = refl
 used_with false true block user is = sym is
 used_with false false block user is = sym is
+
+-- what was written goes, and its slots are free
+pub begin_rests : {D : Type 0} (used : ℕ → Bool) (old new : ShelfView D) (before after : Seen) → Rests used old before → ((s : ℕ) → is_taken new.slots.taken s ≡ cond (any_in old.draft.chunks s) false (is_taken old.slots.taken s)) → new.draft.chunks ≡ [] → after.told ≡ before.told → AreSettled used after → Rests used new after
+begin_rests used old new before after rests free none told settled = rests_as used used old new before after rests (λ s is. fewer (any_in old.draft.chunks s) (is_taken old.slots.taken s) (sym (free s) ∙ is)) (subst (HaveFreeSlots used) (sym none) tt) (λ s. free s ∙ (ap (λ (b : Bool). cond (any_in old.draft.chunks s) false b) (rests.taken s ∙ or_slots_split used old.draft.chunks s) ∙ (only (used s) (any_in old.draft.chunks s) (free_any used old.draft.chunks rests.free s) ∙ ap (λ (l : List Chunk). or_slots used l s) (sym none)))) told settled
+  where
+    fewer : (a t : Bool) → cond a false t ≡ true → t ≡ true
+    fewer true t is = absurd (false≢true is)
+    fewer false t is = is
+
+    only : (u a : Bool) → (a ≡ true → u ≡ false) → cond a false (u || a) ≡ u
+    only u true apart = sym (apart refl)
+    only true false apart = refl
+    only false false apart = refl
+
+-- what was written is that of blocks
+pub forget_rests : {D : Type 0} (used later : ℕ → Bool) (old new : ShelfView D) (before after : Seen) → Rests used old before → ((s : ℕ) → later s ≡ (used s || any_in old.draft.chunks s)) → new.slots ≡ old.slots → new.draft.chunks ≡ [] → after.told ≡ before.told → AreSettled later after → Rests later new after
+forget_rests {D = D} used later old new before after rests more same none told settled =
+    let still : (s : ℕ) → is_taken new.slots.taken s ≡ is_taken old.slots.taken s = λ s. ap (λ (slots : Slots D). is_taken slots.taken s) same in
+    rests_as used later old new before after rests (λ s is. sym (still s) ∙ is) (subst (HaveFreeSlots later) (sym none) tt) (λ s. still s ∙ (rests.taken s ∙ (or_slots_split used old.draft.chunks s ∙ (sym (more s) ∙ ap (λ (l : List Chunk). or_slots later l s) (sym none))))) told settled
+
+-- a sync leaves them in order
+pub sync_rests : {D T E : Type 0} (used : ℕ → Bool) (old new : ShelfView D) (before after : Seen) (result : Result T E) → Rests used old before → Syncs before after result → new.slots.taken ≡ old.slots.taken → new.draft ≡ old.draft → Rests used new after
+sync_rests used old new before after result rests syncs taken draft =
+    rests_as used used old new before after rests (λ s is. sym (ap (λ (l : List Bool). is_taken l s) taken) ∙ is) (subst (λ (d : DraftView). HaveFreeSlots used d.chunks) (sym draft) rests.free) (λ s. ap (λ (l : List Bool). is_taken l s) taken ∙ (rests.taken s ∙ ap (λ (d : DraftView). or_slots used d.chunks s) (sym draft))) syncs.told
+    (settled_after used before after rests.settled (told_same before.told after.told syncs.told) (moves_same before.told after.told syncs.told) (spans_weaker before.clock after.clock before.image after.image syncs.time))
+  where
+    told_same : (a b : Option (List ℕ)) → b ≡ a → KeepsTold used a b
+    told_same None b is = tt
+    told_same (Some bytes) None is = tt
+    told_same (Some bytes) (Some other) is = λ slot kept within. let same = some_same is in (subst (IsWithin slot) (sym same) within, ap (slot_bytes slot) same)
+      where
+        some_same : Some other ≡ Some bytes → other ≡ bytes
+        some_same e = cc
+
+    moves_same : (a b : Option (List ℕ)) → b ≡ a → Moves (λ x y. Unit {0}) a b
+    moves_same None b is = is
+    moves_same (Some bytes) None is = absurd cc
+    moves_same (Some bytes) (Some other) is = tt
+
+    spans_weaker : (from to : ℕ) (i j : Images) → Spans Same from to i j → Spans (Keeps used) from to i j
+    spans_weaker from to i j spans = record {
+      elapses = spans.elapses;
+      made = λ t left past by here. let found = spans.made t left past by here in (found.0, found.1, λ slot kept within. (subst (IsWithin slot) (sym found.2) within, ap (slot_bytes slot) found.2));
+    }
+
+-- once that succeeded, all that is taken is settled
+pub sync_settles : {D T E : Type 0} (used : ℕ → Bool) (old new : ShelfView D) (before after : Seen) (x : T) → Rests used old before → Syncs {T = T} {E = E} before after (Ok x) → new.slots.taken ≡ old.slots.taken → AreSettled (is_taken new.slots.taken) after
+sync_settles used old new before after x rests syncs taken =
+    settled_stable (is_taken new.slots.taken) after (subst (λ (o : Option (List ℕ)). IfSome o (λ bytes. (s : ℕ) → is_taken new.slots.taken s ≡ true → IsWithin s bytes)) (sym syncs.told) (subst (λ (l : List Bool). IfSome before.told (λ bytes. (s : ℕ) → is_taken l s ≡ true → IsWithin s bytes)) (sym taken) rests.within)) syncs.stable
+
+-- a disk tells after a write where it told before
+pub moves_tell : (step : List ℕ → List ℕ → Type 0) (before after : Option (List ℕ)) → Moves step before after → TellsAsBefore before after
+moves_tell step None after moves = (λ none. moves, λ none. refl)
+moves_tell step (Some bytes) None moves = absurd moves
+moves_tell step (Some bytes) (Some other) moves = (λ none. absurd cc, λ none. absurd cc)

@@ -1,9 +1,9 @@
 -- What is seen of the slots of a datanode and of what was written to them, and when both are in order.
-use Rattle.std.specs.Prelude.{◌≡◌, ℕ, ◌+◌, ◌-◌, ◌==◌, ◌&&◌, min, Bool, true, false, List, [], ◌∷◌, ◌++◌, length, Option, Result, Ok, Err, IfSome, if◌then◌else◌}
+use Rattle.std.specs.Prelude.{◌≡◌, ℕ, ◌+◌, ◌-◌, ◌<◌, ◌==◌, nat_lt, ◌&&◌, min, Bool, true, false, List, [], ◌∷◌, ◌++◌, length, Option, Result, Ok, Err, IfSome, if◌then◌else◌}
 use Rattle.oz_chunk.specs.declared.fault.SlotFault.{SlotFault}
 use Rattle.oz_chunk.specs.Slots.{State as Slots, IsWithin, Keeps, slot_bytes, padded}
 use Rattle.oz_chunk.specs.Taken.{is_taken, AllTakenBelow}
-use Rattle.oz_chunk.specs.declared.table.TheConstants.{SLOT_SIZE}
+use Rattle.oz_chunk.specs.declared.table.TheConstants.{SLOTS, SLOT_SIZE}
 use Rattle.oz_entries.specs.declared.row.Chunk.{Chunk}
 use Rattle.oz_entries.specs.Node.{is_same_block, HaveFreeSlots, or_slots}
 use Rattle.oz_fields.specs.declared.block.Block.{Block}
@@ -32,7 +32,8 @@ follows draft block place = is_same_block draft.block block && (place == length 
 unfoldable pub makes_from : ℕ → ℕ → List Part → Bool
 makes_from place size [] = size == 0
 makes_from place size (part ∷ parts) =
-    (part.place == place) && (part.size == min size SLOT_SIZE) && makes_from (place + 1) (size - SLOT_SIZE) parts
+    nat_lt 0 size && (part.place == place) && (part.size == min size SLOT_SIZE)
+    && makes_from (place + 1) (size - SLOT_SIZE) parts
 
 -- the chunks that were written of the block make so many bytes
 abbrev pub makes : DraftView → Block → ℕ → Bool
@@ -53,6 +54,7 @@ empty_draft block = record { block = block; parts = []; chunks = [] }
 pub record IsWritten {D : Type 0} (block : Block) (place : ℕ) (bytes : List ℕ) (old new : ShelfView D)
     (told : Option (List ℕ)) : Type 0 where
   pub slot : ℕ
+  pub there : slot < SLOTS
   pub free : is_taken old.slots.taken slot ≡ false
   pub lowest : AllTakenBelow slot old.slots.taken
   pub draft : new.draft ≡ with_part old.draft block (record { place = place; size = length bytes })

@@ -1,8 +1,8 @@
 //! The chunks that were written of a block that isn't put yet.
 
-ghost use Rattle.std.specs.Prelude.{◌≡◌, ◌+◌, ◌<◌, ◌++◌, ◌∷◌, ◌==◌, ◌&&◌, [], length, min, IfOk};
+ghost use Rattle.std.specs.Prelude.{◌≡◌, ◌+◌, ◌<◌, ◌++◌, ◌∷◌, ◌==◌, ◌&&◌, nat_lt, [], true, length, min, IfOk};
 ghost use Rattle.oz_chunk.specs.declared.table.TheConstants.{SLOT_SIZE as SLOT_BYTES};
-ghost use Rattle.oz_entries.specs.Node.{is_same_block};
+ghost use Rattle.oz_entries.specs.Node.{is_same_block, chunk_count};
 ghost use Rattle.oz_shelf.specs.Shelf.{empty_draft, follows, makes, makes_from};
 
 use oz_chunk::SLOT_SIZE;
@@ -73,7 +73,8 @@ impl Draft {
 
     /// Whether the chunks make so many bytes of a block.
     pub(crate) fn makes(&self, block: Block, size: u32) -> bool
-        ensures { result ≡ makes self.now block size }
+        ensures makes { result ≡ makes self.now block size }
+        ensures count { result ≡ true → length self.now.chunks ≡ chunk_count size }
     {
         self.block == block && makes(&self.parts, size)
     }
@@ -116,11 +117,12 @@ impl Draft {
     /// One chunk more.
     pub(crate) fn add(&mut self, part: Part, chunk: Chunk)
         requires { length self.old.parts < 4 }
-        ensures { self.new ≡ record {
+        ensures added { self.new ≡ record {
           block = self.old.block;
           parts = self.old.parts ++ part ∷ [];
           chunks = self.old.chunks ++ chunk ∷ [];
         } }
+        ensures each { length self.new.parts ≡ length self.new.chunks }
     {
         self.parts.push(part).unwrap();
         self.chunks.push(chunk).unwrap();
@@ -143,7 +145,7 @@ fn makes(parts: &[Part], size: u32) -> bool
 
 /// Whether a part stands in this place, where so many bytes are left.
 fn fits(part: Part, place: usize, left: u64) -> bool
-    ensures { result ≡ ((part.place == place) && (part.size == min left SLOT_BYTES)) }
+    ensures { result ≡ (nat_lt 0 left && (part.place == place) && (part.size == min left SLOT_BYTES)) }
 {
-    part.place as usize == place && part.size as u64 == left.min(SLOT_SIZE)
+    0 < left && part.place as usize == place && part.size as u64 == left.min(SLOT_SIZE)
 }

@@ -1,7 +1,7 @@
 //! The slots of a datanode, and what was written to them of a block that isn't put yet.
 
-ghost use Rattle.std.specs.Prelude.{◌≡◌, ◌≤◌, ◌<◌, ◌+◌, [], ℕ, Bool, true, false, length, is_err};
-ghost use Rattle.std.specs.Prelude.{IfOk, IfErr, OnOk, OnErr, IfSome, Contains, IsTrue, ◌↔◌, slice_range, if◌then◌else◌};
+ghost use Rattle.std.specs.Prelude.{◌≡◌, ◌≤◌, ◌<◌, ◌+◌, ◌*◌, [], ℕ, Bool, true, false, length, is_err};
+ghost use Rattle.std.specs.Prelude.{IfOk, IfErr, OnOk, OnErr, IfSome, Contains, IsTrue, ◌↔◌, slice_range, if◌then◌else◌, ◌||◌, Err};
 ghost use Rattle.oz_chunk.specs.Disk.{Syncs, Empties};
 ghost use Rattle.oz_chunk.specs.Slots.{start_of, IsWithin, IsLowestPast};
 ghost use Rattle.oz_chunk.specs.Taken.{is_taken, AllTakenBelow};
@@ -10,8 +10,8 @@ ghost use Rattle.oz_shelf.specs.Shelf.{follows, makes, IsWritten, KeepsTold, Are
 ghost use Rattle.oz_chunk.specs.declared.fault.SlotFull.{SlotFull as Full};
 ghost use Rattle.oz_shelf.specs.Answers.{says_failed};
 ghost use Rattle.oz_entries.specs.Held.{any_in};
-ghost use Rattle.oz_entries.specs.Node.{is_same_block};
-ghost use Rattle.oz_world.specs.Disk.{seen, Stands};
+ghost use Rattle.oz_entries.specs.Node.{is_same_block, chunk_count};
+ghost use Rattle.oz_world.specs.Disk.{seen, Stands, TellsAsBefore};
 ghost use Rattle.oz_world.specs.Faults.{Rose, HasCause};
 
 use crate::draft::{Draft, Part};
@@ -105,7 +105,8 @@ impl<D: Disk> Shelf<D> {
 
     /// Whether the chunks that were written make so many bytes of a block.
     pub fn makes(&self, block: Block, size: u32) -> bool
-        ensures { result ≡ makes self.now.draft block size }
+        ensures makes { result ≡ makes self.now.draft block size }
+        ensures count { result ≡ true → length self.now.draft.chunks ≡ chunk_count size }
     {
         self.draft.makes(block, size)
     }
@@ -131,6 +132,10 @@ impl<D: Disk> Shelf<D> {
         ensures disk { self.new.slots.disk ≡ self.old.slots.disk }
         ensures free { (slot : ℕ) → is_taken self.new.slots.taken slot
             ≡ (if any_in self.old.draft.chunks slot then false else is_taken self.old.slots.taken slot) }
+        ensures rests { (used : ℕ → Bool) → Rests used self.old (seen (D.told self.old.slots.disk) (D.clock self.old.slots.disk)
+            (D.image self.old.slots.disk) (D.faults self.old.slots.disk))
+            → Rests used self.new (seen (D.told self.new.slots.disk) (D.clock self.new.slots.disk)
+            (D.image self.new.slots.disk) (D.faults self.new.slots.disk)) }
     {
         free_chunks(&mut self.slots, self.draft.chunks());
         self.draft.begin(block);
@@ -155,11 +160,19 @@ impl<D: Disk> Shelf<D> {
 
     /// Begins the draft of a block, whose chunks have been put.
     pub fn forget(&mut self, block: Block)
-        ensures { self.new ≡ record {
+        ensures draft { self.new ≡ record {
           slots = self.old.slots;
           draft = empty_draft block;
           failed = self.old.failed;
         } }
+        ensures rests { (used later : ℕ → Bool) →
+            ((slot : ℕ) → later slot ≡ (used slot || any_in self.old.draft.chunks slot)) →
+            Rests used self.old (seen (D.told self.old.slots.disk) (D.clock self.old.slots.disk)
+            (D.image self.old.slots.disk) (D.faults self.old.slots.disk)) →
+            AreSettled later (seen (D.told self.old.slots.disk) (D.clock self.old.slots.disk)
+            (D.image self.old.slots.disk) (D.faults self.old.slots.disk)) →
+            Rests later self.new (seen (D.told self.new.slots.disk) (D.clock self.new.slots.disk)
+            (D.image self.new.slots.disk) (D.faults self.new.slots.disk)) }
     {
         self.draft.begin(block);
     }
@@ -176,11 +189,19 @@ impl<D: Disk> Shelf<D> {
         ensures full { IfErr result (λ why. (full : Full) → why ≡ Unwritten.Full full →
             AllTakenBelow SLOTS self.old.slots.taken
             × (full ≡ record { used = CAPACITY; asked = SLOT_BYTES; capacity = CAPACITY }) × (self.new ≡ self.old)) }
+        ensures begun { OnOk result (place ≡ 0 → (length self.new.draft.chunks ≡ 1)
+            × (makes self.new.draft block (length bytes.now) ≡ true)) }
+        ensures grown { OnOk result ((size : ℕ) → makes self.old.draft block size ≡ true → size ≡ place * SLOT_BYTES →
+            (follows self.old.draft block place ≡ true) × (length self.old.draft.chunks ≡ place)
+            × (makes self.new.draft block (size + length bytes.now) ≡ true)) }
+        ensures crowded { AllTakenBelow SLOTS self.old.slots.taken →
+            result ≡ Err (Unwritten.Full (record { used = CAPACITY; asked = SLOT_BYTES; capacity = CAPACITY })) }
         ensures failed { self.new.failed ≡ says_failed result }
         ensures draft { OnErr result (self.new.draft ≡ self.old.draft) }
         ensures cause { self.new.failed ≡ true → Rose (D.faults self.old.slots.disk) (D.faults self.new.slots.disk) }
         ensures kept { KeepsTold (is_taken self.old.slots.taken) (D.told self.old.slots.disk)
             (D.told self.new.slots.disk) }
+        ensures telling { TellsAsBefore (D.told self.old.slots.disk) (D.told self.new.slots.disk) }
         ensures settled { (used : ℕ → Bool) →
             Rests used self.old (seen (D.told self.old.slots.disk) (D.clock self.old.slots.disk)
             (D.image self.old.slots.disk) (D.faults self.old.slots.disk)) →
@@ -242,6 +263,14 @@ impl<D: Disk> Shelf<D> {
         ensures taken { self.new.slots.taken ≡ self.old.slots.taken }
         ensures draft { self.new.draft ≡ self.old.draft }
         ensures failed { self.new.failed ≡ is_err result }
+        ensures rests { (used : ℕ → Bool) → Rests used self.old (seen (D.told self.old.slots.disk) (D.clock self.old.slots.disk)
+            (D.image self.old.slots.disk) (D.faults self.old.slots.disk))
+            → Rests used self.new (seen (D.told self.new.slots.disk) (D.clock self.new.slots.disk)
+            (D.image self.new.slots.disk) (D.faults self.new.slots.disk)) }
+        ensures settled { (used : ℕ → Bool) → Rests used self.old (seen (D.told self.old.slots.disk) (D.clock self.old.slots.disk)
+            (D.image self.old.slots.disk) (D.faults self.old.slots.disk))
+            → OnOk result (AreSettled (is_taken self.new.slots.taken) (seen (D.told self.new.slots.disk) (D.clock self.new.slots.disk)
+            (D.image self.new.slots.disk) (D.faults self.new.slots.disk))) }
     {
         let Ok(()) = self.slots.sync() else {
             self.failed = true;

@@ -183,8 +183,8 @@ fn overwrite<R: Abort, L: Ledger>(rt: &R, alloc: Global, blank: Blank) -> Result
     Ok(())
 }
 
-/// What is handed to it may cross threads.
-fn crosses<T: Send + Sync>(_value: &T) {}
+/// What is handed to it may go to another thread, and be looked at by one at a time.
+fn crosses<T: Send>(_value: &T) {}
 
 #[test]
 fn a_cache_may_cross_threads(rt: HostRuntime) -> Result<(), Fail> {

@@ -1,7 +1,8 @@
 //! What a script says, shown.
 
 use oz_draft::ScriptFault;
-use oz_lines::{Line, PlacedScript, read_lines};
+use oz_lines::Line;
+use oz_placed::{PlacedScript, read_lines};
 use oz_script::parse;
 use std::alloc::{AllocError, Global};
 use std::process::Abort;

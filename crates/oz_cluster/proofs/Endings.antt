@@ -36,7 +36,7 @@ use Rattle.oz_cluster.specs.Quiet.{IsServed, IsRight, IsHeld, IsLoaded}
 use Rattle.oz_cluster.specs.Stopped.{status_of, text_of, IsScript, IsScriptOf, IsSo, Reads, Says, IsUntouched, IsAtMostLoaded, Spares, IsStopped}
 use Rattle.oz_cluster.specs.Report.{report_of}
 use Rattle.oz_lines.specs.Numbered.{IsNumbered}
-use Rattle.oz_lines.specs.Served.{later_index}
+use Rattle.oz_placed.specs.Served.{later_index}
 use Rattle.oz_script.specs.Parsing.{ParsesTo}
 use Rattle.oz_script.specs.laws.OneAnswer.{one_answer}
 use Rattle.oz_cluster.specs.StatusCauses.{HasBegun, IsFaultOf, StatusCauses}

@@ -16,7 +16,7 @@ use Rattle.oz_cluster.specs.Fits.{Fits, AllAreTold, FitsFrom, IsLineOf, lines_of
 use Rattle.oz_cluster.specs.Law.{IsLegalFrom}
 use Rattle.oz_cluster.specs.Quiet.{IsServed, counted}
 use Rattle.oz_lines.specs.Numbered.{AreNumbered, IsNumbered, lines_of as written_of}
-use Rattle.oz_lines.specs.Served.{is_served, is_served_command, later_index}
+use Rattle.oz_placed.specs.Served.{is_served, is_served_command, later_index}
 use Rattle.oz_cluster.specs.Story.{Opening, namespace_from, kept_from}
 use Rattle.oz_cluster.proofs.Lines.{Sums, Leads}
 

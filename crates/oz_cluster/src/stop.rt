@@ -6,7 +6,7 @@ ghost use Rattle.oz_world.specs.Faults.{Rose};
 ghost use Rattle.oz_cluster.specs.declared.stop.Stop.{Stop};
 ghost use Rattle.oz_cluster.specs.Stopped.{status_of, text_of, IsScriptOf, IsSo, Reads, Says};
 ghost use Rattle.oz_lines.specs.Numbered.{IsNumbered};
-ghost use Rattle.oz_lines.specs.Served.{later_index};
+ghost use Rattle.oz_placed.specs.Served.{later_index};
 ghost use Rattle.oz_cluster.specs.Streams.{script_limit, TakesUpTo, IsReadThrough};
 ghost use Rattle.oz_cluster.specs.Words.{IsRun};
 

@@ -9,7 +9,7 @@ ghost use Rattle.oz_namespace.specs.declared.namespace.Namespace.{Namespace as A
 ghost use Rattle.oz_decision.specs.Meets.{Stand};
 ghost use Rattle.oz_sound.specs.Sound.{IsSound};
 ghost use Rattle.oz_lines.specs.Numbered.{IsNumbered};
-ghost use Rattle.oz_lines.specs.Served.{later_index};
+ghost use Rattle.oz_placed.specs.Served.{later_index};
 ghost use Rattle.oz_cluster.specs.Manager.{IsSettled};
 ghost use Rattle.oz_cluster.specs.Quiet.{IsLoaded, IsServed, IsRight, IsHeld};
 

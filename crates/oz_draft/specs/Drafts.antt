@@ -14,7 +14,8 @@ use Rattle.oz_command.specs.declared.command.Command.TheVariants.{SnapshotList, 
 use Rattle.oz_command.specs.Words.{is_blank, is_visible, words}
 use Rattle.oz_draft.specs.declared.drafting.Draft.{Draft}
 use Rattle.oz_draft.specs.declared.drafting.Entry.{Entry}
-use Rattle.oz_draft.specs.declared.drafting.TheConstants.{MOST_BYTES, MOST_LINES, MOST_CLIENTS}
+use Rattle.oz_draft.specs.declared.drafting.TheConstants.{MOST_BYTES}
+use Rattle.oz_lines.specs.declared.script.TheConstants.{MOST_LINES, MOST_CLIENTS}
 use Rattle.oz_draft.specs.declared.fault.Cause.TheVariants.{Long, Form, Many, Label}
 use Rattle.oz_draft.specs.declared.fault.ScriptFault.{ScriptFault}
 use Rattle.oz_draft.specs.declared.fault.ScriptFault.TheVariants.{At, OutOfMemory}

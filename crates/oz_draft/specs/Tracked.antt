@@ -5,7 +5,7 @@ use Rattle.std.specs.Cmp.Lexicographic.{slice_cmp}
 use Rattle.std.specs.Ordering.{nat_cmp, ordering_then}
 use Rattle.std.specs.declared.cmp.Ordering.{Ordering}
 use Rattle.oz_draft.specs.declared.drafting.Draft.{Draft}
-use Rattle.oz_draft.specs.declared.drafting.TheConstants.{MOST_CLIENTS}
+use Rattle.oz_lines.specs.declared.script.TheConstants.{MOST_CLIENTS}
 use Rattle.oz_draft.specs.declared.labels.OpenedLabel.{OpenedLabel}
 use Rattle.oz_draft.specs.Drafts.{count_in, is_opened}
 

@@ -13,17 +13,12 @@ use crate::labels::{OpenedLabel, has_label, label_used, with_opened};
 use crate::said::{Said, said_of};
 use oz_command::{Command, is_of_words, split_line, split_word};
 use oz_fields::{List, Name, OutOfMemory};
+use oz_lines::{MOST_CLIENTS, MOST_LINES};
 use std::alloc::Global;
 use std::collections::BTreeSet;
 
 /// A script has at most so many bytes.
 pub const MOST_BYTES: usize = 1_048_576;
-
-/// A script has at most so many lines with a command.
-pub const MOST_LINES: usize = 4_096;
-
-/// A script has at most so many clients.
-pub const MOST_CLIENTS: usize = 64;
 
 /// A line with a command, as it is written.
 #[derive(Debug, Drop)]

@@ -6,9 +6,7 @@ mod fault;
 mod labels;
 mod said;
 
-pub use drafting::{
-    Draft, Drafting, Entry, MOST_BYTES, MOST_CLIENTS, MOST_LINES, client_place, draft_of,
-};
+pub use drafting::{Draft, Drafting, Entry, MOST_BYTES, client_place, draft_of};
 pub use fault::{Cause, ScriptFault};
 pub use labels::OpenedLabel;
 pub use said::{GREATEST_AFTER, Said, said_of};

@@ -11,11 +11,11 @@ use Rattle.oz_draft.specs.declared.fault.ScriptFault.{ScriptFault}
 use Rattle.oz_draft.specs.declared.fault.ScriptFault.TheVariants.{At, OutOfMemory}
 use Rattle.oz_draft.specs.declared.fault.Cause.TheVariants.{Circle, Later}
 use Rattle.oz_lines.specs.declared.script.Line.{Line}
-use Rattle.oz_lines.specs.declared.script.PlacedScript.{PlacedScript}
+use Rattle.oz_placed.specs.declared.placed.PlacedScript.{PlacedScript}
 use Rattle.oz_lines.specs.declared.script.Script.{Script}
 use Rattle.oz_draft.specs.Drafts.{Fails}
-use Rattle.oz_lines.specs.Placed.{read_of}
-use Rattle.oz_lines.specs.Served.{is_served, later_index}
+use Rattle.oz_placed.specs.Placed.{read_of}
+use Rattle.oz_placed.specs.Served.{is_served, later_index}
 use Rattle.oz_script.specs.Parsing.{IsFaultAt, Answers, AnswersRead, ParsesTo, Gives}
 use Rattle.oz_script.specs.Waiting.{Needs, WaitsFor}
 use Rattle.oz_script.proofs.Counting.{the_some}

@@ -6,10 +6,10 @@ use Rattle.oz_draft.specs.declared.fault.Cause.{Cause}
 use Rattle.oz_draft.specs.declared.fault.Cause.TheVariants.{Circle, Later}
 use Rattle.oz_draft.specs.declared.fault.ScriptFault.{ScriptFault}
 use Rattle.oz_draft.specs.declared.fault.ScriptFault.TheVariants.{At, OutOfMemory}
-use Rattle.oz_lines.specs.declared.script.PlacedScript.{PlacedScript}
+use Rattle.oz_placed.specs.declared.placed.PlacedScript.{PlacedScript}
 use Rattle.oz_lines.specs.declared.script.Script.{Script}
-use Rattle.oz_lines.specs.Placed.{read_of}
-use Rattle.oz_lines.specs.Served.{later_index}
+use Rattle.oz_placed.specs.Placed.{read_of}
+use Rattle.oz_placed.specs.Served.{later_index}
 use Rattle.oz_script.specs.Waiting.{WaitsFor}
 
 -- the answer names a line with this fault, by its place in the text

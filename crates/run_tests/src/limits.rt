@@ -3,7 +3,7 @@
 #[cfg(test)]
 mod tests {
     use crate::memory_run::{NEVER, runs};
-    use oz_draft::MOST_LINES;
+    use oz_lines::MOST_LINES;
     use oz_names::{LONGEST_NAME, MOST_BUCKETS};
     use oz_world::OutOfMemory;
     use std::alloc::Global;

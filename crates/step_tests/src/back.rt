@@ -1,9 +1,9 @@
 //! What comes back to a line, as tables have it.
 
+use oz_client::{Got, Written};
 use oz_container::State;
 use oz_core::PutRefusal;
 use oz_fields::{Block, List, Name, OutOfMemory, Piece};
-use oz_line::{Got, Written};
 use oz_names::Code;
 use oz_requests::{Answer, Counts, Reply, Values};
 use std::alloc::Global;

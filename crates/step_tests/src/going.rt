@@ -2,8 +2,8 @@
 
 use crate::back::{Back, got};
 use crate::shown::shown;
+use oz_client::LineSteps;
 use oz_command::{Command, command_of};
-use oz_line::LineSteps;
 use oz_steps::Label;
 use std::alloc::{AllocError, Global};
 use std::process::Abort;

@@ -2,7 +2,7 @@
 
 use crate::back::{Back, Said};
 use crate::going::{NODES, command, goes, stepped};
-use oz_line::LineSteps;
+use oz_client::LineSteps;
 use oz_names::Code;
 use oz_steps::Label;
 use std::alloc::Global;

@@ -1,9 +1,9 @@
 //! Steps, shown.
 
 use crate::asked::request_shown;
+use oz_client::Step;
 use oz_command::AdminCommand;
 use oz_fields::{Block, List, Name};
-use oz_line::Step;
 use oz_requests::{Answer, Values};
 use std::alloc::{AllocError, Global};
 

@@ -1,0 +1,5 @@
+pub mod LineState
+pub mod Replies
+pub mod Onward
+pub mod Stories
+pub mod inner

@@ -1,5 +1,0 @@
-pub mod Course
-pub mod Replies
-pub mod Onward
-pub mod Stories
-pub mod inner

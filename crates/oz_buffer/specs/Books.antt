@@ -6,6 +6,7 @@ use Rattle.oz_core.specs.declared.event.Node.{Node}
 use Rattle.oz_core.specs.declared.opening.Opening.{Opening}
 use Rattle.oz_core.specs.Manager.{last_index, durable_index, halt_of}
 use Rattle.oz_buffer.specs.Buffer.{AllFollow, buffer_of}
+use Rattle.oz_buffer.specs.Courses.{AreOf}
 use Rattle.oz_buffer.specs.Summaries.{count_in}
 use Rattle.oz_buffer.specs.declared.ledger.Reserve.{Reserve}
 use Rattle.oz_buffer.specs.declared.ledger.Reserve.TheVariants.{Later}
@@ -40,14 +41,16 @@ IsLater held asked result =
     (LARGEST_BUFFER < held + asked → result ≡ Err (Later held asked))
     × ((h a : ℕ) → result ≡ Err (Later h a) → LARGEST_BUFFER < held + asked)
 
--- The summary is that of the story, and there is memory for all rooms and for what the buffer brings with it.
+-- The summary is that of the story, and there is memory in both for all rooms and for what the buffer brings with it.
 pub record IsKept (Follow : List Event → Event → Type 0) (opening : Opening) (story : List Event) (summary : Summary)
     (buffer rooms : List ℕ) (total capacity : ℕ) : Type 0 where
   pub follow : AllFollow Follow [] story
   pub last : summary.last ≡ last_index opening story
   pub durable : summary.durable ≡ durable_index opening story
   pub halts : (node : Node) → count_in summary node ≡ halt_of node story
+  pub courses : AreOf story summary.courses
   pub buffered : buffer ≡ buffer_of story
   pub counted : total ≡ sum rooms
   pub seats : length rooms ≡ 64
   pub fits : length story + sum rooms + still_to_come buffer ≤ capacity
+  pub spared : sum rooms + still_to_come buffer ≤ summary.courses.spare

@@ -1,10 +1,15 @@
 //! The value in the turn.
 
-ghost use Rattle.std.specs.Prelude.{◌≡◌, ◌≢◌, ℕ, ◌+◌, ◌<◌, ◌≤◌, ◌↔◌, [], ◌∷◌, ◌++◌, length, max, slice_index, IsTrue, OnOk, OnErr};
+ghost use Rattle.std.specs.Prelude.{◌≡◌, ◌≢◌, ℕ, ◌+◌, ◌<◌, ◌≤◌, ◌↔◌, [], ◌∷◌, ◌++◌, length, max, true, None, is_some, slice_index, IsTrue, OnOk, OnErr};
 ghost use Rattle.oz_batches.specs.declared.batches.TheConstants.{LARGEST_BUFFER, LONGEST_BATCH};
 ghost use Rattle.oz_buffer.specs.Books.{IsLater, taken_by, wanted_by};
 ghost use Rattle.oz_buffer.specs.Buffer.{AllFollow, Follows, IsDecide, IsNote, IsSwap, batch_in, buffer_of};
-ghost use Rattle.oz_core.specs.Manager.{last_index, durable_index, halt_of};
+ghost use Rattle.oz_buffer.specs.Courses.{index_of};
+ghost use Rattle.oz_core.specs.declared.limits.TheConstants.{SERVICE_CLIENT};
+ghost use Rattle.oz_core.specs.Asks.{is_asked, is_of_line, is_told, last_ask, line_index, pending};
+ghost use Rattle.oz_core.specs.Fits.{told_lines};
+ghost use Rattle.oz_core.specs.Manager.{asked_late, last_index, durable_index, halt_of};
+ghost use Rattle.oz_requests.specs.declared.request.AskId.{AskId as AnyId};
 
 use crate::OutOfMemory;
 use crate::copies::event_copied;
@@ -14,6 +19,7 @@ use crate::rooms::{buffer_batch, no_rooms, room_taken};
 use crate::summary::Summary;
 use oz_batches::{Batches, LARGEST_BUFFER, LONGEST_BATCH};
 use oz_core::{Event, EventKind, Node};
+use oz_requests::AskId;
 use oz_turn::Told;
 use std::alloc::Global;
 use std::marker::{Model, PhantomData};
@@ -84,14 +90,14 @@ impl<O: Opened> Ledger<O> {
             buffer: Batches::new(alloc),
             rooms: no_rooms(),
             total: 0,
-            summary: Summary::new(last_index),
+            summary: Summary::new(alloc, last_index),
             of: PhantomData,
         }
     }
 
     /// Makes a seat's room four greater, for a Decide and the Swap, Flushed and Halt that it may bring with it, and has the
     /// buffer take so many bytes more.
-    pub fn reserve(&mut self, _alloc: Global, seat: u16, bytes: u32) -> Result<(), Reserve>
+    pub fn reserve(&mut self, alloc: Global, seat: u16, bytes: u32) -> Result<(), Reserve>
         requires seat { seat < 64 }
         requires bytes { bytes ≤ LONGEST_BATCH }
         ensures story { self.new.story ≡ self.old.story }
@@ -109,7 +115,7 @@ impl<O: Opened> Ledger<O> {
                 asked: u64::from(bytes),
             });
         }
-        match self.make_room(seat, 4, asked) {
+        match self.make_room(alloc, seat, 4, asked) {
             Ok(()) => Ok(()),
             Err(_error) => Err(Reserve::OutOfMemory),
         }
@@ -118,7 +124,7 @@ impl<O: Opened> Ledger<O> {
     /// Makes a seat's room greater by so many events.
     pub fn reserve_notes(
         &mut self,
-        _alloc: Global,
+        alloc: Global,
         seat: u16,
         events: u32,
     ) -> Result<(), OutOfMemory>
@@ -130,10 +136,16 @@ impl<O: Opened> Ledger<O> {
         ensures spare { self.new.spare ≡ self.old.spare }
         ensures err { OnErr result (self.new ≡ self.old) }
     {
-        self.make_room(seat, events, 0)
+        self.make_room(alloc, seat, events, 0)
     }
 
-    fn make_room(&mut self, seat: u16, events: u32, bytes: usize) -> Result<(), OutOfMemory>
+    fn make_room(
+        &mut self,
+        alloc: Global,
+        seat: u16,
+        events: u32,
+        bytes: usize,
+    ) -> Result<(), OutOfMemory>
         requires seat { seat < 64 }
         requires events { events ≤ 64 }
         requires bytes { 0 < bytes → length (buffer_of self.old.story) + bytes ≤ LARGEST_BUFFER }
@@ -147,6 +159,7 @@ impl<O: Opened> Ledger<O> {
             return Err(OutOfMemory);
         };
         self.story.reserve(places)?;
+        self.summary.reserve(alloc, places)?;
         self.buffer.reserve(bytes)?;
         self.rooms[usize::from(seat)] += u64::from(events);
         self.total += events as usize;
@@ -185,6 +198,74 @@ impl<O: Opened> Ledger<O> {
         ensures { result ≡ halt_of node self.now.story }
     {
         self.summary.count(node)
+    }
+
+    /// Whether an id was asked.
+    pub fn is_asked(&self, id: AskId) -> bool
+        ensures { result ≡ is_asked id self.now.story }
+    {
+        self.summary.courses.course(id).asked
+    }
+
+    /// Whether an id was asked, and not decided since.
+    pub fn is_pending(&self, id: AskId) -> bool
+        ensures { result ≡ is_some (pending id self.now.story) }
+    {
+        self.summary.courses.course(id).pending
+    }
+
+    /// Whether the manager had halted when an id was last asked.
+    pub fn asked_late(&self, id: AskId) -> bool
+        ensures { result ≡ asked_late id self.now.story }
+    {
+        self.summary.courses.course(id).late
+    }
+
+    /// The index with which an id was decided last, None where it wasn't.
+    pub fn index_of(&self, id: AskId) -> Option<u64>
+        ensures { result ≡ index_of id self.now.story }
+    {
+        self.summary.courses.course(id).index
+    }
+
+    /// What a line asked last, None where it asked nothing.
+    pub fn last_ask(&self, client: u16, line: u16) -> Option<AskId>
+        ensures { result ≡ last_ask client line self.now.story }
+    {
+        self.summary.courses.line(client, line).ask
+    }
+
+    /// Whether all that a line asked is decided. By the law a line asks no more until it is.
+    pub fn all_decided(&self, client: u16, line: u16) -> bool
+        ensures { O.coherent → client ≢ SERVICE_CLIENT → (IsTrue result
+            ↔ ((id : AnyId) → is_of_line client line id ≡ true → pending id self.now.story ≡ None)) }
+    {
+        self.all_follow();
+        match self.last_ask(client, line) {
+            Some(id) => !self.is_pending(id),
+            None => true,
+        }
+    }
+
+    /// The greatest index with which an ask of a line was decided, 0 where none was.
+    pub fn line_index(&self, client: u16, line: u16) -> u64
+        ensures { result ≡ line_index client line self.now.story }
+    {
+        self.summary.courses.line(client, line).index
+    }
+
+    /// Whether a line was told.
+    pub fn is_told(&self, client: u16, line: u16) -> bool
+        ensures { result ≡ is_told client line self.now.story }
+    {
+        self.summary.courses.line(client, line).told
+    }
+
+    /// How many lines a client was told.
+    pub fn lines_told(&self, client: u16) -> u64
+        ensures { result ≡ length (told_lines client self.now.story) }
+    {
+        self.summary.courses.told_of(client)
     }
 
     /// Each event may follow those before it. It does nothing when it runs.

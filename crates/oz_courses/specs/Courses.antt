@@ -32,7 +32,7 @@ abbrev pub unasked : Course
 unasked = record { asked = false; pending = false; late = false; index = None }
 
 abbrev pub unasked_line : LineCourse
-unasked_line = record { step = None; index = 0; told = false }
+unasked_line = record { ask = None; index = 0; told = false }
 
 abbrev pub or_else : {X : Type 0} → Option X → X → X
 or_else None other = other
@@ -44,9 +44,9 @@ course_at kept key = or_else (value_of nat_cmp kept.ids key) unasked
 abbrev pub line_at : Kept → ℕ → LineCourse
 line_at kept key = or_else (value_of nat_cmp kept.lines key) unasked_line
 
--- the line that a client was told last
-abbrev pub told_at : Kept → ℕ → Option ℕ
-told_at kept client = value_of nat_cmp kept.clients client
+-- how many lines a client was told
+abbrev pub told_at : Kept → ℕ → ℕ
+told_at kept client = or_else (value_of nat_cmp kept.clients client) 0
 
 -- one thing more
 abbrev pub asked_course : Bool → Course → Course
@@ -55,11 +55,11 @@ asked_course late course = record { asked = true; pending = true; late = late; i
 abbrev pub decided_course : ℕ → Course → Course
 decided_course index course = record { asked = course.asked; pending = false; late = course.late; index = Some index }
 
-abbrev pub asked_line : ℕ → LineCourse → LineCourse
-asked_line step line = record { step = Some step; index = line.index; told = line.told }
+abbrev pub asked_line : AskId → LineCourse → LineCourse
+asked_line id line = record { ask = Some id; index = line.index; told = line.told }
 
 abbrev pub decided_line : ℕ → LineCourse → LineCourse
-decided_line index line = record { step = line.step; index = max line.index index; told = line.told }
+decided_line index line = record { ask = line.ask; index = max line.index index; told = line.told }
 
 abbrev pub told_line : LineCourse → LineCourse
-told_line line = record { step = line.step; index = line.index; told = true }
+told_line line = record { ask = line.ask; index = line.index; told = true }

@@ -1,5 +1,7 @@
 //! What became of an id, and of a line.
 
+use oz_requests::AskId;
+
 /// What became of an id.
 #[derive(Clone, Copy, Debug, PartialEq, Eq)]
 pub struct Course {
@@ -15,8 +17,8 @@ pub struct Course {
 /// What became of a line.
 #[derive(Clone, Copy, Debug, PartialEq, Eq)]
 pub struct LineCourse {
-    /// The step that it asked last.
-    pub step: Option<u16>,
+    /// What it asked last.
+    pub ask: Option<AskId>,
     /// The greatest index with which an ask of it was decided, 0 for none.
     pub index: u64,
     pub told: bool,

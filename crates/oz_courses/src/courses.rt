@@ -1,6 +1,6 @@
 //! Courses by ids, lines and clients.
 
-ghost use Rattle.std.specs.Prelude.{◌≡◌, ℕ, ◌<◌, ◌≤◌, ◌+◌, ◌==◌, None, Some, OnOk, OnErr, if◌then◌else◌};
+ghost use Rattle.std.specs.Prelude.{◌≡◌, ℕ, ◌<◌, ◌≤◌, ◌+◌, ◌^◌, ◌==◌, OnOk, OnErr, if◌then◌else◌};
 ghost use Rattle.oz_courses.specs.Courses.{asked_course, asked_line, course_at, decided_course, decided_line, id_key, line_at, line_key, told_at, told_line, unasked, unasked_line};
 
 use crate::OutOfMemory;
@@ -16,7 +16,7 @@ use std::marker::Model;
 pub struct Courses {
     ids: SortedMap<u64, Course>,
     lines: SortedMap<u64, LineCourse>,
-    clients: SortedMap<u64, u16>,
+    clients: SortedMap<u64, u64>,
     spare: usize,
 }
 
@@ -45,7 +45,7 @@ impl Courses {
     pub fn new(alloc: Global) -> Courses
         ensures ids { (key : ℕ) → course_at result key ≡ unasked }
         ensures lines { (key : ℕ) → line_at result key ≡ unasked_line }
-        ensures clients { (client : ℕ) → told_at result client ≡ None }
+        ensures clients { (client : ℕ) → told_at result client ≡ 0 }
         ensures spare { result.spare ≡ 0 }
     {
         Courses {
@@ -99,18 +99,21 @@ impl Courses {
         match self.lines.get(&number_of_line(client, line)) {
             Some(course) => *course,
             None => LineCourse {
-                step: None,
+                ask: None,
                 index: 0,
                 told: false,
             },
         }
     }
 
-    /// The line that a client was told last, None where it was told none.
-    pub fn told_of(&self, client: u16) -> Option<u16>
+    /// How many lines a client was told.
+    pub fn told_of(&self, client: u16) -> u64
         ensures { result ≡ told_at self.now client }
     {
-        self.clients.get(&u64::from(client)).copied()
+        match self.clients.get(&u64::from(client)) {
+            Some(told) => *told,
+            None => 0,
+        }
     }
 
     /// An id is asked, while the manager has halted or not.
@@ -119,7 +122,7 @@ impl Courses {
         ensures ids { (key : ℕ) → course_at self.new key ≡ (if id_key id == key then asked_course late (course_at self.old key)
             else course_at self.old key) }
         ensures lines { (key : ℕ) → line_at self.new key ≡ (if line_key id.client id.line == key
-            then asked_line id.step (line_at self.old key) else line_at self.old key) }
+            then asked_line id (line_at self.old key) else line_at self.old key) }
         ensures clients { self.new.clients ≡ self.old.clients }
         ensures spare { self.new.spare + 1 ≡ self.old.spare }
     {
@@ -138,7 +141,7 @@ impl Courses {
         self.lines.insert(
             number_of_line(id.client, id.line),
             LineCourse {
-                step: Some(id.step),
+                ask: Some(id),
                 index: line.index,
                 told: line.told,
             },
@@ -170,7 +173,7 @@ impl Courses {
         self.lines.insert(
             number_of_line(id.client, id.line),
             LineCourse {
-                step: line.step,
+                ask: line.ask,
                 index: line.index.max(index),
                 told: line.told,
             },
@@ -179,24 +182,26 @@ impl Courses {
 
     /// A client is told a line.
     pub fn told(&mut self, client: u16, line: u16)
-        requires { 0 < self.old.spare }
+        requires room { 0 < self.old.spare }
+        requires few { told_at self.old client + 1 < 2 ^ 64 }
         ensures ids { self.new.ids ≡ self.old.ids }
         ensures lines { (key : ℕ) → line_at self.new key ≡ (if line_key client line == key
             then told_line (line_at self.old key) else line_at self.old key) }
-        ensures clients { (other : ℕ) → told_at self.new other ≡ (if client == other then Some line
+        ensures clients { (other : ℕ) → told_at self.new other ≡ (if client == other then told_at self.old other + 1
             else told_at self.old other) }
         ensures spare { self.new.spare + 1 ≡ self.old.spare }
     {
         let course = self.line(client, line);
+        let told = self.told_of(client);
         self.spare -= 1;
         self.lines.insert(
             number_of_line(client, line),
             LineCourse {
-                step: course.step,
+                ask: course.ask,
                 index: course.index,
                 told: true,
             },
         );
-        self.clients.insert(u64::from(client), line);
+        self.clients.insert(u64::from(client), told + 1);
     }
 }

@@ -11,8 +11,10 @@ invariant_of-result g c =
       last = rw items (c.new-3.ensures.last ∙ c.requires);
       durable = rw items (c.new-3.ensures.durable ∙ c.requires);
       halts = rw items c.new-3.ensures.none;
+      courses = rw items c.new-3.ensures.courses;
       buffered = rw (items, bytes) refl;
       counted = sym c.no_rooms.ensures.sum;
       seats = search rules;
       fits = rw (items, bytes) (omega (arith, c.no_rooms.ensures.sum));
+      spared = rw bytes (omega (arith, c.no_rooms.ensures.sum));
     }

@@ -1,10 +1,11 @@
 -- What a stripe keeps, once its seat has seen more or has decided.
-use Rattle.std.proofs.Common.{◌≡◌, ⊎_elim, inl, inr, ℕ, suc, List, [], ◌∷◌, ◌++◌, Any, Option, None, Some, refl, sym, ◌∙◌, ap, arith}
+use Rattle.std.proofs.Common.{◌≡◌, ⊎_elim, inl, inr, ℕ, suc, ◌≤◌, List, [], ◌∷◌, ◌++◌, length, take, drop, Any, Option, None, Some, IfSome, refl, sym, ◌∙◌, ap, subst, arith, length-append}
+use Rattle.std.proofs.lemmas.List.{take_all, take-append-le, take-append-drop}
 use Rattle.std.proofs.lemmas.List.Sums.{fold-append}
 use Rattle.std.proofs.lemmas.List.Elements.{Contains-append_left}
-use Rattle.oz_cache.specs.Cache.{CacheView}
+use Rattle.oz_cache.specs.Cache.{CacheView, newest}
 use Rattle.oz_core.specs.declared.event.Event.{Event}
-use Rattle.oz_core.specs.declared.event.EventKind.TheVariants.{Decide}
+use Rattle.oz_core.specs.declared.event.EventKind.TheVariants.{Decide, PurgeAsk}
 use Rattle.oz_core.specs.Manager.{granted_block, stable_index}
 use Rattle.oz_core.specs.Stories.{newer}
 use Rattle.oz_fields.specs.declared.block.Block.{Block}
@@ -13,14 +14,16 @@ use Rattle.oz_requests.specs.declared.reply.Reply.{Reply}
 use Rattle.oz_rows.specs.RowMaps.{Rows}
 use Rattle.oz_stripes.specs.Stripes.{only}
 use Rattle.oz_locks.specs.declared.pins.Pin.{Pin}
+use Rattle.oz_locks.specs.declared.pool.FreeBlock.{FreeBlock}
 use Rattle.oz_locks.specs.Flushes.{IsFlushed, flushed_in}
 use Rattle.oz_locks.specs.Pins.{pins_in}
-use Rattle.oz_locks.specs.Pool.{without}
+use Rattle.oz_locks.specs.Pool.{AreFresh, AreOfGrants, blocks_granted, pool_of, without}
+use Rattle.oz_locks.specs.Purges.{AreAskedWhole}
 use Rattle.oz_locks.specs.Rows.{IsReplayed}
 use Rattle.oz_locks.specs.Stripe.{IsKept, StripeView}
 use Rattle.oz_locks.specs.Writes.{writes_of}
 use Rattle.oz_locks.proofs.Pinning.{pinned_seen, pinned_named}
-use Rattle.oz_locks.proofs.Pools.{free_seen, free_granted}
+use Rattle.oz_locks.proofs.Pools.{of_grants_granted, of_more_grants, pool_granted, pool_more}
 
 -- ---- what is flushed
 
@@ -55,22 +58,39 @@ pub none_flushed : (opened : ℕ) (seen : List Event) (seat : ℕ) (id : AskId) 
 none_flushed opened seen seat id index reply batch =
     fold-append (λ told (event : Event). newer (stable_index event.kind) told) opened seen (decide seat id index reply batch ∷ [])
 
+-- nor does a PurgeAsk
+pub purge_flushes_none : (opened : ℕ) (seen : List Event) (seat : ℕ) (blocks : List Block)
+    → flushed_in opened (seen ++ record { seat = seat; kind = PurgeAsk blocks } ∷ []) ≡ flushed_in opened seen
+purge_flushes_none opened seen seat blocks =
+    fold-append (λ told (event : Event). newer (stable_index event.kind) told) opened seen (record { seat = seat; kind = PurgeAsk blocks } ∷ [])
+
 -- ---- what a stripe keeps
 
 module _ {T : Type 0} (loaded : Rows) (opened : ℕ) (s : StripeView T) (kept : IsKept loaded opened s) where
+  -- the events that were looked at are the same where more follow
+  same_known : (more : List Event) → take s.known (s.seen ++ more) ≡ take s.known s.seen
+  same_known more = take-append-le s.known s.seen more kept.looked_at
+
+  within_more : (more : List Event) → s.known ≤ length (s.seen ++ more)
+  within_more more = let looked_at = kept.looked_at in omega (arith, looked_at, length-append s.seen more)
+
   -- its seat has seen more
   pub kept_seen : (more : List Event) (room : ℕ) (taken : Option T) → IsKept loaded opened (record s { seen = s.seen ++ more; room = room; taken = taken })
   kept_seen more room taken = record {
     there = kept.there;
     rows = kept.rows;
     on_disk = flushed_seen opened s.seen more s.flushed kept.on_disk;
-    free = free_seen s.number s.seen more s.mine s.pool kept.free;
+    looked_at = within_more more;
+    pool_is = kept.pool_is ∙ ap (λ (known : List Event). pool_of s.number known s.mine) (sym (same_known more));
+    used = subst (λ (known : List Event). AreOfGrants s.number known s.mine) (sym (same_known more)) kept.used;
     pinned = pinned_seen s.seen more s.mine s.pins kept.pinned;
+    asked = kept.asked;
   }
 
-  -- its seat has decided
-  pub kept_decided : (event : Event) (cache : CacheView) (granted : Option Block) (named : List Pin) (pin_room room : ℕ) (taken : Option T)
+  -- its seat gave an event
+  pub kept_given : (event : Event) (cache : CacheView) (granted : Option Block) (named : List Pin) (pin_room room : ℕ) (taken : Option T)
       → IsReplayed (only s.number loaded) (writes_of (s.mine ++ event ∷ [])) s.flushed cache → granted_block event.kind ≡ granted → named ≡ pins_in event.kind
+      → IfSome granted (λ block. Any (λ (free : FreeBlock). free.block ≡ block) s.pool) → AreAskedWhole (newest cache) (s.mine ++ event ∷ [])
       → IsKept loaded opened (record s {
         cache = cache;
         pool = without granted s.pool;
@@ -81,10 +101,38 @@ module _ {T : Type 0} (loaded : Rows) (opened : ℕ) (s : StripeView T) (kept : 
         room = room;
         taken = taken;
       })
-  kept_decided event cache granted named pin_room room taken rows grants names = record {
+  kept_given event cache granted named pin_room room taken rows grants names pooled asked = record {
     there = kept.there;
     rows = rows;
     on_disk = flushed_seen opened s.seen (event ∷ []) s.flushed kept.on_disk;
-    free = free_granted s.number s.seen s.mine event granted s.pool grants kept.free;
+    looked_at = within_more (event ∷ []);
+    pool_is = ap (without granted) kept.pool_is ∙ sym (pool_granted s.number (take s.known s.seen) s.mine event granted grants)
+        ∙ ap (λ (known : List Event). pool_of s.number known (s.mine ++ event ∷ [])) (sym (same_known (event ∷ [])));
+    used = subst (λ (known : List Event). AreOfGrants s.number known (s.mine ++ event ∷ [])) (sym (same_known (event ∷ [])))
+        (of_grants_granted s.number (take s.known s.seen) s.mine event granted s.pool grants kept.pool_is pooled kept.used);
     pinned = pinned_named s.seen s.mine event s.pins named names kept.pinned;
+    asked = asked;
   }
+
+  -- it has looked at all that its seat has seen
+  pub kept_known : (pool : List FreeBlock) → pool ≡ s.pool ++ blocks_granted s.number (drop s.known s.seen)
+      → AreFresh s.number (take s.known s.seen) (drop s.known s.seen)
+      → (pool ≡ pool_of s.number s.seen s.mine) × IsKept loaded opened (record s { pool = pool; known = length s.seen })
+  kept_known pool is fresh =
+      let all = take-append-drop s.known s.seen in
+      let whole : take (length s.seen) s.seen ≡ s.seen = take_all (length s.seen) s.seen (omega arith) in
+      let pool_is : pool ≡ pool_of s.number s.seen s.mine = is ∙ ap (λ (l : List FreeBlock). l ++ blocks_granted s.number (drop s.known s.seen)) kept.pool_is
+      ∙ sym (pool_more s.number (take s.known s.seen) (drop s.known s.seen) s.mine kept.used fresh) ∙ ap (λ (known : List Event). pool_of s.number known s.mine) all in (
+        pool_is,
+        record {
+          there = kept.there;
+          rows = kept.rows;
+          on_disk = kept.on_disk;
+          looked_at = omega arith;
+          pool_is = pool_is ∙ ap (λ (known : List Event). pool_of s.number known s.mine) (sym whole);
+          used = subst (λ (known : List Event). AreOfGrants s.number known s.mine) (all ∙ sym whole)
+              (of_more_grants s.number (take s.known s.seen) (drop s.known s.seen) s.mine kept.used);
+          pinned = kept.pinned;
+          asked = kept.asked;
+        },
+      )

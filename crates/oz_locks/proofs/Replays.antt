@@ -6,8 +6,9 @@ use Rattle.oz_cache.specs.Cache.{CacheView, batched_changes, batch_of, epoch_aft
 use Rattle.oz_cache.specs.Waiting.{EpochsRise}
 use Rattle.oz_cache.specs.declared.batch.Batch.{Batch}
 use Rattle.oz_core.specs.declared.event.Event.{Event}
-use Rattle.oz_core.specs.declared.event.EventKind.TheVariants.{Decide}
+use Rattle.oz_core.specs.declared.event.EventKind.TheVariants.{Decide, PurgeAsk}
 use Rattle.oz_effects.specs.Batches.{IsBatchOf}
+use Rattle.oz_fields.specs.declared.block.Block.{Block}
 use Rattle.oz_requests.specs.declared.request.AskId.{AskId}
 use Rattle.oz_requests.specs.declared.reply.Reply.{Reply}
 use Rattle.oz_rows.specs.declared.entry.RowEntry.{RowEntry}
@@ -27,6 +28,10 @@ decide seat id index reply batch = record { seat = seat; kind = Decide id index 
 pub no_write_more : (mine : List Event) (seat : ℕ) (id : AskId) (index : ℕ) (reply : Reply) → writes_of (mine ++ decide seat id index reply [] ∷ []) ≡ writes_of mine
 no_write_more mine seat id index reply =
     filter_map-append (λ (event : Event). write_in event.kind) mine (decide seat id index reply [] ∷ []) ∙ append-nil (writes_of mine)
+
+pub no_write_of_purge : (mine : List Event) (seat : ℕ) (blocks : List Block) → writes_of (mine ++ record { seat = seat; kind = PurgeAsk blocks } ∷ []) ≡ writes_of mine
+no_write_of_purge mine seat blocks =
+    filter_map-append (λ (event : Event). write_in event.kind) mine (record { seat = seat; kind = PurgeAsk blocks } ∷ []) ∙ append-nil (writes_of mine)
 
 pub one_write_more : (mine : List Event) (seat : ℕ) (id : AskId) (index : ℕ) (reply : Reply) (bytes : List ℕ) → 1 ≤ length bytes
     → writes_of (mine ++ decide seat id index reply bytes ∷ []) ≡ writes_of mine ++ record { index = index; bytes = bytes } ∷ []

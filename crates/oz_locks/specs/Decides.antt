@@ -1,7 +1,7 @@
--- How a stripe's seat adds a Decide to the story.
+-- How a stripe's seat adds a Decide or a PurgeAsk to the story.
 use Rattle.std.specs.Prelude.{◌≡◌, ℕ, List, [], ◌∷◌, ◌++◌, Option}
 use Rattle.oz_core.specs.declared.event.Event.{Event}
-use Rattle.oz_core.specs.declared.event.EventKind.TheVariants.{Decide}
+use Rattle.oz_core.specs.declared.event.EventKind.TheVariants.{Decide, PurgeAsk}
 use Rattle.oz_core.specs.Manager.{block_of_reply}
 use Rattle.oz_core.specs.Seats.{stripe_seat}
 use Rattle.oz_fields.specs.declared.block.Block.{Block}
@@ -20,3 +20,7 @@ pub record AddsDecide {T : Type 0} (s : StripeView T) (story : List Event) (inde
   pub adds : story ≡ s.seen ++ record { seat = stripe_seat s.number; kind = Decide id index reply batch } ∷ []
   pub grants : granted ≡ block_of_reply reply
   pub names : named ≡ pins_for id reply
+
+-- The story goes on by a PurgeAsk of the stripe for these blocks.
+abbrev pub AddsPurgeAsk : {T : Type 0} → StripeView T → List Event → List Block → Type 0
+AddsPurgeAsk s story blocks = story ≡ s.seen ++ record { seat = stripe_seat s.number; kind = PurgeAsk blocks } ∷ []

@@ -3,6 +3,7 @@ pub mod Rows
 pub mod Flushes
 pub mod Pool
 pub mod Pins
+pub mod Purges
 pub mod Stripe
 pub mod Seats
 pub mod Decides

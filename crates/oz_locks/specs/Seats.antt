@@ -17,12 +17,13 @@ module _ {T : Type 0} {told : Ghosts T Event} where
     pub of_turn : turn_of s ≡ turn
     pub numbered : number_of s ≡ stripe_seat stripe
 
-  abbrev pub seen_as : ℕ → CacheView → ℕ → List FreeBlock → List Pin → ℕ → Seat T Event told → StripeView T
-  seen_as number cache flushed pool pins pin_room s = record {
+  abbrev pub seen_as : ℕ → CacheView → ℕ → List FreeBlock → ℕ → List Pin → ℕ → Seat T Event told → StripeView T
+  seen_as number cache flushed pool known pins pin_room s = record {
     number = number;
     cache = cache;
     flushed = flushed;
     pool = pool;
+    known = known;
     pins = pins;
     pin_room = pin_room;
     mine = mine_of s;

@@ -1,6 +1,6 @@
 -- What contracts see of a stripe, and what holds of one at every moment.
-use Rattle.std.specs.Prelude.{◌≡◌, ℕ, ◌<◌, List, length, Option, None, Some, slice_get}
-use Rattle.oz_cache.specs.Cache.{CacheView}
+use Rattle.std.specs.Prelude.{◌≡◌, ℕ, ◌<◌, ◌≤◌, List, length, take, Option, None, Some, slice_get}
+use Rattle.oz_cache.specs.Cache.{CacheView, newest}
 use Rattle.oz_core.specs.declared.event.Event.{Event}
 use Rattle.oz_names.specs.declared.limits.TheConstants.{STRIPES}
 use Rattle.oz_rows.specs.RowMaps.{Rows}
@@ -9,18 +9,20 @@ use Rattle.oz_locks.specs.declared.pins.Pin.{Pin}
 use Rattle.oz_locks.specs.declared.pool.FreeBlock.{FreeBlock}
 use Rattle.oz_locks.specs.Flushes.{IsFlushed, flushed_in}
 use Rattle.oz_locks.specs.Pins.{ArePinned}
-use Rattle.oz_locks.specs.Pool.{AreFree}
+use Rattle.oz_locks.specs.Pool.{AreOfGrants, pool_of}
+use Rattle.oz_locks.specs.Purges.{AreAskedWhole}
 use Rattle.oz_locks.specs.Rows.{IsReplayed}
 use Rattle.oz_locks.specs.Writes.{writes_of}
 
 -- The stripe's number and its rows; the index up to which they were brought down into the tables; the blocks that it may still
--- grant; the pins, and for how many more there is room; what its seat gave and what it has seen, the seat's room, and the value
--- as the seat took it, while it holds it.
+-- grant, and how many of the events that its seat has seen were looked at for Grants; the pins, and for how many more there is
+-- room; what its seat gave and what it has seen, the seat's room, and the value as the seat took it, while it holds it.
 pub record StripeView (T : Type 0) : Type 0 where
   pub number : ℕ
   pub cache : CacheView
   pub flushed : ℕ
   pub pool : List FreeBlock
+  pub known : ℕ
   pub pins : List Pin
   pub pin_room : ℕ
   pub mine : List Event
@@ -30,14 +32,20 @@ pub record StripeView (T : Type 0) : Type 0 where
 
 -- what was loaded: the rows of all stripes, and the last index
 module _ {T : Type 0} (loaded : Rows) (opened : ℕ) where
-  -- The rows are the stripe's own Decides replayed over its own loaded rows; no row is in the tables that isn't flushed; the pool
-  -- has granted blocks that it didn't use; and what its Decides named is pinned.
   pub record IsKept (s : StripeView T) : Type 0 where
     pub there : s.number < STRIPES
+    -- The rows are the stripe's own Decides replayed over its own loaded rows.
     pub rows : IsReplayed (only s.number loaded) (writes_of s.mine) s.flushed s.cache
+    -- No row is in the tables that isn't flushed.
     pub on_disk : IsFlushed opened s.seen s.flushed
-    pub free : AreFree s.number s.seen s.mine s.pool
+    -- The pool has all that is left of the Grants in the events that were looked at, and its Decides granted none of others.
+    pub looked_at : s.known ≤ length s.seen
+    pub pool_is : s.pool ≡ pool_of s.number (take s.known s.seen) s.mine
+    pub used : AreOfGrants s.number (take s.known s.seen) s.mine
+    -- What its Decides named is pinned.
     pub pinned : ArePinned s.seen s.mine s.pins
+    -- A deleted row of which a block stands in a PurgeAsk of the stripe has all of them there.
+    pub asked : AreAskedWhole (newest s.cache) s.mine
 
 -- The seat doesn't hold the value, and all that it knows to be flushed is in the tables.
 pub record IsAtRest {T : Type 0} (opened : ℕ) (s : StripeView T) : Type 0 where

@@ -1,6 +1,9 @@
-//! What holds of stripes in a list.
+//! What holds of stripes in a list, and of pools.
 
-ghost use Rattle.std.specs.Prelude.{◌≡◌, ℕ, List, [], ◌∷◌, ◌++◌, length};
+ghost use Rattle.std.specs.Prelude.{◌≡◌, ◌↔◌, ℕ, List, [], ◌∷◌, ◌++◌, length, Contains};
+ghost use Rattle.oz_core.specs.declared.event.Event.{Event};
+ghost use Rattle.oz_locks.specs.Pool.{IsFree, pool_of};
+ghost use Rattle.oz_locks.specs.declared.pool.FreeBlock.{FreeBlock};
 ghost use Rattle.oz_locks.specs.Stripe.{StripeView, AreInOrder, IsAtRest};
 
 /// Stripes in order stay so where one more is put behind them, and where a list of them is cut.
@@ -12,4 +15,10 @@ pub fn stripes_stay_in_order<T>()
         → AreInOrder opened (stripes ++ rest) → AreInOrder opened stripes }
     ensures last { (opened : ℕ) (stripes : List (StripeView T)) (stripe : StripeView T)
         → AreInOrder opened (stripes ++ stripe ∷ []) → (stripe.number ≡ length stripes) × IsAtRest opened stripe }
+{}
+
+/// A pool has exactly the blocks that the stripe may grant: those of the Grants to it that none of its own Decides granted.
+pub fn a_pool_has_what_is_free()
+    ensures { (stripe : ℕ) (known mine : List Event) (free : FreeBlock)
+        → Contains (pool_of stripe known mine) free ↔ IsFree stripe known mine free }
 {}

@@ -9,7 +9,7 @@ mod resting;
 mod stripe;
 mod stripes;
 
-pub use laws::stripes_stay_in_order;
+pub use laws::{a_pool_has_what_is_free, stripes_stay_in_order};
 pub use loaded::Loaded;
 pub use pins::{Pin, pins_for};
 pub use pool::FreeBlock;

@@ -1,12 +1,14 @@
 //! The blocks that a stripe may grant.
 
-ghost use Rattle.std.specs.Prelude.{◌≡◌, ◌+◌, ◌≤◌, ◌↔◌, ℕ, ◌++◌, not, filter, length, vec_capacity, All, Contains, IsTrue, MatchOption};
+ghost use Rattle.std.specs.Prelude.{◌≡◌, ◌+◌, ◌≤◌, ◌↔◌, ◌++◌, not, filter, length, vec_capacity, All, IsTrue, IfSome, MatchOption};
 ghost use Rattle.oz_core.specs.Grants.{IsExcluded};
 ghost use Rattle.oz_core.specs.Nodes.{is_block};
+ghost use Rattle.oz_core.specs.declared.event.Event.{Event as AnyEvent};
 ghost use Rattle.oz_fields.specs.declared.block.TheConstants.{GREATEST_BLOCK_NUMBER};
-ghost use Rattle.oz_locks.specs.Pool.{blocks_of_grant, without};
+ghost use Rattle.oz_locks.specs.Pool.{GrantFits, IsFirstAllowed, blocks_granted, blocks_in, blocks_of_grant, without};
 ghost use Rattle.oz_locks.specs.declared.pool.FreeBlock.{FreeBlock as AnyBlock};
 
+use oz_core::{Event, EventKind};
 use oz_fields::Block;
 use oz_requests::Exclude;
 
@@ -17,17 +19,63 @@ pub struct FreeBlock {
     pub pipeline: u8,
 }
 
+/// How many blocks the Grants to a stripe have among events, unless they are more than there is memory for.
+pub(crate) fn count_granted(events: &[Event], stripe: u8) -> Option<usize>
+    ensures { IfSome result (λ blocks. blocks ≡ length (blocks_granted stripe events.now)) }
+{
+    let mut blocks: usize = 0;
+    for event in events {
+        blocks = blocks.checked_add(count_in(&event.kind, stripe))?;
+    }
+    Some(blocks)
+}
+
+fn count_in(kind: &EventKind, of_stripe: u8) -> usize
+    ensures { result ≡ length (blocks_in of_stripe kind.now) }
+{
+    match kind {
+        EventKind::Grant { stripe, count, .. } if *stripe == of_stripe => *count as usize,
+        _ => 0,
+    }
+}
+
+/// Puts the blocks of the Grants to a stripe among events behind a pool, which has room for them.
+pub(crate) fn add_granted(pool: &mut Vec<FreeBlock>, events: &[Event], stripe: u8)
+    requires fit { All (λ (event : AnyEvent). GrantFits event.kind) events.now }
+    requires room { length pool.old.items + length (blocks_granted stripe events.now) ≤ vec_capacity pool.old }
+    ensures { pool.new.items ≡ pool.old.items ++ blocks_granted stripe events.now }
+{
+    for event in events {
+        add_those_in(pool, &event.kind, stripe);
+    }
+}
+
+fn add_those_in(pool: &mut Vec<FreeBlock>, kind: &EventKind, of_stripe: u8)
+    requires fits { GrantFits kind.now }
+    requires room { length pool.old.items + length (blocks_in of_stripe kind.now) ≤ vec_capacity pool.old }
+    ensures items { pool.new.items ≡ pool.old.items ++ blocks_in of_stripe kind.now }
+    ensures capacity { vec_capacity pool.old ≤ vec_capacity pool.new }
+{
+    if let EventKind::Grant {
+        stripe,
+        container,
+        pipeline,
+        first,
+        count,
+    } = kind
+    {
+        if *stripe == of_stripe {
+            add_blocks(pool, *container, *pipeline, *first, *count);
+        }
+    }
+}
+
 /// Puts the blocks of a Grant behind a pool, which has room for them.
-pub(crate) fn add_blocks(
-    pool: &mut Vec<FreeBlock>,
-    container: u64,
-    pipeline: u8,
-    first: u64,
-    count: u32,
-)
+fn add_blocks(pool: &mut Vec<FreeBlock>, container: u64, pipeline: u8, first: u64, count: u32)
     requires within { first + count ≤ GREATEST_BLOCK_NUMBER }
     requires room { length pool.old.items + count ≤ vec_capacity pool.old }
-    ensures { pool.new.items ≡ pool.old.items ++ blocks_of_grant container pipeline first count }
+    ensures items { pool.new.items ≡ pool.old.items ++ blocks_of_grant container pipeline first count }
+    ensures capacity { vec_capacity pool.old ≤ vec_capacity pool.new }
 {
     for place in 0..u64::from(count) {
         let local = first + place;
@@ -57,11 +105,11 @@ fn is_block(block: Block, other: Block) -> bool
     other.container == block.container && other.local == block.local
 }
 
-/// A block of a pool that isn't excluded: the first one, though the contract leaves open which.
+/// The first block of a pool that isn't excluded.
 pub(crate) fn first_allowed(pool: &[FreeBlock], exclude: &Exclude) -> Option<FreeBlock>
     ensures { MatchOption result
         (All (λ free. IsExcluded exclude.now free.block free.pipeline) pool.now)
-        (λ free. Contains pool.now free × (IsExcluded exclude.now free.block free.pipeline → ⊥)) }
+        (λ free. IsFirstAllowed exclude.now pool.now free) }
 {
     for free in pool {
         if !is_excluded(exclude, free.block, free.pipeline) {

@@ -1,7 +1,6 @@
 //! One stripe: its rows, and the seat whose Decides they are.
 
-ghost use Rattle.std.specs.Prelude.{◌≡◌, ℕ, ◌+◌, ◌<◌, ◌≤◌, List as AnyList, [], ◌∷◌, ◌++◌, length, true, is_ok, if◌then◌else◌, All, Contains, None, Some, IfOk, OnOk, MatchOption};
-ghost use Rattle.oz_fields.specs.declared.block.TheConstants.{GREATEST_BLOCK_NUMBER};
+ghost use Rattle.std.specs.Prelude.{◌≡◌, ℕ, ◌+◌, ◌<◌, ◌≤◌, List as AnyList, [], ◌∷◌, ◌++◌, length, take, drop, true, All, Any, None, IfOk, IfSome, OnOk, OnErr, MatchOption};
 ghost use Rattle.std.specs.List.{AllByRecursion};
 ghost use Rattle.oz_cache.specs.Cache.{batch_of, batched_changes, later, newest, up_to};
 ghost use Rattle.oz_core.specs.Asks.{is_told};
@@ -9,16 +8,17 @@ ghost use Rattle.oz_core.specs.Grants.{IsExcluded};
 ghost use Rattle.oz_core.specs.Seats.{stripe_seat};
 ghost use Rattle.oz_core.specs.declared.event.Event.{Event as AnyEvent};
 ghost use Rattle.oz_effects.specs.Batches.{IsBatchOf};
-ghost use Rattle.oz_locks.specs.Decides.{AddsDecide};
+ghost use Rattle.oz_locks.specs.Decides.{AddsDecide, AddsPurgeAsk};
 ghost use Rattle.oz_locks.specs.Flushes.{flushed_in};
 ghost use Rattle.oz_locks.specs.Pins.{without_line};
-ghost use Rattle.oz_locks.specs.Pool.{blocks_of_grant, used_by, without};
+ghost use Rattle.oz_locks.specs.Pool.{AreFresh, GrantFits, IsFirstAllowed, pool_of, without};
+ghost use Rattle.oz_locks.specs.Purges.{AreAskedWhole, HaveWholeRows};
 ghost use Rattle.oz_locks.specs.declared.pool.FreeBlock.{FreeBlock as AnyBlock};
 ghost use Rattle.oz_locks.specs.Stripe.{IsKept, IsAtRest};
 ghost use Rattle.oz_locks.specs.Rows.{AreReplayed};
 ghost use Rattle.oz_locks.specs.Writes.{Write as AnyWrite, writes_of};
 ghost use Rattle.oz_names.specs.declared.limits.TheConstants.{STRIPES};
-ghost use Rattle.oz_rows.specs.RowMaps.{row_of, row_after};
+ghost use Rattle.oz_rows.specs.RowMaps.{after_changes, row_of, row_after};
 ghost use Rattle.oz_rows.specs.declared.key.RowKey.{RowKey as AnyKey};
 ghost use Rattle.oz_rows.specs.declared.operation.TheConstants.{END_OF_INDEXES};
 ghost use Rattle.oz_stripes.specs.Stripes.{only};
@@ -28,9 +28,9 @@ ghost use Rattle.oz_turn.specs.Turn.{turn_id};
 
 use crate::loaded::Loaded;
 use crate::pins::{Pin, pin_all, unpin_line};
-use crate::pool::{FreeBlock, add_blocks, first_allowed, withdraw};
+use crate::pool::{FreeBlock, add_granted, count_granted, first_allowed, withdraw};
 use oz_cache::{Cached, Prepared};
-use oz_core::{Event, EventKind};
+use oz_core::Event;
 use oz_epochs::Steps;
 use oz_fields::{Block, OutOfMemory};
 use oz_requests::Exclude;
@@ -49,6 +49,7 @@ pub struct Stripe<T: Told<Entry = Event>, L: Loaded, R: Ring> {
     cached: Cached,
     flushed: u64,
     pool: Vec<FreeBlock>,
+    known: usize,
     pins: Vec<Pin>,
     seat: Seat<T>,
     of: PhantomData<(L, R)>,
@@ -61,11 +62,11 @@ impl<T: Told<Entry = Event>, L: Loaded, R: Ring> Model for Stripe<T, L, R> {
 
     ghost Value = { StripeView T };
 
-    ghost view = { λ s. seen_as s.number s.cached s.flushed s.pool.items s.pins.items
+    ghost view = { λ s. seen_as s.number s.cached s.flushed s.pool.items s.known s.pins.items
         (vec_capacity s.pins - length s.pins.items) s.seat };
 
     ghost invariant = { λ s. IsSeated R.turn s.number s.seat × IsKept L.rows L.last_index (seen_as s.number s.cached s.flushed
-        s.pool.items s.pins.items (vec_capacity s.pins - length s.pins.items) s.seat) };
+        s.pool.items s.known s.pins.items (vec_capacity s.pins - length s.pins.items) s.seat) };
 }
 
 impl<T: Told<Entry = Event>, L: Loaded, R: Ring> Stripe<T, L, R> {
@@ -78,7 +79,7 @@ impl<T: Told<Entry = Event>, L: Loaded, R: Ring> Stripe<T, L, R> {
         requires entered { cached.entered ≡ [] }
         ensures number { result.number ≡ number }
         ensures cache { result.cache ≡ cached }
-        ensures empty { (result.pool ≡ []) × (result.pins ≡ []) }
+        ensures empty { (result.pool ≡ []) × (result.known ≡ 0) × (result.pins ≡ []) }
         ensures events { (result.mine ≡ []) × (result.seen ≡ []) }
         ensures rests { IsAtRest L.last_index result }
     {
@@ -88,6 +89,7 @@ impl<T: Told<Entry = Event>, L: Loaded, R: Ring> Stripe<T, L, R> {
             cached,
             flushed,
             pool: Vec::new(alloc),
+            known: 0,
             pins: Vec::new(alloc),
             seat,
             of: PhantomData,
@@ -106,6 +108,7 @@ impl<T: Told<Entry = Event>, L: Loaded, R: Ring> Stripe<T, L, R> {
             cached,
             flushed: _,
             pool: _,
+            known: _,
             pins: _,
             seat,
             of: _,
@@ -235,6 +238,8 @@ impl<T: Told<Entry = Event>, L: Loaded, R: Ring> Stripe<T, L, R> {
         requires limit { index < END_OF_INDEXES }
         requires room { length changes ≤ self.old.cache.spare }
         requires pins { length pins.now ≤ self.old.pin_room }
+        requires pooled { IfSome granted (λ block. Any (λ (free : AnyBlock). free.block ≡ block) self.old.pool) }
+        requires asked { AreAskedWhole (after_changes changes (newest self.old.cache)) self.old.mine }
         ensures length { result ≡ length (T.entries value) }
         ensures mine { (event : AnyEvent) → T.entries value ≡ self.old.seen ++ event ∷ []
             → self.new.mine ≡ self.old.mine ++ event ∷ [] }
@@ -261,6 +266,27 @@ impl<T: Told<Entry = Event>, L: Loaded, R: Ring> Stripe<T, L, R> {
         turn.give(&mut self.seat, value, held)
     }
 
+    /// Gives the value back with a PurgeAsk of the stripe. Its blocks are those of whole rows.
+    pub fn ask_purge(&mut self, turn: &Turn<T>, value: T, held: Held) -> u64
+        requires turn { turn_id turn.now ≡ R.turn }
+        requires tells_seats { (event : AnyEvent) → T.seat_of event ≡ event.seat }
+        requires asks { (blocks : AnyList Block) × AddsPurgeAsk self.old (T.entries value) blocks
+            × HaveWholeRows (newest self.old.cache) blocks }
+        requires rooms { KeepsOtherRooms T.room (stripe_seat self.old.number) self.old.taken value }
+        ensures length { result ≡ length (T.entries value) }
+        ensures mine { (event : AnyEvent) → T.entries value ≡ self.old.seen ++ event ∷ []
+            → self.new.mine ≡ self.old.mine ++ event ∷ [] }
+        ensures flushed { flushed_in L.last_index self.new.seen ≡ flushed_in L.last_index self.old.seen }
+        ensures same { self.new ≡ record self.old {
+          mine = self.new.mine;
+          seen = T.entries value;
+          room = T.room value (stripe_seat self.old.number);
+          taken = None;
+        } }
+    {
+        turn.give(&mut self.seat, value, held)
+    }
+
     /// Brings what is flushed down into the tables. It takes no memory.
     pub fn flushed<S: Ledger>(&mut self, index: u64, steps: &mut Steps<S>)
         requires index { index ≡ flushed_in L.last_index self.old.seen }
@@ -277,33 +303,33 @@ impl<T: Told<Entry = Event>, L: Loaded, R: Ring> Stripe<T, L, R> {
         self.flushed = index;
     }
 
-    /// The blocks of a Grant to the stripe come into the pool, behind the others.
-    pub fn grant(
-        &mut self,
-        container: u64,
-        pipeline: u8,
-        first: u64,
-        count: u32,
-    ) -> Result<(), OutOfMemory>
-        requires seen { (seat : ℕ) × Contains self.old.seen
-            (record { seat = seat; kind = EventKind.Grant self.old.number container pipeline first count }) }
-        requires within { first + count ≤ GREATEST_BLOCK_NUMBER }
-        requires unused { (free : AnyBlock) → Contains (blocks_of_grant container pipeline first count) free
-            → Contains (used_by self.old.mine) free.block → ⊥ }
-        ensures { self.new ≡ record self.old {
-          pool = if is_ok result then self.old.pool ++ blocks_of_grant container pipeline first count else self.old.pool;
-        } }
+    /// The blocks of those Grants to the stripe that it didn't look at yet come into the pool, behind the others. The story is
+    /// the one that its seat has seen.
+    pub fn grant(&mut self, story: &[Event]) -> Result<(), OutOfMemory>
+        requires story { story.now ≡ self.old.seen }
+        requires fit { All (λ (event : AnyEvent). GrantFits event.kind) self.old.seen }
+        requires fresh { AreFresh self.old.number (take self.old.known self.old.seen) (drop self.old.known self.old.seen) }
+        ensures ok { OnOk result (self.new ≡ record self.old {
+          pool = pool_of self.old.number self.old.seen self.old.mine;
+          known = length self.old.seen;
+        }) }
+        ensures err { OnErr result (self.new ≡ self.old) }
     {
-        self.pool.reserve(count as usize)?;
-        add_blocks(&mut self.pool, container, pipeline, first, count);
+        let more = &story[self.known..];
+        let Some(blocks) = count_granted(more, self.number) else {
+            return Err(OutOfMemory);
+        };
+        self.pool.reserve(blocks)?;
+        add_granted(&mut self.pool, more, self.number);
+        self.known = story.len();
         Ok(())
     }
 
-    /// A block of the pool that an ask doesn't exclude. It stays in the pool until a Decide grants it.
+    /// The first block of the pool that an ask doesn't exclude. It stays in the pool until a Decide grants it.
     pub fn pick(&self, exclude: &Exclude) -> Option<FreeBlock>
         ensures { MatchOption result
             (All (λ free. IsExcluded exclude.now free.block free.pipeline) self.now.pool)
-            (λ free. Contains self.now.pool free × (IsExcluded exclude.now free.block free.pipeline → ⊥)) }
+            (λ free. IsFirstAllowed exclude.now self.now.pool free) }
     {
         first_allowed(self.pool.as_slice(), exclude)
     }

@@ -23,9 +23,15 @@ pub type StripeGuard<'a, T, L, R> = MutexGuard<'a, Resting<T, L, R>>;
 pub struct Stripes<T: Told<Entry = Event>, L: Loaded, R: Ring> {
     /// From the last stripe to the first.
     locks: Vec<Mutex<Resting<T, L, R>>>,
-    /// The list that the stripes came in, for when they leave.
-    parts: Vec<Stripe<T, L, R>>,
+    list: Mutex<EmptyList<T, L, R>>,
     ghost count: { length locks.items ≡ STRIPES },
+}
+
+/// The list that the stripes came in, empty, for when they leave. It is locked, since two threads may not look at a stripe at
+/// once, nor at a list of them.
+#[derive(Drop)]
+struct EmptyList<T: Told<Entry = Event>, L: Loaded, R: Ring> {
+    parts: Vec<Stripe<T, L, R>>,
     ghost empty: { parts.items ≡ [] },
     ghost room: { STRIPES ≤ vec_capacity parts },
 }
@@ -44,17 +50,18 @@ impl<T: Told<Entry = Event>, L: Loaded, R: Ring> Stripes<T, L, R> {
         while let Some(stripe) = parts.pop() {
             locks.push_reserved(Mutex::new(Resting { stripe }));
         }
-        Ok(Stripes { locks, parts })
+        Ok(Stripes {
+            locks,
+            list: Mutex::new(EmptyList { parts }),
+        })
     }
 
     /// The sixteen stripes in order, in the list that they came in. It takes no memory.
     pub fn into_parts<W: Wait>(self, rt: &W) -> Vec<Stripe<T, L, R>>
         ensures { AreSixteen L.last_index result.items }
     {
-        let Stripes {
-            mut locks,
-            mut parts,
-        } = self;
+        let Stripes { mut locks, list } = self;
+        let EmptyList { mut parts } = list.into_inner();
         while let Some(lock) = locks.pop() {
             let stripe = numbered(rt, lock.into_inner(), parts.len());
             parts.push_reserved(stripe);

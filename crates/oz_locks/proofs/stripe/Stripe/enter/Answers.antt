@@ -5,11 +5,12 @@ pub invariant_of-self : goal.invariant_of-self
 invariant_of-self g c =
     let t = c.give.ensures in
     let d = c.requires.decides in
-    whole_entered _ _ _ _ _ _ _ _ _ _ _ _ _ _ _ _ _ _ _ _ _ _ c.self.view_is c.self.invariant t.seat t.mine t.seen d.1 d.2 d.3 c.requires.above c.requires.unflushed
-    c.enter.ensures.entered c.enter.ensures.durable c.withdraw.ensures c.pin_all.ensures.items
+    let r = c.enter.ensures in
+    whole_entered _ _ _ _ _ _ _ _ _ _ _ _ _ _ _ _ _ _ _ _ _ _ _ c.self.view_is c.self.invariant t.seat t.mine t.seen d.1 d.2 d.3 c.requires.above c.requires.unflushed
+    c.requires.pooled c.requires.asked r.entered r.durable r.newest c.withdraw.ensures c.pin_all.ensures.items
 
 pub give-requires-clause-entry : goal.give-requires-clause-entry
-give-requires-clause-entry g c = let d = c.requires.decides in adds_one _ _ _ _ _ _ _ _ _ _ _ _ _ _ _ _ c.requires.tells_seats c.self.view_is c.self.invariant d.1
+give-requires-clause-entry g c = let d = c.requires.decides in adds_one _ _ _ _ _ _ _ _ _ _ _ _ _ _ _ _ _ c.requires.tells_seats c.self.view_is c.self.invariant d.1
 
 pub enter-requires-clause-above : goal.enter-requires-clause-above
-enter-requires-clause-above g c = last_before _ _ _ _ _ _ _ _ _ _ _ _ c.self.view_is c.self.invariant c.requires.above c.requires.unflushed
+enter-requires-clause-above g c = last_before _ _ _ _ _ _ _ _ _ _ _ _ _ c.self.view_is c.self.invariant c.requires.above c.requires.unflushed

@@ -1,0 +1,13 @@
+//! What comes of a request.
+
+use oz_decision::Decision;
+
+/// What comes of a request.
+#[derive(Debug, Drop)]
+pub enum Outcome {
+    Decided(Decision),
+    /// A session is to get a block, and none was picked. Nothing is decided.
+    NoBlock,
+    /// Requests of this kind aren't decided yet.
+    NotYet,
+}

@@ -1,3 +1,9 @@
+pub mod Calls
+pub mod Drafting
+pub mod Holding
 pub mod Listing
 pub mod Lowest
+pub mod Pairing
+pub mod Parts
 pub mod Ranges
+pub mod Running

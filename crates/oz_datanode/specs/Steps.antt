@@ -1,5 +1,7 @@
--- For private calls: what they answer of a disk that fails, and the slots that the blocks of a load use.
-use Rattle.std.specs.Prelude.{ℕ, Bool, true, false, ◌&&◌, nat_lt}
+-- For private calls: what they answer of a disk that fails, the slots that the blocks of a load use, and what a put comes
+-- to once its chunks are known to make the block.
+use Rattle.std.specs.Prelude.{◌≡◌, ℕ, Bool, true, false, ◌&&◌, nat_lt, List, Option, Some, Result, Ok, Err}
+use Rattle.oz_block.specs.Blocks.{StandsFor}
 use Rattle.oz_chunk.specs.declared.fault.SlotFault.{SlotFault}
 use Rattle.oz_chunk.specs.declared.fault.SlotFault.TheVariants as slots
 use Rattle.oz_journal.specs.declared.load_fault.LoadFault.{LoadFault}
@@ -8,6 +10,14 @@ use Rattle.oz_datanode.specs.declared.fault.NodeFault.{NodeFault}
 use Rattle.oz_datanode.specs.declared.fault.NodeFault.TheVariants as nodes
 use Rattle.oz_chunk.specs.declared.table.TheConstants.{SLOTS}
 use Rattle.oz_entries.specs.Node.{Node, is_used}
+use Rattle.oz_entries.specs.declared.row.BlockRow.{BlockRow}
+use Rattle.oz_fields.specs.declared.block.Block.{Block}
+use Rattle.oz_shelf.specs.Shelf.{empty_draft}
+use Rattle.oz_world.specs.Disk.{Images, Seen, IsStable}
+use Rattle.oz_datanode.specs.Datanode.{State, Runs}
+use Rattle.oz_datanode.specs.Writing.{Puts, PutHalts, NoMemory, Wrote, WriteHalts, IsFull}
+use Rattle.oz_datanode.specs.declared.refusal.NodeRefusal.{NodeRefusal}
+use Rattle.oz_datanode.specs.declared.refusal.NodeRefusal.TheVariants as refusals
 
 -- a fault of one of the disks, as that of a datanode
 abbrev pub journal_fault_of : LoadFault → NodeFault
@@ -23,3 +33,40 @@ slot_fault_of slots.OutOfMemory = nodes.OutOfMemory
 -- a block uses the slot, and it is one of those that there are
 abbrev pub is_in_use : Node → ℕ → Bool
 is_in_use node slot = is_used node slot && nat_lt slot SLOTS
+
+-- the block is held, and nothing is written of it any more
+pub record Keeps {D : Type 0} (told : D → Option (List ℕ)) (clock : D → ℕ) (image : D → Images) (faults : D → ℕ)
+    (block : Block) (row : BlockRow) (old new : State D) : Type 0 where
+  pub puts : Puts told clock image faults block row old new
+  pub draft : new.shelf.draft ≡ empty_draft block
+  pub runs : Runs faults new
+  pub id : new.id ≡ old.id
+  pub line : new.stopped ≡ old.stopped
+
+abbrev pub KeepEnds : {D T : Type 0} → (D → Option (List ℕ)) → (D → ℕ) → (D → Images) → (D → ℕ) → Block → BlockRow
+    → State D → State D → Result T NodeRefusal → Type 0
+KeepEnds told clock image faults block row old new (Ok done) = Keeps told clock image faults block row old new
+KeepEnds told clock image faults block row old new (Err (refusals.Stopped count)) =
+    PutHalts told clock image faults block row old new count
+KeepEnds told clock image faults block row old new (Err refusals.OutOfMemory) = NoMemory told old new
+KeepEnds told clock image faults block row old new (Err refusals.NoBlock) = ⊥
+KeepEnds told clock image faults block row old new (Err (refusals.NotOpen state)) = ⊥
+KeepEnds told clock image faults block row old new (Err (refusals.Full used asked capacity)) = ⊥
+KeepEnds told clock image faults block row old new (Err (refusals.Bad kept found)) = ⊥
+
+-- writing a chunk, once it is known that the replica takes it
+abbrev pub PartEnds : {D T : Type 0} → (D → Option (List ℕ)) → (D → ℕ) → Block → ℕ → List ℕ → State D → State D
+    → Result T NodeRefusal → Type 0
+PartEnds told faults block place bytes old new (Ok done) = Wrote told faults block place bytes old new
+PartEnds told faults block place bytes old new (Err (refusals.Stopped count)) = WriteHalts faults old new count
+PartEnds told faults block place bytes old new (Err (refusals.Full used asked capacity)) =
+    IsFull old new used asked capacity
+PartEnds told faults block place bytes old new (Err refusals.OutOfMemory) = ⊥
+PartEnds told faults block place bytes old new (Err refusals.NoBlock) = ⊥
+PartEnds told faults block place bytes old new (Err (refusals.NotOpen state)) = ⊥
+PartEnds told faults block place bytes old new (Err (refusals.Bad kept found)) = ⊥
+
+-- the journal stands for what is held, and a stop leaves just that
+abbrev pub AtRest : Node → Seen → Type 0
+AtRest node journal =
+    (bytes : List ℕ) → journal.told ≡ Some bytes → StandsFor bytes node × IsStable journal.image journal.clock bytes

@@ -1,5 +1,5 @@
 -- What writing a chunk, putting a block and leaving its chunks do to a datanode, a row for each answer.
-use Rattle.std.specs.Prelude.{◌≡◌, ◌⊎◌, ℕ, Bool, true, false, ◌&&◌, List, length, Option, Some, Result, Ok, Err, IfSome, if◌then◌else◌}
+use Rattle.std.specs.Prelude.{◌≡◌, ◌⊎◌, ℕ, ◌<◌, Bool, true, false, ◌&&◌, ◌||◌, List, length, Option, Some, Result, Ok, Err, IfSome, if◌then◌else◌}
 use Rattle.oz_block.specs.Changes.{Changes}
 use Rattle.oz_block.specs.declared.fault.BlockFault.TheVariants as stops
 use Rattle.oz_chunk.specs.Disk.{Syncs}
@@ -8,7 +8,7 @@ use Rattle.oz_chunk.specs.declared.table.TheConstants.{SLOTS, SLOT_SIZE, CAPACIT
 use Rattle.oz_container.specs.declared.state.State.{State}
 use Rattle.oz_container.specs.declared.state.State.TheVariants as states
 use Rattle.oz_entries.specs.Held.{any_in}
-use Rattle.oz_entries.specs.Node.{is_held, is_same_block}
+use Rattle.oz_entries.specs.Node.{is_held, is_same_block, is_used}
 use Rattle.oz_entries.specs.declared.entry.Entry.TheVariants as entries
 use Rattle.oz_entries.specs.declared.row.BlockRow.{BlockRow}
 use Rattle.oz_fields.specs.declared.block.Block.{Block}
@@ -73,37 +73,44 @@ pub record IsNotOpen {D : Type 0} (faults : D → ℕ) (block : Block) (old new 
   pub not_open : is_open state ≡ false
   pub same : new ≡ old
 
+-- Neither a line nor a disk has stopped it, and the replica is open.
+pub record IsOpen {D : Type 0} (faults : D → ℕ) (block : Block) (old : NodeState D) : Type 0 where
+  pub ran : Runs faults old
+  pub is : is_open (state_for old block) ≡ true
+
 -- ---- writing a chunk
 
 -- The chunk stands in the lowest slot that was free, and nothing else changes.
 pub record Wrote {D : Type 0} (told : D → Option (List ℕ)) (faults : D → ℕ) (block : Block) (place : ℕ)
     (bytes : List ℕ) (old new : NodeState D) : Type 0 where
-  pub ran : Runs faults old
-  pub open : is_open (state_for old block) ≡ true
-  pub runs : Runs faults new
   pub written : IsWritten block place bytes old.shelf new.shelf (told (slots_of new))
   pub same : new ≡ record old { shelf = new.shelf }
+  pub runs : Runs faults new
 
--- No slot is free, and nothing changes.
-pub record IsFull {D : Type 0} (faults : D → ℕ) (block : Block) (old new : NodeState D)
-    (used asked capacity : ℕ) : Type 0 where
-  pub ran : Runs faults old
-  pub open : is_open (state_for old block) ≡ true
+-- Each slot is taken, by a block or by a chunk that was written and not put, and nothing changes.
+pub record IsFull {D : Type 0} (old new : NodeState D) (in_use wanted in_all : ℕ) : Type 0 where
   pub full : AllTakenBelow SLOTS old.shelf.slots.taken
-  pub used : used ≡ CAPACITY
-  pub asked : asked ≡ SLOT_SIZE
-  pub capacity : capacity ≡ CAPACITY
+  pub whose : (slot : ℕ) → slot < SLOTS
+      → (is_used (node_in old) slot || any_in old.shelf.draft.chunks slot) ≡ true
+  pub used : in_use ≡ CAPACITY
+  pub asked : wanted ≡ SLOT_SIZE
+  pub capacity : in_all ≡ CAPACITY
   pub same : new ≡ old
+
+-- The disk of slots failed in the call.
+pub record WriteHalts {D : Type 0} (faults : D → ℕ) (old new : NodeState D) (count : ℕ) : Type 0 where
+  pub halts : Halts faults old new count
+  pub blocks : new.blocks ≡ old.blocks
 
 abbrev pub WriteEnds : {D T : Type 0} → (D → Option (List ℕ)) → (D → ℕ) → Block → ℕ → List ℕ → NodeState D
     → NodeState D → Result T NodeRefusal → Type 0
-WriteEnds told faults block place bytes old new (Ok done) = Wrote told faults block place bytes old new
+WriteEnds told faults block place bytes old new (Ok done) =
+    IsOpen faults block old × Wrote told faults block place bytes old new
 WriteEnds told faults block place bytes old new (Err (refusals.Stopped count)) =
-    WasStopped faults old new count
-    ⊎ (Halts faults old new count × (is_open (state_for old block) ≡ true) × (new.blocks ≡ old.blocks))
+    WasStopped faults old new count ⊎ (IsOpen faults block old × WriteHalts faults old new count)
 WriteEnds told faults block place bytes old new (Err (refusals.NotOpen state)) = IsNotOpen faults block old new state
 WriteEnds told faults block place bytes old new (Err (refusals.Full used asked capacity)) =
-    IsFull faults block old new used asked capacity
+    IsOpen faults block old × IsFull old new used asked capacity
 WriteEnds told faults block place bytes old new (Err refusals.OutOfMemory) = new ≡ old
 WriteEnds told faults block place bytes old new (Err refusals.NoBlock) = ⊥
 WriteEnds told faults block place bytes old new (Err (refusals.Bad kept found)) = ⊥
@@ -128,9 +135,8 @@ pub record HeldBefore {D : Type 0} (old new : NodeState D) : Type 0 where
 
 pub record WasPut {D : Type 0} (told : D → Option (List ℕ)) (clock : D → ℕ) (image : D → Images) (faults : D → ℕ)
     (block : Block) (size : ℕ) (old new : NodeState D) : Type 0 where
-  pub ran : Runs faults old
+  pub served : IsOpen faults block old
   pub made : makes old.shelf.draft block size ≡ true
-  pub open : is_open (state_for old block) ≡ true
   pub held : is_held (node_in old) block ≡ true → HeldBefore old new
   pub put : is_held (node_in old) block ≡ false → Puts told clock image faults block (row_in old.shelf size) old new
   pub draft : new.shelf.draft ≡ empty_draft block
@@ -168,7 +174,7 @@ abbrev pub PutEnds : {D T : Type 0} → (D → Option (List ℕ)) → (D → ℕ
 PutEnds told clock image faults block size old new (Ok done) = WasPut told clock image faults block size old new
 PutEnds told clock image faults block size old new (Err (refusals.Stopped count)) =
     WasStopped faults old new count
-    ⊎ ((makes old.shelf.draft block size ≡ true) × (is_open (state_for old block) ≡ true)
+    ⊎ (IsOpen faults block old × (makes old.shelf.draft block size ≡ true)
     × PutHalts told clock image faults block (row_in old.shelf size) old new count)
 PutEnds told clock image faults block size old new (Err refusals.NoBlock) = IsNotMade faults block size old new
 PutEnds told clock image faults block size old new (Err (refusals.NotOpen state)) =

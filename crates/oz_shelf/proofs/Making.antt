@@ -135,3 +135,6 @@ before old new block part chunk is each on =
     let chunks = length-append old.chunks (chunk ∷ []) in
     let same : length (old.parts ++ part ∷ []) ≡ length (old.chunks ++ chunk ∷ []) = sym (ap (λ (d : DraftView). length d.parts) whole) ∙ (each ∙ ap (λ (d : DraftView). length d.chunks) whole) in
     omega (arith, same, parts, chunks, eqb-true part.place (length old.parts) both.1)
+
+pub row_count : (draft : DraftView) (block : Block) (size : ℕ) → length draft.chunks ≡ length draft.parts → makes draft block size ≡ true → length draft.chunks ≡ chunk_count size
+row_count draft block size each made = each ∙ makes_count draft.parts 0 size (and_parts (is_same_block draft.block block) (makes_from 0 size draft.parts) made).1

@@ -88,7 +88,8 @@ impl Draft {
 
     /// The row of a block of so many bytes that has these chunks.
     pub(crate) fn row(&self, alloc: Global, size: u32) -> Result<BlockRow, OutOfMemory>
-        ensures { IfOk result (λ row. row ≡ record { length = size; chunks = self.now.chunks }) }
+        ensures row { IfOk result (λ row. row ≡ record { length = size; chunks = self.now.chunks }) }
+        ensures each { length self.now.chunks ≡ length self.now.parts }
     {
         let chunks = self.chunks.to_vec(alloc)?;
         Ok(BlockRow {

@@ -11,6 +11,7 @@ ghost use Rattle.oz_chunk.specs.declared.fault.SlotFull.{SlotFull as Full};
 ghost use Rattle.oz_shelf.specs.Answers.{says_failed};
 ghost use Rattle.oz_entries.specs.Held.{any_in};
 ghost use Rattle.oz_entries.specs.Node.{is_same_block, chunk_count};
+ghost use Rattle.oz_fields.specs.declared.block.Block.{Block as BlockName};
 ghost use Rattle.oz_world.specs.Disk.{seen, Stands, TellsAsBefore};
 ghost use Rattle.oz_world.specs.Faults.{Rose, HasCause};
 
@@ -120,7 +121,9 @@ impl<D: Disk> Shelf<D> {
 
     /// The row of a block of so many bytes that has the chunks that were written.
     pub fn row(&self, alloc: Global, size: u32) -> Result<BlockRow, OutOfMemory>
-        ensures { IfOk result (λ row. row ≡ record { length = size; chunks = self.now.draft.chunks }) }
+        ensures row { IfOk result (λ row. row ≡ record { length = size; chunks = self.now.draft.chunks }) }
+        ensures count { (block : BlockName) → makes self.now.draft block size ≡ true →
+            length self.now.draft.chunks ≡ chunk_count size }
     {
         self.draft.row(alloc, size)
     }

@@ -168,7 +168,7 @@ cd "$work/crates/bench_memory"
 shown() {
     echo "$1 $(grep -o 'run=[^ ]* status=[0-9]*\|run=[^ ]*' <<<"$2" | tail -1) $(grep -o '[0-9]* events, [0-9]* bytes' <<<"$2" | head -1)"
 }
-said=$(rt try 2>&1) || true
+said=$(rt try --fail-alloc 1000000 2>&1) || true
 count=$(grep -o 'allocations: [0-9]*' <<<"$said" | grep -o '[0-9]*')
 shown "none of $count" "$said"
 for ((failing = ${2:-1}; failing <= count; failing++)); do

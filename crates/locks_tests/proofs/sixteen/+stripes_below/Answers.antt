@@ -1,0 +1,10 @@
+use Rattle.std.proofs.Common.{subst, sym, ◌∙◌}
+use Rattle.oz_locks.specs.Stripe.{AreInOrder}
+use Rattle.locks_tests.proofs.sixteen.+stripes_below.Goals as goal
+
+pub returns-clause-in_order : goal.returns-clause-in_order
+returns-clause-in_order g t c n s at =
+    let new = c.in-Some.ensures.stripe in
+    let others = c.in_ok-stripes.ensures in
+    subst (AreInOrder 0) (sym c.in_ok-push.ensures.items)
+    (c.stripes_stay_in_order.ensures.pushed 0 _ _ others.in_order (new.idle.numbered ∙ sym others.count) new.rests) n s at

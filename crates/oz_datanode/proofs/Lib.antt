@@ -1,6 +1,8 @@
 pub mod Calls
 pub mod Drafting
+pub mod Filling
 pub mod Holding
+pub mod Joining
 pub mod Listing
 pub mod Lowest
 pub mod Pairing

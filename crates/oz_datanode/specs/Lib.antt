@@ -1,3 +1,4 @@
+pub mod Copying
 pub mod Datanode
 pub mod Pairs
 pub mod Steps

@@ -1,3 +1,5 @@
+pub mod Journaling
 pub mod Listing
 pub mod Lowest
 pub mod Ranges
+pub mod Running

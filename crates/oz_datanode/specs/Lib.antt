@@ -1,2 +1,4 @@
+pub mod Changing
 pub mod Datanode
+pub mod Pairs
 pub mod Steps

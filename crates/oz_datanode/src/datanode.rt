@@ -22,10 +22,10 @@ use std::marker::Model;
 /// A datanode.
 #[derive(Drop)]
 pub struct Datanode<D: Disk> {
-    id: u8,
-    blocks: Blocks<D>,
-    shelf: Shelf<D>,
-    stopped: bool,
+    pub(crate) id: u8,
+    pub(crate) blocks: Blocks<D>,
+    pub(crate) shelf: Shelf<D>,
+    pub(crate) stopped: bool,
 }
 
 impl<D: Disk> Model for Datanode<D> {
@@ -112,7 +112,7 @@ impl<D: Disk> Datanode<D> {
     }
 
     /// The refusal where one of the disks has failed.
-    fn halt(&self) -> NodeRefusal
+    pub(crate) fn halt(&self) -> NodeRefusal
         ensures { result ≡ refusals.Stopped (count_of D.faults self.now) }
     {
         NodeRefusal::Stopped {

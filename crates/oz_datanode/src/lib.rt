@@ -6,6 +6,7 @@ mod disks;
 mod fault;
 mod loading;
 mod refusal;
+mod states;
 
 pub use datanode::Datanode;
 pub use disks::NodeDisks;

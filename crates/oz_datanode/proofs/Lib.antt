@@ -1,3 +1,4 @@
+pub mod Chunks
 pub mod Journaling
 pub mod Listing
 pub mod Lowest

@@ -1,5 +1,7 @@
 -- What a datanode that runs tells.
-use Rattle.std.proofs.Common.{◌≡◌, ℕ, Bool, true, false, cond, ◌||◌, Option, None, Some, refl}
+use Rattle.std.proofs.Common.{◌≡◌, ℕ, ◌+◌, ◌-◌, ◌^◌, min, Bool, true, false, cond, ◌||◌, Option, None, Some, refl}
+use Rattle.oz_block.specs.Blocks.{State as Blocks}
+use Rattle.oz_shelf.specs.Shelf.{ShelfView}
 use Rattle.oz_datanode.specs.Datanode.{State, Runs, is_halted, count_of}
 
 parts : (a b stopped : Bool) (count : ℕ) → cond (a || b) (Some count) (cond stopped (Some 0) None) ≡ None → (a ≡ false) × (b ≡ false) × (stopped ≡ false)
@@ -28,3 +30,12 @@ is_running faults state runs =
       line = all.2;
       disks = neither state.blocks.stopped state.shelf.failed all.0 all.1;
     }
+
+back : (a b stopped : Bool) (count : ℕ) → a ≡ false → b ≡ false → stopped ≡ false → cond (a || b) (Some count) (cond stopped (Some 0) None) ≡ None
+back true b stopped count one two three = absurd cc
+back false true stopped count one two three = absurd cc
+back false false true count one two three = absurd cc
+back false false false count one two three = refl
+
+pub runs_still : {D : Type 0} (faults : D → ℕ) (id : ℕ) (blocks : Blocks D) (shelf : ShelfView D) (stopped : Bool) → blocks.stopped ≡ false → shelf.failed ≡ false → stopped ≡ false → Runs faults (record { id = id; blocks = blocks; shelf = shelf; stopped = stopped })
+runs_still faults id blocks shelf stopped = back blocks.stopped shelf.failed stopped (min (faults blocks.disk + faults shelf.slots.disk) (2 ^ 64 - 1))

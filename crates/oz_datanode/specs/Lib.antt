@@ -1,4 +1,5 @@
 pub mod Changing
 pub mod Datanode
 pub mod Pairs
+pub mod Reading
 pub mod Steps

@@ -4,7 +4,9 @@
 mod datanode;
 mod disks;
 mod fault;
+mod lists;
 mod loading;
+mod reading;
 mod refusal;
 mod states;
 

@@ -1,11 +1,14 @@
 pub mod Calls
+pub mod Chunks
 pub mod Drafting
 pub mod Filling
 pub mod Holding
 pub mod Joining
+pub mod Journaling
 pub mod Listing
 pub mod Lowest
 pub mod Pairing
 pub mod Parts
 pub mod Ranges
 pub mod Running
+pub mod RunningParts

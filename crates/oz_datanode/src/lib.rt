@@ -5,8 +5,11 @@ mod copying;
 mod datanode;
 mod disks;
 mod fault;
+mod lists;
 mod loading;
+mod reading;
 mod refusal;
+mod states;
 mod writing;
 
 pub use datanode::Datanode;

@@ -17,8 +17,8 @@ returns-in-Ok-clause-next g c =
     let whole = runs_parts g.D.Disk.faults (record { id = c.self.inside.id; blocks = c.self.inside.blocks; shelf = c.self.inside.shelf; stopped = c.self.inside.stopped }) runs in
     let rests = c.self.invariant whole.0 in
     rw (← c.self.view_is) (λ front drafted full.
-        let more = c.in-Ok.ensures.grown (length front) drafted.made full in
-        next_drafted g.D.Disk.told c.args.block c.args.chunk front c.args.bytes.now c.self.inside.shelf c.write.new.self c.in-Ok.ensures.written c.requires.most drafted full more.0 more.1 more.2 (taken_drafted (node_in_blocks c.self.inside.blocks) c.self.inside.shelf _ rests) c.write.ensures.kept c.write.ensures.telling)
+    let more = c.in-Ok.ensures.grown (length front) drafted.made full in
+    next_drafted g.D.Disk.told c.args.block c.args.chunk front c.args.bytes.now c.self.inside.shelf c.write.new.self c.in-Ok.ensures.written c.requires.most drafted full more.0 more.1 more.2 (taken_drafted (node_in_blocks c.self.inside.blocks) c.self.inside.shelf _ rests) c.write.ensures.kept c.write.ensures.telling)
 
 pub returns-in-Ok-clause-pairs : goal.returns-in-Ok-clause-pairs
 returns-in-Ok-clause-pairs g c =

@@ -65,8 +65,8 @@ returns-clause-grown g c =
     let chunk : Chunk = record { slot = c.in-Ok.slot; digest = c.in-Ok-write_chunk.digest } in
     let is = part_added c.self.inside.draft c.self-2.inside.draft c.add.new.self c.args.block part chunk draft c.add.ensures.added in
     rw (← c.self.view_is) (λ size made whole.
-        let both = grown c.self.inside.draft c.args.block part chunk size (length c.args.bytes.now) made whole refl c.requires.least c.requires.most in
-        (both.0, before c.self.inside.draft c.add.new.self c.args.block part chunk is c.add.ensures.each both.0, ap (λ (d : DraftView). makes d c.args.block (size + length c.args.bytes.now)) is ∙ both.1))
+    let both = grown c.self.inside.draft c.args.block part chunk size (length c.args.bytes.now) made whole refl c.requires.least c.requires.most in
+    (both.0, before c.self.inside.draft c.add.new.self c.args.block part chunk is c.add.ensures.each both.0, ap (λ (d : DraftView). makes d c.args.block (size + length c.args.bytes.now)) is ∙ both.1))
 
 pub returns-in_default-clause-telling : goal.returns-in_default-clause-telling
 returns-in_default-clause-telling g c = rw (← c.self.view_is) (tells_on g.D.Disk.told g.D.Disk.clock g.D.Disk.image g.D.Disk.faults c.self.inside.slots.disk c.take.new.self.disk c.write_chunk.new.self.disk c.in-Ok.ensures.disk (moves_tell _ _ _ c.write_chunk.ensures.writes.torn))

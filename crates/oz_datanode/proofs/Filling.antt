@@ -41,17 +41,8 @@ one_more place bytes part is less =
 pub within : (place size : ℕ) → place < (size + 16383) / 16384 → place * 16384 < size
 within place size less = omega (arith, less)
 
-pub last_place : (size : ℕ) → (size + 16383) / 16384 ≡ chunk_count size
-last_place size = refl
-
 pub all_places : (place size : ℕ) → (size + 16383) / 16384 ≤ place → size ≤ place * 16384
 all_places place size past = omega (arith, past)
-
-rose_since : (first between last : ℕ) → first ≤ between → Rose between last → Rose first last
-rose_since first between last before rose = omega (arith, before, rose)
-
-as_shelf : {D : Type 0} (old new : State D) → new.id ≡ old.id → new.blocks ≡ old.blocks → new.stopped ≡ old.stopped → new ≡ with_shelf old new.shelf
-as_shelf old new id blocks line = λ i. record { id = id i; blocks = blocks i; shelf = new.shelf; stopped = line i }
 
 module _ {D : Type 0} (told : D → Option (List ℕ)) (clock : D → ℕ) (image : D → Images) (faults : D → ℕ) (block : Block) (bytes : List ℕ) where
   pub filled_none : (old : State D) → Runs faults old → old.shelf.draft.chunks ≡ [] → FilledTo told clock image faults block bytes 0 old old
@@ -92,31 +83,6 @@ module _ {D : Type 0} (told : D → Option (List ℕ)) (clock : D → ℕ) (imag
     ];
     never_falls = filled.never_falls;
   }
-
-  pub fill_fails : (T U : Type 0) (place : ℕ) (part : List ℕ) (old mid new : State D) (why : NodeRefusal) → FilledTo told clock image faults block bytes place old mid → place < (length bytes + 16383) / 16384 → PartEnds {T = T} told faults block place part mid new (Err why) → FillEnds {T = U} told faults block bytes old new (Err why)
-  fill_fails T U place part old mid new (refusals.Stopped count) filled less ends = record {
-    halted = ends.halts.halted;
-    counted = ends.halts.counted;
-    cause = rose_since (faults (slots_of old)) (faults (slots_of mid)) (faults (slots_of new)) filled.never_falls ends.own;
-    same = as_shelf mid new ends.halts.id ends.blocks ends.halts.line ∙ ap (λ (n : State D). with_shelf n new.shelf) filled.same;
-  }
-  fill_fails T U place part old mid new (refusals.Full used asked capacity) filled less ends = record {
-    fewer =
-        let count : length new.shelf.draft.chunks ≡ length mid.shelf.draft.chunks = ap (λ (n : State D). length n.shelf.draft.chunks) ends.same in
-        omega (arith, count, filled.count, less);
-    whose = λ slot small.
-        let now : node_in mid ≡ node_in old = ap (λ (n : State D). node_in n) filled.same in
-        ap (λ (n : Node). is_used n slot || any_in new.shelf.draft.chunks slot) (sym now) ∙ (ap (λ (n : State D). is_used (node_in mid) slot || any_in n.shelf.draft.chunks slot) ends.same ∙ ends.whose slot small);
-    used = ends.used;
-    asked = ends.asked;
-    capacity = ends.capacity;
-    same = ends.same ∙ (filled.same ∙ ap (λ (n : State D). with_shelf old n.shelf) (sym ends.same));
-    runs = subst (λ (n : State D). Runs faults n) (sym ends.same) filled.runs;
-  }
-  fill_fails T U place part old mid new (refusals.NotOpen state) filled less ends = absurd ends
-  fill_fails T U place part old mid new refusals.NoBlock filled less ends = absurd ends
-  fill_fails T U place part old mid new (refusals.Bad kept found) filled less ends = absurd ends
-  fill_fails T U place part old mid new refusals.OutOfMemory filled less ends = absurd ends
 
   pub rest_filled : (place : ℕ) (old now : State D) → FilledTo told clock image faults block bytes place old now → AtRest (node_in old) (journal_seen told clock image faults old) → AtRest (node_in now) (journal_seen told clock image faults now)
   rest_filled place old now filled rest = subst (λ (n : State D). AtRest (node_in n) (journal_seen told clock image faults n)) (sym filled.same) rest

@@ -1,5 +1,5 @@
 use Rattle.std.proofs.Common.{arith}
-use Rattle.oz_datanode.proofs.Filling.{filled_none, filled_more, filled_all, fill_fails, rest_filled, within}
+use Rattle.oz_datanode.proofs.Filling.{filled_none, filled_more, filled_all, rest_filled, within}
 use Rattle.oz_datanode.proofs.datanode.Datanode.fill.Goals as goal
 
 pub loop-place-init : goal.loop-place-init

@@ -1,4 +1,5 @@
 pub mod Chunks
+pub mod Gone
 pub mod Journaling
 pub mod Listing
 pub mod Lowest

@@ -2,6 +2,7 @@
 #![tactic(auto)]
 
 mod datanode;
+mod deleting;
 mod disks;
 mod fault;
 mod lists;

@@ -1,4 +1,5 @@
 pub mod Chunks
+pub mod Emptied
 pub mod Gone
 pub mod Journaling
 pub mod Listing

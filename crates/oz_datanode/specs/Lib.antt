@@ -3,3 +3,4 @@ pub mod Datanode
 pub mod Pairs
 pub mod Reading
 pub mod Steps
+pub mod Wiping

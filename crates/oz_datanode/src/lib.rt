@@ -10,6 +10,7 @@ mod loading;
 mod reading;
 mod refusal;
 mod states;
+mod wiping;
 
 pub use datanode::Datanode;
 pub use disks::NodeDisks;

@@ -1,7 +1,9 @@
 pub mod Calls
 pub mod Chunks
 pub mod Drafting
+pub mod Emptied
 pub mod Filling
+pub mod Gone
 pub mod Holding
 pub mod Joining
 pub mod Journaling

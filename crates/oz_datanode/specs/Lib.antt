@@ -4,4 +4,5 @@ pub mod Datanode
 pub mod Pairs
 pub mod Reading
 pub mod Steps
+pub mod Wiping
 pub mod Writing

@@ -3,6 +3,7 @@
 
 mod copying;
 mod datanode;
+mod deleting;
 mod disks;
 mod fault;
 mod lists;
@@ -10,6 +11,7 @@ mod loading;
 mod reading;
 mod refusal;
 mod states;
+mod wiping;
 mod writing;
 
 pub use datanode::Datanode;

@@ -16,7 +16,7 @@ use Rattle.oz_shelf.specs.Shelf.{ShelfView, Rests, AreSettled, KeepsTold, empty_
 use Rattle.oz_world.specs.Disk.{Images, Seen, seen, TellsAsBefore}
 use Rattle.oz_world.specs.Faults.{HasCause}
 use Rattle.oz_datanode.specs.Datanode.{State, node_in, meta_of, slots_of, is_halted}
-use Rattle.oz_datanode.specs.Pairs.{Content, Has, PairHolds, NodeHolds, journal_seen, slots_seen, with_content}
+use Rattle.oz_datanode.specs.Pairs.{Content, Has, HaveAll, PairHolds, NodeHolds, journal_seen, slots_seen, with_content}
 use Rattle.oz_datanode.specs.Steps.{is_in_use, AtRest}
 use Rattle.oz_datanode.specs.Writing.{contents_with, Puts}
 use Rattle.oz_datanode.specs.Steps.{Keeps}
@@ -116,3 +116,7 @@ module _ {D : Type 0} (told : D → Option (List ℕ)) (clock : D → ℕ) (imag
     id = id;
     line = line;
   }
+
+  -- what is read of blocks is what a stop leaves of them
+  pub read_holds : (contents : Block → Content) (node : State D) → OneNode → Rest node → IsInOrder node → (IsSome (told (meta_of node)) → IfSome (told (slots_of node)) (HaveAll contents (node_in node))) → Holds contents node
+  read_holds contents node one rest rests read = pair_at_rest contents (node_in node) (journal_seen told clock image faults node) (slots_seen told clock image faults node) one rest rests.settled read

@@ -1,9 +1,16 @@
 pub mod Calls
+pub mod Chunks
 pub mod Drafting
+pub mod Emptied
+pub mod Filling
+pub mod Gone
 pub mod Holding
+pub mod Joining
+pub mod Journaling
 pub mod Listing
 pub mod Lowest
 pub mod Pairing
 pub mod Parts
 pub mod Ranges
 pub mod Running
+pub mod RunningParts

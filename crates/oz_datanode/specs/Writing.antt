@@ -97,8 +97,10 @@ pub record IsFull {D : Type 0} (old new : NodeState D) (in_use wanted in_all : �
   pub capacity : in_all ≡ CAPACITY
   pub same : new ≡ old
 
--- The disk of slots failed in the call.
+-- A slot was free, and the disk of slots failed in the call.
 pub record WriteHalts {D : Type 0} (faults : D → ℕ) (old new : NodeState D) (count : ℕ) : Type 0 where
+  pub room : ¬ AllTakenBelow SLOTS old.shelf.slots.taken
+  pub own : Rose (faults (slots_of old)) (faults (slots_of new))
   pub halts : Halts faults old new count
   pub blocks : new.blocks ≡ old.blocks
 
@@ -149,6 +151,7 @@ pub record WasPut {D : Type 0} (told : D → Option (List ℕ)) (clock : D → �
 pub record PutHalts {D : Type 0} (told : D → Option (List ℕ)) (clock : D → ℕ) (image : D → Images) (faults : D → ℕ)
     (block : Block) (row : BlockRow) (old new : NodeState D) (count : ℕ) : Type 0 where
   pub halts : Halts faults old new count
+  pub slots : told (slots_of new) ≡ told (slots_of old)
   pub journal : (new.blocks ≡ old.blocks)
       ⊎ ((own : ℕ) × Changes {T = Unit {0}} (entries.Put block row) old.blocks new.blocks
       (journal_seen told clock image faults old) (journal_seen told clock image faults new) (Err (stops.Stopped own)))

@@ -1,10 +1,12 @@
 //! A datanode over its two disks.
 
-ghost use Rattle.std.specs.Prelude.{◌≡◌, ℕ, List, true, false, length, Err, [], Some, IfOk, IfErr, OnErr, IfSome};
+ghost use Rattle.std.specs.Prelude.{◌≡◌, ℕ, List, true, false, length, Err, [], Some, IsSome, IfOk, IfErr, OnErr, IfSome};
 ghost use Rattle.oz_block.specs.Blocks.{StandsFor, IsDamagedDisk};
 ghost use Rattle.oz_datanode.specs.Datanode.{Runs, IsLowestPast};
+ghost use Rattle.oz_datanode.specs.Pairs.{Content, HaveAll, NodeHolds};
 ghost use Rattle.oz_datanode.specs.declared.refusal.NodeRefusal.TheVariants as refusals;
 ghost use Rattle.oz_entries.specs.Node.{Node};
+ghost use Rattle.oz_fields.specs.declared.block.Block.{Block};
 ghost use Rattle.oz_world.specs.Disk.{IsStable};
 ghost use Rattle.oz_world.specs.Faults.{Rose};
 
@@ -12,7 +14,7 @@ use crate::disks::NodeDisks;
 use crate::fault::NodeFault;
 use crate::loading::{journal_fault, slot_fault, used_slots};
 use crate::refusal::NodeRefusal;
-use oz_block::Blocks;
+use oz_block::{Blocks, a_disk_stands_for_one_node};
 use oz_container::State;
 use oz_shelf::Shelf;
 use oz_world::Disk;
@@ -101,13 +103,18 @@ impl<D: Disk> Datanode<D> {
     }
 
     /// Whether a call on one of the disks has failed. While none has, what the journal tells stands for what is held, and
-    /// is stable.
+    /// is stable; and what is read of blocks is what a stop leaves of them.
     pub fn halted(&self) -> bool
         ensures halted { result ≡ is_halted self.now }
         ensures at_rest { result ≡ false → (bytes : List ℕ) → D.told (meta_of self.now) ≡ Some bytes →
             StandsFor bytes (node_in self.now)
             × IsStable (D.image (meta_of self.now)) (D.clock (meta_of self.now)) bytes }
+        ensures pairs { result ≡ false → (contents : Block → Content) →
+            (IsSome (D.told (meta_of self.now)) →
+            IfSome (D.told (slots_of self.now)) (HaveAll contents (node_in self.now))) →
+            NodeHolds D.told D.clock D.image D.faults contents self.now }
     {
+        a_disk_stands_for_one_node();
         self.blocks.stopped() || self.shelf.failed()
     }
 

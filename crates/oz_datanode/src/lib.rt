@@ -1,11 +1,17 @@
 //! One datanode: the blocks that were put and copied, less those that were deleted, over a journal and a disk of slots.
 #![tactic(auto)]
 
+mod copying;
 mod datanode;
+mod deleting;
 mod disks;
 mod fault;
+mod lists;
 mod loading;
+mod reading;
 mod refusal;
+mod states;
+mod wiping;
 mod writing;
 
 pub use datanode::Datanode;

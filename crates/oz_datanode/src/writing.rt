@@ -94,6 +94,7 @@ impl<D: Disk> Datanode<D> {
         ensures ends { PartEnds D.told D.faults block chunk bytes.now self.old self.new result }
         ensures count { OnOk result
             (length self.new.shelf.draft.chunks ≤ length self.old.shelf.draft.chunks + 1) }
+        ensures never_falls { D.faults (slots_of self.old) ≤ D.faults (slots_of self.new) }
         ensures first { OnOk result (chunk ≡ 0 → IsDrafted D.told block bytes.now self.new.shelf) }
         ensures next { OnOk result ((front : List ℕ) → IsDrafted D.told block front self.old.shelf →
             length front ≡ chunk * SLOT_BYTES → IsDrafted D.told block (front ++ bytes.now) self.new.shelf) }

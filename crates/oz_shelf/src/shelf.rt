@@ -202,6 +202,7 @@ impl<D: Disk> Shelf<D> {
         ensures failed { self.new.failed ≡ says_failed result }
         ensures draft { OnErr result (self.new.draft ≡ self.old.draft) }
         ensures cause { self.new.failed ≡ true → Rose (D.faults self.old.slots.disk) (D.faults self.new.slots.disk) }
+        ensures never_falls { D.faults self.old.slots.disk ≤ D.faults self.new.slots.disk }
         ensures kept { KeepsTold (is_taken self.old.slots.taken) (D.told self.old.slots.disk)
             (D.told self.new.slots.disk) }
         ensures telling { TellsAsBefore (D.told self.old.slots.disk) (D.told self.new.slots.disk) }

@@ -1,14 +1,14 @@
 //! A ledger, a turn of it, and events.
 
 ghost use Rattle.std.specs.Prelude.{◌≡◌, ◌≤◌, ◌<◌, ◌+◌, vec_len, IfOk, IfSome, OnSome, OnOk};
-ghost use Rattle.oz_buffer.specs.Buffer.{IsDecide, batch_in};
+ghost use Rattle.oz_buffer.specs.Buffer.{IsDecide, IsNote, batch_in};
 ghost use Rattle.oz_turn.specs.Seat.{IsReady, AreReady};
 ghost use Rattle.oz_turn.specs.Turn.{turn_id, seats_of};
 
 use oz_buffer::{Ledger, Opened, Reserve, a_reserve_is_room_enough};
 use oz_core::{Event, EventKind, Node};
-use oz_fields::List;
-use oz_requests::{AskId, Reply};
+use oz_fields::{List, Name};
+use oz_requests::{Answer, AskId, Reply, Request};
 use oz_turn::{Seat, Turn, new_seats_are_ready, ready_seats_may_close, seats_stay_ready};
 use std::alloc::{AllocError, Global};
 use std::process::Abort;
@@ -44,6 +44,50 @@ pub fn first_id(client: u16) -> AskId {
         client,
         line: 1,
         step: 1,
+    }
+}
+
+/// The first line of a client asks for a volume.
+pub fn ask_of(alloc: Global, seat: u16, client: u16) -> Result<Event, AllocError>
+    ensures seat { IfOk result (λ event. event.seat ≡ seat) }
+    ensures kind { IfOk result (λ event. IsNote event.kind) }
+{
+    let volume = Name::copy(alloc, b"vol1")?;
+    Ok(Event {
+        seat,
+        kind: EventKind::Ask {
+            id: first_id(client),
+            request: Request::CreateVolume { volume },
+        },
+    })
+}
+
+/// The first line of a client is told.
+pub fn told_of(seat: u16, client: u16) -> Event
+    ensures seat { result.seat ≡ seat }
+    ensures kind { IsNote result.kind }
+{
+    Event {
+        seat,
+        kind: EventKind::Told {
+            client,
+            line: 1,
+            answer: Answer::OutOfMemory,
+        },
+    }
+}
+
+/// The manager halts.
+pub fn halt_of(count: u64) -> Event
+    ensures seat { result.seat ≡ 0 }
+    ensures kind { IsNote result.kind }
+{
+    Event {
+        seat: 0,
+        kind: EventKind::Halt {
+            node: Node::Manager,
+            count,
+        },
     }
 }
 

@@ -9,6 +9,7 @@ pub mod Joining
 pub mod Journaling
 pub mod Listing
 pub mod Lowest
+pub mod Named
 pub mod Pairing
 pub mod Parts
 pub mod Ranges

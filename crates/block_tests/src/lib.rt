@@ -1,6 +1,7 @@
 //! Tests of blocks in a journal: the bytes of their bodies, every rule of a body broken once, and disks that fail.
 #![tactic(auto)]
 
+#[cfg(test)]
 mod asking;
 #[cfg(test)]
 mod changes;
@@ -8,5 +9,7 @@ mod changes;
 mod damaged;
 #[cfg(test)]
 mod failing;
+#[cfg(test)]
 mod hex;
+#[cfg(test)]
 mod journals;

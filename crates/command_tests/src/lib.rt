@@ -1,7 +1,9 @@
 //! Tests of the commands of scripts.
 #![tactic(auto)]
 
+#[cfg(test)]
 mod pieces;
 #[cfg(test)]
 mod shown;
+#[cfg(test)]
 mod words;

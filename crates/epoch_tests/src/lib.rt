@@ -5,4 +5,5 @@
 mod calls;
 #[cfg(test)]
 mod draws;
+#[cfg(test)]
 mod twin;

@@ -3,6 +3,7 @@
 
 #[cfg(test)]
 mod faults;
+#[cfg(test)]
 mod journal;
 #[cfg(test)]
 mod limits;

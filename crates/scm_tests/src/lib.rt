@@ -1,6 +1,7 @@
 //! Tests of the storage container manager: its grants, their bytes, each byte of a disk changed, and disks that fail.
 #![tactic(auto)]
 
+#[cfg(test)]
 mod asking;
 #[cfg(test)]
 mod changed;
@@ -10,5 +11,7 @@ mod damaged;
 mod failing;
 #[cfg(test)]
 mod granting;
+#[cfg(test)]
 mod hex;
+#[cfg(test)]
 mod journals;

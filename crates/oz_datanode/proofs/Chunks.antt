@@ -1,17 +1,18 @@
 -- What a read of slots keeps, and how far the chunks of a block were read.
-use Rattle.std.proofs.Common.{◌≡◌, inl, inr, ◌↔◌, ℕ, ◌+◌, ◌-◌, ◌<◌, ◌≤◌, zero, suc, eqb, Bool, true, false, cond, ◌||◌, List, [], ◌∷◌, ◌++◌, length, drop, get_or, Option, None, Some, is_some, IsSome, IfSome, refl, sym, ap, subst, ◌∙◌, arith, add-one, drop-cons, append_assoc, eq-eqb}
+use Rattle.std.proofs.Common.{◌≡◌, inl, inr, ℕ, ◌+◌, ◌-◌, ◌<◌, ◌≤◌, zero, suc, eqb, Bool, true, false, ◌||◌, List, [], ◌∷◌, ◌++◌, length, drop, get_or, Option, None, Some, is_some, IsSome, IfSome, refl, sym, ap, subst, ◌∙◌, arith, add-one, drop-cons, append_assoc, eq-eqb}
 use Rattle.std.proofs.lemmas.Bool.{false≢true}
 use Rattle.std.proofs.lemmas.List.{append-nil}
 use Rattle.std.proofs.Math.ListN.{drop_of_length-le}
 use Rattle.oz_chunk.specs.Slots.{IsWithin}
 use Rattle.oz_chunk.specs.Taken.{is_taken}
-use Rattle.oz_block.specs.Blocks.{StandsFor}
 use Rattle.oz_entries.specs.declared.row.BlockRow.{BlockRow}
 use Rattle.oz_entries.specs.declared.row.Chunk.{Chunk}
 use Rattle.oz_entries.specs.Held.{any_in, belongs_to, row_has, IsSound}
 use Rattle.oz_entries.specs.Node.{Node, HaveFreeSlots, or_slot, or_slots, is_used}
 use Rattle.oz_fields.specs.declared.block.Block.{Block}
-use Rattle.oz_shelf.specs.Shelf.{ShelfView, Rests, HaveSame, AreSettled}
+use Rattle.oz_shelf.specs.declared.written.Written.{Written}
+use Rattle.oz_shelf.specs.Shelf.{ShelfView, Rests, HaveSame}
+use Rattle.oz_shelf.specs.Written.{chunks_in}
 use Rattle.oz_world.specs.Disk.{Seen, Stands}
 use Rattle.sha2.specs.Sha256.{sha256}
 use Rattle.oz_datanode.specs.Pairs.{Content, HaveAll, PairHolds, part_of, parts_of, HaveDigests}
@@ -25,7 +26,7 @@ reads_none shelf disk = record {
   time = record { moment = refl; images = λ t bytes. (λ h. h, λ h. h) };
   faults = omega arith;
   taken = refl;
-  draft = refl;
+  written = refl;
 }
 
 pub reads_then : {D : Type 0} (first second third : ShelfView D) (a b c : Seen) → OnlyReads first second a b → OnlyReads second third b c → OnlyReads first third a c
@@ -37,7 +38,7 @@ reads_then first second third a b c one two = record {
   };
   faults = omega (arith, one.faults, two.faults);
   taken = two.taken ∙ one.taken;
-  draft = two.draft ∙ one.draft;
+  written = two.written ∙ one.written;
 }
 
 -- an image of the disk that was read was one before
@@ -46,8 +47,8 @@ image_before before after time left here = subst (λ (n : ℕ). before.image n l
 
 pub rests_read : {D : Type 0} (used : ℕ → Bool) (old new : ShelfView D) (before after : Seen) → Rests used old before → OnlyReads old new before after → Rests used new after
 rests_read used old new before after rests reads = record {
-  free = subst (λ (l : List Chunk). HaveFreeSlots used l) (sym (ap (λ d. d.chunks) reads.draft)) rests.free;
-  taken = λ slot. ap (λ (l : List Bool). is_taken l slot) reads.taken ∙ (rests.taken slot ∙ ap (λ (l : List Chunk). or_slots used l slot) (sym (ap (λ d. d.chunks) reads.draft)));
+  free = subst (λ (l : List Written). HaveFreeSlots used (chunks_in l)) (sym reads.written) rests.free;
+  taken = λ slot. ap (λ (l : List Bool). is_taken l slot) reads.taken ∙ (rests.taken slot ∙ ap (λ (l : List Written). or_slots used (chunks_in l) slot) (sym reads.written));
   within = subst (λ (o : Option (List ℕ)). IfSome o (λ bytes. (slot : ℕ) → is_taken new.slots.taken slot ≡ true → IsWithin slot bytes)) (sym reads.told)
       (subst (λ (l : List Bool). IfSome before.told (λ bytes. (slot : ℕ) → is_taken l slot ≡ true → IsWithin slot bytes)) (sym reads.taken) rests.within);
   settled = subst (λ (o : Option (List ℕ)). IfSome o (λ bytes. (left : List ℕ) → after.image after.clock left → HaveSame used bytes left)) (sym reads.told) (still before.told rests.settled);
@@ -81,7 +82,7 @@ row_within node shelf disk block row rests sound small is = by disk.told rests.w
     taken slot has =
         let owned : belongs_to (node.users slot) block ≡ true = sound slot block ∙ (ap (λ (o : Option BlockRow). row_has o slot) (sym is) ∙ has) in
         let used : is_used node slot ≡ true = some_user (node.users slot) block owned in
-        rests.taken slot ∙ or_slots_used (is_in_use node) shelf.draft.chunks slot (in_use node slot used (small slot used))
+        rests.taken slot ∙ or_slots_used (is_in_use node) (chunks_in shelf.written) slot (in_use node slot used (small slot used))
 
     by : (told : Option (List ℕ)) → IfSome told (λ bytes. (slot : ℕ) → is_taken shelf.slots.taken slot ≡ true → IsWithin slot bytes) → IfSome told (λ slots. (slot : ℕ) → any_in row.chunks slot ≡ true → IsWithin slot slots)
     by None within = tt

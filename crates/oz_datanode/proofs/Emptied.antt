@@ -1,26 +1,27 @@
 -- What a wipe leaves.
-use Rattle.std.proofs.Common.{◌≡◌, ℕ, Bool, true, false, ◌||◌, List, [], Option, None, Some, IsSome, is_some, IfSome, Result, Ok, refl, sym, ap, subst, ◌∙◌}
+use Rattle.std.proofs.Common.{◌≡◌, ℕ, true, false, List, [], Option, None, Some, IsSome, is_some, IfSome, Ok, refl, sym, ap, subst, ◌∙◌}
 use Rattle.std.proofs.lemmas.Bool.{false≢true}
 use Rattle.oz_block.specs.Blocks.{State as Blocks, node_in as node_in_blocks, StandsFor}
 use Rattle.oz_block.specs.Changes.{Wipes}
 use Rattle.oz_chunk.specs.Slots.{IsWithin}
 use Rattle.oz_chunk.specs.Taken.{is_taken}
-use Rattle.oz_entries.specs.declared.row.BlockRow.{BlockRow}
 use Rattle.oz_entries.specs.Node.{Node, empty_node, HaveFreeSlots, or_slots}
 use Rattle.oz_entries.specs.laws.Journals.{none_made}
 use Rattle.oz_fields.specs.declared.block.Block.{Block}
 use Rattle.oz_journal.specs.Grammar.{IsJournal, TellsBodies}
-use Rattle.oz_shelf.specs.Shelf.{ShelfView, DraftView, Rests, HaveSame, empty_draft}
+use Rattle.oz_shelf.specs.declared.written.Written.{Written}
+use Rattle.oz_shelf.specs.Shelf.{ShelfView, Rests, HaveSame}
+use Rattle.oz_shelf.specs.Written.{chunks_in}
 use Rattle.oz_world.specs.Disk.{Seen, IsStable, TellsAsBefore}
 use Rattle.oz_datanode.specs.Pairs.{Content, HaveAll, PairHolds}
 use Rattle.oz_datanode.specs.Steps.{is_in_use}
 use Rattle.oz_datanode.proofs.Journaling.{OneNode}
 
 -- slots of which none is taken are in order
-pub rests_empty : {D : Type 0} (node : Node) (shelf : ShelfView D) (disk : Seen) (block : Block) → node ≡ empty_node → ((slot : ℕ) → is_taken shelf.slots.taken slot ≡ false) → shelf.draft ≡ empty_draft block → Rests (is_in_use node) shelf disk
-rests_empty node shelf disk block none free draft = subst (λ (n : Node). Rests (is_in_use n) shelf disk) (sym none) (record {
-  free = subst (λ (d : DraftView). HaveFreeSlots (is_in_use empty_node) d.chunks) (sym draft) tt;
-  taken = λ slot. free slot ∙ ap (λ (d : DraftView). or_slots (is_in_use empty_node) d.chunks slot) (sym draft);
+pub rests_empty : {D : Type 0} (node : Node) (shelf : ShelfView D) (disk : Seen) → node ≡ empty_node → ((slot : ℕ) → is_taken shelf.slots.taken slot ≡ false) → shelf.written ≡ [] → Rests (is_in_use node) shelf disk
+rests_empty node shelf disk none free nothing = subst (λ (n : Node). Rests (is_in_use n) shelf disk) (sym none) (record {
+  free = subst (λ (l : List Written). HaveFreeSlots (is_in_use empty_node) (chunks_in l)) (sym nothing) tt;
+  taken = λ slot. free slot ∙ ap (λ (l : List Written). or_slots (is_in_use empty_node) (chunks_in l) slot) (sym nothing);
   within = within disk.told;
   settled = settled disk.told;
 }) where

@@ -9,7 +9,9 @@ use Rattle.oz_entries.specs.Held.{any_in, belongs_to, row_has, IsSound, is_freed
 use Rattle.oz_entries.specs.Node.{Node, HaveFreeSlots, or_slot, or_slots, is_used, is_held, is_in, unless_gone}
 use Rattle.oz_entries.specs.laws.Sound.{free_slot}
 use Rattle.oz_fields.specs.declared.block.Block.{Block}
-use Rattle.oz_shelf.specs.Shelf.{ShelfView, DraftView, Rests, HaveSame}
+use Rattle.oz_shelf.specs.declared.written.Written.{Written}
+use Rattle.oz_shelf.specs.Shelf.{ShelfView, Rests, HaveSame}
+use Rattle.oz_shelf.specs.Written.{chunks_in}
 use Rattle.oz_world.specs.Disk.{Seen}
 
 or_slots_parts : (used : ℕ → Bool) (chunks : List Chunk) (slot : ℕ) → or_slots used chunks slot ≡ (used slot || any_in chunks slot)
@@ -43,23 +45,23 @@ was false t is = is
 
 -- slots in order stay so where some of those in use are set free
 pub rests_freed : {D : Type 0} (used later freed : ℕ → Bool) (old new : ShelfView D) (disk : Seen) → ((slot : ℕ) → later slot ≡ cond (freed slot) false (used slot)) → ((slot : ℕ) → freed slot ≡ true → used slot ≡ true)
-    → ((slot : ℕ) → is_taken new.slots.taken slot ≡ cond (freed slot) false (is_taken old.slots.taken slot)) → new.draft ≡ old.draft → Rests used old disk → Rests later new disk
-rests_freed used later freed old new disk left in_use free draft rests = record {
-  free = subst (λ (d : DraftView). HaveFreeSlots later d.chunks) (sym draft) (free_of_fewer used later old.draft.chunks (λ slot none. left slot ∙ (ap (λ (b : Bool). cond (freed slot) false b) none ∙ none_left (freed slot))) rests.free);
+    → ((slot : ℕ) → is_taken new.slots.taken slot ≡ cond (freed slot) false (is_taken old.slots.taken slot)) → new.written ≡ old.written → Rests used old disk → Rests later new disk
+rests_freed used later freed old new disk left in_use free written rests = record {
+  free = subst (λ (l : List Written). HaveFreeSlots later (chunks_in l)) (sym written) (free_of_fewer used later (chunks_in old.written) (λ slot none. left slot ∙ (ap (λ (b : Bool). cond (freed slot) false b) none ∙ none_left (freed slot))) rests.free);
   taken = λ slot.
       free slot
-      ∙ (ap (λ (b : Bool). cond (freed slot) false b) (rests.taken slot ∙ or_slots_parts used old.draft.chunks slot)
-      ∙ (by (freed slot) slot refl ∙ (ap (λ (b : Bool). b || any_in old.draft.chunks slot) (sym (left slot)) ∙ (sym (or_slots_parts later old.draft.chunks slot) ∙ ap (λ (d : DraftView). or_slots later d.chunks slot) (sym draft)))));
+      ∙ (ap (λ (b : Bool). cond (freed slot) false b) (rests.taken slot ∙ or_slots_parts used (chunks_in old.written) slot)
+      ∙ (by (freed slot) slot refl ∙ (ap (λ (b : Bool). b || any_in (chunks_in old.written) slot) (sym (left slot)) ∙ (sym (or_slots_parts later (chunks_in old.written) slot) ∙ ap (λ (l : List Written). or_slots later (chunks_in l) slot) (sym written)))));
   within = fewer disk.told rests.within;
   settled = settle disk.told rests.settled;
 } where
-  by : (f : Bool) (slot : ℕ) → f ≡ freed slot → cond f false (used slot || any_in old.draft.chunks slot) ≡ (cond f false (used slot) || any_in old.draft.chunks slot)
+  by : (f : Bool) (slot : ℕ) → f ≡ freed slot → cond f false (used slot || any_in (chunks_in old.written) slot) ≡ (cond f false (used slot) || any_in (chunks_in old.written) slot)
   by false slot is = refl
-  by true slot is = not_drafted (any_in old.draft.chunks slot) refl
+  by true slot is = not_written (any_in (chunks_in old.written) slot) refl
     where
-      not_drafted : (b : Bool) → b ≡ any_in old.draft.chunks slot → false ≡ b
-      not_drafted false has = refl
-      not_drafted true has = sym (free_slot used old.draft.chunks rests.free slot (sym has)) ∙ in_use slot (sym is)
+      not_written : (b : Bool) → b ≡ any_in (chunks_in old.written) slot → false ≡ b
+      not_written false has = refl
+      not_written true has = sym (free_slot used (chunks_in old.written) rests.free slot (sym has)) ∙ in_use slot (sym is)
 
   fewer : (told : Option (List ℕ)) → IfSome told (λ bytes. (slot : ℕ) → is_taken old.slots.taken slot ≡ true → IsWithin slot bytes) → IfSome told (λ bytes. (slot : ℕ) → is_taken new.slots.taken slot ≡ true → IsWithin slot bytes)
   fewer None within = tt

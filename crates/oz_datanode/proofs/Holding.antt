@@ -1,10 +1,10 @@
 -- What the disk of slots has of blocks, where some of its slots stay as they are.
-use Rattle.std.proofs.Common.{◌≡◌, ◌⊎◌, inl, inr, ℕ, ◌+◌, ◌-◌, ◌*◌, ◌<◌, ◌≤◌, eqb, min, Bool, true, false, cond, ◌||◌, List, [], ◌∷◌, ◌++◌, length, take, drop, slice_range, Option, None, Some, is_some, IsSome, IfSome, refl, sym, ap, ◌∙◌, subst, arith, eq-eqb, append_assoc}
+use Rattle.std.proofs.Common.{◌≡◌, ◌⊎◌, inl, inr, ℕ, ◌+◌, ◌-◌, ◌*◌, eqb, min, Bool, true, List, [], ◌∷◌, ◌++◌, take, drop, Option, None, Some, is_some, IsSome, IfSome, refl, sym, ap, ◌∙◌, subst, arith, eq-eqb}
 use Rattle.std.proofs.lemmas.Bool.{false≢true, or_left, or_right}
-use Rattle.std.proofs.lemmas.List.{take-take, append-nil}
+use Rattle.std.proofs.lemmas.List.{take-take}
 use Rattle.sha2.specs.Sha256.{sha256}
 use Rattle.oz_block.specs.Blocks.{StandsFor}
-use Rattle.oz_chunk.specs.Slots.{start_of, slot_bytes, IsWithin, Keeps}
+use Rattle.oz_chunk.specs.Slots.{slot_bytes, IsWithin}
 use Rattle.oz_entries.specs.Held.{any_in, IsSound, belongs_to, row_has}
 use Rattle.oz_entries.specs.Node.{Node, empty_node, has_slot, is_used}
 use Rattle.oz_entries.specs.laws.Journals.{sound_made, empty_sound}

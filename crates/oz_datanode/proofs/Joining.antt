@@ -1,12 +1,13 @@
 -- What a copy leaves of blocks: its chunks are written, and then it is put.
 use Rattle.std.proofs.Common.{◌≡◌, ℕ, cond, Bool, true, false, List, Option, refl, sym, ap, ◌∙◌, subst}
-use Rattle.oz_entries.specs.Node.{is_same_block}
+use Rattle.oz_entries.specs.Node.{is_held, is_same_block}
 use Rattle.oz_entries.specs.laws.Blocks.{same_block, itself}
 use Rattle.oz_fields.specs.declared.block.Block.{Block}
 use Rattle.oz_shelf.specs.Shelf.{ShelfView}
-use Rattle.oz_world.specs.Disk.{Images, Seen, seen}
+use Rattle.oz_world.specs.Disk.{Images, seen}
 use Rattle.oz_datanode.specs.Datanode.{State, node_in, slots_of}
 use Rattle.oz_datanode.specs.Pairs.{Content, PairHolds, NodeHolds, journal_seen, with_content}
+use Rattle.oz_datanode.specs.Writing.{contents_with}
 use Rattle.oz_datanode.proofs.Parts.{with_shelf}
 
 -- the contents with a block's own
@@ -28,3 +29,7 @@ module _ {D : Type 0} (told : D → Option (List ℕ)) (clock : D → ℕ) (imag
   -- what was written is gone
   pub cleared_holds : (contents : Block → Content) (old : State D) (shelf : ShelfView D) → shelf.slots.disk ≡ slots_of old → NodeHolds told clock image faults contents old → NodeHolds told clock image faults contents (with_shelf old shelf)
   cleared_holds contents old shelf disk holds = subst (λ (d : D). PairHolds contents (node_in old) (journal_seen told clock image faults old) (seen (told d) (clock d) (image d) (faults d))) (sym disk) holds
+
+  -- the block was held before
+  pub let_go_holds : (contents : Block → Content) (block : Block) (content : Content) (old : State D) (shelf : ShelfView D) → is_held (node_in old) block ≡ true → shelf.slots.disk ≡ slots_of old → NodeHolds told clock image faults contents old → NodeHolds told clock image faults (contents_with block content contents old) (with_shelf old shelf)
+  let_go_holds contents block content old shelf held disk holds = subst (λ (b : Bool). NodeHolds told clock image faults (cond b contents (with_content block content contents)) (with_shelf old shelf)) (sym held) (cleared_holds contents old shelf disk holds)

@@ -1,5 +1,5 @@
 -- What a change in the journal leaves of the bytes of blocks.
-use Rattle.std.proofs.Common.{◌≡◌, inl, inr, ◌⊎◌, ◌↔◌, ℕ, ◌≤◌, Bool, true, false, cond, ◌||◌, List, Option, None, Some, IsSome, is_some, IfSome, Result, Ok, Err, refl, sym, ap, subst, ◌∙◌, arith}
+use Rattle.std.proofs.Common.{◌≡◌, inl, inr, ◌⊎◌, ℕ, ◌≤◌, Bool, true, false, cond, List, Option, None, Some, IsSome, is_some, IfSome, Result, Ok, Err, refl, sym, ap, subst, ◌∙◌, arith}
 use Rattle.std.proofs.lemmas.Bool.{false≢true}
 use Rattle.oz_block.specs.Blocks.{State as Blocks, node_in as node_in_blocks, StandsFor}
 use Rattle.oz_block.specs.Changes.{Changes}

@@ -1,6 +1,5 @@
 pub mod Calls
 pub mod Chunks
-pub mod Drafting
 pub mod Emptied
 pub mod Filling
 pub mod Gone
@@ -9,9 +8,11 @@ pub mod Joining
 pub mod Journaling
 pub mod Listing
 pub mod Lowest
+pub mod Making
 pub mod Named
 pub mod Pairing
 pub mod Parts
 pub mod Ranges
+pub mod Refusing
 pub mod Running
 pub mod RunningParts

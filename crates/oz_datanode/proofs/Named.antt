@@ -1,5 +1,5 @@
 -- The blocks that a transaction names: how many are held, and that none is once they are gone.
-use Rattle.std.proofs.Common.{◌≡◌, inl, inr, ◌⊎◌, ◌↔◌, ℕ, zero, suc, ◌+◌, ◌<◌, ◌≤◌, eqb, ltb, Bool, true, false, not, cond, ◌||◌, ◌&&◌, List, [], ◌∷◌, ◌++◌, length, drop, get_or, Option, None, Some, is_some, IfSome, IsTrue, Contains, Result, Ok, Err, refl, sym, ap, subst, ◌∙◌, arith, eqb-true, eq-eqb, add-one, drop-cons}
+use Rattle.std.proofs.Common.{◌≡◌, inl, inr, ◌↔◌, ℕ, suc, ◌+◌, ◌<◌, ◌≤◌, eqb, ltb, Bool, true, false, not, cond, ◌||◌, ◌&&◌, List, [], ◌∷◌, length, drop, get_or, Option, None, Some, is_some, IsTrue, Contains, Ok, Err, refl, sym, ap, subst, ◌∙◌, arith, eqb-true, eq-eqb, add-one, drop-cons}
 use Rattle.std.specs.List.{AllByRecursion, list_any}
 use Rattle.std.proofs.lemmas.Bool.{false≢true, lt-ltb}
 use Rattle.std.proofs.lemmas.List.Elements.{Contains-append_left, Contains-append_right, Contains-append_cases, Contains-push, Contains-push_cases}
@@ -7,19 +7,13 @@ use Rattle.oz_block.specs.Blocks.{State as Blocks}
 use Rattle.oz_block.specs.Changes.{Changes}
 use Rattle.oz_block.specs.declared.fault.BlockFault.{BlockFault}
 use Rattle.oz_block.specs.declared.fault.BlockFault.TheVariants as faults
-use Rattle.oz_chunk.specs.Slots.{IsWithin}
-use Rattle.oz_chunk.specs.Taken.{is_taken}
 use Rattle.oz_dellog.specs.declared.txn.Txn.{Txn}
 use Rattle.oz_entries.specs.declared.entry.Entry.{Entry}
-use Rattle.oz_entries.specs.declared.row.BlockRow.{BlockRow}
-use Rattle.oz_entries.specs.declared.row.Chunk.{Chunk}
-use Rattle.oz_entries.specs.Held.{any_in, belongs_to, row_has, IsSound, is_freed}
-use Rattle.oz_entries.specs.Node.{Node, HaveFreeSlots, or_slot, or_slots, is_used, is_held, names, names_some, names_held, is_in, unless_gone, with_number, without}
+use Rattle.oz_entries.specs.Held.{is_freed}
+use Rattle.oz_entries.specs.Node.{Node, is_used, is_held, names, names_held, with_number, without}
 use Rattle.oz_entries.specs.Reading.{is_due}
-use Rattle.oz_entries.specs.laws.Sound.{free_slot}
 use Rattle.oz_fields.specs.declared.block.Block.{Block}
 use Rattle.oz_shelf.specs.Release.{is_one_of}
-use Rattle.oz_shelf.specs.Shelf.{ShelfView, DraftView, Rests, HaveSame, AreSettled}
 use Rattle.oz_world.specs.Disk.{Seen}
 use Rattle.oz_datanode.specs.Changing.{held_count}
 use Rattle.oz_datanode.specs.Steps.{is_in_use}

@@ -1,11 +1,10 @@
 -- What pairs of images hold once a call has changed one of the two disks.
-use Rattle.std.proofs.Common.{◌≡◌, ◌⊎◌, inl, inr, ℕ, ◌<◌, ◌≤◌, eqb, ltb, Bool, true, false, cond, ◌||◌, ◌&&◌, List, [], ◌∷◌, ◌++◌, length, Option, None, Some, is_some, IsSome, IfSome, refl, sym, ap, ◌∙◌, subst, arith}
+use Rattle.std.proofs.Common.{◌≡◌, ◌⊎◌, inl, inr, ℕ, ◌<◌, ◌≤◌, eqb, ltb, Bool, true, false, cond, ◌||◌, ◌&&◌, List, [], ◌∷◌, Option, None, Some, is_some, IsSome, IfSome, refl, sym, ap, ◌∙◌, subst, arith}
 use Rattle.std.proofs.lemmas.Bool.{false≢true, or_left, or_right, or_cases, lt-ltb}
 use Rattle.oz_block.specs.Blocks.{StandsFor}
-use Rattle.oz_chunk.specs.Slots.{IsWithin}
 use Rattle.oz_entries.specs.Held.{any_in}
-use Rattle.oz_entries.specs.Node.{Node, is_same_block, is_held, has_slot, with_row, HaveFreeSlots, or_slot, or_slots, is_used}
-use Rattle.oz_entries.specs.laws.Blocks.{same_block, itself}
+use Rattle.oz_entries.specs.Node.{Node, is_same_block, is_held, has_slot, with_row, HaveFreeSlots, or_slot, or_slots}
+use Rattle.oz_entries.specs.laws.Blocks.{same_block}
 use Rattle.oz_entries.specs.declared.row.BlockRow.{BlockRow}
 use Rattle.oz_entries.specs.declared.row.Chunk.{Chunk}
 use Rattle.oz_fields.specs.declared.block.Block.{Block}

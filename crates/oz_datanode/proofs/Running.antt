@@ -1,7 +1,7 @@
 -- When a datanode runs.
-use Rattle.std.proofs.Common.{◌≡◌, ℕ, Bool, true, false, cond, ◌||◌, Option, None, Some, refl, sym, ap, ◌∙◌}
-use Rattle.std.proofs.lemmas.Bool.{false≢true, or_parts, or_from}
-use Rattle.oz_datanode.specs.Datanode.{State, is_halted, count_of, stop_of, Runs}
+use Rattle.std.proofs.Common.{◌≡◌, ℕ, Bool, true, false, cond, Option, None, Some, refl, sym}
+use Rattle.std.proofs.lemmas.Bool.{false≢true, or_parts}
+use Rattle.oz_datanode.specs.Datanode.{State, is_halted, count_of, Runs}
 
 -- it runs where neither a disk nor a line has stopped it
 pub running : (halted stopped : Bool) (count : ℕ) → cond halted (Some count) (cond stopped (Some 0) None) ≡ None → (halted ≡ false) × (stopped ≡ false)

@@ -1,5 +1,5 @@
 -- What a datanode that runs tells.
-use Rattle.std.proofs.Common.{◌≡◌, ℕ, ◌+◌, ◌-◌, ◌^◌, min, Bool, true, false, cond, ◌||◌, Option, None, Some, refl}
+use Rattle.std.proofs.Common.{◌≡◌, ℕ, ◌+◌, ◌-◌, ◌^◌, min, Bool, true, false, cond, ◌||◌, None, Some, refl}
 use Rattle.oz_block.specs.Blocks.{State as Blocks}
 use Rattle.oz_shelf.specs.Shelf.{ShelfView}
 use Rattle.oz_datanode.specs.Datanode.{State, Runs, is_halted, count_of}

@@ -1,20 +1,19 @@
 -- What a change in the journal and a wipe of both disks do to a datanode, whatever comes of the call.
-use Rattle.std.specs.Prelude.{◌≡◌, ◌⊎◌, ℕ, ◌+◌, Bool, true, false, not, ◌&&◌, List, [], ◌∷◌, Result, Ok, Err, OnOk, OnErr, IfErr, if◌then◌else◌, ◌==◌}
+use Rattle.std.specs.Prelude.{◌≡◌, ℕ, ◌+◌, Bool, false, not, ◌&&◌, List, [], ◌∷◌, Result, Ok, Err, if◌then◌else◌, ◌==◌}
 use Rattle.std.specs.List.{list_any}
-use Rattle.oz_block.specs.Changes.{Changes, Wipes}
+use Rattle.oz_block.specs.Changes.{Changes}
 use Rattle.oz_block.specs.declared.fault.BlockFault.{BlockFault}
 use Rattle.oz_block.specs.declared.fault.BlockFault.TheVariants as blocks
-use Rattle.oz_chunk.specs.Disk.{Empties}
 use Rattle.oz_chunk.specs.Taken.{is_taken}
 use Rattle.oz_entries.specs.declared.entry.Entry.{Entry}
 use Rattle.oz_entries.specs.Held.{is_freed}
 use Rattle.oz_entries.specs.Node.{Node, is_held}
 use Rattle.oz_fields.specs.declared.block.Block.{Block}
-use Rattle.oz_shelf.specs.Shelf.{ShelfView, empty_draft}
+use Rattle.oz_shelf.specs.Shelf.{ShelfView}
 use Rattle.oz_world.specs.Disk.{Seen}
 use Rattle.oz_datanode.specs.declared.refusal.NodeRefusal.{NodeRefusal}
 use Rattle.oz_datanode.specs.declared.refusal.NodeRefusal.TheVariants as refusals
-use Rattle.oz_datanode.specs.Datanode.{State, count_of, is_halted}
+use Rattle.oz_datanode.specs.Datanode.{State, count_of}
 
 -- what a datanode answers where its journal answers this: the count is that of both disks
 abbrev pub refusal_of : ℕ → BlockFault → NodeRefusal
@@ -46,5 +45,5 @@ pub record Frees {D : Type 0} (is_gone : Block → Bool) (node : Node) (old new 
   pub free : (slot : ℕ) → is_taken new.slots.taken slot
       ≡ (if is_freed is_gone (node.users slot) then false else is_taken old.slots.taken slot)
   pub disk : new.slots.disk ≡ old.slots.disk
-  pub draft : new.draft ≡ old.draft
+  pub written : new.written ≡ old.written
   pub failed : new.failed ≡ old.failed

@@ -1,20 +1,20 @@
 -- What copying a block does to a datanode, a row for each answer.
-use Rattle.std.specs.Prelude.{◌≡◌, ◌⊎◌, ℕ, ◌<◌, Bool, true, false, ◌||◌, List, length, Option, Result, Ok, Err, IfSome}
+use Rattle.std.specs.Prelude.{◌≡◌, ◌⊎◌, ℕ, ◌<◌, true, false, ◌||◌, List, length, Option, Result, Ok, Err, IfSome}
 use Rattle.oz_block.specs.Changes.{Changes}
 use Rattle.oz_block.specs.declared.fault.BlockFault.TheVariants as stops
 use Rattle.oz_chunk.specs.declared.table.TheConstants.{SLOTS, SLOT_SIZE, CAPACITY}
-use Rattle.oz_container.specs.declared.state.State.{State}
 use Rattle.oz_entries.specs.Held.{any_in}
 use Rattle.oz_entries.specs.Node.{is_deleted, chunk_count, is_used}
 use Rattle.oz_entries.specs.declared.entry.Entry.TheVariants as entries
 use Rattle.oz_entries.specs.declared.row.BlockRow.{BlockRow}
 use Rattle.oz_entries.specs.declared.row.Chunk.{Chunk}
 use Rattle.oz_fields.specs.declared.block.Block.{Block}
+use Rattle.oz_shelf.specs.Written.{chunks_in, written_besides}
 use Rattle.oz_world.specs.Disk.{Images}
 use Rattle.oz_world.specs.Faults.{Rose}
 use Rattle.oz_datanode.specs.Datanode.{State as NodeState, node_in, meta_of, slots_of, is_halted, count_of, Runs}
 use Rattle.oz_datanode.specs.Pairs.{Has, journal_seen}
-use Rattle.oz_datanode.specs.Writing.{state_for, intact, WasStopped}
+use Rattle.oz_datanode.specs.Writing.{state_for, intact}
 use Rattle.oz_datanode.specs.declared.refusal.NodeRefusal.{NodeRefusal}
 use Rattle.oz_datanode.specs.declared.refusal.NodeRefusal.TheVariants as refusals
 
@@ -50,12 +50,14 @@ pub record CopyHalts {D : Type 0} (told : D → Option (List ℕ)) (clock : D �
   pub id : new.id ≡ old.id
   pub line : new.stopped ≡ old.stopped
 
--- Blocks and some of the chunks, but not all, take all slots. What is held is as it was.
-pub record CopyIsFull {D : Type 0} (faults : D → ℕ) (bytes : List ℕ) (old new : NodeState D)
+-- Blocks, what was written of other blocks and some of the chunks, but not all, take all slots. What is held is as it was.
+pub record CopyIsFull {D : Type 0} (faults : D → ℕ) (block : Block) (bytes : List ℕ) (old new : NodeState D)
     (in_use wanted in_all : ℕ) : Type 0 where
   pub chunks : List Chunk
   pub fewer : length chunks < chunk_count (length bytes)
-  pub full : (slot : ℕ) → slot < SLOTS → (is_used (node_in old) slot || any_in chunks slot) ≡ true
+  pub full : (slot : ℕ) → slot < SLOTS
+      → (is_used (node_in old) slot || any_in (chunks_in (written_besides block old.shelf.written)) slot
+      || any_in chunks slot) ≡ true
   pub used : in_use ≡ CAPACITY
   pub asked : wanted ≡ SLOT_SIZE
   pub capacity : in_all ≡ CAPACITY
@@ -79,7 +81,7 @@ CopyGoes told clock image faults block bytes old new (Ok done) = Copies told clo
 CopyGoes told clock image faults block bytes old new (Err (refusals.Stopped count)) =
     CopyHalts told clock image faults block bytes old new count
 CopyGoes told clock image faults block bytes old new (Err (refusals.Full used asked capacity)) =
-    CopyIsFull faults bytes old new used asked capacity
+    CopyIsFull faults block bytes old new used asked capacity
 CopyGoes told clock image faults block bytes old new (Err refusals.OutOfMemory) = CopyLacks faults old new
 CopyGoes told clock image faults block bytes old new (Err (refusals.NotOpen state)) = ⊥
 CopyGoes told clock image faults block bytes old new (Err refusals.NoBlock) = ⊥

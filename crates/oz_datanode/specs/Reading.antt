@@ -29,7 +29,7 @@ pub record OnlyReads {D : Type 0} (old new : ShelfView D) (before after : Seen) 
   pub time : Stands before.clock after.clock before.image after.image
   pub faults : before.faults ≤ after.faults
   pub taken : new.slots.taken ≡ old.slots.taken
-  pub draft : new.draft ≡ old.draft
+  pub written : new.written ≡ old.written
 
 -- These are the bytes of the block, and each chunk has the digest that is kept of it.
 pub record IsRead {D : Type 0} (told : D → Option (List ℕ)) (faults : D → ℕ) (block : Block) (bytes : List ℕ)

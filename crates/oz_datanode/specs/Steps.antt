@@ -1,6 +1,6 @@
 -- For private calls: what they answer of a disk that fails, the slots that the blocks of a load use, and what a put comes
 -- to once its chunks are known to make the block.
-use Rattle.std.specs.Prelude.{◌≡◌, ◌⊎◌, ℕ, ◌*◌, ◌<◌, ◌≤◌, length, take, ◌||◌, Bool, true, false, ◌&&◌, nat_lt, List, Option, Some, Result, Ok, Err}
+use Rattle.std.specs.Prelude.{◌≡◌, ℕ, ◌*◌, ◌<◌, ◌≤◌, length, take, ◌||◌, Bool, true, false, ◌&&◌, nat_lt, List, Option, Some, Result, Ok, Err}
 use Rattle.oz_block.specs.Blocks.{StandsFor}
 use Rattle.oz_chunk.specs.declared.fault.SlotFault.{SlotFault}
 use Rattle.oz_chunk.specs.declared.fault.SlotFault.TheVariants as slots
@@ -13,11 +13,11 @@ use Rattle.oz_entries.specs.Held.{any_in}
 use Rattle.oz_entries.specs.Node.{Node, is_used, chunk_count}
 use Rattle.oz_entries.specs.declared.row.BlockRow.{BlockRow}
 use Rattle.oz_fields.specs.declared.block.Block.{Block}
-use Rattle.oz_shelf.specs.Shelf.{empty_draft}
+use Rattle.oz_shelf.specs.Written.{chunks_in, written_of, written_besides}
 use Rattle.oz_world.specs.Disk.{Images, Seen, IsStable}
 use Rattle.oz_datanode.specs.Datanode.{State, Runs, node_in, slots_of, is_halted, count_of}
 use Rattle.oz_datanode.specs.Pairs.{Content, NodeHolds}
-use Rattle.oz_datanode.specs.Writing.{Puts, PutHalts, NoMemory, Wrote, WriteHalts, IsFull, IsDrafted}
+use Rattle.oz_datanode.specs.Writing.{Puts, PutHalts, NoMemory, Wrote, WriteHalts, IsFull, MakeBytes}
 use Rattle.oz_world.specs.Faults.{Rose}
 use Rattle.oz_datanode.specs.declared.refusal.NodeRefusal.{NodeRefusal}
 use Rattle.oz_datanode.specs.declared.refusal.NodeRefusal.TheVariants as refusals
@@ -41,7 +41,7 @@ is_in_use node slot = is_used node slot && nat_lt slot SLOTS
 pub record Keeps {D : Type 0} (told : D → Option (List ℕ)) (clock : D → ℕ) (image : D → Images) (faults : D → ℕ)
     (block : Block) (row : BlockRow) (old new : State D) : Type 0 where
   pub puts : Puts told clock image faults block row old new
-  pub draft : new.shelf.draft ≡ empty_draft block
+  pub written : new.shelf.written ≡ written_besides block old.shelf.written
   pub runs : Runs faults new
   pub id : new.id ≡ old.id
   pub line : new.stopped ≡ old.stopped
@@ -64,7 +64,7 @@ PartEnds told faults block place bytes old new (Ok done) = Wrote told faults blo
 PartEnds told faults block place bytes old new (Err (refusals.Stopped count)) = WriteHalts faults old new count
 PartEnds told faults block place bytes old new (Err (refusals.Full used asked capacity)) =
     IsFull old new used asked capacity
-PartEnds told faults block place bytes old new (Err refusals.OutOfMemory) = ⊥
+PartEnds told faults block place bytes old new (Err refusals.OutOfMemory) = new ≡ old
 PartEnds told faults block place bytes old new (Err refusals.NoBlock) = ⊥
 PartEnds told faults block place bytes old new (Err (refusals.NotOpen state)) = ⊥
 PartEnds told faults block place bytes old new (Err (refusals.Bad kept found)) = ⊥
@@ -81,8 +81,8 @@ pub record FilledTo {D : Type 0} (told : D → Option (List ℕ)) (clock : D →
     (block : Block) (bytes : List ℕ) (place : ℕ) (old now : State D) : Type 0 where
   pub same : now ≡ record old { shelf = now.shelf }
   pub runs : Runs faults now
-  pub count : length now.shelf.draft.chunks ≤ place
-  pub drafted : (place ≡ 0) ⊎ IsDrafted told block (take (place * SLOT_SIZE) bytes) now.shelf
+  pub made : MakeBytes told block (take (place * SLOT_SIZE) bytes) now.shelf
+  pub others : written_besides block now.shelf.written ≡ written_besides block old.shelf.written
   pub never_falls : faults (slots_of old) ≤ faults (slots_of now)
   pub holds : (contents : Block → Content) → NodeHolds told clock image faults contents old
       → NodeHolds told clock image faults contents now
@@ -92,7 +92,7 @@ pub record Filled {D : Type 0} (told : D → Option (List ℕ)) (faults : D → 
     (old new : State D) : Type 0 where
   pub same : new ≡ record old { shelf = new.shelf }
   pub runs : Runs faults new
-  pub drafted : IsDrafted told block bytes new.shelf
+  pub made : MakeBytes told block bytes new.shelf
   pub never_falls : faults (slots_of old) ≤ faults (slots_of new)
 
 -- the disk of slots failed at one of them
@@ -105,12 +105,17 @@ pub record FillHalts {D : Type 0} (faults : D → ℕ) (old new : State D) (coun
 -- no slot is free for one of them
 pub record FillIsFull {D : Type 0} (faults : D → ℕ) (block : Block) (bytes : List ℕ) (old new : State D)
     (in_use wanted in_all : ℕ) : Type 0 where
-  pub fewer : length new.shelf.draft.chunks < chunk_count (length bytes)
+  pub fewer : length (written_of block new.shelf.written) < chunk_count (length bytes)
   pub whose : (slot : ℕ) → slot < SLOTS
-      → (is_used (node_in old) slot || any_in new.shelf.draft.chunks slot) ≡ true
+      → (is_used (node_in old) slot || any_in (chunks_in new.shelf.written) slot) ≡ true
   pub used : in_use ≡ CAPACITY
   pub asked : wanted ≡ SLOT_SIZE
   pub capacity : in_all ≡ CAPACITY
+  pub same : new ≡ record old { shelf = new.shelf }
+  pub runs : Runs faults new
+
+-- there is no memory for one of them
+pub record FillLacks {D : Type 0} (faults : D → ℕ) (old new : State D) : Type 0 where
   pub same : new ≡ record old { shelf = new.shelf }
   pub runs : Runs faults new
 
@@ -120,7 +125,7 @@ FillEnds told faults block bytes old new (Ok done) = Filled told faults block by
 FillEnds told faults block bytes old new (Err (refusals.Stopped count)) = FillHalts faults old new count
 FillEnds told faults block bytes old new (Err (refusals.Full used asked capacity)) =
     FillIsFull faults block bytes old new used asked capacity
-FillEnds told faults block bytes old new (Err refusals.OutOfMemory) = ⊥
+FillEnds told faults block bytes old new (Err refusals.OutOfMemory) = FillLacks faults old new
 FillEnds told faults block bytes old new (Err refusals.NoBlock) = ⊥
 FillEnds told faults block bytes old new (Err (refusals.NotOpen state)) = ⊥
 FillEnds told faults block bytes old new (Err (refusals.Bad kept found)) = ⊥

@@ -1,10 +1,8 @@
 -- What a wipe does to a datanode.
-use Rattle.std.specs.Prelude.{◌≡◌, ℕ, true, false, Result, Ok, Err}
+use Rattle.std.specs.Prelude.{◌≡◌, ℕ, true, false, [], Result, Ok, Err}
 use Rattle.oz_block.specs.Changes.{Wipes as WipesBlocks}
 use Rattle.oz_chunk.specs.Disk.{Empties}
 use Rattle.oz_chunk.specs.Taken.{is_taken}
-use Rattle.oz_entries.specs.Node.{empty_node}
-use Rattle.oz_shelf.specs.Shelf.{empty_draft}
 use Rattle.oz_world.specs.Disk.{Seen}
 use Rattle.oz_world.specs.Faults.{Rose}
 use Rattle.oz_world.specs.declared.failed.Failed.{Failed}
@@ -18,7 +16,7 @@ pub record Wiped {D : Type 0} (old new : State D) (journal emptied slots cut : S
   pub blocks : WipesBlocks {T = Unit {0}} old.blocks new.blocks journal emptied (Ok tt)
   pub shelf : Empties {T = Unit {0}} {E = Failed} slots cut (Ok tt)
   pub free : (slot : ℕ) → is_taken new.shelf.slots.taken slot ≡ false
-  pub draft : new.shelf.draft ≡ empty_draft old.shelf.draft.block
+  pub written : new.shelf.written ≡ []
   pub runs : is_halted new ≡ false
 
 -- One of the disks failed: the journal, and then the slots weren't touched, or that of the slots, and then nothing is
@@ -27,7 +25,7 @@ pub record WipeHalts {D : Type 0} (faults : D → ℕ) (count : ℕ) (old new : 
     (journal emptied slots cut : Seen) : Type 0 where
   pub halted : is_halted new ≡ true
   pub counted : count ≡ count_of faults new
-  pub draft : new.shelf.draft ≡ old.shelf.draft
+  pub written : new.shelf.written ≡ old.shelf.written
   pub journal_failed : new.blocks.stopped ≡ true →
       Rose journal.faults emptied.faults × (node_in new ≡ node_in old) × (new.shelf ≡ old.shelf)
   pub slots_failed : new.blocks.stopped ≡ false →

@@ -1,5 +1,5 @@
 -- What writing a chunk, putting a block and leaving its chunks do to a datanode, a row for each answer.
-use Rattle.std.specs.Prelude.{◌≡◌, ◌⊎◌, ℕ, ◌<◌, Bool, true, false, ◌&&◌, ◌||◌, List, length, Option, Some, Result, Ok, Err, IfSome, if◌then◌else◌}
+use Rattle.std.specs.Prelude.{◌≡◌, ◌⊎◌, ℕ, ◌<◌, Bool, true, false, ◌||◌, List, length, Option, Some, Result, Ok, Err, IfSome, if◌then◌else◌}
 use Rattle.oz_block.specs.Changes.{Changes}
 use Rattle.oz_block.specs.declared.fault.BlockFault.TheVariants as stops
 use Rattle.oz_chunk.specs.Disk.{Syncs}
@@ -8,12 +8,13 @@ use Rattle.oz_chunk.specs.declared.table.TheConstants.{SLOTS, SLOT_SIZE, CAPACIT
 use Rattle.oz_container.specs.declared.state.State.{State}
 use Rattle.oz_container.specs.declared.state.State.TheVariants as states
 use Rattle.oz_entries.specs.Held.{any_in}
-use Rattle.oz_entries.specs.Node.{is_held, is_same_block, is_used}
+use Rattle.oz_entries.specs.Node.{is_held, is_used}
 use Rattle.oz_entries.specs.declared.entry.Entry.TheVariants as entries
 use Rattle.oz_entries.specs.declared.row.BlockRow.{BlockRow}
 use Rattle.oz_fields.specs.declared.block.Block.{Block}
-use Rattle.oz_shelf.specs.Shelf.{ShelfView, IsWritten, makes, empty_draft}
-use Rattle.oz_world.specs.Disk.{Images, Seen}
+use Rattle.oz_shelf.specs.Shelf.{ShelfView, IsWritten, KeepsTold}
+use Rattle.oz_shelf.specs.Written.{chunks_in, makes, row_of, written_of, written_besides}
+use Rattle.oz_world.specs.Disk.{Images}
 use Rattle.oz_world.specs.Faults.{Rose}
 use Rattle.oz_datanode.specs.Datanode.{State as NodeState, node_in, meta_of, slots_of, is_halted, count_of, stop_of, Runs}
 use Rattle.oz_datanode.specs.Pairs.{Content, Has, with_content, journal_seen, slots_seen}
@@ -34,19 +35,15 @@ state_for node block = (node_in node).states block.container
 
 -- ---- what was written
 
--- the row that the chunks which were written give a block of so many bytes
-abbrev pub row_in : {D : Type 0} → ShelfView D → ℕ → BlockRow
-row_in shelf size = record { length = size; chunks = shelf.draft.chunks }
-
 -- bytes with the digests that are kept of them
 abbrev pub intact : List ℕ → Content
 intact bytes = record { bytes = bytes; intact = true }
 
 -- The chunks that were written of a block make these bytes, and have their digests.
-pub record IsDrafted {D : Type 0} (told : D → Option (List ℕ)) (block : Block) (bytes : List ℕ)
+pub record MakeBytes {D : Type 0} (told : D → Option (List ℕ)) (block : Block) (bytes : List ℕ)
     (shelf : ShelfView D) : Type 0 where
-  pub made : makes shelf.draft block (length bytes) ≡ true
-  pub has : IfSome (told shelf.slots.disk) (Has (intact bytes) (row_in shelf (length bytes)))
+  pub made : makes shelf.written block (length bytes) ≡ true
+  pub has : IfSome (told shelf.slots.disk) (Has (intact bytes) (row_of shelf.written block (length bytes)))
 
 -- ---- why a call isn't served
 
@@ -62,7 +59,7 @@ pub record Halts {D : Type 0} (faults : D → ℕ) (old new : NodeState D) (coun
   pub counted : count ≡ count_of faults new
   pub cause : Rose (faults (meta_of old)) (faults (meta_of new)) ⊎ Rose (faults (slots_of old)) (faults (slots_of new))
   pub node : node_in new ≡ node_in old
-  pub draft : new.shelf.draft ≡ old.shelf.draft
+  pub written : new.shelf.written ≡ old.shelf.written
   pub id : new.id ≡ old.id
   pub line : new.stopped ≡ old.stopped
 
@@ -80,10 +77,12 @@ pub record IsOpen {D : Type 0} (faults : D → ℕ) (block : Block) (old : NodeS
 
 -- ---- writing a chunk
 
--- The chunk stands in the lowest slot that was free, and nothing else changes.
+-- The chunk stands in the lowest slot that was free, what stood in those that were taken stands there still, and nothing
+-- else changes.
 pub record Wrote {D : Type 0} (told : D → Option (List ℕ)) (faults : D → ℕ) (block : Block) (place : ℕ)
     (bytes : List ℕ) (old new : NodeState D) : Type 0 where
   pub written : IsWritten block place bytes old.shelf new.shelf (told (slots_of new))
+  pub kept : KeepsTold (is_taken old.shelf.slots.taken) (told (slots_of old)) (told (slots_of new))
   pub same : new ≡ record old { shelf = new.shelf }
   pub runs : Runs faults new
 
@@ -91,7 +90,7 @@ pub record Wrote {D : Type 0} (told : D → Option (List ℕ)) (faults : D → �
 pub record IsFull {D : Type 0} (old new : NodeState D) (in_use wanted in_all : ℕ) : Type 0 where
   pub full : AllTakenBelow SLOTS old.shelf.slots.taken
   pub whose : (slot : ℕ) → slot < SLOTS
-      → (is_used (node_in old) slot || any_in old.shelf.draft.chunks slot) ≡ true
+      → (is_used (node_in old) slot || any_in (chunks_in old.shelf.written) slot) ≡ true
   pub used : in_use ≡ CAPACITY
   pub asked : wanted ≡ SLOT_SIZE
   pub capacity : in_all ≡ CAPACITY
@@ -113,7 +112,7 @@ WriteEnds told faults block place bytes old new (Err (refusals.Stopped count)) =
 WriteEnds told faults block place bytes old new (Err (refusals.NotOpen state)) = IsNotOpen faults block old new state
 WriteEnds told faults block place bytes old new (Err (refusals.Full used asked capacity)) =
     IsOpen faults block old × IsFull old new used asked capacity
-WriteEnds told faults block place bytes old new (Err refusals.OutOfMemory) = new ≡ old
+WriteEnds told faults block place bytes old new (Err refusals.OutOfMemory) = IsOpen faults block old × (new ≡ old)
 WriteEnds told faults block place bytes old new (Err refusals.NoBlock) = ⊥
 WriteEnds told faults block place bytes old new (Err (refusals.Bad kept found)) = ⊥
 
@@ -128,28 +127,31 @@ pub record Puts {D : Type 0} (told : D → Option (List ℕ)) (clock : D → ℕ
       (journal_seen told clock image faults old) (journal_seen told clock image faults new) (Ok tt)
   pub taken : new.shelf.slots.taken ≡ old.shelf.slots.taken
 
--- The block was held before. No disk is called, and the slots of what was written are free.
-pub record HeldBefore {D : Type 0} (old new : NodeState D) : Type 0 where
+-- The block was held before. No disk is called, and the slots of what was written of it are free.
+pub record HeldBefore {D : Type 0} (block : Block) (old new : NodeState D) : Type 0 where
   pub blocks : new.blocks ≡ old.blocks
   pub slots : slots_of new ≡ slots_of old
   pub free : (slot : ℕ) → is_taken new.shelf.slots.taken slot
-      ≡ (if any_in old.shelf.draft.chunks slot then false else is_taken old.shelf.slots.taken slot)
+      ≡ (if any_in (chunks_in (written_of block old.shelf.written)) slot then false
+      else is_taken old.shelf.slots.taken slot)
 
 pub record WasPut {D : Type 0} (told : D → Option (List ℕ)) (clock : D → ℕ) (image : D → Images) (faults : D → ℕ)
     (block : Block) (size : ℕ) (old new : NodeState D) : Type 0 where
   pub served : IsOpen faults block old
-  pub made : makes old.shelf.draft block size ≡ true
-  pub held : is_held (node_in old) block ≡ true → HeldBefore old new
-  pub put : is_held (node_in old) block ≡ false → Puts told clock image faults block (row_in old.shelf size) old new
-  pub draft : new.shelf.draft ≡ empty_draft block
+  pub made : makes old.shelf.written block size ≡ true
+  pub held : is_held (node_in old) block ≡ true → HeldBefore block old new
+  pub put : is_held (node_in old) block ≡ false
+      → Puts told clock image faults block (row_of old.shelf.written block size) old new
+  pub written : new.shelf.written ≡ written_besides block old.shelf.written
   pub runs : Runs faults new
   pub id : new.id ≡ old.id
   pub line : new.stopped ≡ old.stopped
 
--- A disk failed: that of the slots, and then the journal is as it was, or the journal, and then it may have one body
--- more.
+-- The block wasn't held. A disk failed: that of the slots, and then the journal is as it was, or the journal, and then it
+-- may have one body more.
 pub record PutHalts {D : Type 0} (told : D → Option (List ℕ)) (clock : D → ℕ) (image : D → Images) (faults : D → ℕ)
     (block : Block) (row : BlockRow) (old new : NodeState D) (count : ℕ) : Type 0 where
+  pub absent : is_held (node_in old) block ≡ false
   pub halts : Halts faults old new count
   pub slots : told (slots_of new) ≡ told (slots_of old)
   pub journal : (new.blocks ≡ old.blocks)
@@ -159,7 +161,7 @@ pub record PutHalts {D : Type 0} (told : D → Option (List ℕ)) (clock : D →
 -- There is no memory. What it holds and what was written is as it was.
 pub record NoMemory {D : Type 0} (told : D → Option (List ℕ)) (old new : NodeState D) : Type 0 where
   pub node : node_in new ≡ node_in old
-  pub draft : new.shelf.draft ≡ old.shelf.draft
+  pub written : new.shelf.written ≡ old.shelf.written
   pub journal : meta_of new ≡ meta_of old
   pub slots : told (slots_of new) ≡ told (slots_of old)
   pub halted : is_halted new ≡ is_halted old
@@ -169,7 +171,7 @@ pub record NoMemory {D : Type 0} (told : D → Option (List ℕ)) (old new : Nod
 -- The chunks that were written don't make so many bytes, and nothing changes.
 pub record IsNotMade {D : Type 0} (faults : D → ℕ) (block : Block) (size : ℕ) (old new : NodeState D) : Type 0 where
   pub ran : Runs faults old
-  pub made : makes old.shelf.draft block size ≡ false
+  pub made : makes old.shelf.written block size ≡ false
   pub same : new ≡ old
 
 abbrev pub PutEnds : {D T : Type 0} → (D → Option (List ℕ)) → (D → ℕ) → (D → Images) → (D → ℕ) → Block → ℕ
@@ -177,12 +179,14 @@ abbrev pub PutEnds : {D T : Type 0} → (D → Option (List ℕ)) → (D → ℕ
 PutEnds told clock image faults block size old new (Ok done) = WasPut told clock image faults block size old new
 PutEnds told clock image faults block size old new (Err (refusals.Stopped count)) =
     WasStopped faults old new count
-    ⊎ (IsOpen faults block old × (makes old.shelf.draft block size ≡ true)
-    × PutHalts told clock image faults block (row_in old.shelf size) old new count)
+    ⊎ (IsOpen faults block old × (makes old.shelf.written block size ≡ true)
+    × PutHalts told clock image faults block (row_of old.shelf.written block size) old new count)
 PutEnds told clock image faults block size old new (Err refusals.NoBlock) = IsNotMade faults block size old new
 PutEnds told clock image faults block size old new (Err (refusals.NotOpen state)) =
-    IsNotOpen faults block old new state × (makes old.shelf.draft block size ≡ true)
-PutEnds told clock image faults block size old new (Err refusals.OutOfMemory) = NoMemory told old new
+    IsNotOpen faults block old new state × (makes old.shelf.written block size ≡ true)
+PutEnds told clock image faults block size old new (Err refusals.OutOfMemory) =
+    IsOpen faults block old × (makes old.shelf.written block size ≡ true) × (is_held (node_in old) block ≡ false)
+    × NoMemory told old new
 PutEnds told clock image faults block size old new (Err (refusals.Full used asked capacity)) = ⊥
 PutEnds told clock image faults block size old new (Err (refusals.Bad kept found)) = ⊥
 
@@ -192,11 +196,11 @@ contents_with block content contents old = if is_held (node_in old) block then c
 
 -- ---- leaving what was written
 
--- The slots of the chunks that were written of the block are free, and nothing else changes.
+-- The chunks that were written of the block are gone and their slots free, and nothing else changes.
 pub record Abandons {D : Type 0} (block : Block) (old new : NodeState D) : Type 0 where
-  pub draft : new.shelf.draft ≡ (if is_same_block old.shelf.draft.block block then empty_draft block else old.shelf.draft)
+  pub written : new.shelf.written ≡ written_besides block old.shelf.written
   pub free : (slot : ℕ) → is_taken new.shelf.slots.taken slot
-      ≡ (if is_same_block old.shelf.draft.block block && any_in old.shelf.draft.chunks slot then false
+      ≡ (if any_in (chunks_in (written_of block old.shelf.written)) slot then false
       else is_taken old.shelf.slots.taken slot)
   pub slots : slots_of new ≡ slots_of old
   pub failed : new.shelf.failed ≡ old.shelf.failed

@@ -1,12 +1,14 @@
 //! Copying blocks from another replica.
 
-ghost use Rattle.std.specs.Prelude.{◌≡◌, ◌≤◌, ◌<◌, ◌*◌, ◌+◌, ◌-◌, min, [], ℕ, true, false, length, slice_range, Some, Err, IfOk, IfErr, OnOk};
-ghost use Rattle.oz_chunk.specs.declared.table.TheConstants.{SLOT_SIZE as SLOT_BYTES};
-ghost use Rattle.oz_entries.specs.Node.{is_deleted, is_held};
+ghost use Rattle.std.specs.Prelude.{◌≡◌, ◌≤◌, ◌<◌, ◌*◌, ◌+◌, ◌-◌, min, [], ℕ, true, false, length, slice_range, Some, Err, IfOk, IfErr, OnOk, OnErr, ◌||◌};
+ghost use Rattle.oz_chunk.specs.declared.table.TheConstants.{SLOTS as SLOT_COUNT, SLOT_SIZE as SLOT_BYTES};
+ghost use Rattle.oz_entries.specs.Node.{is_deleted, is_held, is_used};
 ghost use Rattle.oz_fields.specs.declared.block.Block.{Block as BlockName};
 ghost use Rattle.oz_fields.specs.declared.block.TheConstants.{LONGEST_PIECE};
 ghost use Rattle.oz_rows.specs.Rows.{IsBlock};
-ghost use Rattle.oz_shelf.specs.Shelf.{empty_draft};
+ghost use Rattle.oz_entries.specs.Held.{any_in};
+ghost use Rattle.oz_chunk.specs.Taken.{is_taken};
+ghost use Rattle.oz_shelf.specs.Written.{chunks_in, written_of, written_besides};
 ghost use Rattle.oz_datanode.specs.Copying.{CopyGoes};
 ghost use Rattle.oz_datanode.specs.Datanode.{Runs, stop_of};
 ghost use Rattle.oz_datanode.specs.Pairs.{Content, NodeHolds, journal_seen, with_content};
@@ -26,8 +28,8 @@ use std::alloc::Global;
 impl<D: Disk> Datanode<D> {
     ghost use Rattle.oz_datanode.specs.Datanode.{node_in, is_halted};
 
-    /// Holds a block whose bytes come from another replica, in a replica of any state but deleted. What was written of
-    /// blocks that aren't put is lost.
+    /// Holds a block whose bytes come from another replica, in a replica of any state but deleted. What was written of the
+    /// block before is let go; what was written of other blocks stays, and its slots with it.
     pub fn copy(&mut self, alloc: Global, block: Block, bytes: &[u8]) -> Result<(), NodeRefusal>
         requires block { IsBlock block }
         requires least { 1 ≤ length bytes.now }
@@ -40,7 +42,12 @@ impl<D: Disk> Datanode<D> {
         ensures goes { Runs D.faults self.old → is_deleted (state_for self.old block) ≡ false →
             CopyGoes D.told D.clock D.image D.faults block bytes.now self.old self.new result }
         ensures cleared { Runs D.faults self.old → is_deleted (state_for self.old block) ≡ false →
-            self.new.shelf.draft ≡ empty_draft block }
+            self.new.shelf.written ≡ written_besides block self.old.shelf.written }
+        ensures freed { Runs D.faults self.old → is_deleted (state_for self.old block) ≡ false →
+            is_halted self.new ≡ false → OnErr result ((slot : ℕ) → slot < SLOT_COUNT →
+            is_taken self.new.shelf.slots.taken slot
+            ≡ (is_used (node_in self.old) slot
+            || any_in (chunks_in (written_besides block self.old.shelf.written)) slot)) }
         ensures pairs { (contents : BlockName → Content) → is_halted self.old ≡ false →
             NodeHolds D.told D.clock D.image D.faults contents self.old →
             NodeHolds D.told D.clock D.image D.faults (with_content block (intact bytes.now) contents) self.new }
@@ -48,10 +55,10 @@ impl<D: Disk> Datanode<D> {
         a_disk_stands_for_one_node();
         self.check_running()?;
         self.check_there(block.container)?;
-        self.shelf.begin(block);
+        self.shelf.let_go(block);
         let copied = self.fill_and_keep(alloc, block, bytes);
         if copied.is_err() {
-            self.shelf.begin(block);
+            self.shelf.let_go(block);
         }
         copied
     }
@@ -78,35 +85,42 @@ impl<D: Disk> Datanode<D> {
     ) -> Result<(), NodeRefusal>
         requires running { Runs D.faults self.old }
         requires at_rest { AtRest (node_in self.old) (journal_seen D.told D.clock D.image D.faults self.old) }
-        requires empty { self.old.shelf.draft.chunks ≡ [] }
+        requires empty { written_of block self.old.shelf.written ≡ [] }
         requires takes { is_deleted (state_for self.old block) ≡ false }
         requires absent { is_held (node_in self.old) block ≡ false }
         requires block { IsBlock block }
         requires least { 1 ≤ length bytes.now }
         requires most { length bytes.now ≤ LONGEST_PIECE }
         ensures goes { CopyGoes D.told D.clock D.image D.faults block bytes.now self.old self.new result }
-        ensures cleared { OnOk result (self.new.shelf.draft ≡ empty_draft block) }
+        ensures cleared { OnOk result (self.new.shelf.written ≡ written_besides block self.old.shelf.written) }
+        ensures others { written_besides block self.new.shelf.written ≡ written_besides block self.old.shelf.written }
         ensures pairs { (contents : BlockName → Content) → contents block ≡ intact bytes.now →
             NodeHolds D.told D.clock D.image D.faults contents self.old →
             NodeHolds D.told D.clock D.image D.faults contents self.new }
     {
-        self.fill(block, bytes)?;
+        self.fill(alloc, block, bytes)?;
         self.keep(alloc, block, bytes.len() as u32)
     }
 
     /// Writes the chunks of a block, one behind the other.
-    pub(crate) fn fill(&mut self, block: Block, bytes: &[u8]) -> Result<(), NodeRefusal>
+    pub(crate) fn fill(
+        &mut self,
+        alloc: Global,
+        block: Block,
+        bytes: &[u8],
+    ) -> Result<(), NodeRefusal>
         requires running { Runs D.faults self.old }
         requires at_rest { AtRest (node_in self.old) (journal_seen D.told D.clock D.image D.faults self.old) }
-        requires empty { self.old.shelf.draft.chunks ≡ [] }
+        requires empty { written_of block self.old.shelf.written ≡ [] }
         requires least { 1 ≤ length bytes.now }
         requires most { length bytes.now ≤ LONGEST_PIECE }
         ensures ends { FillEnds D.told D.faults block bytes.now self.old self.new result }
+        ensures others { written_besides block self.new.shelf.written ≡ written_besides block self.old.shelf.written }
         ensures pairs { (contents : BlockName → Content) → NodeHolds D.told D.clock D.image D.faults contents self.old
             → NodeHolds D.told D.clock D.image D.faults contents self.new }
     {
         for place in 0..(bytes.len() + (SLOT_SIZE as usize - 1)) / SLOT_SIZE as usize {
-            self.write_part(block, place as u8, part_at(bytes, place))?;
+            self.write_part(alloc, block, place as u8, part_at(bytes, place))?;
         }
         Ok(())
     }

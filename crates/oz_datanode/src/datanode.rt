@@ -63,7 +63,7 @@ impl<D: Disk> Datanode<D> {
         ensures id { IfOk result (λ node. node.id ≡ id) }
         ensures stands { IfOk result (λ node. IfSome (D.told disks.meta) (λ bytes. StandsFor bytes (node_in node))) }
         ensures running { IfOk result (λ node. Runs D.faults node) }
-        ensures draft { IfOk result (λ node. node.shelf.draft.chunks ≡ []) }
+        ensures written { IfOk result (λ node. node.shelf.written ≡ []) }
 
         // When each fault comes.
         ensures journal { IfErr result (λ refused. (offset : ℕ) → refused.1 ≡ NodeFault.Damaged false offset →

@@ -1,15 +1,15 @@
 //! Writing blocks: chunks that are written, put and abandoned.
 
-ghost use Rattle.std.specs.Prelude.{◌≡◌, ◌≤◌, ◌<◌, ◌*◌, ◌+◌, ◌++◌, ℕ, List, true, false, length, Some, None, IfSome, IfOk, IfErr, OnOk};
+ghost use Rattle.std.specs.Prelude.{◌≡◌, ◌≤◌, ◌<◌, ◌*◌, ◌++◌, [], ℕ, List, true, false, length, Some, None, IfSome, IfOk, IfErr, OnOk};
 ghost use Rattle.oz_chunk.specs.declared.table.TheConstants.{SLOT_SIZE as SLOT_BYTES};
-ghost use Rattle.oz_entries.specs.Node.{is_held, is_deleted};
+ghost use Rattle.oz_entries.specs.Node.{is_held, is_deleted, is_same_block};
 ghost use Rattle.oz_fields.specs.declared.block.Block.{Block as BlockName};
 ghost use Rattle.oz_fields.specs.declared.block.TheConstants.{LONGEST_PIECE};
 ghost use Rattle.oz_rows.specs.Rows.{IsBlock};
-ghost use Rattle.oz_shelf.specs.Shelf.{makes};
+ghost use Rattle.oz_shelf.specs.Written.{makes, row_of, written_of};
 ghost use Rattle.oz_datanode.specs.Datanode.{stop_of, Runs};
 ghost use Rattle.oz_datanode.specs.Pairs.{Content, Has, NodeHolds, journal_seen, with_content};
-ghost use Rattle.oz_datanode.specs.Writing.{is_open, state_for, row_in, IsDrafted, contents_with, WriteEnds, PutEnds, Abandons};
+ghost use Rattle.oz_datanode.specs.Writing.{is_open, state_for, MakeBytes, contents_with, WriteEnds, PutEnds, Abandons};
 ghost use Rattle.oz_datanode.specs.Steps.{PartEnds, KeepEnds, AtRest};
 ghost use Rattle.oz_datanode.specs.declared.refusal.NodeRefusal.TheVariants as refusals;
 
@@ -55,11 +55,11 @@ impl<D: Disk> Datanode<D> {
         Err(NodeRefusal::NotOpen { state })
     }
 
-    /// Writes a chunk of a block, from 0. It isn't stable before the block is put. A chunk that isn't the next one of its
-    /// block begins anew.
+    /// Writes a chunk of a block, from 0, in any order. It isn't stable before the block is put. One that was written before
+    /// in the same place is let go.
     pub fn write(
         &mut self,
-        _alloc: Global,
+        alloc: Global,
         block: Block,
         chunk: u8,
         bytes: &[u8],
@@ -68,20 +68,24 @@ impl<D: Disk> Datanode<D> {
         requires least { 1 ≤ length bytes.now }
         requires most { length bytes.now ≤ SLOT_BYTES }
         ensures ends { WriteEnds D.told D.faults block chunk bytes.now self.old self.new result }
-        ensures first { OnOk result (chunk ≡ 0 → IsDrafted D.told block bytes.now self.new.shelf) }
-        ensures next { OnOk result ((front : List ℕ) → IsDrafted D.told block front self.old.shelf →
-            length front ≡ chunk * SLOT_BYTES → IsDrafted D.told block (front ++ bytes.now) self.new.shelf) }
+        ensures first { OnOk result (chunk ≡ 0 → written_of block self.old.shelf.written ≡ [] →
+            MakeBytes D.told block bytes.now self.new.shelf) }
+        ensures next { OnOk result ((front : List ℕ) → MakeBytes D.told block front self.old.shelf →
+            length front ≡ chunk * SLOT_BYTES → MakeBytes D.told block (front ++ bytes.now) self.new.shelf) }
+        ensures others { OnOk result ((other : BlockName) (made : List ℕ) → is_same_block block other ≡ false →
+            MakeBytes D.told other made self.old.shelf → MakeBytes D.told other made self.new.shelf) }
         ensures pairs { (contents : BlockName → Content) → NodeHolds D.told D.clock D.image D.faults contents self.old
             → NodeHolds D.told D.clock D.image D.faults contents self.new }
     {
         self.check_running()?;
         self.check_open(block.container)?;
-        self.write_part(block, chunk, bytes)
+        self.write_part(alloc, block, chunk, bytes)
     }
 
     /// Writes a chunk where it is known that it runs.
     pub(crate) fn write_part(
         &mut self,
+        alloc: Global,
         block: Block,
         chunk: u8,
         bytes: &[u8],
@@ -92,17 +96,18 @@ impl<D: Disk> Datanode<D> {
         requires least { 1 ≤ length bytes.now }
         requires most { length bytes.now ≤ SLOT_BYTES }
         ensures ends { PartEnds D.told D.faults block chunk bytes.now self.old self.new result }
-        ensures count { OnOk result
-            (length self.new.shelf.draft.chunks ≤ length self.old.shelf.draft.chunks + 1) }
         ensures never_falls { D.faults (slots_of self.old) ≤ D.faults (slots_of self.new) }
-        ensures first { OnOk result (chunk ≡ 0 → IsDrafted D.told block bytes.now self.new.shelf) }
-        ensures next { OnOk result ((front : List ℕ) → IsDrafted D.told block front self.old.shelf →
-            length front ≡ chunk * SLOT_BYTES → IsDrafted D.told block (front ++ bytes.now) self.new.shelf) }
+        ensures first { OnOk result (chunk ≡ 0 → written_of block self.old.shelf.written ≡ [] →
+            MakeBytes D.told block bytes.now self.new.shelf) }
+        ensures next { OnOk result ((front : List ℕ) → MakeBytes D.told block front self.old.shelf →
+            length front ≡ chunk * SLOT_BYTES → MakeBytes D.told block (front ++ bytes.now) self.new.shelf) }
+        ensures others { OnOk result ((other : BlockName) (made : List ℕ) → is_same_block block other ≡ false →
+            MakeBytes D.told other made self.old.shelf → MakeBytes D.told other made self.new.shelf) }
         ensures pairs { (contents : BlockName → Content) → NodeHolds D.told D.clock D.image D.faults contents self.old
             → NodeHolds D.told D.clock D.image D.faults contents self.new }
     {
         a_disk_stands_for_one_node();
-        match self.shelf.write(block, chunk, bytes) {
+        match self.shelf.write(alloc, block, chunk, bytes) {
             Ok(()) => Ok(()),
             Err(Unwritten::Full(full)) => Err(NodeRefusal::Full {
                 used: full.used,
@@ -110,6 +115,7 @@ impl<D: Disk> Datanode<D> {
                 capacity: full.capacity,
             }),
             Err(Unwritten::Failed) => Err(self.halt()),
+            Err(Unwritten::OutOfMemory) => Err(NodeRefusal::OutOfMemory),
         }
     }
 
@@ -120,7 +126,7 @@ impl<D: Disk> Datanode<D> {
         requires most { length ≤ LONGEST_PIECE }
         ensures ends { PutEnds D.told D.clock D.image D.faults block length self.old self.new result }
         ensures pairs { (contents : BlockName → Content) (content : Content) → is_halted self.old ≡ false →
-            IfSome (D.told (slots_of self.old)) (Has content (row_in self.old.shelf length)) →
+            IfSome (D.told (slots_of self.old)) (Has content (row_of self.old.shelf.written block length)) →
             NodeHolds D.told D.clock D.image D.faults contents self.old →
             NodeHolds D.told D.clock D.image D.faults (contents_with block content contents self.old) self.new }
         ensures refused { is_halted self.old ≡ true → self.new ≡ self.old }
@@ -132,7 +138,7 @@ impl<D: Disk> Datanode<D> {
         }
         self.check_open(block.container)?;
         if self.blocks.get(block).is_some() {
-            self.shelf.begin(block);
+            self.shelf.let_go(block);
             return Ok(());
         }
         self.keep(alloc, block, length)
@@ -147,21 +153,21 @@ impl<D: Disk> Datanode<D> {
     ) -> Result<(), NodeRefusal>
         requires running { Runs D.faults self.old }
         requires at_rest { AtRest (node_in self.old) (journal_seen D.told D.clock D.image D.faults self.old) }
-        requires made { makes self.old.shelf.draft block length ≡ true }
+        requires made { makes self.old.shelf.written block length ≡ true }
         requires takes { is_deleted (state_for self.old block) ≡ false }
         requires absent { is_held (node_in self.old) block ≡ false }
         requires block { IsBlock block }
         requires least { 1 ≤ length }
         requires most { length ≤ LONGEST_PIECE }
-        ensures ends { KeepEnds D.told D.clock D.image D.faults block (row_in self.old.shelf length) self.old self.new
-            result }
+        ensures ends { KeepEnds D.told D.clock D.image D.faults block (row_of self.old.shelf.written block length)
+            self.old self.new result }
         ensures pairs { (contents : BlockName → Content) (content : Content) →
-            IfSome (D.told (slots_of self.old)) (Has content (row_in self.old.shelf length)) →
+            IfSome (D.told (slots_of self.old)) (Has content (row_of self.old.shelf.written block length)) →
             NodeHolds D.told D.clock D.image D.faults contents self.old →
             NodeHolds D.told D.clock D.image D.faults (with_content block content contents) self.new }
     {
         a_disk_stands_for_one_node();
-        let row = self.shelf.row(alloc, length)?;
+        let row = self.shelf.row(alloc, block, length)?;
         let Ok(()) = self.shelf.sync() else {
             return Err(self.halt());
         };
@@ -175,14 +181,12 @@ impl<D: Disk> Datanode<D> {
         }
     }
 
-    /// Sets the slots of chunks that were written of a block and not put free.
+    /// Sets the slots of the chunks free that were written of a block and not put.
     pub fn abandon(&mut self, block: Block)
         ensures abandons { Abandons block self.old self.new }
         ensures pairs { (contents : BlockName → Content) → NodeHolds D.told D.clock D.image D.faults contents self.old
             → NodeHolds D.told D.clock D.image D.faults contents self.new }
     {
-        if self.shelf.is_of(block) {
-            self.shelf.begin(block);
-        }
+        self.shelf.let_go(block);
     }
 }

@@ -1,7 +1,8 @@
 pub mod Editing
-pub mod FreeSlots
 pub mod Freeing
 pub mod Making
+pub mod Placing
 pub mod Releasing
 pub mod Resting
+pub mod Rising
 pub mod Writing

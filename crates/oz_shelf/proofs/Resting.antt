@@ -1,20 +1,22 @@
 -- What writes, syncs and edits do to slots that are in order.
-use Rattle.std.proofs.Common.{◌≡◌, inl, inr, ℕ, ◌-◌, ◌<◌, ◌≤◌, eqb, Bool, true, false, cond, ◌||◌, ◌↔◌, IsTrue, All, Contains, List, [], ◌∷◌, ◌++◌, length, Option, None, Some, is_some, IfSome, Result, Ok, refl, sym, ap, ◌∙◌, subst, arith, eqb-true, eq-eqb}
-use Rattle.std.proofs.lemmas.Bool.{cases_lt, false≢true}
+use Rattle.std.proofs.Common.{◌≡◌, inl, inr, ℕ, ◌-◌, ◌<◌, ◌≤◌, eqb, Bool, true, false, cond, ◌||◌, ◌↔◌, IsTrue, All, Contains, List, [], length, filter, not, Option, None, Some, IfSome, Result, Ok, refl, sym, ap, ◌∙◌, subst, arith, eqb-true, eq-eqb}
+use Rattle.std.proofs.lemmas.Bool.{cases_lt, false≢true, or_from}
 use Rattle.std.proofs.lemmas.List.Elements.{All-contains}
 use Rattle.std.specs.Option.{option_map}
 use Rattle.oz_chunk.specs.Disk.{Syncs}
 use Rattle.oz_chunk.specs.Slots.{State as Slots, start_of, slot_bytes, padded, IsWithin, Keeps}
-use Rattle.oz_chunk.specs.Taken.{is_taken, AllTakenBelow, Marks}
+use Rattle.oz_chunk.specs.Taken.{is_taken, AllTakenBelow}
 use Rattle.oz_chunk.specs.laws.Keeping.{stands, torn_keeps}
 use Rattle.oz_entries.specs.declared.row.Chunk.{Chunk}
 use Rattle.oz_entries.specs.Node.{HaveFreeSlots, or_slots}
 use Rattle.oz_entries.specs.Held.{any_in}
 use Rattle.oz_world.specs.Disk.{Images, Seen, Same, Torn, Moves, TellsAsBefore, overwritten, IsStable}
 use Rattle.oz_world.specs.Moments.{Spans}
-use Rattle.oz_fields.specs.declared.block.Block.{Block}
-use Rattle.oz_shelf.specs.Shelf.{DraftView, ShelfView, Rests, HaveSame, AreSettled, KeepsTold}
-use Rattle.oz_shelf.proofs.FreeSlots.{or_slots_split, or_slots_push, free_any, unused_parts}
+use Rattle.oz_shelf.specs.declared.written.Written.{Written}
+use Rattle.oz_shelf.specs.Written.{chunks_in}
+use Rattle.oz_shelf.specs.Shelf.{ShelfView, Rests, HaveSame, AreSettled, KeepsTold}
+use Rattle.oz_shelf.specs.laws.FreeSlots.{or_assoc, or_slots_split, free_fewer}
+use Rattle.oz_shelf.specs.laws.Parting.{any_parts, free_passed, free_others, apart_others}
 
 -- each image of a later moment came from one of the first, or the moment is the same
 came : (step : List ℕ → List ℕ → Type 0) (from to : ℕ) (old new : Images) → ((bytes : List ℕ) → step bytes bytes) → Spans step from to old new → (left : List ℕ) → new to left → (bytes : List ℕ) × old from bytes × step bytes left
@@ -75,49 +77,6 @@ moves_any step None after moves = moves
 moves_any step (Some bytes) None moves = moves
 moves_any step (Some bytes) (Some other) moves = tt
 
--- the slots that are taken once a chunk was written to one that was free
-pub taken_on : (used : ℕ → Bool) (chunks : List Chunk) (chunk : Chunk) (before between after : List Bool) → ((s : ℕ) → is_taken before s ≡ or_slots used chunks s) → Marks chunk.slot true before between → ((s : ℕ) → is_taken after s ≡ is_taken between s)
-    → (s : ℕ) → is_taken after s ≡ or_slots used (chunks ++ chunk ∷ []) s
-taken_on used chunks chunk before between after all marks same s =
-    same s ∙ (marks s ∙ (ap (λ (b : Bool). cond (eqb s chunk.slot) true b) (all s) ∙ (turned (eqb s chunk.slot) (eqb chunk.slot s) (or_slots used chunks s) (flip s chunk.slot) ∙ sym (or_slots_push used chunks chunk s))))
-  where
-    turned : (a b o : Bool) → a ≡ b → cond a true o ≡ (o || b)
-    turned true b true e = refl
-    turned true b false e = e
-    turned false b true e = refl
-    turned false b false e = e
-
-    flip : (x y : ℕ) → eqb x y ≡ eqb y x
-    flip x y = grind arith
-
-pub taken_anew : (used : ℕ → Bool) (chunks : List Chunk) (chunk : Chunk) (before between after : List Bool) → HaveFreeSlots used chunks → is_taken before chunk.slot ≡ false → ((s : ℕ) → is_taken before s ≡ or_slots used chunks s) → Marks chunk.slot true before between
-    → ((s : ℕ) → is_taken after s ≡ cond (any_in chunks s) false (is_taken between s)) → (s : ℕ) → is_taken after s ≡ or_slots used (chunk ∷ []) s
-taken_anew used chunks chunk before between after free unused all marks gone s =
-    gone s ∙ (ap (λ (b : Bool). cond (any_in chunks s) false b) (marks s ∙ ap (λ (b : Bool). cond (eqb s chunk.slot) true b) (all s ∙ or_slots_split used chunks s)) ∙ by (any_in chunks s) refl)
-  where
-    flip : (x y : ℕ) → eqb x y ≡ eqb y x
-    flip x y = grind arith
-
-    none : any_in chunks chunk.slot ≡ false
-    none = (unused_parts used chunks chunk.slot (sym (all chunk.slot) ∙ unused)).1
-
-    apart : any_in chunks s ≡ true → eqb chunk.slot s ≡ false
-    apart has = differ (eqb chunk.slot s) refl
-      where
-        differ : (b : Bool) → b ≡ eqb chunk.slot s → eqb chunk.slot s ≡ false
-        differ false is = sym is
-        differ true is = absurd (false≢true (sym none ∙ (ap (any_in chunks) (eqb-true chunk.slot s (sym is)) ∙ has)))
-
-    by : (b : Bool) → b ≡ any_in chunks s → cond b false (cond (eqb s chunk.slot) true (used s || b)) ≡ (used s || eqb chunk.slot s)
-    by true is = sym (ap (λ (u : Bool). u || eqb chunk.slot s) (free_any used chunks free s (sym is)) ∙ apart (sym is))
-    by false is = ap (λ (e : Bool). cond e true (used s || false)) (flip s chunk.slot) ∙ last (eqb chunk.slot s) (used s)
-      where
-        last : (e u : Bool) → cond e true (u || false) ≡ (u || e)
-        last true true = refl
-        last true false = refl
-        last false true = refl
-        last false false = refl
-
 -- what was written lies within the disk, and so does what lay there before
 pub within_after : (slot : ℕ) (chunk : List ℕ) (before after : Option (List ℕ)) → length chunk ≤ 16384 → after ≡ option_map (overwritten (start_of slot) (padded chunk)) before → IfSome before (λ bytes. start_of slot ≤ length bytes) → IfSome after (IsWithin slot)
 within_after slot chunk before after small is there = subst (λ (o : Option (List ℕ)). IfSome o (IsWithin slot)) (sym is) (by before there)
@@ -157,11 +116,11 @@ one_test false true to from = from refl
 one_test false false to from = refl
 
 -- what is loaded is in order
-pub load_rests : {D : Type 0} (used : ℕ → Bool) (shelf : ShelfView D) (disk : Seen) (told : Option (List ℕ)) (held : List ℕ) → shelf.draft.chunks ≡ [] → ((s : ℕ) → IsTrue (is_taken shelf.slots.taken s) ↔ ((s < 16384) × Contains held s))
+pub load_rests : {D : Type 0} (used : ℕ → Bool) (shelf : ShelfView D) (disk : Seen) (told : Option (List ℕ)) (held : List ℕ) → shelf.written ≡ [] → ((s : ℕ) → IsTrue (is_taken shelf.slots.taken s) ↔ ((s < 16384) × Contains held s))
     → ((s : ℕ) → s < 16384 → IsTrue (used s) ↔ Contains held s) → ((s : ℕ) → used s ≡ true → s < 16384) → IfSome told (λ bytes. All (λ s. IsWithin s bytes) held) → disk.told ≡ told → IfSome told (IsStable disk.image disk.clock) → Rests used shelf disk
 load_rests used shelf disk told held none taken is_held below within same stable = record {
-  free = subst (HaveFreeSlots used) (sym none) tt;
-  taken = λ s. taken_is s ∙ ap (λ (l : List Chunk). or_slots used l s) (sym none);
+  free = subst (λ (l : List Written). HaveFreeSlots used (chunks_in l)) (sym none) tt;
+  taken = λ s. taken_is s ∙ ap (λ (l : List Written). or_slots used (chunks_in l) s) (sym none);
   within = subst (λ (o : Option (List ℕ)). IfSome o (λ bytes. (s : ℕ) → is_taken shelf.slots.taken s ≡ true → IsWithin s bytes)) (sym same) (all told within);
   settled = settled_stable used disk (subst (λ (o : Option (List ℕ)). IfSome o (λ bytes. (s : ℕ) → used s ≡ true → IsWithin s bytes)) (sym same) (all_used told within)) (subst (λ (o : Option (List ℕ)). IfSome o (IsStable disk.image disk.clock)) (sym same) stable);
 } where
@@ -176,9 +135,13 @@ load_rests used shelf disk told held none taken is_held below within same stable
   all_used None w = tt
   all_used (Some bytes) w = λ s is. all (Some bytes) w s (taken_is s ∙ is)
 
+-- a slot that is taken is that of a block, of a chunk that passes, or of another
+pub whose : (used : ℕ → Bool) (test : Written → Bool) (written : List Written) (taken : Bool) (s : ℕ) → taken ≡ or_slots used (chunks_in written) s → taken ≡ (used s || (any_in (chunks_in (filter test written)) s || any_in (chunks_in (filter (λ one. not (test one)) written)) s))
+whose used test written taken s is = is ∙ (or_slots_split used (chunks_in written) s ∙ ap (λ (b : Bool). used s || b) (any_parts test written s))
+
 -- the slots that are taken while blocks use others than before, all with the same meaning
-pub rests_as : {D : Type 0} (used later : ℕ → Bool) (old new : ShelfView D) (before after : Seen) → Rests used old before → ((s : ℕ) → is_taken new.slots.taken s ≡ true → is_taken old.slots.taken s ≡ true) → HaveFreeSlots later new.draft.chunks
-    → ((s : ℕ) → is_taken new.slots.taken s ≡ or_slots later new.draft.chunks s) → after.told ≡ before.told → AreSettled later after → Rests later new after
+pub rests_as : {D : Type 0} (used later : ℕ → Bool) (old new : ShelfView D) (before after : Seen) → Rests used old before → ((s : ℕ) → is_taken new.slots.taken s ≡ true → is_taken old.slots.taken s ≡ true) → HaveFreeSlots later (chunks_in new.written)
+    → ((s : ℕ) → is_taken new.slots.taken s ≡ or_slots later (chunks_in new.written) s) → after.told ≡ before.told → AreSettled later after → Rests later new after
 rests_as used later old new before after rests fewer free taken told settled = record {
   free = free;
   taken = taken;
@@ -189,36 +152,43 @@ rests_as used later old new before after rests fewer free taken told settled = r
   all None w = tt
   all (Some bytes) w = λ s is. w s (fewer s is)
 
--- slots of some blocks, once a row more has those of the draft
-pub used_with : (has used : Bool) (block : Block) (user : Option Block) → used ≡ is_some user → is_some (cond has (Some block) user) ≡ (used || has)
-used_with true true block user is = refl
-used_with true false block user is = refl
-used_with false true block user is = sym is
-used_with false false block user is = sym is
-
--- what was written goes, and its slots are free
-pub begin_rests : {D : Type 0} (used : ℕ → Bool) (old new : ShelfView D) (before after : Seen) → Rests used old before → ((s : ℕ) → is_taken new.slots.taken s ≡ cond (any_in old.draft.chunks s) false (is_taken old.slots.taken s)) → new.draft.chunks ≡ [] → after.told ≡ before.told → AreSettled used after → Rests used new after
-begin_rests used old new before after rests free none told settled = rests_as used used old new before after rests (λ s is. fewer (any_in old.draft.chunks s) (is_taken old.slots.taken s) (sym (free s) ∙ is)) (subst (HaveFreeSlots used) (sym none) tt) (λ s. free s ∙ (ap (λ (b : Bool). cond (any_in old.draft.chunks s) false b) (rests.taken s ∙ or_slots_split used old.draft.chunks s) ∙ (only (used s) (any_in old.draft.chunks s) (free_any used old.draft.chunks rests.free s) ∙ ap (λ (l : List Chunk). or_slots used l s) (sym none)))) told settled
+-- what was written of a block goes, and its slots are free
+pub let_go_rests : {D : Type 0} (used : ℕ → Bool) (test : Written → Bool) (old new : ShelfView D) (before after : Seen) → Rests used old before → ((s : ℕ) → is_taken new.slots.taken s ≡ cond (any_in (chunks_in (filter test old.written)) s) false (is_taken old.slots.taken s)) → new.written ≡ filter (λ one. not (test one)) old.written → after.told ≡ before.told → AreSettled used after → Rests used new after
+let_go_rests used test old new before after rests free left told settled =
+    rests_as used used old new before after rests (λ s is. fewer (any_in gone s) (is_taken old.slots.taken s) (sym (free s) ∙ is)) (subst (λ (l : List Written). HaveFreeSlots used (chunks_in l)) (sym left) (free_passed used (λ one. not (test one)) old.written rests.free)) (λ s. free s ∙ (ap (λ (b : Bool). cond (any_in gone s) false b) (whose used test old.written (is_taken old.slots.taken s) s (rests.taken s))
+    ∙ (only (used s) (any_in gone s) (any_in others s) (apart_others used test old.written rests.free s) ∙ (sym (or_slots_split used others s) ∙ ap (λ (l : List Written). or_slots used (chunks_in l) s) (sym left))))) told settled
   where
+    gone : List Chunk
+    gone = chunks_in (filter test old.written)
+
+    others : List Chunk
+    others = chunks_in (filter (λ one. not (test one)) old.written)
+
     fewer : (a t : Bool) → cond a false t ≡ true → t ≡ true
     fewer true t is = absurd (false≢true is)
     fewer false t is = is
 
-    only : (u a : Bool) → (a ≡ true → u ≡ false) → cond a false (u || a) ≡ u
-    only u true apart = sym (apart refl)
-    only true false apart = refl
-    only false false apart = refl
+    only : (u a b : Bool) → (a ≡ true → (u ≡ false) × (b ≡ false)) → cond a false (u || (a || b)) ≡ (u || b)
+    only u true b apart = sym (or_from u b (apart refl).0 (apart refl).1)
+    only u false b apart = refl
 
--- what was written is that of blocks
-pub forget_rests : {D : Type 0} (used later : ℕ → Bool) (old new : ShelfView D) (before after : Seen) → Rests used old before → ((s : ℕ) → later s ≡ (used s || any_in old.draft.chunks s)) → new.slots ≡ old.slots → new.draft.chunks ≡ [] → after.told ≡ before.told → AreSettled later after → Rests later new after
-forget_rests {D = D} used later old new before after rests more same none told settled =
+-- what was written of a block is that of blocks
+pub forget_rests : {D : Type 0} (used later : ℕ → Bool) (test : Written → Bool) (old new : ShelfView D) (before after : Seen) → Rests used old before → ((s : ℕ) → later s ≡ (used s || any_in (chunks_in (filter test old.written)) s)) → new.slots ≡ old.slots → new.written ≡ filter (λ one. not (test one)) old.written → after.told ≡ before.told → AreSettled later after → Rests later new after
+forget_rests {D = D} used later test old new before after rests more same left told settled =
     let still : (s : ℕ) → is_taken new.slots.taken s ≡ is_taken old.slots.taken s = λ s. ap (λ (slots : Slots D). is_taken slots.taken s) same in
-    rests_as used later old new before after rests (λ s is. sym (still s) ∙ is) (subst (HaveFreeSlots later) (sym none) tt) (λ s. still s ∙ (rests.taken s ∙ (or_slots_split used old.draft.chunks s ∙ (sym (more s) ∙ ap (λ (l : List Chunk). or_slots later l s) (sym none))))) told settled
+    rests_as used later old new before after rests (λ s is. sym (still s) ∙ is) (subst (λ (l : List Written). HaveFreeSlots later (chunks_in l)) (sym left) (free_fewer (λ s. used s || any_in gone s) later others (λ s none. more s ∙ none) (free_others used test old.written rests.free))) (λ s. still s ∙ (whose used test old.written (is_taken old.slots.taken s) s (rests.taken s) ∙ (sym (or_assoc (used s) (any_in gone s) (any_in others s))
+    ∙ (ap (λ (b : Bool). b || any_in others s) (sym (more s)) ∙ (sym (or_slots_split later others s) ∙ ap (λ (l : List Written). or_slots later (chunks_in l) s) (sym left)))))) told settled
+  where
+    gone : List Chunk
+    gone = chunks_in (filter test old.written)
+
+    others : List Chunk
+    others = chunks_in (filter (λ one. not (test one)) old.written)
 
 -- a sync leaves them in order
-pub sync_rests : {D T E : Type 0} (used : ℕ → Bool) (old new : ShelfView D) (before after : Seen) (result : Result T E) → Rests used old before → Syncs before after result → new.slots.taken ≡ old.slots.taken → new.draft ≡ old.draft → Rests used new after
-sync_rests used old new before after result rests syncs taken draft =
-    rests_as used used old new before after rests (λ s is. sym (ap (λ (l : List Bool). is_taken l s) taken) ∙ is) (subst (λ (d : DraftView). HaveFreeSlots used d.chunks) (sym draft) rests.free) (λ s. ap (λ (l : List Bool). is_taken l s) taken ∙ (rests.taken s ∙ ap (λ (d : DraftView). or_slots used d.chunks s) (sym draft))) syncs.told
+pub sync_rests : {D T E : Type 0} (used : ℕ → Bool) (old new : ShelfView D) (before after : Seen) (result : Result T E) → Rests used old before → Syncs before after result → new.slots.taken ≡ old.slots.taken → new.written ≡ old.written → Rests used new after
+sync_rests used old new before after result rests syncs taken written =
+    rests_as used used old new before after rests (λ s is. sym (ap (λ (l : List Bool). is_taken l s) taken) ∙ is) (subst (λ (l : List Written). HaveFreeSlots used (chunks_in l)) (sym written) rests.free) (λ s. ap (λ (l : List Bool). is_taken l s) taken ∙ (rests.taken s ∙ ap (λ (l : List Written). or_slots used (chunks_in l) s) (sym written))) syncs.told
     (settled_after used before after rests.settled (told_same before.told after.told syncs.told) (moves_same before.told after.told syncs.told) (spans_weaker before.clock after.clock before.image after.image syncs.time))
   where
     told_same : (a b : Option (List ℕ)) → b ≡ a → KeepsTold used a b

@@ -1,9 +1,11 @@
-//! The slots of a datanode, with the chunks of a block that is being written.
+//! The slots of a datanode, with the chunks that were written of blocks and not put.
 #![tactic(auto)]
 
-mod draft;
+mod laws;
 mod release;
 mod shelf;
+mod written;
 
-pub use draft::Part;
+pub use laws::each_place_has_its_last_chunk;
 pub use shelf::{Shelf, Unwritten};
+pub use written::Written;

@@ -15,7 +15,7 @@ impl<D: Disk> Shelf<D> {
         ensures free { (slot : ℕ) → is_taken self.new.slots.taken slot
             ≡ (if is_one_of slots.now slot then false else is_taken self.old.slots.taken slot) }
         ensures disk { self.new.slots.disk ≡ self.old.slots.disk }
-        ensures draft { self.new.draft ≡ self.old.draft }
+        ensures written { self.new.written ≡ self.old.written }
         ensures failed { self.new.failed ≡ self.old.failed }
     {
         free_each(&mut self.slots, slots);

@@ -1,24 +1,23 @@
-//! The slots of a datanode, and what was written to them of a block that isn't put yet.
+//! The slots of a datanode, and what was written to them of blocks that aren't put yet.
 
-ghost use Rattle.std.specs.Prelude.{◌≡◌, ◌≤◌, ◌<◌, ◌+◌, ◌*◌, [], ℕ, Bool, true, false, length, is_err};
-ghost use Rattle.std.specs.Prelude.{IfOk, IfErr, OnOk, OnErr, IfSome, Contains, IsTrue, ◌↔◌, slice_range, if◌then◌else◌, ◌||◌, Err};
+ghost use Rattle.std.specs.Prelude.{◌≡◌, ◌≤◌, ◌<◌, ◌⊎◌, [], ℕ, Bool, true, false, length, is_err};
+ghost use Rattle.std.specs.Prelude.{IfOk, IfErr, OnOk, OnErr, IfSome, Contains, IsTrue, ◌↔◌, slice_range, if◌then◌else◌, ◌||◌, ◌+◌, Err};
 ghost use Rattle.oz_chunk.specs.Disk.{Syncs, Empties};
 ghost use Rattle.oz_chunk.specs.Slots.{start_of, IsWithin, IsLowestPast};
 ghost use Rattle.oz_chunk.specs.Taken.{is_taken, AllTakenBelow};
-ghost use Rattle.oz_chunk.specs.declared.table.TheConstants.{SLOTS, SLOT_SIZE as SLOT_BYTES, CAPACITY};
-ghost use Rattle.oz_shelf.specs.Shelf.{follows, makes, IsWritten, KeepsTold, AreSettled, Rests, empty_draft};
 ghost use Rattle.oz_chunk.specs.declared.fault.SlotFull.{SlotFull as Full};
-ghost use Rattle.oz_shelf.specs.Answers.{says_failed};
+ghost use Rattle.oz_chunk.specs.declared.table.TheConstants.{SLOTS, SLOT_SIZE as SLOT_BYTES, CAPACITY};
 ghost use Rattle.oz_entries.specs.Held.{any_in};
-ghost use Rattle.oz_entries.specs.Node.{is_same_block, chunk_count};
-ghost use Rattle.oz_fields.specs.declared.block.Block.{Block as BlockName};
+ghost use Rattle.oz_shelf.specs.Answers.{says_failed};
+ghost use Rattle.oz_shelf.specs.Shelf.{IsWritten, KeepsTold, AreSettled, Rests};
+ghost use Rattle.oz_shelf.specs.Written.{chunks_in, makes, row_of, written_of, written_besides};
 ghost use Rattle.oz_world.specs.Disk.{seen, Stands, TellsAsBefore};
 ghost use Rattle.oz_world.specs.Faults.{Rose, HasCause};
 
-use crate::draft::{Draft, Part};
+use crate::written::{Which, Written, add, let_go, makes, take_out};
 use oz_chunk::{SlotFault, SlotFull, Slots};
 use oz_entries::{BlockRow, Chunk};
-use oz_fields::{Block, OutOfMemory};
+use oz_fields::{Block, List, OutOfMemory};
 use oz_world::{Disk, Failed};
 use std::alloc::Global;
 use std::marker::Model;
@@ -28,13 +27,14 @@ use std::marker::Model;
 pub enum Unwritten {
     Full(SlotFull),
     Failed,
+    OutOfMemory,
 }
 
 /// The slots, the chunks that were written and not put, and whether a call on the disk has failed.
 #[derive(Drop)]
 pub struct Shelf<D: Disk> {
     pub(crate) slots: Slots<D>,
-    draft: Draft,
+    written: Vec<Written>,
     failed: bool,
 }
 
@@ -44,7 +44,7 @@ impl<D: Disk> Model for Shelf<D> {
 
     ghost Value = { ShelfView D };
 
-    ghost view = { λ shelf. record { slots = shelf.slots; draft = shelf.draft; failed = shelf.failed } };
+    ghost view = { λ shelf. record { slots = shelf.slots; written = shelf.written.items; failed = shelf.failed } };
 }
 
 impl<D: Disk> Shelf<D> {
@@ -58,8 +58,7 @@ impl<D: Disk> Shelf<D> {
             Rests used shelf (seen (D.told shelf.slots.disk) (D.clock shelf.slots.disk) (D.image shelf.slots.disk)
             (D.faults shelf.slots.disk))) }
         ensures running { IfOk result (λ shelf. shelf.failed ≡ false) }
-        ensures parts { IfOk result (λ shelf. shelf.draft.parts ≡ []) }
-        ensures chunks { IfOk result (λ shelf. shelf.draft.chunks ≡ []) }
+        ensures written { IfOk result (λ shelf. shelf.written ≡ []) }
 
         // When each fault comes.
         ensures past { IfErr result (λ refused. (offset : ℕ) → refused.1 ≡ SlotFault.Past offset →
@@ -71,13 +70,10 @@ impl<D: Disk> Shelf<D> {
         // What the disk tells.
         ensures contents { D.told (disk_after result) ≡ D.told disk }
     {
-        let Ok(draft) = Draft::new(alloc) else {
-            return Err((disk, SlotFault::OutOfMemory));
-        };
         match Slots::load(alloc, disk, held) {
             Ok(slots) => Ok(Shelf {
                 slots,
-                draft,
+                written: Vec::new(alloc),
                 failed: false,
             }),
             Err((disk, fault)) => Err((disk, fault)),
@@ -104,72 +100,49 @@ impl<D: Disk> Shelf<D> {
         self.slots.into_disk()
     }
 
-    /// Whether the chunks that were written make so many bytes of a block.
+    /// Whether the chunks that were written of a block make so many bytes.
     pub fn makes(&self, block: Block, size: u32) -> bool
-        ensures makes { result ≡ makes self.now.draft block size }
-        ensures count { result ≡ true → length self.now.draft.chunks ≡ chunk_count size }
+        ensures { result ≡ makes self.now.written block size }
     {
-        self.draft.makes(block, size)
+        makes(&self.written, block, size)
     }
 
-    /// Whether the chunks that were written are of this block.
-    pub fn is_of(&self, block: Block) -> bool
-        ensures { result ≡ is_same_block self.now.draft.block block }
+    /// The row of a block of so many bytes that has the chunks which were written of it, in the order of their places.
+    pub fn row(&self, alloc: Global, block: Block, size: u32) -> Result<BlockRow, OutOfMemory>
+        ensures { IfOk result (λ row. row ≡ row_of self.now.written block size) }
     {
-        self.draft.is_of(block)
+        let chunks = chunks_of(alloc, &self.written, block)?;
+        Ok(BlockRow {
+            length: size,
+            chunks: List::of(chunks),
+        })
     }
 
-    /// The row of a block of so many bytes that has the chunks that were written.
-    pub fn row(&self, alloc: Global, size: u32) -> Result<BlockRow, OutOfMemory>
-        ensures row { IfOk result (λ row. row ≡ record { length = size; chunks = self.now.draft.chunks }) }
-        ensures count { (block : BlockName) → makes self.now.draft block size ≡ true →
-            length self.now.draft.chunks ≡ chunk_count size }
-    {
-        self.draft.row(alloc, size)
-    }
-
-    /// Sets the slots of what was written free, and begins the draft of a block.
-    pub fn begin(&mut self, block: Block)
-        ensures draft { self.new.draft ≡ empty_draft block }
+    /// Sets the slots of what was written of a block free.
+    pub fn let_go(&mut self, block: Block)
+        ensures written { self.new.written ≡ written_besides block self.old.written }
         ensures failed { self.new.failed ≡ self.old.failed }
         ensures disk { self.new.slots.disk ≡ self.old.slots.disk }
         ensures free { (slot : ℕ) → is_taken self.new.slots.taken slot
-            ≡ (if any_in self.old.draft.chunks slot then false else is_taken self.old.slots.taken slot) }
+            ≡ (if any_in (chunks_in (written_of block self.old.written)) slot then false
+            else is_taken self.old.slots.taken slot) }
         ensures rests { (used : ℕ → Bool) → Rests used self.old (seen (D.told self.old.slots.disk) (D.clock self.old.slots.disk)
             (D.image self.old.slots.disk) (D.faults self.old.slots.disk))
             → Rests used self.new (seen (D.told self.new.slots.disk) (D.clock self.new.slots.disk)
             (D.image self.new.slots.disk) (D.faults self.new.slots.disk)) }
     {
-        free_chunks(&mut self.slots, self.draft.chunks());
-        self.draft.begin(block);
+        let_go(&mut self.slots, &mut self.written, Which::AllOf { block });
     }
 
-    /// Begins the draft of a block anew, unless the chunk in this place is the next one.
-    fn go_on(&mut self, block: Block, place: u8)
-        requires { place < 4 }
-        ensures draft { self.new.draft
-            ≡ (if follows self.old.draft block place then self.old.draft else empty_draft block) }
-        ensures small { length self.new.draft.parts < 4 }
-        ensures failed { self.new.failed ≡ self.old.failed }
-        ensures disk { self.new.slots.disk ≡ self.old.slots.disk }
-        ensures free { (slot : ℕ) → is_taken self.new.slots.taken slot
-            ≡ (if follows self.old.draft block place then is_taken self.old.slots.taken slot
-            else (if any_in self.old.draft.chunks slot then false else is_taken self.old.slots.taken slot)) }
-    {
-        if !self.draft.follows(block, place) {
-            self.begin(block);
-        }
-    }
-
-    /// Begins the draft of a block, whose chunks have been put.
+    /// Leaves the chunks that were written of a block to it, which has been put.
     pub fn forget(&mut self, block: Block)
-        ensures draft { self.new ≡ record {
+        ensures forgot { self.new ≡ record {
           slots = self.old.slots;
-          draft = empty_draft block;
+          written = written_besides block self.old.written;
           failed = self.old.failed;
         } }
         ensures rests { (used later : ℕ → Bool) →
-            ((slot : ℕ) → later slot ≡ (used slot || any_in self.old.draft.chunks slot)) →
+            ((slot : ℕ) → later slot ≡ (used slot || any_in (chunks_in (written_of block self.old.written)) slot)) →
             Rests used self.old (seen (D.told self.old.slots.disk) (D.clock self.old.slots.disk)
             (D.image self.old.slots.disk) (D.faults self.old.slots.disk)) →
             AreSettled later (seen (D.told self.old.slots.disk) (D.clock self.old.slots.disk)
@@ -177,31 +150,39 @@ impl<D: Disk> Shelf<D> {
             Rests later self.new (seen (D.told self.new.slots.disk) (D.clock self.new.slots.disk)
             (D.image self.new.slots.disk) (D.faults self.new.slots.disk)) }
     {
-        self.draft.begin(block);
+        take_out(&mut self.written, Which::AllOf { block });
     }
 
-    /// Writes a chunk to the lowest free slot. Where it isn't the next one of its block, the draft is begun anew.
-    pub fn write(&mut self, block: Block, place: u8, bytes: &[u8]) -> Result<(), Unwritten>
-        requires place { place < 4 }
+    /// Writes a chunk to the lowest free slot. One that was written before to the same place of the block is let go.
+    pub fn write(
+        &mut self,
+        _alloc: Global,
+        block: Block,
+        place: u8,
+        bytes: &[u8],
+    ) -> Result<(), Unwritten>
         requires least { 1 ≤ length bytes.now }
         requires most { length bytes.now ≤ SLOT_BYTES }
         requires running { self.old.failed ≡ false }
         requires within { IfSome (D.told self.old.slots.disk) (λ disk. (slot : ℕ) →
             is_taken self.old.slots.taken slot ≡ true → IsWithin slot disk) }
         ensures written { OnOk result (IsWritten block place bytes.now self.old self.new (D.told self.new.slots.disk)) }
+
+        // When it isn't written.
         ensures full { IfErr result (λ why. (full : Full) → why ≡ Unwritten.Full full →
             AllTakenBelow SLOTS self.old.slots.taken
             × (full ≡ record { used = CAPACITY; asked = SLOT_BYTES; capacity = CAPACITY }) × (self.new ≡ self.old)) }
-        ensures begun { OnOk result (place ≡ 0 → (length self.new.draft.chunks ≡ 1)
-            × (makes self.new.draft block (length bytes.now) ≡ true)) }
-        ensures grown { OnOk result ((size : ℕ) → makes self.old.draft block size ≡ true → size ≡ place * SLOT_BYTES →
-            (follows self.old.draft block place ≡ true) × (length self.old.draft.chunks ≡ place)
-            × (makes self.new.draft block (size + length bytes.now) ≡ true)) }
         ensures crowded { AllTakenBelow SLOTS self.old.slots.taken →
-            result ≡ Err (Unwritten.Full (record { used = CAPACITY; asked = SLOT_BYTES; capacity = CAPACITY })) }
+            (result ≡ Err (Unwritten.Full (record { used = CAPACITY; asked = SLOT_BYTES; capacity = CAPACITY })))
+            ⊎ (result ≡ Err Unwritten.OutOfMemory) }
+        ensures lacking { result ≡ Err Unwritten.OutOfMemory → self.new ≡ self.old }
         ensures failed { self.new.failed ≡ says_failed result }
-        ensures draft { OnErr result (self.new.draft ≡ self.old.draft) }
         ensures cause { self.new.failed ≡ true → Rose (D.faults self.old.slots.disk) (D.faults self.new.slots.disk) }
+        ensures unwritten { OnErr result (self.new.written ≡ self.old.written) }
+        ensures untaken { OnErr result ((slot : ℕ) →
+            is_taken self.new.slots.taken slot ≡ is_taken self.old.slots.taken slot) }
+
+        // What the disk tells, and what a stop may leave.
         ensures never_falls { D.faults self.old.slots.disk ≤ D.faults self.new.slots.disk }
         ensures kept { KeepsTold (is_taken self.old.slots.taken) (D.told self.old.slots.disk)
             (D.told self.new.slots.disk) }
@@ -217,20 +198,30 @@ impl<D: Disk> Shelf<D> {
             Rests used self.new (seen (D.told self.new.slots.disk) (D.clock self.new.slots.disk)
             (D.image self.new.slots.disk) (D.faults self.new.slots.disk))) }
     {
+        let Ok(()) = self.written.reserve(1) else {
+            return Err(Unwritten::OutOfMemory);
+        };
         let slot = match self.slots.take() {
             Ok(slot) => slot,
             Err(full) => return Err(Unwritten::Full(full)),
         };
         let Ok(digest) = self.slots.write_chunk(slot, bytes) else {
+            self.slots.free(slot);
             self.failed = true;
             return Err(Unwritten::Failed);
         };
-        self.go_on(block, place);
-        let part = Part {
+        let_go(
+            &mut self.slots,
+            &mut self.written,
+            Which::OneOf { block, place },
+        );
+        let one = Written {
+            block,
             place,
             size: bytes.len() as u32,
+            chunk: Chunk { slot, digest },
         };
-        self.draft.add(part, Chunk { slot, digest });
+        add(&mut self.written, one);
         Ok(())
     }
 
@@ -247,7 +238,7 @@ impl<D: Disk> Shelf<D> {
             (D.image self.old.slots.disk) (D.image self.new.slots.disk) }
         ensures cause { HasCause (D.faults self.old.slots.disk) (D.faults self.new.slots.disk) result }
         ensures taken { self.new.slots.taken ≡ self.old.slots.taken }
-        ensures draft { self.new.draft ≡ self.old.draft }
+        ensures written { self.new.written ≡ self.old.written }
         ensures failed { self.new.failed ≡ is_err result }
     {
         let Ok(()) = self.slots.read_chunk(slot, into) else {
@@ -265,7 +256,7 @@ impl<D: Disk> Shelf<D> {
             (seen (D.told self.new.slots.disk) (D.clock self.new.slots.disk)
             (D.image self.new.slots.disk) (D.faults self.new.slots.disk)) result }
         ensures taken { self.new.slots.taken ≡ self.old.slots.taken }
-        ensures draft { self.new.draft ≡ self.old.draft }
+        ensures written { self.new.written ≡ self.old.written }
         ensures failed { self.new.failed ≡ is_err result }
         ensures rests { (used : ℕ → Bool) → Rests used self.old (seen (D.told self.old.slots.disk) (D.clock self.old.slots.disk)
             (D.image self.old.slots.disk) (D.faults self.old.slots.disk))
@@ -291,8 +282,8 @@ impl<D: Disk> Shelf<D> {
             (seen (D.told self.new.slots.disk) (D.clock self.new.slots.disk)
             (D.image self.new.slots.disk) (D.faults self.new.slots.disk)) result }
         ensures free { OnOk result ((slot : ℕ) → is_taken self.new.slots.taken slot ≡ false) }
-        ensures draft { OnOk result (self.new.draft ≡ empty_draft self.old.draft.block) }
-        ensures refused { OnErr result (self.new.draft ≡ self.old.draft) }
+        ensures written { OnOk result (self.new.written ≡ []) }
+        ensures refused { OnErr result (self.new.written ≡ self.old.written) }
         ensures taken { OnErr result (self.new.slots.taken ≡ self.old.slots.taken) }
         ensures failed { self.new.failed ≡ is_err result }
     {
@@ -300,17 +291,18 @@ impl<D: Disk> Shelf<D> {
             self.failed = true;
             return Err(Failed);
         };
-        self.draft.clear();
+        self.written.clear();
         Ok(())
     }
 }
 
-fn free_chunks<D: Disk>(slots: &mut Slots<D>, chunks: &[Chunk])
-    ensures free { (slot : ℕ) → is_taken slots.new.taken slot
-        ≡ (if any_in chunks.now slot then false else is_taken slots.old.taken slot) }
-    ensures disk { slots.new.disk ≡ slots.old.disk }
+/// Where the chunks stand that were written of a block, in the order of their places.
+fn chunks_of(alloc: Global, written: &[Written], block: Block) -> Result<Vec<Chunk>, OutOfMemory>
+    ensures { IfOk result (λ chunks. chunks.items ≡ chunks_in (written_of block written.now)) }
 {
-    for chunk in chunks {
-        slots.free(chunk.slot);
-    }
+    written
+        .iter()
+        .filter(|one| one.block == block)
+        .map(|one| one.chunk)
+        .collect(alloc)
 }

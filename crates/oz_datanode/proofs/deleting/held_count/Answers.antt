@@ -1,4 +1,4 @@
-use Rattle.std.proofs.Common.{◌≡◌, List, ℕ, get_or, drop, length, ◌+◌, refl, ap, ◌∙◌, arith}
+use Rattle.std.proofs.Common.{◌≡◌, List, ℕ, get_or, drop, ◌+◌, refl, ap, ◌∙◌, arith}
 use Rattle.oz_block.specs.Blocks.{node_in}
 use Rattle.oz_datanode.proofs.Named.{count_more, few, one}
 use Rattle.oz_datanode.proofs.deleting.held_count.Goals as goal

@@ -1,4 +1,4 @@
-use Rattle.std.proofs.Common.{◌≡◌, ℕ, Bool, List, cond, false, ltb, Ok, Err, refl, sym, ap, subst, ◌∙◌}
+use Rattle.std.proofs.Common.{ℕ, Bool, List, cond, false, ltb, Ok, Err, refl, sym, ap, subst, ◌∙◌}
 use Rattle.oz_block.specs.Blocks.{node_in as node_in_blocks}
 use Rattle.oz_chunk.specs.Taken.{is_taken}
 use Rattle.oz_entries.specs.declared.entry.Entry.TheVariants as entries
@@ -33,7 +33,7 @@ invariant_of-self g c = λ going.
     ∙ ap (λ (b : Bool). cond b false (is_taken shelf.slots.taken slot)) (released c.in-Ok.slots.items is_gone node c.in-Ok.ensures.freed slot)) in
     let rests = rests_freed (is_in_use node) (is_in_use (after_entry (entries.Apply c.args.txn.now) node)) freed shelf c.release.new.self disk
     (λ slot. left_in_use is_gone (node.users slot) (ltb slot 16384)) (λ slot is. freed_in_use is_gone node c.uses_slots_of_rows.ensures.within slot is)
-    free c.release.ensures.draft (c.self.invariant runs.disks) in
+    free c.release.ensures.written (c.self.invariant runs.disks) in
     subst (λ d. Rests (is_in_use (node_in_blocks c.delete.new.self)) c.release.new.self (seen (g.D.Disk.told d) (g.D.Disk.clock d) (g.D.Disk.image d) (g.D.Disk.faults d)))
     (sym c.release.ensures.disk) (subst (λ (n : Node). Rests (is_in_use n) c.release.new.self disk) (sym c.in-Ok.ensures.changes.made) rests)
 
@@ -55,7 +55,7 @@ returns-in-Ok-clause-freed g c = rw (← c.self.view_is) (λ runs due.
           ∙ (ap (λ (slots : List ℕ). cond (is_one_of slots slot) false (is_taken shelf.slots.taken slot)) c.deref.ensures.value
           ∙ ap (λ (b : Bool). cond b false (is_taken shelf.slots.taken slot)) (released c.in-Ok.slots.items is_gone node c.in-Ok.ensures.freed slot));
       disk = c.release.ensures.disk;
-      draft = c.release.ensures.draft;
+      written = c.release.ensures.written;
       failed = c.release.ensures.failed;
     })
 

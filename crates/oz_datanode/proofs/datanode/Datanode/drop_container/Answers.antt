@@ -1,4 +1,4 @@
-use Rattle.std.proofs.Common.{◌≡◌, ℕ, Bool, List, cond, false, ltb, refl, sym, ap, subst, ◌∙◌}
+use Rattle.std.proofs.Common.{Bool, cond, false, ltb, refl, sym, ap, subst, ◌∙◌}
 use Rattle.std.proofs.lemmas.Bool.{false≢true}
 use Rattle.oz_block.specs.Blocks.{node_in as node_in_blocks}
 use Rattle.oz_entries.specs.declared.entry.Entry.TheVariants as entries

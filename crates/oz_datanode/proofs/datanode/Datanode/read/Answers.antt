@@ -3,8 +3,6 @@ use Rattle.oz_block.specs.Blocks.{node_in as node_in_blocks}
 use Rattle.oz_chunk.specs.Slots.{IsWithin}
 use Rattle.oz_entries.specs.declared.row.Chunk.{Chunk}
 use Rattle.oz_entries.specs.Held.{any_in}
-use Rattle.oz_datanode.specs.Pairs.{parts_of, HaveDigests}
-use Rattle.oz_datanode.specs.Reading.{IsFirstBad}
 use Rattle.oz_datanode.specs.Steps.{is_in_use}
 use Rattle.oz_datanode.proofs.Chunks.{row_within, rests_read, pairs_read, if_some}
 use Rattle.oz_datanode.proofs.RunningParts.{is_running, runs_still}

@@ -1,5 +1,4 @@
 use Rattle.std.proofs.Common.{sym, subst}
-use Rattle.oz_block.specs.Blocks.{node_in as node_in_blocks}
 use Rattle.oz_entries.specs.declared.entry.Entry.TheVariants as entries
 use Rattle.oz_entries.specs.Node.{Node}
 use Rattle.oz_shelf.specs.Shelf.{Rests}

@@ -9,7 +9,7 @@ neither false true one other = absurd cc
 neither false false one other = refl
 
 pub invariant_of-self-2 : goal.invariant_of-self-2
-invariant_of-self-2 g c = λ going. rests_empty (node_in_blocks c.wipe.new.self) c.wipe-2.new.self _ c.self.inside.shelf.draft.block c.in-Ok.ensures.made c.in-Ok-wipe.ensures.free c.in-Ok-wipe.ensures.draft
+invariant_of-self-2 g c = λ going. rests_empty (node_in_blocks c.wipe.new.self) c.wipe-2.new.self _ c.in-Ok.ensures.made c.in-Ok-wipe.ensures.free c.in-Ok-wipe.ensures.written
 
 pub returns-clause-pairs : goal.returns-clause-pairs
 returns-clause-pairs g c = λ contents.
@@ -22,7 +22,7 @@ returns-clause-wipes g c = rw (← c.self.view_is) (λ going. record {
     blocks = c.in-Ok.ensures;
     shelf = c.in-Ok-wipe.ensures.empty;
     free = c.in-Ok-wipe.ensures.free;
-    draft = c.in-Ok-wipe.ensures.draft;
+    written = c.in-Ok-wipe.ensures.written;
     runs = neither c.wipe.new.self.stopped c.wipe-2.new.self.failed c.in-Ok.ensures.stops c.in-Ok-wipe.ensures.failed;
   };
   id = refl;

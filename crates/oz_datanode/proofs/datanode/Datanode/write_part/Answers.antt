@@ -1,24 +1,35 @@
-use Rattle.std.proofs.Common.{length, refl, ap}
+use Rattle.std.proofs.Common.{◌≡◌, ◌*◌, [], refl, ap, arith}
 use Rattle.oz_block.specs.Blocks.{node_in as node_in_blocks}
 use Rattle.oz_chunk.specs.declared.fault.SlotFull.{SlotFull}
 use Rattle.oz_shelf.specs.Shelf.{ShelfView}
 use Rattle.oz_datanode.proofs.Calls.{wrote_holds}
-use Rattle.oz_datanode.proofs.Drafting.{first_drafted, next_drafted}
-use Rattle.oz_datanode.proofs.Parts.{full_whose, taken_drafted, with_shelf}
+use Rattle.oz_datanode.proofs.Making.{next_made, others_made, none_made}
+use Rattle.oz_datanode.proofs.Parts.{full_whose, taken_written, with_shelf}
 use Rattle.oz_datanode.proofs.Running.{runs_parts}
 use Rattle.oz_datanode.proofs.datanode.Datanode.write_part.Goals as goal
 
 pub returns-in-Ok-clause-first : goal.returns-in-Ok-clause-first
-returns-in-Ok-clause-first g c zero = first_drafted g.D.Disk.told c.args.block c.args.chunk c.args.bytes.now c.self.inside.shelf c.write.new.self c.in-Ok.ensures.written c.requires.most (c.in-Ok.ensures.begun zero).0 (c.in-Ok.ensures.begun zero).1
+returns-in-Ok-clause-first g c =
+    let runs = rw (← c.self.view_is) at c.requires.running in
+    let whole = runs_parts g.D.Disk.faults (record { id = c.self.inside.id; blocks = c.self.inside.blocks; shelf = c.self.inside.shelf; stopped = c.self.inside.stopped }) runs in
+    let rests = c.self.invariant whole.0 in
+    rw (← c.self.view_is) (λ zero none.
+    let start : 0 ≡ c.args.chunk * 16384 = omega (arith, zero) in
+    next_made g.D.Disk.told c.args.block c.args.chunk c.args.bytes.now c.self.inside.shelf c.write.new.self c.in-Ok.ensures.written c.write.ensures.kept c.write.ensures.telling (taken_written (node_in_blocks c.self.inside.blocks) c.self.inside.shelf _ rests) [] c.requires.least c.requires.most (none_made g.D.Disk.told c.args.block c.self.inside.shelf none) start)
 
 pub returns-in-Ok-clause-next : goal.returns-in-Ok-clause-next
 returns-in-Ok-clause-next g c =
     let runs = rw (← c.self.view_is) at c.requires.running in
     let whole = runs_parts g.D.Disk.faults (record { id = c.self.inside.id; blocks = c.self.inside.blocks; shelf = c.self.inside.shelf; stopped = c.self.inside.stopped }) runs in
     let rests = c.self.invariant whole.0 in
-    rw (← c.self.view_is) (λ front drafted full.
-    let more = c.in-Ok.ensures.grown (length front) drafted.made full in
-    next_drafted g.D.Disk.told c.args.block c.args.chunk front c.args.bytes.now c.self.inside.shelf c.write.new.self c.in-Ok.ensures.written c.requires.most drafted full more.0 more.1 more.2 (taken_drafted (node_in_blocks c.self.inside.blocks) c.self.inside.shelf _ rests) c.write.ensures.kept c.write.ensures.telling)
+    rw (← c.self.view_is) (λ front made whole. next_made g.D.Disk.told c.args.block c.args.chunk c.args.bytes.now c.self.inside.shelf c.write.new.self c.in-Ok.ensures.written c.write.ensures.kept c.write.ensures.telling (taken_written (node_in_blocks c.self.inside.blocks) c.self.inside.shelf _ rests) front c.requires.least c.requires.most made whole)
+
+pub returns-in-Ok-clause-others : goal.returns-in-Ok-clause-others
+returns-in-Ok-clause-others g c =
+    let runs = rw (← c.self.view_is) at c.requires.running in
+    let whole = runs_parts g.D.Disk.faults (record { id = c.self.inside.id; blocks = c.self.inside.blocks; shelf = c.self.inside.shelf; stopped = c.self.inside.stopped }) runs in
+    let rests = c.self.invariant whole.0 in
+    rw (← c.self.view_is) (λ other made apart was. others_made g.D.Disk.told c.args.block c.args.chunk c.args.bytes.now c.self.inside.shelf c.write.new.self c.in-Ok.ensures.written c.write.ensures.kept c.write.ensures.telling (taken_written (node_in_blocks c.self.inside.blocks) c.self.inside.shelf _ rests) other made apart was)
 
 pub returns-in-Ok-clause-pairs : goal.returns-in-Ok-clause-pairs
 returns-in-Ok-clause-pairs g c =

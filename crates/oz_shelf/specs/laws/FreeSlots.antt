@@ -1,12 +1,12 @@
 -- Chunks that have free slots, one more and one less.
-use Rattle.std.proofs.Common.{◌≡◌, ℕ, ◌<◌, eqb, Bool, true, false, ◌||◌, List, [], ◌∷◌, ◌++◌, length, refl, sym, ap, ◌∙◌}
+use Rattle.std.proofs.Common.{◌≡◌, ℕ, eqb, Bool, true, false, ◌||◌, List, [], ◌∷◌, refl, sym, ap, ◌∙◌}
 use Rattle.std.proofs.lemmas.Bool.{false≢true}
 use Rattle.oz_entries.specs.declared.row.Chunk.{Chunk}
 use Rattle.oz_entries.specs.Node.{HaveFreeSlots, or_slot, or_slots}
 use Rattle.oz_entries.specs.Held.{any_in}
 use Rattle.oz_entries.specs.laws.Sound.{free_slot}
 
-or_assoc : (a b c : Bool) → ((a || b) || c) ≡ (a || (b || c))
+pub or_assoc : (a b c : Bool) → ((a || b) || c) ≡ (a || (b || c))
 or_assoc true b c = refl
 or_assoc false b c = refl
 
@@ -19,16 +19,6 @@ or_slots_split used [] slot = none (used slot)
     none false = refl
 or_slots_split used (chunk ∷ chunks) slot =
     or_slots_split (or_slot used chunk.slot) chunks slot ∙ or_assoc (used slot) (eqb chunk.slot slot) (any_in chunks slot)
-
--- one chunk more
-pub or_slots_push : (used : ℕ → Bool) (chunks : List Chunk) (chunk : Chunk) (slot : ℕ) → or_slots used (chunks ++ chunk ∷ []) slot ≡ (or_slots used chunks slot || eqb chunk.slot slot)
-or_slots_push used [] chunk slot = refl
-or_slots_push used (first ∷ chunks) chunk slot = or_slots_push (or_slot used first.slot) chunks chunk slot
-
-pub free_push : (used : ℕ → Bool) (chunks : List Chunk) (chunk : Chunk) → HaveFreeSlots used chunks → chunk.slot < 16384 → or_slots used chunks chunk.slot ≡ false → length chunk.digest ≡ 32 → HaveFreeSlots used (chunks ++ chunk ∷ [])
-free_push used [] chunk free below unused size = (below, unused, size, tt)
-free_push used (first ∷ chunks) chunk free below unused size =
-    (free.0, free.1, free.2, free_push (or_slot used first.slot) chunks chunk free.3 below unused size)
 
 -- fewer slots are in use
 pub free_fewer : (used fewer : ℕ → Bool) (chunks : List Chunk) → ((slot : ℕ) → used slot ≡ false → fewer slot ≡ false) → HaveFreeSlots used chunks → HaveFreeSlots fewer chunks

@@ -5,7 +5,7 @@ use Rattle.oz_entries.specs.Node.{is_same_block}
 use Rattle.oz_entries.specs.laws.Blocks.{same_block, itself}
 use Rattle.oz_fields.specs.declared.block.Block.{Block}
 use Rattle.oz_shelf.specs.declared.written.Written.{Written}
-use Rattle.oz_shelf.specs.Written.{AreRising, RiseFrom, is_of, is_at, is_behind, inserted, with_written, written_of, written_besides, written_beside}
+use Rattle.oz_shelf.specs.Written.{AreRising, RiseFrom, is_of, is_at, is_behind, inserted, with_written, written_of, written_besides, written_elsewhere}
 use Rattle.oz_shelf.specs.laws.Written.{within, without_one, none_pass, others_written}
 
 -- ---- the chunk in a place
@@ -27,12 +27,12 @@ with_one test (first ∷ written) one passes none = by (test first) refl none (i
 
 pub own_place : (written : List Written) (one : Written) → filter (is_at one.block one.place) (with_written written one) ≡ one ∷ []
 own_place written one =
-    with_one (is_at one.block one.place) (written_beside one.block one.place written) one (and_from (is_of one.block one) (eqb one.place one.place) (itself one.block) (search arith))
+    with_one (is_at one.block one.place) (written_elsewhere one.block one.place written) one (and_from (is_of one.block one) (eqb one.place one.place) (itself one.block) (search arith))
     (none_pass (λ other. not (is_at one.block one.place other)) (is_at one.block one.place) (λ other is. not-true (is_at one.block one.place other) is) written)
 
 pub other_place : (written : List Written) (one : Written) (block : Block) (place : ℕ) → is_at block place one ≡ false → filter (is_at block place) (with_written written one) ≡ filter (is_at block place) written
 other_place written one block place apart =
-    without_one (is_at block place) (written_beside one.block one.place written) one apart
+    without_one (is_at block place) (written_elsewhere one.block one.place written) one apart
     ∙ within (λ other. not (is_at one.block one.place other)) (is_at block place) (λ other is. ap not (false_from_ne_true (is_at one.block one.place other) (λ also. false≢true (sym apart ∙ same other is also)))) written
   where
     same : (other : Written) → is_at block place other ≡ true → is_at one.block one.place other ≡ true → is_at block place one ≡ true
@@ -102,7 +102,7 @@ more_rise written one rise block = by (is_same_block one.block block) refl
   where
     by : (b : Bool) → b ≡ is_same_block one.block block → RiseFrom 0 (written_of block (with_written written one))
     by false is = subst (RiseFrom 0) (sym (others_written written one block (sym is))) (rise block)
-    by true is = subst (λ (b : Block). RiseFrom 0 (written_of b (with_written written one))) (same_block one.block block (sym is)) (one_rises (written_beside one.block one.place written) one 0 (omega arith) (none_pass (λ other. not (is_at one.block one.place other)) (is_at one.block one.place) (λ other passes. not-true (is_at one.block one.place other) passes) written) (fewer_rise (λ other. not (is_at one.block one.place other)) (is_of one.block) 0 written (rise one.block)))
+    by true is = subst (λ (b : Block). RiseFrom 0 (written_of b (with_written written one))) (same_block one.block block (sym is)) (one_rises (written_elsewhere one.block one.place written) one 0 (omega arith) (none_pass (λ other. not (is_at one.block one.place other)) (is_at one.block one.place) (λ other passes. not-true (is_at one.block one.place other) passes) written) (fewer_rise (λ other. not (is_at one.block one.place other)) (is_of one.block) 0 written (rise one.block)))
 
 pub left_rise : (written : List Written) (block : Block) → AreRising written → AreRising (written_besides block written)
 left_rise written block rise other = fewer_rise (λ one. not (is_of block one)) (is_of other) 0 written (rise other)

@@ -21,8 +21,8 @@ written_of block written = filter (is_of block) written
 abbrev pub written_besides : Block → List Written → List Written
 written_besides block written = filter (λ one. not (is_of block one)) written
 
-abbrev pub written_beside : Block → ℕ → List Written → List Written
-written_beside block place written = filter (λ one. not (is_at block place one)) written
+abbrev pub written_elsewhere : Block → ℕ → List Written → List Written
+written_elsewhere block place written = filter (λ one. not (is_at block place one)) written
 
 -- where they stand
 abbrev pub chunks_in : List Written → List Chunk
@@ -40,7 +40,7 @@ inserted (first ∷ written) one =
 
 -- one more, instead of the one that had its place in its block
 abbrev pub with_written : List Written → Written → List Written
-with_written written one = inserted (written_beside one.block one.place written) one
+with_written written one = inserted (written_elsewhere one.block one.place written) one
 
 -- their places rise, from this one on; and so do those of each block
 abbrev pub RiseFrom : ℕ → List Written → Type 0

@@ -6,7 +6,7 @@ use Rattle.oz_entries.specs.Node.{chunk_count, is_same_block}
 use Rattle.oz_entries.specs.laws.Blocks.{same_block, itself}
 use Rattle.oz_fields.specs.declared.block.Block.{Block}
 use Rattle.oz_shelf.specs.declared.written.Written.{Written}
-use Rattle.oz_shelf.specs.Written.{is_of, is_at, is_behind, inserted, with_written, written_of, written_besides, written_beside, makes, makes_from}
+use Rattle.oz_shelf.specs.Written.{is_of, is_at, is_behind, inserted, with_written, written_of, written_besides, written_elsewhere, makes, makes_from}
 
 -- ---- what chunks make
 
@@ -112,12 +112,12 @@ last_one (first ∷ written) one below = by (is_of one.block first) refl below (
         ∙ (cond-true (is_of one.block first) (first ∷ more) more (sym is) ∙ ap (λ (l : List Written). first ∷ l) (rest low.1))
 
 -- none of them had its place
-none_at : (written : List Written) (block : Block) (place : ℕ) → AreBelow place (written_of block written) → written_of block (written_beside block place written) ≡ written_of block written
+none_at : (written : List Written) (block : Block) (place : ℕ) → AreBelow place (written_of block written) → written_of block (written_elsewhere block place written) ≡ written_of block written
 none_at [] block place below = refl
 none_at (one ∷ written) block place below = by (is_of block one) refl below (none_at written block place)
   where
     left : List Written
-    left = written_beside block place written
+    left = written_elsewhere block place written
 
     by : (b : Bool) → b ≡ is_of block one → AreBelow place (cond b (one ∷ written_of block written) (written_of block written)) → (AreBelow place (written_of block written) → written_of block left ≡ written_of block written) → written_of block (cond (not (b && eqb one.place place)) (one ∷ left) left) ≡ cond b (one ∷ written_of block written) (written_of block written)
     by false is low rest = cond-false (is_of block one) (one ∷ written_of block left) (written_of block left) (sym is) ∙ rest low
@@ -132,7 +132,7 @@ next_written written one size is whole =
     let count = full_places (length (written_of one.block written)) one.place size (makes_count written one.block size is) whole in
     let below = from_below (written_of one.block written) 0 size one.place is (omega (arith, count)) in
     let same = none_at written one.block one.place below in
-    last_one (written_beside one.block one.place written) one (subst (AreBelow one.place) (sym same) below) ∙ ap (λ (l : List Written). l ++ one ∷ []) same
+    last_one (written_elsewhere one.block one.place written) one (subst (AreBelow one.place) (sym same) below) ∙ ap (λ (l : List Written). l ++ one ∷ []) same
 
 pub next_count : (written : List Written) (one : Written) (size : ℕ) → makes written one.block size ≡ true → size ≡ one.place * 16384 → length (written_of one.block written) ≡ one.place
 next_count written one size is whole = full_places (length (written_of one.block written)) one.place size (makes_count written one.block size is) whole
@@ -151,12 +151,12 @@ apart_of one block other apart is =
 
 pub others_written : (written : List Written) (one : Written) (block : Block) → is_same_block one.block block ≡ false → written_of block (with_written written one) ≡ written_of block written
 others_written written one block apart =
-    without_one (is_of block) (written_beside one.block one.place written) one apart
+    without_one (is_of block) (written_elsewhere one.block one.place written) one apart
     ∙ within (λ other. not (is_at one.block one.place other)) (is_of block) (λ other is. ap not (and_left (is_of one.block other) (eqb other.place one.place) (apart_of other one.block block apart is))) written
 
 pub besides_written : (written : List Written) (one : Written) → written_besides one.block (with_written written one) ≡ written_besides one.block written
 besides_written written one =
-    without_one (λ other. not (is_of one.block other)) (written_beside one.block one.place written) one (ap not (itself one.block))
+    without_one (λ other. not (is_of one.block other)) (written_elsewhere one.block one.place written) one (ap not (itself one.block))
     ∙ within (λ other. not (is_at one.block one.place other)) (λ other. not (is_of one.block other)) (λ other is. ap not (and_left (is_of one.block other) (eqb other.place one.place) (not-true (is_of one.block other) is))) written
 
 -- ---- once those of a block are gone

@@ -1,3 +1,4 @@
+pub mod AnyOrder
 pub mod Calls
 pub mod Chunks
 pub mod Emptied

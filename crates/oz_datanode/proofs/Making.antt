@@ -1,6 +1,6 @@
 -- Which bytes the chunks that were written make.
-use Rattle.std.proofs.Common.{◌≡◌, inl, inr, ℕ, ◌+◌, ◌-◌, ◌*◌, ◌≤◌, eqb, eqb-true, min, Bool, true, false, List, [], ◌∷◌, ◌++◌, length, take, slice_range, Option, None, Some, IfSome, refl, sym, ap, ◌∙◌, subst, arith, append_assoc, length-append}
-use Rattle.std.proofs.lemmas.Bool.{false≢true, or_cases}
+use Rattle.std.proofs.Common.{◌≡◌, inl, inr, ℕ, ◌+◌, ◌-◌, ◌*◌, ◌≤◌, eqb, eqb-true, eq-eqb, ◌&&◌, min, Bool, true, false, List, [], ◌∷◌, ◌++◌, length, filter, take, slice_range, Option, None, Some, IfSome, refl, sym, ap, ◌∙◌, subst, arith, append_assoc, length-append}
+use Rattle.std.proofs.lemmas.Bool.{false≢true, or_cases, or_left}
 use Rattle.std.proofs.lemmas.List.{append-nil, length-map, map-append}
 use Rattle.std.proofs.lemmas.List.Folds.{list_any-append}
 use Rattle.sha2.specs.Sha256.{sha256}
@@ -14,11 +14,11 @@ use Rattle.oz_entries.specs.declared.row.Chunk.{Chunk}
 use Rattle.oz_fields.specs.declared.block.Block.{Block}
 use Rattle.oz_shelf.specs.declared.written.Written.{Written}
 use Rattle.oz_shelf.specs.Shelf.{ShelfView, IsWritten, KeepsTold}
-use Rattle.oz_shelf.specs.Written.{chunks_in, makes, makes_from, row_of, written_of}
+use Rattle.oz_shelf.specs.Written.{chunks_in, is_at, with_written, makes, makes_from, row_of, written_of}
 use Rattle.oz_shelf.specs.laws.Written.{next_written, next_count, next_makes, others_written}
 use Rattle.oz_world.specs.Disk.{TellsAsBefore}
 use Rattle.oz_datanode.specs.Pairs.{Content, Has, HaveDigests, part_of, parts_of}
-use Rattle.oz_datanode.specs.Writing.{MakeBytes, intact}
+use Rattle.oz_datanode.specs.Writing.{HasPart, MakeBytes, intact}
 use Rattle.oz_datanode.proofs.Holding.{has_alike, part_begins}
 
 -- what was written to a slot is the chunk there
@@ -126,3 +126,39 @@ module _ {D : Type 0} (told : D → Option (List ℕ)) where
             bytes = parts_push before (length front) (length bytes) chunk disk full ∙ (ap (λ (l : List ℕ). l ++ part_of (length bytes) chunk disk) has.bytes ∙ ap (λ (l : List ℕ). front ++ l) this);
             digests = λ are. digests_push before (length front) (length bytes) chunk disk full (has.digests refl) (ap sha256 (sym this));
           }))
+
+  module _ (block : Block) (place : ℕ) (bytes : List ℕ) (old new : ShelfView D) (written : IsWritten block place bytes old new (told new.slots.disk)) where
+    -- it was written to its place
+    pub own_part : length bytes ≤ 16384 → ((written : List Written) (one : Written) → filter (is_at one.block one.place) (with_written written one) ≡ one ∷ []) → HasPart block place bytes new.written (told new.slots.disk)
+    own_part small own = record {
+      chunk = record { slot = written.slot; digest = sha256 bytes };
+      listed = ap (filter (is_at block place)) written.listed ∙ own old.written (record { block = block; place = place; size = length bytes; chunk = record { slot = written.slot; digest = sha256 bytes } });
+      digest = refl;
+      has = by (told new.slots.disk) written.within written.stands;
+    } where
+      by : (o : Option (List ℕ)) → IfSome o (IsWithin written.slot) → IfSome o (λ disk. slot_bytes written.slot disk ≡ padded bytes) → IfSome o (λ disk. IsWithin written.slot disk × (part_of (length bytes) (record { slot = written.slot; digest = sha256 bytes }) disk ≡ bytes))
+      by None within stands = tt
+      by (Some disk) within stands = (within, chunk_stands bytes (record { slot = written.slot; digest = sha256 bytes }) disk small stands)
+
+    -- what was written to another place stands there still
+    pub other_part : KeepsTold (is_taken old.slots.taken) (told old.slots.disk) (told new.slots.disk) → TellsAsBefore (told old.slots.disk) (told new.slots.disk) → ((test : Written → Bool) (slot : ℕ) → any_in (chunks_in (filter test old.written)) slot ≡ true → is_taken old.slots.taken slot ≡ true)
+        → (other : Block) (there : ℕ) (part : List ℕ) → (is_same_block block other && eqb place there) ≡ false → ((written : List Written) (one : Written) (block : Block) (place : ℕ) → is_at block place one ≡ false → filter (is_at block place) (with_written written one) ≡ filter (is_at block place) written)
+        → HasPart other there part old.written (told old.slots.disk) → HasPart other there part new.written (told new.slots.disk)
+    other_part keeps telling taken other there part apart others was = record {
+      chunk = was.chunk;
+      listed = ap (filter (is_at other there)) written.listed ∙ (others old.written (record { block = block; place = place; size = length bytes; chunk = record { slot = written.slot; digest = sha256 bytes } }) other there apart ∙ was.listed);
+      digest = was.digest;
+      has = by (told old.slots.disk) (told new.slots.disk) was.has keeps telling;
+    } where
+      own : is_taken old.slots.taken was.chunk.slot ≡ true
+      own = taken (is_at other there) was.chunk.slot (ap (λ (l : List Written). any_in (chunks_in l) was.chunk.slot) was.listed ∙ or_left (eqb was.chunk.slot was.chunk.slot) false (eq-eqb was.chunk.slot was.chunk.slot refl))
+
+      by : (before after : Option (List ℕ)) → IfSome before (λ disk. IsWithin was.chunk.slot disk × (part_of (length part) was.chunk disk ≡ part)) → KeepsTold (is_taken old.slots.taken) before after → TellsAsBefore before after → IfSome after (λ disk. IsWithin was.chunk.slot disk × (part_of (length part) was.chunk disk ≡ part))
+      by before None has keeps telling = tt
+      by None (Some disk) has keeps telling = absurd (never (telling.0 refl))
+        where
+          never : Some disk ≡ None → ⊥
+          never e = cc
+      by (Some then) (Some disk) has keeps telling =
+          let now = keeps was.chunk.slot own has.0 in
+          (now.0, part_begins (length part) was.chunk disk ∙ (ap (take (min (length part) 16384)) now.1 ∙ (sym (part_begins (length part) was.chunk then) ∙ has.1)))

@@ -1,10 +1,11 @@
 -- What a chunk that is written makes of a datanode.
-use Rattle.std.proofs.Common.{◌≡◌, inr, Option, Result, Ok, Err, ℕ, ◌<◌, ltb, ◌||◌, ◌&&◌, Bool, true, false, List, refl, sym, ◌∙◌}
+use Rattle.std.proofs.Common.{◌≡◌, inr, Option, Result, Ok, Err, ℕ, ◌<◌, ltb, ◌||◌, ◌&&◌, Bool, true, false, List, filter, refl, sym, ◌∙◌}
 use Rattle.oz_chunk.specs.Taken.{is_taken, AllTakenBelow}
 use Rattle.oz_entries.specs.Held.{any_in}
 use Rattle.oz_entries.specs.Node.{Node, is_used}
 use Rattle.oz_fields.specs.declared.block.Block.{Block}
 use Rattle.oz_shelf.specs.Shelf.{ShelfView, Rests}
+use Rattle.oz_shelf.specs.declared.written.Written.{Written}
 use Rattle.oz_shelf.specs.Written.{chunks_in, is_of, written_of}
 use Rattle.oz_shelf.specs.laws.Parting.{any_of}
 use Rattle.oz_world.specs.Disk.{Seen}
@@ -23,10 +24,13 @@ full_whose node shelf disk rests full slot small = by (is_used node slot) (ltb s
     by true l a is = refl
     by false l a is = is
 
--- a slot of what was written of a block is taken
+-- a slot of chunks that were written is taken, as those of a block, or those in a place of it
+pub taken_at : {D : Type 0} (node : Node) (shelf : ShelfView D) (disk : Seen) → Rests (is_in_use node) shelf disk → (test : Written → Bool) (slot : ℕ) → any_in (chunks_in (filter test shelf.written)) slot ≡ true → is_taken shelf.slots.taken slot ≡ true
+taken_at node shelf disk rests test slot has =
+    rests.taken slot ∙ any_taken (is_in_use node) (chunks_in shelf.written) slot (any_of test shelf.written slot has)
+
 pub taken_written : {D : Type 0} (node : Node) (shelf : ShelfView D) (disk : Seen) → Rests (is_in_use node) shelf disk → (block : Block) (slot : ℕ) → any_in (chunks_in (written_of block shelf.written)) slot ≡ true → is_taken shelf.slots.taken slot ≡ true
-taken_written node shelf disk rests block slot has =
-    rests.taken slot ∙ any_taken (is_in_use node) (chunks_in shelf.written) slot (any_of (is_of block) shelf.written slot has)
+taken_written node shelf disk rests block = taken_at node shelf disk rests (is_of block)
 
 -- ---- a chunk of a replica that takes it
 

@@ -1,8 +1,9 @@
 -- What writing a chunk, putting a block and leaving its chunks do to a datanode, a row for each answer.
-use Rattle.std.specs.Prelude.{◌≡◌, ◌⊎◌, ℕ, ◌<◌, Bool, true, false, ◌||◌, List, length, Option, Some, Result, Ok, Err, IfSome, if◌then◌else◌}
+use Rattle.std.specs.Prelude.{◌≡◌, ◌⊎◌, ℕ, ◌<◌, Bool, true, false, ◌||◌, List, [], ◌∷◌, length, filter, Option, Some, Result, Ok, Err, IfSome, if◌then◌else◌}
 use Rattle.oz_block.specs.Changes.{Changes}
 use Rattle.oz_block.specs.declared.fault.BlockFault.TheVariants as stops
 use Rattle.oz_chunk.specs.Disk.{Syncs}
+use Rattle.oz_chunk.specs.Slots.{IsWithin}
 use Rattle.oz_chunk.specs.Taken.{is_taken, AllTakenBelow}
 use Rattle.oz_chunk.specs.declared.table.TheConstants.{SLOTS, SLOT_SIZE, CAPACITY}
 use Rattle.oz_container.specs.declared.state.State.{State}
@@ -11,13 +12,16 @@ use Rattle.oz_entries.specs.Held.{any_in}
 use Rattle.oz_entries.specs.Node.{is_held, is_used}
 use Rattle.oz_entries.specs.declared.entry.Entry.TheVariants as entries
 use Rattle.oz_entries.specs.declared.row.BlockRow.{BlockRow}
+use Rattle.oz_entries.specs.declared.row.Chunk.{Chunk}
 use Rattle.oz_fields.specs.declared.block.Block.{Block}
 use Rattle.oz_shelf.specs.Shelf.{ShelfView, IsWritten, KeepsTold}
-use Rattle.oz_shelf.specs.Written.{chunks_in, makes, row_of, written_of, written_besides}
+use Rattle.oz_shelf.specs.Written.{chunks_in, is_at, makes, row_of, written_of, written_besides}
+use Rattle.oz_shelf.specs.declared.written.Written.{Written}
 use Rattle.oz_world.specs.Disk.{Images}
 use Rattle.oz_world.specs.Faults.{Rose}
+use Rattle.sha2.specs.Sha256.{sha256}
 use Rattle.oz_datanode.specs.Datanode.{State as NodeState, node_in, meta_of, slots_of, is_halted, count_of, stop_of, Runs}
-use Rattle.oz_datanode.specs.Pairs.{Content, Has, with_content, journal_seen, slots_seen}
+use Rattle.oz_datanode.specs.Pairs.{Content, Has, part_of, with_content, journal_seen, slots_seen}
 use Rattle.oz_datanode.specs.declared.refusal.NodeRefusal.{NodeRefusal}
 use Rattle.oz_datanode.specs.declared.refusal.NodeRefusal.TheVariants as refusals
 
@@ -44,6 +48,15 @@ pub record MakeBytes {D : Type 0} (told : D → Option (List ℕ)) (block : Bloc
     (shelf : ShelfView D) : Type 0 where
   pub made : makes shelf.written block (length bytes) ≡ true
   pub has : IfSome (told shelf.slots.disk) (Has (intact bytes) (row_of shelf.written block (length bytes)))
+
+-- The chunk that was written last to a place of a block has these bytes, with their digest.
+pub record HasPart (block : Block) (place : ℕ) (bytes : List ℕ) (written : List Written)
+    (told : Option (List ℕ)) : Type 0 where
+  pub chunk : Chunk
+  pub listed : filter (is_at block place) written
+      ≡ record { block = block; place = place; size = length bytes; chunk = chunk } ∷ []
+  pub digest : chunk.digest ≡ sha256 bytes
+  pub has : IfSome told (λ disk. IsWithin chunk.slot disk × (part_of (length bytes) chunk disk ≡ bytes))
 
 -- ---- why a call isn't served
 

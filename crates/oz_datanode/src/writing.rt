@@ -1,6 +1,6 @@
 //! Writing blocks: chunks that are written, put and abandoned.
 
-ghost use Rattle.std.specs.Prelude.{◌≡◌, ◌≤◌, ◌<◌, ◌*◌, ◌++◌, [], ℕ, List, true, false, length, Some, None, IfSome, IfOk, IfErr, OnOk};
+ghost use Rattle.std.specs.Prelude.{◌≡◌, ◌≤◌, ◌<◌, ◌*◌, ◌++◌, ◌==◌, ◌&&◌, [], ℕ, List, true, false, length, Some, None, IfSome, IfOk, IfErr, OnOk};
 ghost use Rattle.oz_chunk.specs.declared.table.TheConstants.{SLOT_SIZE as SLOT_BYTES};
 ghost use Rattle.oz_entries.specs.Node.{is_held, is_deleted, is_same_block};
 ghost use Rattle.oz_fields.specs.declared.block.Block.{Block as BlockName};
@@ -9,7 +9,7 @@ ghost use Rattle.oz_rows.specs.Rows.{IsBlock};
 ghost use Rattle.oz_shelf.specs.Written.{makes, row_of, written_of};
 ghost use Rattle.oz_datanode.specs.Datanode.{stop_of, Runs};
 ghost use Rattle.oz_datanode.specs.Pairs.{Content, Has, NodeHolds, journal_seen, with_content};
-ghost use Rattle.oz_datanode.specs.Writing.{is_open, state_for, MakeBytes, contents_with, WriteEnds, PutEnds, Abandons};
+ghost use Rattle.oz_datanode.specs.Writing.{is_open, state_for, HasPart, MakeBytes, contents_with, WriteEnds, PutEnds, Abandons};
 ghost use Rattle.oz_datanode.specs.Steps.{PartEnds, KeepEnds, AtRest};
 ghost use Rattle.oz_datanode.specs.declared.refusal.NodeRefusal.TheVariants as refusals;
 
@@ -18,7 +18,7 @@ use crate::refusal::NodeRefusal;
 use oz_block::{BlockFault, a_disk_stands_for_one_node};
 use oz_container::State;
 use oz_fields::Block;
-use oz_shelf::Unwritten;
+use oz_shelf::{Unwritten, each_place_has_its_last_chunk};
 use oz_world::Disk;
 use std::alloc::Global;
 
@@ -74,6 +74,12 @@ impl<D: Disk> Datanode<D> {
             length front ≡ chunk * SLOT_BYTES → MakeBytes D.told block (front ++ bytes.now) self.new.shelf) }
         ensures others { OnOk result ((other : BlockName) (made : List ℕ) → is_same_block block other ≡ false →
             MakeBytes D.told other made self.old.shelf → MakeBytes D.told other made self.new.shelf) }
+        ensures part { OnOk result
+            (HasPart block chunk bytes.now self.new.shelf.written (D.told (slots_of self.new))) }
+        ensures parts { OnOk result ((other : BlockName) (place : ℕ) (part : List ℕ) →
+            (is_same_block block other && (chunk == place)) ≡ false →
+            HasPart other place part self.old.shelf.written (D.told (slots_of self.old)) →
+            HasPart other place part self.new.shelf.written (D.told (slots_of self.new))) }
         ensures pairs { (contents : BlockName → Content) → NodeHolds D.told D.clock D.image D.faults contents self.old
             → NodeHolds D.told D.clock D.image D.faults contents self.new }
     {
@@ -103,10 +109,17 @@ impl<D: Disk> Datanode<D> {
             length front ≡ chunk * SLOT_BYTES → MakeBytes D.told block (front ++ bytes.now) self.new.shelf) }
         ensures others { OnOk result ((other : BlockName) (made : List ℕ) → is_same_block block other ≡ false →
             MakeBytes D.told other made self.old.shelf → MakeBytes D.told other made self.new.shelf) }
+        ensures part { OnOk result
+            (HasPart block chunk bytes.now self.new.shelf.written (D.told (slots_of self.new))) }
+        ensures parts { OnOk result ((other : BlockName) (place : ℕ) (part : List ℕ) →
+            (is_same_block block other && (chunk == place)) ≡ false →
+            HasPart other place part self.old.shelf.written (D.told (slots_of self.old)) →
+            HasPart other place part self.new.shelf.written (D.told (slots_of self.new))) }
         ensures pairs { (contents : BlockName → Content) → NodeHolds D.told D.clock D.image D.faults contents self.old
             → NodeHolds D.told D.clock D.image D.faults contents self.new }
     {
         a_disk_stands_for_one_node();
+        each_place_has_its_last_chunk();
         match self.shelf.write(alloc, block, chunk, bytes) {
             Ok(()) => Ok(()),
             Err(Unwritten::Full(full)) => Err(NodeRefusal::Full {

@@ -3,8 +3,8 @@ use Rattle.oz_block.specs.Blocks.{node_in as node_in_blocks}
 use Rattle.oz_chunk.specs.declared.fault.SlotFull.{SlotFull}
 use Rattle.oz_shelf.specs.Shelf.{ShelfView}
 use Rattle.oz_datanode.proofs.Calls.{wrote_holds}
-use Rattle.oz_datanode.proofs.Making.{next_made, others_made, none_made}
-use Rattle.oz_datanode.proofs.Parts.{full_whose, taken_written, with_shelf}
+use Rattle.oz_datanode.proofs.Making.{next_made, others_made, none_made, own_part, other_part}
+use Rattle.oz_datanode.proofs.Parts.{full_whose, taken_at, taken_written, with_shelf}
 use Rattle.oz_datanode.proofs.Running.{runs_parts}
 use Rattle.oz_datanode.proofs.datanode.Datanode.write_part.Goals as goal
 
@@ -61,3 +61,13 @@ returns-in-Err-Full-clause-ends g c =
       capacity = ap (λ (f : SlotFull). f.capacity) facts.1;
       same = ap (λ (s : ShelfView g.row.D.Denot). with_shelf (record { id = c.self.inside.id; blocks = c.self.inside.blocks; shelf = c.self.inside.shelf; stopped = c.self.inside.stopped }) s) facts.2;
     })
+
+pub returns-in-Ok-clause-part : goal.returns-in-Ok-clause-part
+returns-in-Ok-clause-part g c = own_part g.D.Disk.told c.args.block c.args.chunk c.args.bytes.now c.self.inside.shelf c.write.new.self c.in-Ok.ensures.written c.requires.most c.each_place_has_its_last_chunk.ensures.own
+
+pub returns-in-Ok-clause-parts : goal.returns-in-Ok-clause-parts
+returns-in-Ok-clause-parts g c =
+    let runs = rw (← c.self.view_is) at c.requires.running in
+    let whole = runs_parts g.D.Disk.faults (record { id = c.self.inside.id; blocks = c.self.inside.blocks; shelf = c.self.inside.shelf; stopped = c.self.inside.stopped }) runs in
+    let rests = c.self.invariant whole.0 in
+    rw (← c.self.view_is) (λ other place part apart was. other_part g.D.Disk.told c.args.block c.args.chunk c.args.bytes.now c.self.inside.shelf c.write.new.self c.in-Ok.ensures.written c.write.ensures.kept c.write.ensures.telling (taken_at (node_in_blocks c.self.inside.blocks) c.self.inside.shelf _ rests) other place part apart c.each_place_has_its_last_chunk.ensures.others was)

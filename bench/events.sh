@@ -3,7 +3,7 @@
 #
 # usage: bench/events.sh [FOLDER] [EVENTS..]
 #
-# A small program over the crates of this repository is written into FOLDER (/dev/shm), built there without a proof and run. It
+# A small program over the crates of this repository is written into FOLDER (/dev/shm), proved and built there, and run. It
 # appends EVENTS events (1000 1000000) to a story, each with its own reserve. Printed are, in nanoseconds by the wall's clock,
 #     EVENTS event     an event, with its reserve
 # and then `full`, where after sixteen Decides with batches of 67,108,864 bytes the next byte is refused with the numbers
@@ -17,12 +17,21 @@ sizes=("${@:2}")
 
 mkdir -p "$work/crates/bench_events/src"
 cp "$top/HANDLES" "$work/"
-grep -v '_tests\b' "$top/crates.txt" >"$work/crates.txt"
-while read -r crate _; do
-    crate=${crate%:}
-    mkdir "$work/crates/$crate"
-    cp -r "$top/crates/$crate"/{src,specs,proofs} "$work/crates/$crate/" 2>/dev/null || true
-done < <(grep -v '^#' "$work/crates.txt")
+below() { # the crates that these stand on, and they themselves
+    local crate
+    for crate in "$@"; do
+        grep "^$crate:\|^$crate " "$top/crates.txt" | grep -q . || continue
+        echo "$crate"
+        below $(sed -n "s/^$crate\( [^:]*\)\?: *//p" "$top/crates.txt")
+    done
+}
+needed=$(below oz_buffer oz_core oz_fields oz_requests | sort -u)
+while read -r line; do
+    crate=${line%%[ :]*}
+    grep -qx "$crate" <<<"$needed" || continue
+    echo "$line" >>"$work/crates.txt"
+    cp -r "$top/crates/$crate" "$work/crates/"
+done < <(grep -v '^#' "$top/crates.txt")
 echo 'bench_events: anyhow oz_buffer oz_core oz_fields oz_requests' >>"$work/crates.txt"
 
 cat >"$work/crates/bench_events/src/main.rt" <<'PROGRAM'
@@ -129,4 +138,4 @@ fn main(rt: HostRuntime) -> anyhow::Result<()> {
 }
 PROGRAM
 cd "$work/crates/bench_events"
-rt try --seconds 600 -- "${sizes[@]}"
+rt run -- "${sizes[@]}" 2>"$work/errors" || { cat "$work/errors"; exit 1; }

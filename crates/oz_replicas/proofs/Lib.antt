@@ -1,0 +1,7 @@
+pub mod Chunks
+pub mod Giving
+pub mod Listed
+pub mod Members
+pub mod Putting
+pub mod Staying
+pub mod Telling

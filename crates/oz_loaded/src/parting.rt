@@ -1,4 +1,4 @@
-//! Tables parted into sixteen, by copies of their rows.
+//! Rows parted into sixteen, by copies of them.
 
 ghost use Rattle.std.specs.Prelude.{◌≡◌, IfOk};
 ghost use Rattle.oz_loaded.specs.Parts.{AreParts, IsPart};
@@ -8,6 +8,7 @@ ghost use Rattle.oz_stripes.specs.Parts.{part_of};
 ghost use Rattle.oz_stripes.specs.Stripes.{is_own, stripe_of_key as stripe_of_its_key};
 
 use crate::walking::{all_rows, first_keys};
+use oz_cache::Cached;
 use oz_effects::RowRef;
 use oz_fields::{OutOfMemory, TryClone};
 use oz_names::{STRIPES, stripe_of};
@@ -15,9 +16,9 @@ use oz_rows::{Change, RowKey};
 use oz_tables::Tables;
 use std::alloc::Global;
 
-/// For each stripe tables of its rows alone, in the order of the stripes. They have the whole's last index. The rows are
-/// copied, and the whole stays as it is.
-pub fn part(alloc: Global, whole: &Tables) -> Result<Vec<Tables>, OutOfMemory>
+/// For each stripe its rows alone, in the order of the stripes. They have the whole's last index. The rows are copied, and
+/// the whole stays as it is.
+pub fn part(alloc: Global, whole: &Tables) -> Result<Vec<Cached>, OutOfMemory>
     ensures { IfOk result (λ parts. AreParts whole.now.rows whole.now.last_index parts.items) }
 {
     whole.rows_are_in_order();
@@ -31,7 +32,7 @@ pub(crate) fn parts_of(
     alloc: Global,
     rows: &[RowRef],
     last_index: u64,
-) -> Result<Vec<Tables>, OutOfMemory>
+) -> Result<Vec<Cached>, OutOfMemory>
     requires in_order { KeysRise rows.now }
     ensures { IfOk result (λ parts. AreParts rows.now last_index parts.items) }
 {
@@ -42,13 +43,13 @@ pub(crate) fn parts_of(
     Ok(parts)
 }
 
-/// Tables of the rows of one stripe.
+/// The rows of one stripe.
 fn part_for(
     alloc: Global,
     rows: &[RowRef],
     stripe: u8,
     last_index: u64,
-) -> Result<Tables, OutOfMemory>
+) -> Result<Cached, OutOfMemory>
     requires in_order { KeysRise rows.now }
     ensures { IfOk result (IsPart rows.now last_index stripe) }
 {
@@ -57,7 +58,7 @@ fn part_for(
     part.reserve(alloc, changes.len())?;
     part.enter_all(changes);
     part.reach(last_index);
-    Ok(part)
+    Ok(Cached::over(alloc, part))
 }
 
 /// Copies of the rows of one stripe, as changes that put them.

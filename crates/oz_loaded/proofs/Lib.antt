@@ -1,0 +1,5 @@
+mod Firsts
+mod Gathering
+mod Greatest
+mod Places
+mod Puts

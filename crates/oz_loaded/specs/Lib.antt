@@ -1,0 +1,5 @@
+pub mod Counted
+pub mod Loads
+pub mod Parts
+pub mod Unseated
+pub mod Walks

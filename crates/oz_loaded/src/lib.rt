@@ -1,0 +1,14 @@
+//! What the manager loads from its disk: the rows, parted into sixteen stripes, and the flusher of its journal.
+#![tactic(auto)]
+
+mod counting;
+mod laws;
+mod loading;
+mod parting;
+mod unseated;
+mod walking;
+
+pub use laws::a_disk_loads_as_one_thing;
+pub use loading::load;
+pub use parting::part;
+pub use unseated::Unseated;

@@ -1,0 +1,94 @@
+//! What was loaded, before it has its seats.
+
+ghost use Rattle.std.specs.Prelude.{◌≡◌, IfOk};
+ghost use Rattle.oz_loaded.specs.Counted.{IsGreatestId, left_in as blocks_left};
+ghost use Rattle.oz_loaded.specs.Parts.{AreParts};
+ghost use Rattle.oz_rows.specs.RowMaps.{row_of};
+
+use crate::counting::{greatest_in, left_in};
+use crate::parting::parts_of;
+use crate::walking::{all_rows, first_keys};
+use oz_cache::Cached;
+use oz_fields::{Block, List, OutOfMemory, TryClone};
+use oz_tables::Tables;
+use std::alloc::Global;
+use std::marker::Model;
+
+/// The rows of a disk in sixteen parts, and what was counted of them.
+#[derive(Drop)]
+pub struct Unseated {
+    parts: Vec<Cached>,
+    last_index: u64,
+    greatest_id: u64,
+    left: List<Block>,
+}
+
+impl Model for Unseated {
+    ghost use Rattle.oz_loaded.specs.Unseated.{UnseatedView};
+
+    ghost Value = { UnseatedView };
+
+    ghost view = { λ u. record {
+      parts = u.parts.items;
+      last_index = u.last_index;
+      greatest_id = u.greatest_id;
+      left = u.left;
+    } };
+}
+
+impl Unseated {
+    /// Copies of the rows of tables, in parts.
+    pub(crate) fn over(alloc: Global, tables: &Tables) -> Result<Unseated, OutOfMemory>
+        ensures parts { IfOk result (λ unseated. AreParts tables.now.rows tables.now.last_index unseated.parts) }
+        ensures last_index { IfOk result (λ unseated. unseated.last_index ≡ tables.now.last_index) }
+        ensures greatest_id { IfOk result (λ unseated. IsGreatestId (row_of tables.now.rows) unseated.greatest_id) }
+        ensures left { IfOk result (λ unseated. unseated.left ≡ blocks_left tables.now.rows) }
+    {
+        tables.rows_are_in_order();
+        let starts = first_keys(alloc)?;
+        let rows = all_rows(alloc, tables, &starts)?;
+        let parts = parts_of(alloc, &rows, tables.last_index())?;
+        let left = left_in(alloc, &rows)?;
+        Ok(Unseated {
+            parts,
+            last_index: tables.last_index(),
+            greatest_id: greatest_in(&rows),
+            left,
+        })
+    }
+
+    /// The index of the last transaction that the rows stand for, 0 where there was none.
+    pub fn last_index(&self) -> u64
+        ensures { result ≡ self.now.last_index }
+    {
+        self.last_index
+    }
+
+    /// The greatest local id in any row, 0 where there is none.
+    pub fn greatest_id(&self) -> u64
+        ensures { result ≡ self.now.greatest_id }
+    {
+        self.greatest_id
+    }
+
+    /// The blocks of deleted rows, in the order of the rows.
+    pub fn left(&self, alloc: Global) -> Result<Vec<Block>, OutOfMemory>
+        ensures { IfOk result (λ blocks. blocks.items ≡ self.now.left) }
+    {
+        let left = self.left.try_clone(alloc)?;
+        Ok(left.into_items())
+    }
+
+    /// The sixteen parts, in the order of the stripes. It takes no memory.
+    pub fn into_parts(self) -> Vec<Cached>
+        ensures { result.items ≡ self.parts }
+    {
+        let Unseated {
+            parts,
+            last_index: _,
+            greatest_id: _,
+            left: _,
+        } = self;
+        parts
+    }
+}

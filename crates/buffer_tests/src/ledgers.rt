@@ -9,7 +9,7 @@ use std::process::Abort;
 use std::test::Fail;
 
 /// Room for a Decide, and the Decide.
-fn decide(
+pub fn decide(
     alloc: Global,
     ledger: &mut Book,
     client: u16,
@@ -50,7 +50,7 @@ fn decides_are_told_in_order(rt: HostRuntime) -> Result<(), Fail> {
 }
 
 /// Room for an Ask, and the Ask.
-fn ask(alloc: Global, ledger: &mut Book, client: u16) -> Result<(), Fail> {
+pub fn ask(alloc: Global, ledger: &mut Book, client: u16) -> Result<(), Fail> {
     ledger.reserve_notes(alloc, 36, 1)?;
     ledger.note(ask_of(alloc, 36, client)?);
     Ok(())

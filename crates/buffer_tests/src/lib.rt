@@ -8,4 +8,6 @@ mod flushes;
 #[cfg(test)]
 mod ledgers;
 #[cfg(test)]
+mod longest;
+#[cfg(test)]
 mod store;

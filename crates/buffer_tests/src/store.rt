@@ -47,12 +47,13 @@ pub fn first_id(client: u16) -> AskId {
     }
 }
 
-/// The first line of a client asks for a volume.
+/// The first line of a client asks for a volume of its own.
 pub fn ask_of(alloc: Global, seat: u16, client: u16) -> Result<Event, AllocError>
     ensures seat { IfOk result (λ event. event.seat ≡ seat) }
     ensures kind { IfOk result (λ event. IsNote event.kind) }
 {
-    let volume = Name::copy(alloc, b"vol1")?;
+    let name = format!(in alloc; "vol{client}")?;
+    let volume = Name::copy(alloc, name.as_bytes())?;
     Ok(Event {
         seat,
         kind: EventKind::Ask {

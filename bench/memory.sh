@@ -9,8 +9,9 @@
 # and how many of the runs
 #     passed         took no notice
 #     told           said that there is no memory
-#     asserted       found an answer that isn't the one without want of memory, such as that of a disk in memory, which keeps
-#                    what a stop may leave of each write and fails where it can't
+#     asserted       found an answer that isn't the one without want of memory: a refusal for want of it, or that of a disk in
+#                    memory, which keeps what a stop may leave of each write and fails where it can't
+#     waited         waited for a thread that couldn't be started, a minute long
 #     ended          ended in any other way: a fault
 # A call that takes no memory can't be refused any, so of `decide`, `note`, `swap` and `flush_once` of the ledger and the
 # flusher nothing is told but what the disk below takes. The status is 1 where a run ended in another way.
@@ -33,16 +34,17 @@ faults=0
 while read -r name; do
     once 0 "$name" >"$work/said" 2>&1
     count=$(cat "$work/count")
-    passed=0 told=0 asserted=0 ended=0
+    passed=0 told=0 asserted=0 waited=0 ended=0
     for ((number = 1; number <= count && number <= most; number++)); do
         { once "$number" "$name"; } >"$work/said" 2>&1
         case $? in
             0) ((passed++)) ;;
             101) ((told++)) ;;
             134) ((asserted++)) ;;
+            124) ((waited++)) ;;
             *) ((ended++, faults++)) ;;
         esac
     done
-    echo "$name allocations $count passed $passed told $told asserted $asserted ended $ended"
+    echo "$name allocations $count passed $passed told $told asserted $asserted waited $waited ended $ended"
 done < <("$program" --list | sed -n 's/: test$//p' | grep -- "$word")
 ((faults == 0))

@@ -1,6 +1,7 @@
 //! One datanode: the blocks that were put and copied, less those that were deleted, over a journal and a disk of slots.
 #![tactic(auto)]
 
+mod asking;
 mod copying;
 mod datanode;
 mod deleting;

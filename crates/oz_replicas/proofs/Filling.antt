@@ -1,0 +1,157 @@
+-- How far the chunks of a block were written, one behind the other.
+use Rattle.std.proofs.Common.{◌≡◌, ◌⊎◌, inl, inr, ℕ, ◌+◌, ◌-◌, ◌*◌, ◌/◌, ◌<◌, ◌≤◌, min, ◌||◌, Bool, true, false, cond, List, [], ◌∷◌, ◌++◌, length, take, drop, slice_range, Option, Result, Ok, Err, refl, sym, ap, ◌∙◌, subst, arith, length-take, length-append}
+use Rattle.std.proofs.lemmas.Bool.{cases_lt}
+use Rattle.std.proofs.lemmas.List.{take-take, take-append-drop, drop-take, take_all}
+use Rattle.oz_datanode.specs.Datanode.{State, Runs, node_in, slots_of, stop_of}
+use Rattle.oz_datanode.specs.Pairs.{Content, NodeHolds}
+use Rattle.oz_datanode.specs.Writing.{IsDrafted, IsOpen, Wrote, WriteEnds, WriteHalts, is_open}
+use Rattle.oz_datanode.specs.declared.refusal.NodeRefusal.{NodeRefusal}
+use Rattle.oz_datanode.specs.declared.refusal.NodeRefusal.TheVariants as refusals
+use Rattle.oz_entries.specs.Node.{Node, is_same_block, chunk_count}
+use Rattle.oz_entries.specs.declared.row.Chunk.{Chunk}
+use Rattle.oz_entries.specs.laws.Blocks.{itself}
+use Rattle.oz_fields.specs.declared.block.Block.{Block}
+use Rattle.oz_shelf.specs.declared.draft.Part.{Part}
+use Rattle.oz_shelf.specs.Shelf.{DraftView, ShelfView, IsWritten, follows, with_part}
+use Rattle.oz_world.specs.Disk.{Images}
+use Rattle.oz_replicas.specs.Nodes.{AreOf, WrittenTo, GivesUp, FillGoes}
+use Rattle.oz_replicas.specs.Outcomes.{HasAlready, IsFull}
+use Rattle.oz_replicas.specs.Stays.{IsIdle, Stays}
+use Rattle.oz_replicas.proofs.Staying.{stays_itself, stays_running, has_before, takes}
+
+joined : (n m : ℕ) (bytes : List ℕ) → take n bytes ++ take m (drop n bytes) ≡ take (n + m) bytes
+joined n m bytes =
+    ap (λ (l : List ℕ). l ++ take m (drop n bytes)) (sym (take-take n (n + m) bytes (omega arith)))
+    ∙ (ap (λ (l : List ℕ). take n (take (n + m) bytes) ++ l) (sym (drop-take n m bytes)) ∙ take-append-drop n (take (n + m) bytes))
+
+-- the bytes of one chunk more
+one_more : (place : ℕ) (bytes part : List ℕ) → part ≡ slice_range bytes (place * 16384) (place * 16384 + min (length bytes - place * 16384) 16384) → place * 16384 < length bytes → take (place * 16384) bytes ++ part ≡ take ((place + 1) * 16384) bytes
+one_more place bytes part is less =
+    let n = place * 16384 in
+    let m = min (length bytes - n) 16384 in
+    let short : n + m - n ≡ m = omega arith in
+    ap (λ (l : List ℕ). take n bytes ++ l) (is ∙ ap (λ (k : ℕ). take k (drop n bytes)) short)
+    ∙ (joined n m bytes ∙ elim (cases_lt (length bytes) ((place + 1) * 16384)) [
+      | inl last ↦
+          let all : n + m ≡ length bytes = omega (arith, last, less) in
+          take_all (n + m) bytes (omega (arith, all)) ∙ sym (take_all ((place + 1) * 16384) bytes (omega (arith, last)))
+      | inr full ↦
+          let same : n + m ≡ (place + 1) * 16384 = omega (arith, full) in
+          ap (λ (k : ℕ). take k bytes) same
+    ])
+
+-- a chunk begins within the bytes of the block
+pub within : (place size : ℕ) → place < (size + 16383) / 16384 → place * 16384 < size
+within place size less = omega (arith, less)
+
+all_places : (place size : ℕ) → (size + 16383) / 16384 ≤ place → size ≤ place * 16384
+all_places place size past = omega (arith, past)
+
+-- a chunk more is of its block, and the draft has one more at most
+part_block : (old : DraftView) (block : Block) (part : Part) (chunk : Chunk) → (with_part old block part chunk).block ≡ block
+part_block old block part chunk = by (follows old block part.place)
+  where
+    by : (on : Bool) → (cond {A = DraftView} on (record { block = block; parts = old.parts ++ part ∷ []; chunks = old.chunks ++ chunk ∷ [] }) (record { block = block; parts = part ∷ []; chunks = chunk ∷ [] })).block ≡ block
+    by true = refl
+    by false = refl
+
+part_count : (old : DraftView) (block : Block) (part : Part) (chunk : Chunk) → length (with_part old block part chunk).chunks ≤ length old.chunks + 1
+part_count old block part chunk = by (follows old block part.place)
+  where
+    by : (on : Bool) → length (cond {A = DraftView} on (record { block = block; parts = old.parts ++ part ∷ []; chunks = old.chunks ++ chunk ∷ [] }) (record { block = block; parts = part ∷ []; chunks = chunk ∷ [] })).chunks ≤ length old.chunks + 1
+    by true = omega (arith, length-append old.chunks (chunk ∷ []))
+    by false = omega arith
+
+pub own_draft : {D : Type 0} (block : Block) (old new : ShelfView D) → new.draft ≡ old.draft → AreOf block old → AreOf block new
+own_draft block old new same own = subst (λ (d : DraftView). (d.chunks ≡ []) ⊎ (is_same_block d.block block ≡ true)) (sym same) own
+
+module _ {D : Type 0} (told : D → Option (List ℕ)) (clock : D → ℕ) (image : D → Images) (faults : D → ℕ) (block : Block) (bytes : List ℕ) where
+  pub written_none : (old : State D) → IsIdle old → WrittenTo told clock image faults block bytes 0 old old
+  written_none old idle = record {
+    same = refl;
+    own = inl idle;
+    count = let size : length old.shelf.draft.chunks ≡ 0 = ap (λ (l : List Chunk). length l) idle in omega (arith, size);
+    drafted = inl (refl, refl);
+    holds = λ contents holding. holding;
+  }
+
+  pub written_stays : (place : ℕ) (old now : State D) → WrittenTo told clock image faults block bytes place old now → Stays told clock image faults old now
+  written_stays place old now written = elim written.drafted [
+    | inl none ↦ subst (λ (n : State D). Stays told clock image faults old n) (sym none.1) (stays_itself told clock image faults old)
+    | inr some ↦ stays_running told clock image faults old now written.same some.0.ran some.1 written.holds
+  ]
+
+  open_still : (old now : State D) → now ≡ record { id = old.id; blocks = old.blocks; shelf = now.shelf; stopped = old.stopped } → Runs faults now → IsOpen faults block old → IsOpen faults block now
+  open_still old now same runs open = record { ran = runs; is = ap (λ (n : State D). is_open ((node_in n).states block.container)) same ∙ open.is }
+
+  open_was : (old now : State D) → now ≡ record { id = old.id; blocks = old.blocks; shelf = now.shelf; stopped = old.stopped } → Runs faults old → IsOpen faults block now → IsOpen faults block old
+  open_was old now same runs open = record { ran = runs; is = ap (λ (n : State D). is_open ((node_in n).states block.container)) (sym same) ∙ open.is }
+
+  pub written_more : (place : ℕ) (part : List ℕ) (old mid new : State D) → WrittenTo told clock image faults block bytes place old mid → IsOpen faults block mid → Wrote told faults block place part mid new → part ≡ slice_range bytes (place * 16384) (place * 16384 + min (length bytes - place * 16384) 16384) → place * 16384 < length bytes
+      → (place ≡ 0 → IsDrafted told block part new.shelf) → ((front : List ℕ) → IsDrafted told block front mid.shelf → length front ≡ place * 16384 → IsDrafted told block (front ++ part) new.shelf)
+      → ((contents : Block → Content) → NodeHolds told clock image faults contents mid → NodeHolds told clock image faults contents new) → WrittenTo told clock image faults block bytes (place + 1) old new
+  written_more place part old mid new written open wrote is less first next holds = record {
+    same = wrote.same ∙ ap (λ (n : State D). record { id = n.id; blocks = n.blocks; shelf = new.shelf; stopped = n.stopped }) written.same;
+    own = inr (ap (λ (d : DraftView). is_same_block d.block block) wrote.written.draft ∙ (ap (λ (b : Block). is_same_block b block) (part_block mid.shelf.draft block _ _) ∙ itself block));
+    count =
+      let size : length new.shelf.draft.chunks ≤ length mid.shelf.draft.chunks + 1 = subst (λ (d : DraftView). length d.chunks ≤ length mid.shelf.draft.chunks + 1) (sym wrote.written.draft) (part_count mid.shelf.draft block _ _) in
+      omega (arith, size, written.count);
+    drafted = elim written.drafted [
+      | inl none ↦
+          let start : place * 16384 ≡ 0 = omega (arith, none.0) in
+          let empty : take (place * 16384) bytes ++ part ≡ part = ap (λ (k : ℕ). take k bytes ++ part) start in
+          inr (subst (λ (n : State D). IsOpen faults block n) none.1 open, wrote.runs, subst (λ (l : List ℕ). IsDrafted told block l new.shelf) (sym empty ∙ one_more place bytes part is less) (first none.0))
+      | inr some ↦
+          inr (some.0, wrote.runs, subst (λ (l : List ℕ). IsDrafted told block l new.shelf) (one_more place bytes part is less) (next (take (place * 16384) bytes) some.2 (omega (arith, length-take (place * 16384) bytes, less))))
+    ];
+    holds = λ contents holding. holds contents (written.holds contents holding);
+  }
+
+  pub written_all : {T : Type 0} (done : T) (place : ℕ) (old new : State D) → WrittenTo told clock image faults block bytes place old new → (length bytes + 16383) / 16384 ≤ place → 1 ≤ length bytes → FillGoes told clock image faults block bytes old new (Ok done)
+  written_all done place old new written past some = elim written.drafted [
+    | inl none ↦ absurd (omega (arith, all_places place (length bytes) past, none.0, some))
+    | inr drafted ↦
+        (written_stays place old new written, open_still old new written.same drafted.1 drafted.0, subst (λ (l : List ℕ). IsDrafted told block l new.shelf) (take_all (place * 16384) bytes (all_places place (length bytes) past)) drafted.2)
+  ]
+
+  -- the call at a chunk is refused
+  pub write_gives_up : {T : Type 0} (refusal : NodeRefusal) (place : ℕ) (part : List ℕ) (old mid new : State D) → WrittenTo told clock image faults block bytes place old mid → place * 16384 < length bytes → ¬ HasAlready faults block old → WriteEnds {T = T} told faults block place part mid new (Err refusal)
+      → ((contents : Block → Content) → NodeHolds told clock image faults contents mid → NodeHolds told clock image faults contents new) → FillGoes {T = T} told clock image faults block bytes old new (Err refusal)
+  write_gives_up (refusals.Stopped count) place part old mid new written less wanted ends holds = (mid, (written_stays place old mid written, elim ends [
+    | inl was ↦ inl (was.stop, was.same)
+    | inr halts ↦ inr (record {
+        ran = halts.0.ran;
+        halted = halts.1.halts.halted;
+        counted = halts.1.halts.counted;
+        cause = inr halts.1.own;
+        node = halts.1.halts.node;
+        id = halts.1.halts.id;
+        line = halts.1.halts.line;
+        disks = inl (record { blocks = halts.1.blocks; holds = holds });
+      })
+  ]))
+  write_gives_up (refusals.Full used asked capacity) place part old mid new written less wanted ends holds = (mid, (written_stays place old mid written, (record {
+    took = takes told clock image faults block mid ends.0 (λ has. wanted (has_before told clock image faults block old mid (written_stays place old mid written) has));
+    chunks = mid.shelf.draft.chunks;
+    fewer = omega (arith, written.count, less);
+    full = ends.1.whose;
+    used = ends.1.used;
+    asked = ends.1.asked;
+    capacity = ends.1.capacity;
+  }, ends.1.same)))
+  write_gives_up (refusals.NotOpen state) place part old mid new written less wanted ends holds = (mid, (written_stays place old mid written, (record { ran = ends.ran; is = ends.is; not_open = ends.not_open }, ends.same)))
+  write_gives_up refusals.OutOfMemory place part old mid new written less wanted ends holds = (mid, (written_stays place old mid written, inl ends))
+  write_gives_up refusals.NoBlock place part old mid new written less wanted ends holds = absurd ends
+  write_gives_up (refusals.Bad kept found) place part old mid new written less wanted ends holds = absurd ends
+
+  -- and the chunks are those of the block still
+  pub refused_own : {T : Type 0} (refusal : NodeRefusal) (place : ℕ) (part : List ℕ) (mid new : State D) → WriteEnds {T = T} told faults block place part mid new (Err refusal) → AreOf block mid.shelf → AreOf block new.shelf
+  refused_own (refusals.Stopped count) place part mid new ends own = elim ends [
+    | inl was ↦ subst (λ (n : State D). AreOf block n.shelf) (sym was.same) own
+    | inr halts ↦ own_draft block mid.shelf new.shelf halts.1.halts.draft own
+  ]
+  refused_own (refusals.Full used asked capacity) place part mid new ends own = subst (λ (n : State D). AreOf block n.shelf) (sym ends.1.same) own
+  refused_own (refusals.NotOpen state) place part mid new ends own = subst (λ (n : State D). AreOf block n.shelf) (sym ends.same) own
+  refused_own refusals.OutOfMemory place part mid new ends own = subst (λ (n : State D). AreOf block n.shelf) (sym ends) own
+  refused_own refusals.NoBlock place part mid new ends own = absurd ends
+  refused_own (refusals.Bad kept found) place part mid new ends own = absurd ends

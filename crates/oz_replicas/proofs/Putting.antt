@@ -1,0 +1,93 @@
+-- What a put comes to, of a block whose chunks are written.
+use Rattle.std.proofs.Common.{◌≡◌, ◌⊎◌, inl, inr, ℕ, Bool, true, false, cond, List, [], length, Option, Result, Ok, Err, IfSome, refl, sym, ap, ◌∙◌, subst}
+use Rattle.std.proofs.lemmas.Bool.{false≢true}
+use Rattle.oz_chunk.specs.Disk.{Syncs}
+use Rattle.oz_datanode.specs.Datanode.{State, Runs, is_halted, node_in, slots_of}
+use Rattle.oz_datanode.specs.Pairs.{Content, Has, NodeHolds, with_content}
+use Rattle.oz_datanode.specs.Writing.{IsDrafted, IsOpen, PutEnds, WasPut, contents_with, intact, row_in}
+use Rattle.oz_datanode.specs.declared.refusal.NodeRefusal.{NodeRefusal}
+use Rattle.oz_datanode.specs.declared.refusal.NodeRefusal.TheVariants as refusals
+use Rattle.oz_entries.specs.Node.{is_held, is_same_block}
+use Rattle.oz_fields.specs.declared.block.Block.{Block}
+use Rattle.oz_shelf.specs.Shelf.{DraftView, ShelfView}
+use Rattle.oz_world.specs.Disk.{Images}
+use Rattle.oz_replicas.specs.Nodes.{AreOf, GivesUp, FillGoes, PutGoes}
+use Rattle.oz_replicas.specs.Outcomes.{HasAlready, IsPut}
+use Rattle.oz_replicas.specs.Stays.{Stays}
+use Rattle.oz_replicas.proofs.Filling.{own_draft}
+use Rattle.oz_replicas.proofs.Staying.{runs_parts, stays_itself, stays_on, takes}
+
+module _ {D : Type 0} (told : D → Option (List ℕ)) (clock : D → ℕ) (image : D → Images) (faults : D → ℕ) (block : Block) (bytes : List ℕ) where
+  put_holds : (mid new : State D) → is_held (node_in mid) block ≡ false → Runs faults mid → IfSome (told (slots_of mid)) (Has (intact bytes) (row_in mid.shelf (length bytes))) → ((contents : Block → Content) (content : Content) → is_halted mid ≡ false → IfSome (told (slots_of mid)) (Has content (row_in mid.shelf (length bytes))) → NodeHolds told clock image faults contents mid → NodeHolds told clock image faults (contents_with block content contents mid) new)
+      → (contents : Block → Content) → NodeHolds told clock image faults contents mid → NodeHolds told clock image faults (with_content block (intact bytes) contents) new
+  put_holds mid new absent runs has pairs contents holding =
+      subst (λ (b : Bool). NodeHolds told clock image faults (cond b contents (with_content block (intact bytes) contents)) new) absent (pairs contents (intact bytes) (runs_parts faults mid runs).0 has holding)
+
+  has_still : (mid new : State D) → told (slots_of new) ≡ told (slots_of mid) → IfSome (told (slots_of mid)) (Has (intact bytes) (row_in mid.shelf (length bytes))) → IfSome (told (slots_of new)) (Has (intact bytes) (row_in mid.shelf (length bytes)))
+  has_still mid new same has = subst (λ (o : Option (List ℕ)). IfSome o (Has (intact bytes) (row_in mid.shelf (length bytes)))) (sym same) has
+
+  pub put_goes : {T : Type 0} (mid new : State D) (result : Result T NodeRefusal) → IsOpen faults block mid → IsDrafted told block bytes mid.shelf → ¬ HasAlready faults block mid → PutEnds told clock image faults block (length bytes) mid new result
+      → ((contents : Block → Content) (content : Content) → is_halted mid ≡ false → IfSome (told (slots_of mid)) (Has content (row_in mid.shelf (length bytes))) → NodeHolds told clock image faults contents mid → NodeHolds told clock image faults (contents_with block content contents mid) new) → PutGoes told clock image faults block bytes mid new result
+  put_goes mid new (Ok done) open drafted wanted ends pairs =
+      let took = takes told clock image faults block mid open wanted in
+      let puts = ends.put took.absent in
+      (mid, (stays_itself told clock image faults mid, record {
+        took = took;
+        held = record {
+          row = row_in mid.shelf (length bytes);
+          size = refl;
+          has = has_still mid new puts.synced.told drafted.has;
+          changed = puts.changed;
+          runs = ends.runs;
+          id = ends.id;
+          line = ends.line;
+        };
+        holds = put_holds mid new took.absent open.ran drafted.has pairs;
+      }))
+  put_goes mid new (Err (refusals.Stopped count)) open drafted wanted ends pairs =
+      let took = takes told clock image faults block mid open wanted in
+      (mid, (stays_itself told clock image faults mid, elim ends [
+        | inl was ↦ inl (was.stop, was.same)
+        | inr halts ↦ inr (record {
+            ran = open.ran;
+            halted = halts.2.halts.halted;
+            counted = halts.2.halts.counted;
+            cause = halts.2.halts.cause;
+            node = halts.2.halts.node;
+            id = halts.2.halts.id;
+            line = halts.2.halts.line;
+            disks = inr (record {
+              took = took;
+              row = row_in mid.shelf (length bytes);
+              size = refl;
+              has = has_still mid new halts.2.slots drafted.has;
+              journal = halts.2.journal;
+              holds = put_holds mid new took.absent open.ran drafted.has pairs;
+            });
+          })
+      ]))
+  put_goes mid new (Err (refusals.Full used asked capacity)) open drafted wanted ends pairs = absurd ends
+  put_goes mid new (Err (refusals.NotOpen state)) open drafted wanted ends pairs =
+      (mid, (stays_itself told clock image faults mid, (record { ran = ends.0.ran; is = ends.0.is; not_open = ends.0.not_open }, ends.0.same)))
+  put_goes mid new (Err refusals.NoBlock) open drafted wanted ends pairs = absurd (false≢true (sym ends.made ∙ drafted.made))
+  put_goes mid new (Err (refusals.Bad kept found)) open drafted wanted ends pairs = absurd ends
+  put_goes mid new (Err refusals.OutOfMemory) open drafted wanted ends pairs =
+      (mid, (stays_itself told clock image faults mid, inr (open.ran, ends)))
+
+  -- the chunks that are left are those of the block
+  pub put_own : {T : Type 0} (mid new : State D) (result : Result T NodeRefusal) → PutEnds told clock image faults block (length bytes) mid new result → AreOf block mid.shelf → AreOf block new.shelf
+  put_own mid new (Ok done) ends own = inl (ap (λ (d : DraftView). d.chunks) ends.draft)
+  put_own mid new (Err (refusals.Stopped count)) ends own = elim ends [
+    | inl was ↦ subst (λ (n : State D). AreOf block n.shelf) (sym was.same) own
+    | inr halts ↦ own_draft block mid.shelf new.shelf halts.2.halts.draft own
+  ]
+  put_own mid new (Err (refusals.Full used asked capacity)) ends own = absurd ends
+  put_own mid new (Err (refusals.NotOpen state)) ends own = subst (λ (n : State D). AreOf block n.shelf) (sym ends.0.same) own
+  put_own mid new (Err refusals.NoBlock) ends own = subst (λ (n : State D). AreOf block n.shelf) (sym ends.same) own
+  put_own mid new (Err (refusals.Bad kept found)) ends own = absurd ends
+  put_own mid new (Err refusals.OutOfMemory) ends own = own_draft block mid.shelf new.shelf ends.draft own
+
+  -- what was done before it is nothing that is noted
+  pub after_filling : {T : Type 0} (old mid new : State D) (result : Result T NodeRefusal) → Stays told clock image faults old mid → PutGoes told clock image faults block bytes mid new result → PutGoes told clock image faults block bytes old new result
+  after_filling old mid new (Ok done) stays goes = (goes.0, (stays_on told clock image faults old mid goes.0 stays goes.1.0, goes.1.1))
+  after_filling old mid new (Err refusal) stays goes = (goes.0, (stays_on told clock image faults old mid goes.0 stays goes.1.0, goes.1.1))

@@ -1,0 +1,7 @@
+pub mod Cells
+pub mod Nodes
+pub mod Notes
+pub mod Outcomes
+pub mod Reading
+pub mod Stays
+pub mod Writing

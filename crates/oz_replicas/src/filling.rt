@@ -1,0 +1,87 @@
+//! Writing the chunks of a block at a datanode, and putting it.
+
+ghost use Rattle.std.specs.Prelude.{◌≡◌, ◌≤◌, ◌<◌, ◌*◌, ◌+◌, ◌-◌, min, length, slice_range};
+ghost use Rattle.oz_chunk.specs.declared.table.TheConstants.{SLOT_SIZE as SLOT_BYTES};
+ghost use Rattle.oz_datanode.specs.Writing.{IsDrafted, IsOpen};
+ghost use Rattle.oz_fields.specs.declared.block.TheConstants.{LONGEST_PIECE};
+ghost use Rattle.oz_replicas.specs.Nodes.{AreOf, FillGoes, PutGoes};
+ghost use Rattle.oz_replicas.specs.Outcomes.{HasAlready};
+ghost use Rattle.oz_replicas.specs.Stays.{IsIdle};
+ghost use Rattle.oz_rows.specs.Rows.{IsBlock};
+
+use oz_chunk::SLOT_SIZE;
+use oz_datanode::{Datanode, NodeRefusal};
+use oz_fields::Block;
+use oz_world::Disk;
+use std::alloc::Global;
+
+/// Writes the chunks of a block and puts it.
+pub(crate) fn fill_and_put<D: Disk>(
+    alloc: Global,
+    node: &mut Datanode<D>,
+    block: Block,
+    bytes: &[u8],
+) -> Result<(), NodeRefusal>
+    requires block { IsBlock block }
+    requires least { 1 ≤ length bytes.now }
+    requires most { length bytes.now ≤ LONGEST_PIECE }
+    requires idle { IsIdle node.old }
+    requires wanted { ¬ HasAlready D.faults block node.old }
+    ensures goes { PutGoes D.told D.clock D.image D.faults block bytes.now node.old node.new result }
+    ensures own { AreOf block node.new.shelf }
+{
+    fill(alloc, node, block, bytes)?;
+    put(alloc, node, block, bytes)
+}
+
+/// Puts a block whose chunks are written.
+fn put<D: Disk>(
+    alloc: Global,
+    node: &mut Datanode<D>,
+    block: Block,
+    bytes: &[u8],
+) -> Result<(), NodeRefusal>
+    requires block { IsBlock block }
+    requires least { 1 ≤ length bytes.now }
+    requires most { length bytes.now ≤ LONGEST_PIECE }
+    requires open { IsOpen D.faults block node.old }
+    requires drafted { IsDrafted D.told block bytes.now node.old.shelf }
+    requires own { AreOf block node.old.shelf }
+    requires wanted { ¬ HasAlready D.faults block node.old }
+    ensures goes { PutGoes D.told D.clock D.image D.faults block bytes.now node.old node.new result }
+    ensures own { AreOf block node.new.shelf }
+{
+    node.put(alloc, block, bytes.len() as u32)
+}
+
+/// Writes the chunks of a block, one behind the other.
+fn fill<D: Disk>(
+    alloc: Global,
+    node: &mut Datanode<D>,
+    block: Block,
+    bytes: &[u8],
+) -> Result<(), NodeRefusal>
+    requires least { 1 ≤ length bytes.now }
+    requires most { length bytes.now ≤ LONGEST_PIECE }
+    requires idle { IsIdle node.old }
+    requires wanted { ¬ HasAlready D.faults block node.old }
+    ensures goes { FillGoes D.told D.clock D.image D.faults block bytes.now node.old node.new result }
+    ensures own { AreOf block node.new.shelf }
+{
+    for place in 0..(bytes.len() + (SLOT_SIZE as usize - 1)) / SLOT_SIZE as usize {
+        node.write(alloc, block, place as u8, part_at(bytes, place))?;
+    }
+    Ok(())
+}
+
+/// The chunk in this place of the bytes of a block.
+fn part_at(bytes: &[u8], place: usize) -> &[u8]
+    requires { place * SLOT_BYTES < length bytes.now }
+    ensures part { result.now ≡ slice_range bytes.now (place * SLOT_BYTES)
+        (place * SLOT_BYTES + min (length bytes.now - place * SLOT_BYTES) SLOT_BYTES) }
+    ensures size { length result.now ≡ min (length bytes.now - place * SLOT_BYTES) SLOT_BYTES }
+{
+    let from = place * SLOT_SIZE as usize;
+    let size = (bytes.len() - from).min(SLOT_SIZE as usize);
+    &bytes[from..from + size]
+}

@@ -1,0 +1,29 @@
+//! Blocks in three replicas: datanodes behind locks, writing a block at its members, and reading a piece from one of them.
+#![tactic(auto)]
+
+mod cell;
+mod filling;
+mod halting;
+mod kept;
+mod nodes;
+mod note;
+mod noter;
+mod piece;
+mod reading;
+mod replicas;
+mod silent;
+mod unput;
+mod unread;
+mod whole;
+mod writing;
+
+pub use cell::NodeCell;
+pub use kept::Kept;
+pub use nodes::{NodeGuard, Nodes};
+pub use note::Note;
+pub use noter::Noter;
+pub use piece::read_piece;
+pub use reading::read_at;
+pub use replicas::write_block;
+pub use silent::NoNotes;
+pub use writing::write_at;

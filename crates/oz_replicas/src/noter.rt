@@ -1,0 +1,39 @@
+//! Who is told what comes of a block at its datanodes.
+
+ghost use Rattle.std.specs.Prelude.{◌≡◌, List, [], ◌∷◌, ◌++◌};
+ghost use Rattle.oz_datanode.specs.Datanode.{State};
+ghost use Rattle.oz_replicas.specs.Notes.{Subject, Leads};
+ghost use Rattle.oz_replicas.specs.declared.note.Note.{Note as AnyNote};
+
+use crate::kept::Kept;
+use crate::note::Note;
+use oz_fields::OutOfMemory;
+use oz_world::Disk;
+
+/// Notes what comes of one block, while the datanode's lock is held. What it notes changes the value that is kept beside the
+/// datanode.
+pub trait Noter<D: Disk, K: Kept<D>> {
+    /// The block, the datanodes that are asked for it, and the bytes that are put.
+    ghost subject: { Self → Subject };
+
+    /// These notes, in their order, lead from the first to the second.
+    ghost noted: { Self → List AnyNote → Self → Type 0 };
+
+    /// Makes room for two notes. It is called once under each lock before anything is done there.
+    fn ready(&mut self, kept: &mut K) -> Result<(), OutOfMemory>
+        ensures subject { subject self.new ≡ subject self.old }
+        ensures noted { noted self.old [] self.new }
+        ensures stands { (node : State D) → K.stands kept.old node → K.stands kept.new node };
+
+    /// Notes what happened: at most twice after each time that it was made ready.
+    fn note(&mut self, kept: &mut K, note: Note)
+        requires { (old : State D) × ((new : State D) × (K.stands kept.old old
+            × Leads D.told D.clock D.image D.faults (subject self.old) note old new)) }
+        ensures subject { subject self.new ≡ subject self.old }
+        ensures noted { noted self.old (note ∷ []) self.new }
+        ensures stands { (old new : State D) → K.stands kept.old old →
+            Leads D.told D.clock D.image D.faults (subject self.old) note old new → K.stands kept.new new };
+
+    ghost joins: { (first second third : Self) (before after : List AnyNote) → noted first before second
+        → noted second after third → noted first (before ++ after) third };
+}

@@ -26,28 +26,28 @@ has_stopped true after ran halted = absurd (false≢true (sym ran))
 has_stopped false after ran halted = halted
 
 module _ {D : Type 0} (told : D → Option (List ℕ)) (clock : D → ℕ) (image : D → Images) (faults : D → ℕ) (block : Block) (bytes : List ℕ) where
-  halts_or_not : {T : Type 0} (count : ℕ) (old before mid new : State D) → Stays told clock image faults old before → Stays told clock image faults mid new → ((stop_of faults before ≡ Some count) × (mid ≡ before)) ⊎ Halts told clock image faults block bytes before mid count
+  halts_or_not : (T : Type 0) (count : ℕ) (old before mid new : State D) → Stays told clock image faults old before → Stays told clock image faults mid new → ((stop_of faults before ≡ Some count) × (mid ≡ before)) ⊎ Halts told clock image faults block bytes before mid count
       → WriteGoes {T = T} told clock image faults block bytes old new (Err (unput_of (not (is_halted old) && is_halted new) (refusals.Stopped count)))
-  halts_or_not {T} count old before mid new first last (inl was) =
+  halts_or_not T count old before mid new first last (inl was) =
       let same : is_halted new ≡ is_halted old = last.halted ∙ (ap (λ (n : State D). is_halted n) was.1 ∙ first.halted) in
       let rest : Stays told clock image faults before new = subst (λ (n : State D). Stays told clock image faults n new) was.1 last in
       subst (λ (b : Bool). WriteGoes {T = T} told clock image faults block bytes old new (Err (unput_of b (refusals.Stopped count)))) (sym (none_stopped (is_halted old) (is_halted new) same)) (before, (first, was.0, rest))
-  halts_or_not {T} count old before mid new first last (inr halts) =
+  halts_or_not T count old before mid new first last (inr halts) =
       let ran : is_halted old ≡ false = sym first.halted ∙ (runs_parts faults before halts.ran).0 in
       let halted : is_halted new ≡ true = last.halted ∙ halts.halted in
       subst (λ (b : Bool). WriteGoes {T = T} told clock image faults block bytes old new (Err (unput_of b (refusals.Stopped count)))) (sym (has_stopped (is_halted old) (is_halted new) ran halted)) (before, (mid, (first, halts, last)))
 
-  pub gave_up : {T S : Type 0} (refusal : NodeRefusal) (old mid new : State D) → PutGoes {T = T} told clock image faults block bytes old mid (Err refusal) → Stays told clock image faults mid new → told (slots_of new) ≡ told (slots_of mid)
+  pub gave_up : (T S : Type 0) (refusal : NodeRefusal) (old mid new : State D) → PutGoes {T = T} told clock image faults block bytes old mid (Err refusal) → Stays told clock image faults mid new → told (slots_of new) ≡ told (slots_of mid)
       → (is_halted new ≡ false → (contents : Block → Content) → (IsSome (told (meta_of new)) → IfSome (told (slots_of new)) (HaveAll contents (node_in new))) → NodeHolds told clock image faults contents new)
       → WriteGoes {T = S} told clock image faults block bytes old new (Err (unput_of (not (is_halted old) && is_halted new) refusal))
-  gave_up {T} {S} (refusals.Stopped count) old mid new goes last slots at_rest = halts_or_not {T = S} count old goes.0 mid new goes.1.0 last goes.1.1
-  gave_up (refusals.Full used asked capacity) old mid new goes last slots at_rest =
+  gave_up T S (refusals.Stopped count) old mid new goes last slots at_rest = halts_or_not S count old goes.0 mid new goes.1.0 last goes.1.1
+  gave_up T S (refusals.Full used asked capacity) old mid new goes last slots at_rest =
       (goes.0, (goes.1.0, goes.1.1.0, subst (λ (n : State D). Stays told clock image faults n new) goes.1.1.1 last))
-  gave_up (refusals.NotOpen state) old mid new goes last slots at_rest =
+  gave_up T S (refusals.NotOpen state) old mid new goes last slots at_rest =
       (goes.0, (goes.1.0, goes.1.1.0, subst (λ (n : State D). Stays told clock image faults n new) goes.1.1.1 last))
-  gave_up refusals.NoBlock old mid new goes last slots at_rest = absurd goes.1.1
-  gave_up (refusals.Bad kept found) old mid new goes last slots at_rest = absurd goes.1.1
-  gave_up refusals.OutOfMemory old mid new goes last slots at_rest = stays_on told clock image faults old goes.0 new goes.1.0 (elim goes.1.1 [
+  gave_up T S refusals.NoBlock old mid new goes last slots at_rest = absurd goes.1.1
+  gave_up T S (refusals.Bad kept found) old mid new goes last slots at_rest = absurd goes.1.1
+  gave_up T S refusals.OutOfMemory old mid new goes last slots at_rest = stays_on told clock image faults old goes.0 new goes.1.0 (elim goes.1.1 [
     | inl same ↦ subst (λ (n : State D). Stays told clock image faults n new) same last
     | inr lacks ↦
         let ran = runs_parts faults goes.0 lacks.0 in

@@ -1,5 +1,6 @@
-pub mod Filling
+pub mod Chunks
 pub mod Giving
+pub mod Members
 pub mod Putting
 pub mod Staying
 pub mod Telling

@@ -1,5 +1,5 @@
 -- What a put comes to, of a block whose chunks are written.
-use Rattle.std.proofs.Common.{◌≡◌, ◌⊎◌, inl, inr, ℕ, Bool, true, false, cond, List, [], length, Option, Result, Ok, Err, IfSome, refl, sym, ap, ◌∙◌, subst}
+use Rattle.std.proofs.Common.{◌≡◌, ◌⊎◌, inl, inr, ℕ, Bool, true, false, cond, List, [], length, Option, Result, Ok, Err, OnOk, IfSome, refl, sym, ap, ◌∙◌, subst}
 use Rattle.std.proofs.lemmas.Bool.{false≢true}
 use Rattle.oz_chunk.specs.Disk.{Syncs}
 use Rattle.oz_datanode.specs.Datanode.{State, Runs, is_halted, node_in, slots_of}
@@ -13,8 +13,8 @@ use Rattle.oz_shelf.specs.Shelf.{DraftView, ShelfView}
 use Rattle.oz_world.specs.Disk.{Images}
 use Rattle.oz_replicas.specs.Nodes.{AreOf, GivesUp, FillGoes, PutGoes}
 use Rattle.oz_replicas.specs.Outcomes.{HasAlready, IsPut}
-use Rattle.oz_replicas.specs.Stays.{Stays}
-use Rattle.oz_replicas.proofs.Filling.{own_draft}
+use Rattle.oz_replicas.specs.Stays.{IsIdle, Stays}
+use Rattle.oz_replicas.proofs.Chunks.{own_draft}
 use Rattle.oz_replicas.proofs.Staying.{runs_parts, stays_itself, stays_on, takes}
 
 module _ {D : Type 0} (told : D → Option (List ℕ)) (clock : D → ℕ) (image : D → Images) (faults : D → ℕ) (block : Block) (bytes : List ℕ) where
@@ -28,8 +28,8 @@ module _ {D : Type 0} (told : D → Option (List ℕ)) (clock : D → ℕ) (imag
 
   pub put_goes : {T : Type 0} (mid new : State D) (result : Result T NodeRefusal) → IsOpen faults block mid → IsDrafted told block bytes mid.shelf → ¬ HasAlready faults block mid → PutEnds told clock image faults block (length bytes) mid new result
       → ((contents : Block → Content) (content : Content) → is_halted mid ≡ false → IfSome (told (slots_of mid)) (Has content (row_in mid.shelf (length bytes))) → NodeHolds told clock image faults contents mid → NodeHolds told clock image faults (contents_with block content contents mid) new) → PutGoes told clock image faults block bytes mid new result
-  put_goes mid new (Ok done) open drafted wanted ends pairs =
-      let took = takes told clock image faults block mid open wanted in
+  put_goes mid new (Ok done) opened drafted wanted ends pairs =
+      let took = takes told clock image faults block mid opened wanted in
       let puts = ends.put took.absent in
       (mid, (stays_itself told clock image faults mid, record {
         took = took;
@@ -42,14 +42,14 @@ module _ {D : Type 0} (told : D → Option (List ℕ)) (clock : D → ℕ) (imag
           id = ends.id;
           line = ends.line;
         };
-        holds = put_holds mid new took.absent open.ran drafted.has pairs;
+        holds = put_holds mid new took.absent opened.ran drafted.has pairs;
       }))
-  put_goes mid new (Err (refusals.Stopped count)) open drafted wanted ends pairs =
-      let took = takes told clock image faults block mid open wanted in
+  put_goes mid new (Err (refusals.Stopped count)) opened drafted wanted ends pairs =
+      let took = takes told clock image faults block mid opened wanted in
       (mid, (stays_itself told clock image faults mid, elim ends [
         | inl was ↦ inl (was.stop, was.same)
         | inr halts ↦ inr (record {
-            ran = open.ran;
+            ran = opened.ran;
             halted = halts.2.halts.halted;
             counted = halts.2.halts.counted;
             cause = halts.2.halts.cause;
@@ -62,17 +62,17 @@ module _ {D : Type 0} (told : D → Option (List ℕ)) (clock : D → ℕ) (imag
               size = refl;
               has = has_still mid new halts.2.slots drafted.has;
               journal = halts.2.journal;
-              holds = put_holds mid new took.absent open.ran drafted.has pairs;
+              holds = put_holds mid new took.absent opened.ran drafted.has pairs;
             });
           })
       ]))
-  put_goes mid new (Err (refusals.Full used asked capacity)) open drafted wanted ends pairs = absurd ends
-  put_goes mid new (Err (refusals.NotOpen state)) open drafted wanted ends pairs =
+  put_goes mid new (Err (refusals.Full used asked capacity)) opened drafted wanted ends pairs = absurd ends
+  put_goes mid new (Err (refusals.NotOpen state)) opened drafted wanted ends pairs =
       (mid, (stays_itself told clock image faults mid, (record { ran = ends.0.ran; is = ends.0.is; not_open = ends.0.not_open }, ends.0.same)))
-  put_goes mid new (Err refusals.NoBlock) open drafted wanted ends pairs = absurd (false≢true (sym ends.made ∙ drafted.made))
-  put_goes mid new (Err (refusals.Bad kept found)) open drafted wanted ends pairs = absurd ends
-  put_goes mid new (Err refusals.OutOfMemory) open drafted wanted ends pairs =
-      (mid, (stays_itself told clock image faults mid, inr (open.ran, ends)))
+  put_goes mid new (Err refusals.NoBlock) opened drafted wanted ends pairs = absurd (false≢true (sym ends.made ∙ drafted.made))
+  put_goes mid new (Err (refusals.Bad kept found)) opened drafted wanted ends pairs = absurd ends
+  put_goes mid new (Err refusals.OutOfMemory) opened drafted wanted ends pairs =
+      (mid, (stays_itself told clock image faults mid, inr (opened.ran, ends)))
 
   -- the chunks that are left are those of the block
   pub put_own : {T : Type 0} (mid new : State D) (result : Result T NodeRefusal) → PutEnds told clock image faults block (length bytes) mid new result → AreOf block mid.shelf → AreOf block new.shelf
@@ -91,3 +91,8 @@ module _ {D : Type 0} (told : D → Option (List ℕ)) (clock : D → ℕ) (imag
   pub after_filling : {T : Type 0} (old mid new : State D) (result : Result T NodeRefusal) → Stays told clock image faults old mid → PutGoes told clock image faults block bytes mid new result → PutGoes told clock image faults block bytes old new result
   after_filling old mid new (Ok done) stays goes = (goes.0, (stays_on told clock image faults old mid goes.0 stays goes.1.0, goes.1.1))
   after_filling old mid new (Err refusal) stays goes = (goes.0, (stays_on told clock image faults old mid goes.0 stays goes.1.0, goes.1.1))
+
+  -- nothing that was written is left once it is put
+  pub put_idle : {T : Type 0} (mid new : State D) (result : Result T NodeRefusal) → PutEnds told clock image faults block (length bytes) mid new result → OnOk result (IsIdle new)
+  put_idle mid new (Ok done) ends = ap (λ (d : DraftView). d.chunks) ends.draft
+  put_idle mid new (Err refusal) ends = tt

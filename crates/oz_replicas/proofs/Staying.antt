@@ -99,9 +99,9 @@ module _ {D : Type 0} (told : D → Option (List ℕ)) (clock : D → ℕ) (imag
 
   -- it still takes the block, or has it
   pub open_before : (block : Block) (old new : State D) → Stays told clock image faults old new → IsOpen faults block new → IsOpen faults block old
-  open_before block old new stays open = record {
-    ran = sym stays.stop ∙ open.ran;
-    is = ap (λ (n : Node). is_open (n.states block.container)) (sym stays.node) ∙ open.is;
+  open_before block old new stays opened = record {
+    ran = sym stays.stop ∙ opened.ran;
+    is = ap (λ (n : Node). is_open (n.states block.container)) (sym stays.node) ∙ opened.is;
   }
 
   pub has_before : (block : Block) (old new : State D) → Stays told clock image faults old new → HasAlready faults block new → HasAlready faults block old
@@ -111,9 +111,9 @@ module _ {D : Type 0} (told : D → Option (List ℕ)) (clock : D → ℕ) (imag
   }
 
   pub takes : (block : Block) (node : State D) → IsOpen faults block node → ¬ HasAlready faults block node → Takes faults block node
-  takes block node open wanted = record {
-    served = open;
-    absent = either_of (is_held (node_in node) block) (λ held. wanted (record { served = open; held = held }));
+  takes block node opened wanted = record {
+    served = opened;
+    absent = either_of (is_held (node_in node) block) (λ held. wanted (record { served = opened; held = held }));
   }
 
   -- what was read of blocks is read of them still

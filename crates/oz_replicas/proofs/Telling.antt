@@ -7,6 +7,7 @@ use Rattle.oz_fields.specs.declared.block.Block.{Block}
 use Rattle.oz_world.specs.Disk.{Images}
 use Rattle.oz_replicas.specs.Notes.{Subject, IsMember, Leads, Goes}
 use Rattle.oz_replicas.specs.Outcomes.{HasAlready, IsPut, IsReason, Halts, FindsBad}
+use Rattle.oz_replicas.specs.Reading.{IsLost}
 use Rattle.oz_replicas.specs.Stays.{Stays}
 use Rattle.oz_replicas.specs.Writing.{Answers}
 use Rattle.oz_replicas.specs.declared.note.Note.{Note}
@@ -49,39 +50,67 @@ module _ {D : Type 0} (told : D → Option (List ℕ)) (clock : D → ℕ) (imag
     already = λ none. has;
   }
 
-  pub put_answers : (dn size : ℕ) (old before new : State D) → dn ≡ old.id → size ≡ length subject.bytes → Stays told clock image faults old before → Leads told clock image faults subject (notes.Put dn subject.block size) before new → Answers told clock image faults subject old new None (notes.Put dn subject.block size ∷ [])
-  put_answers dn size old before new own whole first leads = record {
-    noted_so = inr (same dn own size whole);
-    goes = goes_one (notes.Put dn subject.block size) old before new new first leads (stays_itself told clock image faults new);
+  pub put_answers : (dn : ℕ) (block : Block) (size : ℕ) (old before new : State D) → subject.block ≡ block → dn ≡ old.id → size ≡ length subject.bytes → Stays told clock image faults old before → Leads told clock image faults subject (notes.Put dn block size) before new → Answers told clock image faults subject old new None (notes.Put dn block size ∷ [])
+  put_answers dn block size old before new its own whole first leads = record {
+    noted_so = inr (same dn block size its own whole);
+    goes = goes_one (notes.Put dn block size) old before new new first leads (stays_itself told clock image faults new);
     already = λ none. absurd (some none);
   } where
-    same : (dn : ℕ) → dn ≡ old.id → (size : ℕ) → size ≡ length subject.bytes → notes.Put dn subject.block size ∷ [] ≡ notes.Put old.id subject.block (length subject.bytes) ∷ []
-    same dn own size whole = cc
+    same : (dn : ℕ) (block : Block) (size : ℕ) → subject.block ≡ block → dn ≡ old.id → size ≡ length subject.bytes → notes.Put dn block size ∷ [] ≡ notes.Put old.id subject.block (length subject.bytes) ∷ []
+    same dn block size its own whole = cc
 
-    some : notes.Put dn subject.block size ∷ [] ≡ [] → ⊥
+    some : notes.Put dn block size ∷ [] ≡ [] → ⊥
     some none = cc
 
-  pub refused_answers : (dn : ℕ) (refusal : PutRefusal) (old before new : State D) → dn ≡ old.id → Stays told clock image faults old before → Leads told clock image faults subject (notes.Refused dn subject.block refusal) before before → Stays told clock image faults before new → Answers told clock image faults subject old new (Some refusal) (notes.Refused dn subject.block refusal ∷ [])
-  refused_answers dn refusal old before new own first leads last = record {
-    noted_so = inl (same dn own);
-    goes = goes_one (notes.Refused dn subject.block refusal) old before before new first leads last;
+  pub refused_answers : (dn : ℕ) (block : Block) (refusal : PutRefusal) (old before new : State D) → subject.block ≡ block → dn ≡ old.id → Stays told clock image faults old before → Leads told clock image faults subject (notes.Refused dn block refusal) before before → Stays told clock image faults before new → Answers told clock image faults subject old new (Some refusal) (notes.Refused dn block refusal ∷ [])
+  refused_answers dn block refusal old before new its own first leads last = record {
+    noted_so = inl (same dn block its own);
+    goes = goes_one (notes.Refused dn block refusal) old before before new first leads last;
     already = λ none. absurd (some none);
   } where
-    same : (dn : ℕ) → dn ≡ old.id → notes.Refused dn subject.block refusal ∷ [] ≡ notes.Refused old.id subject.block refusal ∷ []
-    same dn own = cc
+    same : (dn : ℕ) (block : Block) → subject.block ≡ block → dn ≡ old.id → notes.Refused dn block refusal ∷ [] ≡ notes.Refused old.id subject.block refusal ∷ []
+    same dn block its own = cc
 
-    some : notes.Refused dn subject.block refusal ∷ [] ≡ [] → ⊥
+    some : notes.Refused dn block refusal ∷ [] ≡ [] → ⊥
     some none = cc
 
-  pub halt_answers : (dn count : ℕ) (old before after new : State D) → dn ≡ old.id → Stays told clock image faults old before → Leads told clock image faults subject (notes.Halt dn count) before after → Leads told clock image faults subject (notes.Refused dn subject.block (refusals.Stopped count)) after after → Stays told clock image faults after new
-      → Answers told clock image faults subject old new (Some (refusals.Stopped count)) (notes.Halt dn count ∷ notes.Refused dn subject.block (refusals.Stopped count) ∷ [])
-  halt_answers dn count old before after new own first leads more last = record {
-    noted_so = inr (count, (refl, same dn own));
-    goes = goes_two (notes.Halt dn count) (notes.Refused dn subject.block (refusals.Stopped count)) old before after new first leads more last;
+  pub halt_answers : (dn : ℕ) (block : Block) (count : ℕ) (refusal : PutRefusal) (old before after new : State D) → subject.block ≡ block → dn ≡ old.id → refusal ≡ refusals.Stopped count → Stays told clock image faults old before → Leads told clock image faults subject (notes.Halt dn count) before after → Leads told clock image faults subject (notes.Refused dn block (refusals.Stopped count)) after after → Stays told clock image faults after new
+      → Answers told clock image faults subject old new (Some refusal) (notes.Halt dn count ∷ notes.Refused dn block (refusals.Stopped count) ∷ [])
+  halt_answers dn block count refusal old before after new its own is first leads more last = record {
+    noted_so = inr (count, is, same dn block its own refusal is);
+    goes = goes_two (notes.Halt dn count) (notes.Refused dn block (refusals.Stopped count)) old before after new first leads more last;
     already = λ none. absurd (some none);
   } where
-    same : (dn : ℕ) → dn ≡ old.id → notes.Halt dn count ∷ notes.Refused dn subject.block (refusals.Stopped count) ∷ [] ≡ notes.Halt old.id count ∷ notes.Refused old.id subject.block (refusals.Stopped count) ∷ []
-    same dn own = cc
+    same : (dn : ℕ) (block : Block) → subject.block ≡ block → dn ≡ old.id → (refusal : PutRefusal) → refusal ≡ refusals.Stopped count → notes.Halt dn count ∷ notes.Refused dn block (refusals.Stopped count) ∷ [] ≡ notes.Halt old.id count ∷ notes.Refused old.id subject.block refusal ∷ []
+    same dn block its own refusal is = cc
 
-    some : notes.Halt dn count ∷ notes.Refused dn subject.block (refusals.Stopped count) ∷ [] ≡ [] → ⊥
+    some : notes.Halt dn count ∷ notes.Refused dn block (refusals.Stopped count) ∷ [] ≡ [] → ⊥
     some none = cc
+
+  pub member_of : (dn : ℕ) (node : State D) → dn ≡ node.id → Contains subject.members node.id → IsMember subject dn node
+  member_of dn node own there = record { member = subst (λ (n : ℕ). Contains subject.members n) (sym own) there; its = own }
+
+  -- where a datanode's disk failed it is stopped with its count
+  pub leads_stop_after : (dn : ℕ) (block : Block) (bytes : List ℕ) (count : ℕ) (before after : State D) → subject.block ≡ block → IsMember subject dn before → Halts told clock image faults block bytes before after count → Leads told clock image faults subject (notes.Refused dn block (refusals.Stopped count)) after after
+  leads_stop_after dn block bytes count before after own member halts =
+      leads_stopped dn block count after own (member_still dn before after halts.id member) (halted_stop faults after halts.halted ∙ sym (ap (λ (n : ℕ). Some n) halts.counted))
+
+  -- ---- reading
+
+  pub bad_lost : (dn : ℕ) (block : Block) (size : ℕ) (old new : State D) → subject.block ≡ block → dn ≡ old.id → IsLost told faults subject size old new (notes.Bad dn block ∷ [])
+  bad_lost dn block size old new its own = inr (inl (same dn block its own))
+    where
+      same : (dn : ℕ) (block : Block) → subject.block ≡ block → dn ≡ old.id → notes.Bad dn block ∷ [] ≡ notes.Bad old.id subject.block ∷ []
+      same dn block its own = cc
+
+  pub stopped_lost : (dn : ℕ) (block : Block) (count size : ℕ) (old new : State D) → subject.block ≡ block → dn ≡ old.id → IsLost told faults subject size old new (notes.Refused dn block (refusals.Stopped count) ∷ [])
+  stopped_lost dn block count size old new its own = inr (inr (inl (count, same dn block its own)))
+    where
+      same : (dn : ℕ) (block : Block) → subject.block ≡ block → dn ≡ old.id → notes.Refused dn block (refusals.Stopped count) ∷ [] ≡ notes.Refused old.id subject.block (refusals.Stopped count) ∷ []
+      same dn block its own = cc
+
+  pub halt_lost : (dn : ℕ) (block : Block) (count size : ℕ) (old new : State D) → subject.block ≡ block → dn ≡ old.id → IsLost told faults subject size old new (notes.Halt dn count ∷ notes.Refused dn block (refusals.Stopped count) ∷ [])
+  halt_lost dn block count size old new its own = inr (inr (inr (count, same dn block its own)))
+    where
+      same : (dn : ℕ) (block : Block) → subject.block ≡ block → dn ≡ old.id → notes.Halt dn count ∷ notes.Refused dn block (refusals.Stopped count) ∷ [] ≡ notes.Halt old.id count ∷ notes.Refused old.id subject.block (refusals.Stopped count) ∷ []
+      same dn block its own = cc

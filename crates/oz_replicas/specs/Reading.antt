@@ -13,9 +13,9 @@ use Rattle.oz_world.specs.Disk.{Images}
 abbrev pub IsLost : {D : Type 0} → (D → Option (List ℕ)) → (D → ℕ) → Subject → ℕ → State D → State D → List Note → Type 0
 IsLost told faults subject size old new said =
     ((said ≡ []) × (IsAbsent faults subject.block old ⊎ HasOther told faults subject.block size old new))
-    ⊎ (said ≡ notes.Bad old.id subject.block ∷ [])
-    ⊎ ((count : ℕ) × (said ≡ notes.Refused old.id subject.block (refusals.Stopped count) ∷ []))
-    ⊎ ((count : ℕ) × (said ≡ notes.Halt old.id count ∷ notes.Refused old.id subject.block (refusals.Stopped count) ∷ []))
+    ⊎ ((said ≡ notes.Bad old.id subject.block ∷ [])
+    ⊎ (((count : ℕ) × (said ≡ notes.Refused old.id subject.block (refusals.Stopped count) ∷ []))
+    ⊎ ((count : ℕ) × (said ≡ notes.Halt old.id count ∷ notes.Refused old.id subject.block (refusals.Stopped count) ∷ []))))
 
 -- A datanode gave these bytes, or none.
 abbrev pub IsGiven : {D : Type 0} → (D → Option (List ℕ)) → (D → ℕ) → (D → Images) → (D → ℕ) → Subject → ℕ → State D

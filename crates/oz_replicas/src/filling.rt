@@ -1,6 +1,6 @@
 //! Writing the chunks of a block at a datanode, and putting it.
 
-ghost use Rattle.std.specs.Prelude.{◌≡◌, ◌≤◌, ◌<◌, ◌*◌, ◌+◌, ◌-◌, min, length, slice_range};
+ghost use Rattle.std.specs.Prelude.{◌≡◌, ◌≤◌, ◌<◌, ◌*◌, ◌+◌, ◌-◌, min, length, slice_range, OnOk};
 ghost use Rattle.oz_chunk.specs.declared.table.TheConstants.{SLOT_SIZE as SLOT_BYTES};
 ghost use Rattle.oz_datanode.specs.Writing.{IsDrafted, IsOpen};
 ghost use Rattle.oz_fields.specs.declared.block.TheConstants.{LONGEST_PIECE};
@@ -29,6 +29,7 @@ pub(crate) fn fill_and_put<D: Disk>(
     requires wanted { ¬ HasAlready D.faults block node.old }
     ensures goes { PutGoes D.told D.clock D.image D.faults block bytes.now node.old node.new result }
     ensures own { AreOf block node.new.shelf }
+    ensures idle { OnOk result (IsIdle node.new) }
 {
     fill(alloc, node, block, bytes)?;
     put(alloc, node, block, bytes)
@@ -44,12 +45,13 @@ fn put<D: Disk>(
     requires block { IsBlock block }
     requires least { 1 ≤ length bytes.now }
     requires most { length bytes.now ≤ LONGEST_PIECE }
-    requires open { IsOpen D.faults block node.old }
+    requires opened { IsOpen D.faults block node.old }
     requires drafted { IsDrafted D.told block bytes.now node.old.shelf }
     requires own { AreOf block node.old.shelf }
     requires wanted { ¬ HasAlready D.faults block node.old }
     ensures goes { PutGoes D.told D.clock D.image D.faults block bytes.now node.old node.new result }
     ensures own { AreOf block node.new.shelf }
+    ensures idle { OnOk result (IsIdle node.new) }
 {
     node.put(alloc, block, bytes.len() as u32)
 }

@@ -46,6 +46,7 @@ impl<D: Disk, K: Kept<D>> Nodes<D, K> {
         while let Some(cell) = parts.pop() {
             locks.push_reserved(Mutex::new(cell));
         }
+        parts.destroy_empty();
         Ok(Nodes { locks })
     }
 
@@ -72,5 +73,12 @@ impl<D: Disk, K: Kept<D>> Nodes<D, K> {
     {
         let lock = self.locks.pop()?;
         Some(lock.into_inner())
+    }
+
+    /// Lets go of them once all were taken out.
+    pub fn destroy_empty(self)
+        requires { self ≡ 0 }
+    {
+        self.locks.destroy_empty();
     }
 }

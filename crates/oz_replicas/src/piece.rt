@@ -27,9 +27,9 @@ pub fn read_piece<D: Disk, K: Kept<D>, N: Noter<D, K>, W: Wait>(
     requires its_members { (N.subject noter.old).members ≡ members }
     requires its_block { (N.subject noter.old).block ≡ piece.block }
     ensures given { IfOk result (λ given. IsFirstGiven D.told D.clock D.image D.faults K.stands N.noted
-        (N.subject noter.old) piece.length members.entry (option_map (λ bytes. bytes.items) given) noter.old noter.new) }
+        (N.subject noter.old) piece.length members (option_map (λ bytes. bytes.items) given) noter.old noter.new) }
     ensures lacks { OnErr result (ReadsShort D.told D.clock D.image D.faults K.stands N.noted (N.subject noter.old)
-        piece.length members.entry noter.old noter.new) }
+        piece.length members noter.old noter.new) }
     ensures subject { N.subject noter.new ≡ N.subject noter.old }
 {
     for dn in members {

@@ -39,9 +39,9 @@ pub fn write_block<D: Disk, K: Kept<D>, N: Noter<D, K>, G: Gate, W: Wait>(
     requires its_block { (N.subject noter.old).block ≡ block }
     requires its_bytes { (N.subject noter.old).bytes ≡ bytes.now }
     ensures written { IfOk result (λ written. AllAnswered D.told D.clock D.image D.faults K.stands N.noted
-        (N.subject noter.old) members.entry written.answers noter.old noter.new) }
+        (N.subject noter.old) members written.answers noter.old noter.new) }
     ensures lacks { OnErr result (StopsShort D.told D.clock D.image D.faults K.stands N.noted (N.subject noter.old)
-        members.entry noter.old noter.new) }
+        members noter.old noter.new) }
     ensures subject { N.subject noter.new ≡ N.subject noter.old }
 {
     let first = write_member(rt, alloc, nodes, members[0], block, bytes, gate, noter)?;

@@ -1,6 +1,6 @@
 //! Writing a whole block at a datanode, or nothing of it.
 
-ghost use Rattle.std.specs.Prelude.{◌≡◌, ◌≤◌, ◌↔◌, length, IsTrue};
+ghost use Rattle.std.specs.Prelude.{◌≡◌, ◌≤◌, ◌↔◌, ◌&&◌, length, not, IsTrue};
 ghost use Rattle.oz_fields.specs.declared.block.TheConstants.{LONGEST_PIECE};
 ghost use Rattle.oz_replicas.specs.Nodes.{WriteGoes, unput_of};
 ghost use Rattle.oz_replicas.specs.Outcomes.{HasAlready};
@@ -38,21 +38,21 @@ pub(crate) fn write_whole<D: Disk>(
     ensures goes { WriteGoes D.told D.clock D.image D.faults block bytes.now node.old node.new result }
     ensures idle { IsIdle node.new }
 {
-    let ran = !node.halted();
+    let was_halted = node.halted();
     let Err(refusal) = fill_and_put(alloc, node, block, bytes) else {
         return Ok(());
     };
     node.abandon(block);
     let halted = node.halted();
-    Err(unput(refusal, ran && halted))
+    Err(unput(refusal, was_halted, halted))
 }
 
-/// What a refusal says of a datanode one of whose disks failed in the call or didn't.
-fn unput(refusal: NodeRefusal, halts: bool) -> Unput
-    ensures { result ≡ unput_of halts refusal }
+/// What a refusal says of a datanode that was halted before the call or wasn't, and is or isn't after it.
+fn unput(refusal: NodeRefusal, was_halted: bool, halted: bool) -> Unput
+    ensures { result ≡ unput_of (not was_halted && halted) refusal }
 {
     match refusal {
-        NodeRefusal::Stopped { count } if halts => Unput::Halted { count },
+        NodeRefusal::Stopped { count } if !was_halted && halted => Unput::Halted { count },
         NodeRefusal::Stopped { count } => Unput::Refused(PutRefusal::Stopped { count }),
         NodeRefusal::Full {
             used,

@@ -82,15 +82,15 @@ module _ {D : Type 0} (told : D → Option (List ℕ)) (clock : D → ℕ) (imag
   ]
 
   open_still : (old now : State D) → now ≡ record { id = old.id; blocks = old.blocks; shelf = now.shelf; stopped = old.stopped } → Runs faults now → IsOpen faults block old → IsOpen faults block now
-  open_still old now same runs open = record { ran = runs; is = ap (λ (n : State D). is_open ((node_in n).states block.container)) same ∙ open.is }
+  open_still old now same runs opened = record { ran = runs; is = ap (λ (n : State D). is_open ((node_in n).states block.container)) same ∙ opened.is }
 
   open_was : (old now : State D) → now ≡ record { id = old.id; blocks = old.blocks; shelf = now.shelf; stopped = old.stopped } → Runs faults old → IsOpen faults block now → IsOpen faults block old
-  open_was old now same runs open = record { ran = runs; is = ap (λ (n : State D). is_open ((node_in n).states block.container)) (sym same) ∙ open.is }
+  open_was old now same runs opened = record { ran = runs; is = ap (λ (n : State D). is_open ((node_in n).states block.container)) (sym same) ∙ opened.is }
 
   pub written_more : (place : ℕ) (part : List ℕ) (old mid new : State D) → WrittenTo told clock image faults block bytes place old mid → IsOpen faults block mid → Wrote told faults block place part mid new → part ≡ slice_range bytes (place * 16384) (place * 16384 + min (length bytes - place * 16384) 16384) → place * 16384 < length bytes
       → (place ≡ 0 → IsDrafted told block part new.shelf) → ((front : List ℕ) → IsDrafted told block front mid.shelf → length front ≡ place * 16384 → IsDrafted told block (front ++ part) new.shelf)
       → ((contents : Block → Content) → NodeHolds told clock image faults contents mid → NodeHolds told clock image faults contents new) → WrittenTo told clock image faults block bytes (place + 1) old new
-  written_more place part old mid new written open wrote is less first next holds = record {
+  written_more place part old mid new written opened wrote is less first next holds = record {
     same = wrote.same ∙ ap (λ (n : State D). record { id = n.id; blocks = n.blocks; shelf = new.shelf; stopped = n.stopped }) written.same;
     own = inr (ap (λ (d : DraftView). is_same_block d.block block) wrote.written.draft ∙ (ap (λ (b : Block). is_same_block b block) (part_block mid.shelf.draft block _ _) ∙ itself block));
     count =
@@ -100,7 +100,7 @@ module _ {D : Type 0} (told : D → Option (List ℕ)) (clock : D → ℕ) (imag
       | inl none ↦
           let start : place * 16384 ≡ 0 = omega (arith, none.0) in
           let empty : take (place * 16384) bytes ++ part ≡ part = ap (λ (k : ℕ). take k bytes ++ part) start in
-          inr (subst (λ (n : State D). IsOpen faults block n) none.1 open, wrote.runs, subst (λ (l : List ℕ). IsDrafted told block l new.shelf) (sym empty ∙ one_more place bytes part is less) (first none.0))
+          inr (subst (λ (n : State D). IsOpen faults block n) none.1 opened, wrote.runs, subst (λ (l : List ℕ). IsDrafted told block l new.shelf) (sym empty ∙ one_more place bytes part is less) (first none.0))
       | inr some ↦
           inr (some.0, wrote.runs, subst (λ (l : List ℕ). IsDrafted told block l new.shelf) (one_more place bytes part is less) (next (take (place * 16384) bytes) some.2 (omega (arith, length-take (place * 16384) bytes, less))))
     ];
@@ -115,9 +115,9 @@ module _ {D : Type 0} (told : D → Option (List ℕ)) (clock : D → ℕ) (imag
   ]
 
   -- the call at a chunk is refused
-  pub write_gives_up : {T : Type 0} (refusal : NodeRefusal) (place : ℕ) (part : List ℕ) (old mid new : State D) → WrittenTo told clock image faults block bytes place old mid → place * 16384 < length bytes → ¬ HasAlready faults block old → WriteEnds {T = T} told faults block place part mid new (Err refusal)
+  pub write_gives_up : (T : Type 0) (refusal : NodeRefusal) (place : ℕ) (part : List ℕ) (old mid new : State D) → WrittenTo told clock image faults block bytes place old mid → place * 16384 < length bytes → ¬ HasAlready faults block old → WriteEnds {T = T} told faults block place part mid new (Err refusal)
       → ((contents : Block → Content) → NodeHolds told clock image faults contents mid → NodeHolds told clock image faults contents new) → FillGoes {T = T} told clock image faults block bytes old new (Err refusal)
-  write_gives_up (refusals.Stopped count) place part old mid new written less wanted ends holds = (mid, (written_stays place old mid written, elim ends [
+  write_gives_up T (refusals.Stopped count) place part old mid new written less wanted ends holds = (mid, (written_stays place old mid written, elim ends [
     | inl was ↦ inl (was.stop, was.same)
     | inr halts ↦ inr (record {
         ran = halts.0.ran;
@@ -130,7 +130,7 @@ module _ {D : Type 0} (told : D → Option (List ℕ)) (clock : D → ℕ) (imag
         disks = inl (record { blocks = halts.1.blocks; holds = holds });
       })
   ]))
-  write_gives_up (refusals.Full used asked capacity) place part old mid new written less wanted ends holds = (mid, (written_stays place old mid written, (record {
+  write_gives_up T (refusals.Full used asked capacity) place part old mid new written less wanted ends holds = (mid, (written_stays place old mid written, (record {
     took = takes told clock image faults block mid ends.0 (λ has. wanted (has_before told clock image faults block old mid (written_stays place old mid written) has));
     chunks = mid.shelf.draft.chunks;
     fewer = omega (arith, written.count, less);
@@ -139,19 +139,19 @@ module _ {D : Type 0} (told : D → Option (List ℕ)) (clock : D → ℕ) (imag
     asked = ends.1.asked;
     capacity = ends.1.capacity;
   }, ends.1.same)))
-  write_gives_up (refusals.NotOpen state) place part old mid new written less wanted ends holds = (mid, (written_stays place old mid written, (record { ran = ends.ran; is = ends.is; not_open = ends.not_open }, ends.same)))
-  write_gives_up refusals.OutOfMemory place part old mid new written less wanted ends holds = (mid, (written_stays place old mid written, inl ends))
-  write_gives_up refusals.NoBlock place part old mid new written less wanted ends holds = absurd ends
-  write_gives_up (refusals.Bad kept found) place part old mid new written less wanted ends holds = absurd ends
+  write_gives_up T (refusals.NotOpen state) place part old mid new written less wanted ends holds = (mid, (written_stays place old mid written, (record { ran = ends.ran; is = ends.is; not_open = ends.not_open }, ends.same)))
+  write_gives_up T refusals.OutOfMemory place part old mid new written less wanted ends holds = (mid, (written_stays place old mid written, inl ends))
+  write_gives_up T refusals.NoBlock place part old mid new written less wanted ends holds = absurd ends
+  write_gives_up T (refusals.Bad kept found) place part old mid new written less wanted ends holds = absurd ends
 
   -- and the chunks are those of the block still
-  pub refused_own : {T : Type 0} (refusal : NodeRefusal) (place : ℕ) (part : List ℕ) (mid new : State D) → WriteEnds {T = T} told faults block place part mid new (Err refusal) → AreOf block mid.shelf → AreOf block new.shelf
-  refused_own (refusals.Stopped count) place part mid new ends own = elim ends [
+  pub refused_own : (T : Type 0) (refusal : NodeRefusal) (place : ℕ) (part : List ℕ) (mid new : State D) → WriteEnds {T = T} told faults block place part mid new (Err refusal) → AreOf block mid.shelf → AreOf block new.shelf
+  refused_own T (refusals.Stopped count) place part mid new ends own = elim ends [
     | inl was ↦ subst (λ (n : State D). AreOf block n.shelf) (sym was.same) own
     | inr halts ↦ own_draft block mid.shelf new.shelf halts.1.halts.draft own
   ]
-  refused_own (refusals.Full used asked capacity) place part mid new ends own = subst (λ (n : State D). AreOf block n.shelf) (sym ends.1.same) own
-  refused_own (refusals.NotOpen state) place part mid new ends own = subst (λ (n : State D). AreOf block n.shelf) (sym ends.same) own
-  refused_own refusals.OutOfMemory place part mid new ends own = subst (λ (n : State D). AreOf block n.shelf) (sym ends) own
-  refused_own refusals.NoBlock place part mid new ends own = absurd ends
-  refused_own (refusals.Bad kept found) place part mid new ends own = absurd ends
+  refused_own T (refusals.Full used asked capacity) place part mid new ends own = subst (λ (n : State D). AreOf block n.shelf) (sym ends.1.same) own
+  refused_own T (refusals.NotOpen state) place part mid new ends own = subst (λ (n : State D). AreOf block n.shelf) (sym ends.same) own
+  refused_own T refusals.OutOfMemory place part mid new ends own = subst (λ (n : State D). AreOf block n.shelf) (sym ends) own
+  refused_own T refusals.NoBlock place part mid new ends own = absurd ends
+  refused_own T (refusals.Bad kept found) place part mid new ends own = absurd ends

@@ -1,5 +1,6 @@
 -- Members one after the other.
-use Rattle.std.proofs.Common.{◌≡◌, ◌⊎◌, inl, inr, ℕ, ◌<◌, List, [], ◌∷◌, ◌++◌, length, get_or, take, Option, None, Some, refl, sym, ap, ◌∙◌, subst, arith}
+use Rattle.std.proofs.Common.{◌≡◌, ◌⊎◌, inl, inr, ℕ, ◌+◌, ◌<◌, List, [], ◌∷◌, ◌++◌, length, get_or, take, drop, Option, None, Some, refl, sym, ap, ◌∙◌, subst, arith, add-one, drop-cons}
+use Rattle.std.proofs.lemmas.List.{take-append-drop}
 use Rattle.oz_core.specs.declared.event.PutRefusal.{PutRefusal}
 use Rattle.oz_datanode.specs.Datanode.{State}
 use Rattle.oz_world.specs.Disk.{Images}
@@ -59,3 +60,7 @@ module _ {D K N : Type 0} (told : D → Option (List ℕ)) (clock : D → ℕ) (
       never : (bytes : List ℕ) → ◌≡◌ {A = Option (List ℕ)} None (Some bytes) → ⊥
       never bytes is = cc
   first_found (x ∷ members) size dn rest bytes start now next (inr none) gave = inr (none.0, (none.1.0, first_found members size dn rest bytes none.0 now next none.1.1 gave))
+
+-- a list around one of its places
+pub cut_at : (l : List ℕ) (i : ℕ) → i < length l → l ≡ take i l ++ (get_or l i 0 ∷ drop (i + 1) l)
+cut_at l i within = sym (take-append-drop i l) ∙ ap (λ (rest : List ℕ). take i l ++ rest) (drop-cons l i 0 within ∙ ap (λ (n : ℕ). get_or l i 0 ∷ drop n l) (sym (add-one i)))

@@ -1,21 +1,21 @@
 -- How far the chunks of a block were written, one behind the other.
-use Rattle.std.proofs.Common.{◌≡◌, ◌⊎◌, inl, inr, ℕ, ◌+◌, ◌-◌, ◌*◌, ◌/◌, ◌<◌, ◌≤◌, min, ◌||◌, Bool, true, false, cond, List, [], ◌∷◌, ◌++◌, length, take, drop, slice_range, Option, Result, Ok, Err, refl, sym, ap, ◌∙◌, subst, arith, length-take, length-append}
+use Rattle.std.proofs.Common.{◌≡◌, ◌⊎◌, inl, inr, ℕ, ◌+◌, ◌-◌, ◌*◌, ◌/◌, ◌<◌, ◌≤◌, min, Bool, true, false, cond, List, [], ◌∷◌, ◌++◌, length, take, drop, slice_range, Option, Ok, Err, refl, sym, ap, ◌∙◌, subst, arith, length-take, length-append}
 use Rattle.std.proofs.lemmas.Bool.{cases_lt}
 use Rattle.std.proofs.lemmas.List.{take-take, take-append-drop, drop-take, take_all}
-use Rattle.oz_datanode.specs.Datanode.{State, Runs, node_in, slots_of, stop_of}
+use Rattle.oz_datanode.specs.Datanode.{State, Runs, node_in}
 use Rattle.oz_datanode.specs.Pairs.{Content, NodeHolds}
-use Rattle.oz_datanode.specs.Writing.{IsDrafted, IsOpen, Wrote, WriteEnds, WriteHalts, is_open}
+use Rattle.oz_datanode.specs.Writing.{IsDrafted, IsOpen, Wrote, WriteEnds, is_open}
 use Rattle.oz_datanode.specs.declared.refusal.NodeRefusal.{NodeRefusal}
 use Rattle.oz_datanode.specs.declared.refusal.NodeRefusal.TheVariants as refusals
-use Rattle.oz_entries.specs.Node.{Node, is_same_block, chunk_count}
+use Rattle.oz_entries.specs.Node.{is_same_block}
 use Rattle.oz_entries.specs.declared.row.Chunk.{Chunk}
 use Rattle.oz_entries.specs.laws.Blocks.{itself}
 use Rattle.oz_fields.specs.declared.block.Block.{Block}
 use Rattle.oz_shelf.specs.declared.draft.Part.{Part}
-use Rattle.oz_shelf.specs.Shelf.{DraftView, ShelfView, IsWritten, follows, with_part}
+use Rattle.oz_shelf.specs.Shelf.{DraftView, ShelfView, follows, with_part}
 use Rattle.oz_world.specs.Disk.{Images}
-use Rattle.oz_replicas.specs.Nodes.{AreOf, WrittenTo, GivesUp, FillGoes}
-use Rattle.oz_replicas.specs.Outcomes.{HasAlready, IsFull}
+use Rattle.oz_replicas.specs.Nodes.{AreOf, WrittenTo, FillGoes}
+use Rattle.oz_replicas.specs.Outcomes.{HasAlready}
 use Rattle.oz_replicas.specs.Stays.{IsIdle, Stays}
 use Rattle.oz_replicas.proofs.Staying.{stays_itself, stays_running, has_before, takes}
 
@@ -94,8 +94,8 @@ module _ {D : Type 0} (told : D → Option (List ℕ)) (clock : D → ℕ) (imag
     same = wrote.same ∙ ap (λ (n : State D). record { id = n.id; blocks = n.blocks; shelf = new.shelf; stopped = n.stopped }) written.same;
     own = inr (ap (λ (d : DraftView). is_same_block d.block block) wrote.written.draft ∙ (ap (λ (b : Block). is_same_block b block) (part_block mid.shelf.draft block _ _) ∙ itself block));
     count =
-      let size : length new.shelf.draft.chunks ≤ length mid.shelf.draft.chunks + 1 = subst (λ (d : DraftView). length d.chunks ≤ length mid.shelf.draft.chunks + 1) (sym wrote.written.draft) (part_count mid.shelf.draft block _ _) in
-      omega (arith, size, written.count);
+        let size : length new.shelf.draft.chunks ≤ length mid.shelf.draft.chunks + 1 = subst (λ (d : DraftView). length d.chunks ≤ length mid.shelf.draft.chunks + 1) (sym wrote.written.draft) (part_count mid.shelf.draft block _ _) in
+        omega (arith, size, written.count);
     drafted = elim written.drafted [
       | inl none ↦
           let start : place * 16384 ≡ 0 = omega (arith, none.0) in
@@ -117,28 +117,43 @@ module _ {D : Type 0} (told : D → Option (List ℕ)) (clock : D → ℕ) (imag
   -- the call at a chunk is refused
   pub write_gives_up : (T : Type 0) (refusal : NodeRefusal) (place : ℕ) (part : List ℕ) (old mid new : State D) → WrittenTo told clock image faults block bytes place old mid → place * 16384 < length bytes → ¬ HasAlready faults block old → WriteEnds {T = T} told faults block place part mid new (Err refusal)
       → ((contents : Block → Content) → NodeHolds told clock image faults contents mid → NodeHolds told clock image faults contents new) → FillGoes {T = T} told clock image faults block bytes old new (Err refusal)
-  write_gives_up T (refusals.Stopped count) place part old mid new written less wanted ends holds = (mid, (written_stays place old mid written, elim ends [
-    | inl was ↦ inl (was.stop, was.same)
-    | inr halts ↦ inr (record {
-        ran = halts.0.ran;
-        halted = halts.1.halts.halted;
-        counted = halts.1.halts.counted;
-        cause = inr halts.1.own;
-        node = halts.1.halts.node;
-        id = halts.1.halts.id;
-        line = halts.1.halts.line;
-        disks = inl (record { blocks = halts.1.blocks; holds = holds });
-      })
-  ]))
-  write_gives_up T (refusals.Full used asked capacity) place part old mid new written less wanted ends holds = (mid, (written_stays place old mid written, (record {
-    took = takes told clock image faults block mid ends.0 (λ has. wanted (has_before told clock image faults block old mid (written_stays place old mid written) has));
-    chunks = mid.shelf.draft.chunks;
-    fewer = omega (arith, written.count, less);
-    full = ends.1.whose;
-    used = ends.1.used;
-    asked = ends.1.asked;
-    capacity = ends.1.capacity;
-  }, ends.1.same)))
+  write_gives_up T (refusals.Stopped count) place part old mid new written less wanted ends holds = (
+    mid,
+    (
+      written_stays place old mid written,
+      elim ends [
+        | inl was ↦ inl (was.stop, was.same)
+        | inr halts ↦ inr (record {
+          ran = halts.0.ran;
+          halted = halts.1.halts.halted;
+          counted = halts.1.halts.counted;
+          cause = inr halts.1.own;
+          node = halts.1.halts.node;
+          id = halts.1.halts.id;
+          line = halts.1.halts.line;
+          disks = inl (record { blocks = halts.1.blocks; holds = holds });
+        })
+      ],
+    ),
+  )
+  write_gives_up T (refusals.Full used asked capacity) place part old mid new written less wanted ends holds = (
+    mid,
+    (
+      written_stays place old mid written,
+      (
+        record {
+          took = takes told clock image faults block mid ends.0 (λ has. wanted (has_before told clock image faults block old mid (written_stays place old mid written) has));
+          chunks = mid.shelf.draft.chunks;
+          fewer = omega (arith, written.count, less);
+          full = ends.1.whose;
+          used = ends.1.used;
+          asked = ends.1.asked;
+          capacity = ends.1.capacity;
+        },
+        ends.1.same,
+      ),
+    ),
+  )
   write_gives_up T (refusals.NotOpen state) place part old mid new written less wanted ends holds = (mid, (written_stays place old mid written, (record { ran = ends.ran; is = ends.is; not_open = ends.not_open }, ends.same)))
   write_gives_up T refusals.OutOfMemory place part old mid new written less wanted ends holds = (mid, (written_stays place old mid written, inl ends))
   write_gives_up T refusals.NoBlock place part old mid new written less wanted ends holds = absurd ends

@@ -1,17 +1,16 @@
 -- What is left of a block that wasn't put, once its chunks are abandoned.
-use Rattle.std.proofs.Common.{◌≡◌, ◌⊎◌, inl, inr, ℕ, Bool, true, false, not, ◌&&◌, List, Option, Some, IsSome, Result, Ok, Err, IfSome, refl, sym, ap, ◌∙◌, subst}
+use Rattle.std.proofs.Common.{◌≡◌, ◌⊎◌, inl, inr, ℕ, Bool, true, false, not, ◌&&◌, List, Option, Some, IsSome, Err, IfSome, refl, sym, ap, ◌∙◌, subst}
 use Rattle.std.proofs.lemmas.Bool.{false≢true}
-use Rattle.oz_datanode.specs.Datanode.{State, Runs, is_halted, node_in, meta_of, slots_of, stop_of}
+use Rattle.oz_datanode.specs.Datanode.{State, is_halted, node_in, meta_of, slots_of, stop_of}
 use Rattle.oz_datanode.specs.Pairs.{Content, HaveAll, NodeHolds}
-use Rattle.oz_datanode.specs.Writing.{Abandons}
 use Rattle.oz_datanode.specs.declared.refusal.NodeRefusal.{NodeRefusal}
 use Rattle.oz_datanode.specs.declared.refusal.NodeRefusal.TheVariants as refusals
 use Rattle.oz_fields.specs.declared.block.Block.{Block}
 use Rattle.oz_world.specs.Disk.{Images}
-use Rattle.oz_replicas.specs.Nodes.{GivesUp, PutGoes, WriteGoes, unput_of}
+use Rattle.oz_replicas.specs.Nodes.{PutGoes, WriteGoes, unput_of}
 use Rattle.oz_replicas.specs.Outcomes.{Halts}
 use Rattle.oz_replicas.specs.Stays.{Stays}
-use Rattle.oz_replicas.proofs.Staying.{runs_parts, runs_from, stays_itself, stays_same, stays_on, read_still}
+use Rattle.oz_replicas.proofs.Staying.{runs_parts, runs_from, stays_on, read_still}
 
 -- it ran and doesn't any more
 abbrev pub stopped_then : Bool → Bool → Bool

@@ -1,5 +1,5 @@
 -- Members one after the other.
-use Rattle.std.proofs.Common.{◌≡◌, ◌⊎◌, inl, inr, ℕ, ◌+◌, ◌<◌, List, [], ◌∷◌, ◌++◌, length, get_or, take, drop, Option, None, Some, refl, sym, ap, ◌∙◌, subst, arith, add-one, drop-cons}
+use Rattle.std.proofs.Common.{◌≡◌, inl, inr, ℕ, ◌+◌, ◌<◌, List, [], ◌∷◌, ◌++◌, length, get_or, take, drop, Option, None, Some, refl, sym, ap, ◌∙◌, subst, arith, add-one, drop-cons}
 use Rattle.std.proofs.lemmas.List.{take-append-drop}
 use Rattle.oz_core.specs.declared.event.PutRefusal.{PutRefusal}
 use Rattle.oz_datanode.specs.Datanode.{State}

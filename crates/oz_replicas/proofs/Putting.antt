@@ -1,18 +1,17 @@
 -- What a put comes to, of a block whose chunks are written.
-use Rattle.std.proofs.Common.{◌≡◌, ◌⊎◌, inl, inr, ℕ, Bool, true, false, cond, List, [], length, Option, Result, Ok, Err, OnOk, IfSome, refl, sym, ap, ◌∙◌, subst}
+use Rattle.std.proofs.Common.{◌≡◌, inl, inr, ℕ, Bool, false, cond, List, length, Option, Result, Ok, Err, OnOk, IfSome, refl, sym, ap, ◌∙◌, subst}
 use Rattle.std.proofs.lemmas.Bool.{false≢true}
-use Rattle.oz_chunk.specs.Disk.{Syncs}
 use Rattle.oz_datanode.specs.Datanode.{State, Runs, is_halted, node_in, slots_of}
 use Rattle.oz_datanode.specs.Pairs.{Content, Has, NodeHolds, with_content}
-use Rattle.oz_datanode.specs.Writing.{IsDrafted, IsOpen, PutEnds, WasPut, contents_with, intact, row_in}
+use Rattle.oz_datanode.specs.Writing.{IsDrafted, IsOpen, PutEnds, contents_with, intact, row_in}
 use Rattle.oz_datanode.specs.declared.refusal.NodeRefusal.{NodeRefusal}
 use Rattle.oz_datanode.specs.declared.refusal.NodeRefusal.TheVariants as refusals
-use Rattle.oz_entries.specs.Node.{is_held, is_same_block}
+use Rattle.oz_entries.specs.Node.{is_held}
 use Rattle.oz_fields.specs.declared.block.Block.{Block}
-use Rattle.oz_shelf.specs.Shelf.{DraftView, ShelfView}
+use Rattle.oz_shelf.specs.Shelf.{DraftView}
 use Rattle.oz_world.specs.Disk.{Images}
-use Rattle.oz_replicas.specs.Nodes.{AreOf, GivesUp, FillGoes, PutGoes}
-use Rattle.oz_replicas.specs.Outcomes.{HasAlready, IsPut}
+use Rattle.oz_replicas.specs.Nodes.{AreOf, PutGoes}
+use Rattle.oz_replicas.specs.Outcomes.{HasAlready}
 use Rattle.oz_replicas.specs.Stays.{IsIdle, Stays}
 use Rattle.oz_replicas.proofs.Chunks.{own_draft}
 use Rattle.oz_replicas.proofs.Staying.{runs_parts, stays_itself, stays_on, takes}
@@ -30,42 +29,52 @@ module _ {D : Type 0} (told : D → Option (List ℕ)) (clock : D → ℕ) (imag
       → ((contents : Block → Content) (content : Content) → is_halted mid ≡ false → IfSome (told (slots_of mid)) (Has content (row_in mid.shelf (length bytes))) → NodeHolds told clock image faults contents mid → NodeHolds told clock image faults (contents_with block content contents mid) new) → PutGoes told clock image faults block bytes mid new result
   put_goes mid new (Ok done) opened drafted wanted ends pairs =
       let took = takes told clock image faults block mid opened wanted in
-      let puts = ends.put took.absent in
-      (mid, (stays_itself told clock image faults mid, record {
-        took = took;
-        held = record {
-          row = row_in mid.shelf (length bytes);
-          size = refl;
-          has = has_still mid new puts.synced.told drafted.has;
-          changed = puts.changed;
-          runs = ends.runs;
-          id = ends.id;
-          line = ends.line;
-        };
-        holds = put_holds mid new took.absent opened.ran drafted.has pairs;
-      }))
-  put_goes mid new (Err (refusals.Stopped count)) opened drafted wanted ends pairs =
-      let took = takes told clock image faults block mid opened wanted in
-      (mid, (stays_itself told clock image faults mid, elim ends [
-        | inl was ↦ inl (was.stop, was.same)
-        | inr halts ↦ inr (record {
-            ran = opened.ran;
-            halted = halts.2.halts.halted;
-            counted = halts.2.halts.counted;
-            cause = halts.2.halts.cause;
-            node = halts.2.halts.node;
-            id = halts.2.halts.id;
-            line = halts.2.halts.line;
-            disks = inr (record {
-              took = took;
+      let puts = ends.put took.absent in (
+        mid,
+        (
+          stays_itself told clock image faults mid,
+          record {
+            took = took;
+            held = record {
               row = row_in mid.shelf (length bytes);
               size = refl;
-              has = has_still mid new halts.2.slots drafted.has;
-              journal = halts.2.journal;
-              holds = put_holds mid new took.absent opened.ran drafted.has pairs;
-            });
-          })
-      ]))
+              has = has_still mid new puts.synced.told drafted.has;
+              changed = puts.changed;
+              runs = ends.runs;
+              id = ends.id;
+              line = ends.line;
+            };
+            holds = put_holds mid new took.absent opened.ran drafted.has pairs;
+          },
+        ),
+      )
+  put_goes mid new (Err (refusals.Stopped count)) opened drafted wanted ends pairs =
+      let took = takes told clock image faults block mid opened wanted in (
+        mid,
+        (
+          stays_itself told clock image faults mid,
+          elim ends [
+            | inl was ↦ inl (was.stop, was.same)
+            | inr halts ↦ inr (record {
+              ran = opened.ran;
+              halted = halts.2.halts.halted;
+              counted = halts.2.halts.counted;
+              cause = halts.2.halts.cause;
+              node = halts.2.halts.node;
+              id = halts.2.halts.id;
+              line = halts.2.halts.line;
+              disks = inr (record {
+                took = took;
+                row = row_in mid.shelf (length bytes);
+                size = refl;
+                has = has_still mid new halts.2.slots drafted.has;
+                journal = halts.2.journal;
+                holds = put_holds mid new took.absent opened.ran drafted.has pairs;
+              });
+            })
+          ],
+        ),
+      )
   put_goes mid new (Err (refusals.Full used asked capacity)) opened drafted wanted ends pairs = absurd ends
   put_goes mid new (Err (refusals.NotOpen state)) opened drafted wanted ends pairs =
       (mid, (stays_itself told clock image faults mid, (record { ran = ends.0.ran; is = ends.0.is; not_open = ends.0.not_open }, ends.0.same)))

@@ -3,10 +3,10 @@ use Rattle.std.proofs.Common.{◌≡◌, inl, inr, ℕ, Bool, true, false, cond,
 use Rattle.std.proofs.lemmas.Bool.{false≢true}
 use Rattle.oz_datanode.specs.Datanode.{State, node_in, meta_of, slots_of, is_halted, count_of, stop_of, Runs}
 use Rattle.oz_datanode.specs.Pairs.{Content, HaveAll, NodeHolds}
-use Rattle.oz_datanode.specs.Writing.{IsOpen, Abandons, NoMemory, is_open, state_for}
+use Rattle.oz_datanode.specs.Writing.{IsOpen, Abandons, is_open}
 use Rattle.oz_entries.specs.Node.{Node, is_held, is_same_block}
 use Rattle.oz_fields.specs.declared.block.Block.{Block}
-use Rattle.oz_shelf.specs.Shelf.{DraftView, ShelfView, empty_draft}
+use Rattle.oz_shelf.specs.Shelf.{DraftView, empty_draft}
 use Rattle.oz_world.specs.Disk.{Images}
 use Rattle.oz_replicas.specs.Nodes.{AreOf}
 use Rattle.oz_replicas.specs.Outcomes.{HasAlready, Takes}

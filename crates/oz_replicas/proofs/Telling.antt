@@ -1,5 +1,5 @@
 -- What the notes of one datanode come to.
-use Rattle.std.proofs.Common.{◌≡◌, ◌≢◌, ◌⊎◌, inl, inr, ℕ, List, [], ◌∷◌, length, Contains, Option, None, Some, refl, sym, ap, ◌∙◌, subst}
+use Rattle.std.proofs.Common.{◌≡◌, inl, inr, ℕ, List, [], ◌∷◌, length, Contains, Option, None, Some, refl, sym, ap, ◌∙◌, subst}
 use Rattle.oz_core.specs.declared.event.PutRefusal.{PutRefusal}
 use Rattle.oz_core.specs.declared.event.PutRefusal.TheVariants as refusals
 use Rattle.oz_datanode.specs.Datanode.{State, stop_of}

@@ -8,8 +8,6 @@ pub(crate) enum Unput {
     /// It refused, and nothing changed.
     Refused(PutRefusal),
     /// One of its disks failed in the call: how often both have.
-    Halted {
-        count: u64,
-    },
+    Halted { count: u64 },
     OutOfMemory,
 }

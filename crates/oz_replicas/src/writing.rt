@@ -44,14 +44,7 @@ pub fn write_at<D: Disk, K: Kept<D>, N: Noter<D, K>>(
     ensures before { IsAtRest K.stands cell.old.node cell.old.kept }
     ensures after { IsAtRest K.stands cell.new.node cell.new.kept }
 {
-    write_beside(
-        alloc,
-        &mut cell.node,
-        &mut cell.kept,
-        block,
-        bytes,
-        noter,
-    )
+    write_beside(alloc, &mut cell.node, &mut cell.kept, block, bytes, noter)
 }
 
 /// Writes a block at a datanode beside which this is kept.

@@ -1,4 +1,4 @@
-use Rattle.std.proofs.Common.{◌≡◌, ℕ, List, [], ◌∷◌, refl, sym, subst}
+use Rattle.std.proofs.Common.{ℕ, [], ◌∷◌, refl, sym, subst}
 use Rattle.oz_core.specs.declared.event.PutRefusal.TheVariants as refusals
 use Rattle.oz_replicas.specs.Notes.{IsMember}
 use Rattle.oz_replicas.specs.declared.note.Note.TheVariants as notes

@@ -1,6 +1,5 @@
-use Rattle.std.proofs.Common.{◌≡◌, ℕ, ◌+◌, ◌<◌, List, [], ◌∷◌, ◌++◌, get_or, take, drop, Option, None, Some, sym, ap, ◌∙◌, subst, arith, rules, drop-cons, add-one}
+use Rattle.std.proofs.Common.{◌+◌, get_or, take, drop, ◌∙◌, rules}
 use Rattle.std.proofs.lemmas.List.{take_more}
-use Rattle.oz_replicas.specs.Reading.{IsFirstGiven}
 use Rattle.oz_replicas.proofs.Members.{first_more, first_found, cut_at}
 use Rattle.oz_replicas.proofs.piece.read_piece.Goals as goal
 

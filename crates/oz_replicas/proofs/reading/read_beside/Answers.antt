@@ -1,4 +1,4 @@
-use Rattle.std.proofs.Common.{◌≡◌, List, [], ◌∷◌, refl, sym, ◌∙◌}
+use Rattle.std.proofs.Common.{[], ◌∷◌, refl}
 use Rattle.oz_core.specs.declared.event.PutRefusal.TheVariants as refusals
 use Rattle.oz_replicas.specs.declared.note.Note.TheVariants as notes
 use Rattle.oz_replicas.proofs.Staying.{stays_itself, stays_same}
@@ -19,10 +19,14 @@ returns-in-Err-Stopped-clause-given g c =
     let loses = rw c.in-Err-Stopped.field-0-is at c.in-Err-Stopped.ensures.loses in
     let member = member_of g.D.Disk.told g.D.Disk.clock g.D.Disk.image g.D.Disk.faults subject c.id-dn.result c.args.node.now c.id-dn.ensures c.requires.member in
     let leads = leads_stopped g.D.Disk.told g.D.Disk.clock g.D.Disk.image g.D.Disk.faults subject c.id-dn.result c.args.piece.block c.in-Err-Stopped.count c.args.node.now c.requires.its_block member loses.0 in
-    let note = notes.Refused c.id-dn.result c.args.piece.block (refusals.Stopped c.in-Err-Stopped.count) in
-    (note ∷ [], (g.met.N.Noter.joins c.args.noter.now c.ready.new.self c.note.new.self [] (note ∷ []) c.ready.ensures.noted c.note.ensures.noted,
-      goes_one g.D.Disk.told g.D.Disk.clock g.D.Disk.image g.D.Disk.faults subject note c.args.node.now c.args.node.now c.args.node.now c.read_whole.new.node (stays_itself g.D.Disk.told g.D.Disk.clock g.D.Disk.image g.D.Disk.faults c.args.node.now) leads (stays_same g.D.Disk.told g.D.Disk.clock g.D.Disk.image g.D.Disk.faults c.args.node.now c.read_whole.new.node loses.1),
-      stopped_lost g.D.Disk.told g.D.Disk.clock g.D.Disk.image g.D.Disk.faults subject c.id-dn.result c.args.piece.block c.in-Err-Stopped.count c.args.piece.length c.args.node.now c.read_whole.new.node c.requires.its_block c.id-dn.ensures))
+    let note = notes.Refused c.id-dn.result c.args.piece.block (refusals.Stopped c.in-Err-Stopped.count) in (
+      note ∷ [],
+      (
+        g.met.N.Noter.joins c.args.noter.now c.ready.new.self c.note.new.self [] (note ∷ []) c.ready.ensures.noted c.note.ensures.noted,
+        goes_one g.D.Disk.told g.D.Disk.clock g.D.Disk.image g.D.Disk.faults subject note c.args.node.now c.args.node.now c.args.node.now c.read_whole.new.node (stays_itself g.D.Disk.told g.D.Disk.clock g.D.Disk.image g.D.Disk.faults c.args.node.now) leads (stays_same g.D.Disk.told g.D.Disk.clock g.D.Disk.image g.D.Disk.faults c.args.node.now c.read_whole.new.node loses.1),
+        stopped_lost g.D.Disk.told g.D.Disk.clock g.D.Disk.image g.D.Disk.faults subject c.id-dn.result c.args.piece.block c.in-Err-Stopped.count c.args.piece.length c.args.node.now c.read_whole.new.node c.requires.its_block c.id-dn.ensures,
+      ),
+    )
 
 pub note_halt-requires-clause-halts : goal.note_halt-requires-clause-halts
 note_halt-requires-clause-halts g c =
@@ -42,10 +46,14 @@ returns-in-Err-Halted-clause-given g c =
     let leads = leads_halt g.D.Disk.told g.D.Disk.clock g.D.Disk.image g.D.Disk.faults subject dn c.args.piece.block subject.bytes c.in-Err-Halted.count c.args.node.now c.read_whole.new.node c.requires.its_block refl member halts in
     let more = leads_stop_after g.D.Disk.told g.D.Disk.clock g.D.Disk.image g.D.Disk.faults subject dn c.args.piece.block subject.bytes c.in-Err-Halted.count c.args.node.now c.read_whole.new.node c.requires.its_block member halts in
     let one = notes.Halt dn c.in-Err-Halted.count in
-    let two = notes.Refused dn c.args.piece.block (refusals.Stopped c.in-Err-Halted.count) in
-    (one ∷ two ∷ [], (g.met.N.Noter.joins c.args.noter.now c.ready.new.self c.note_halt.new.noter [] (one ∷ two ∷ []) c.ready.ensures.noted c.note_halt.ensures.noted,
-      goes_two g.D.Disk.told g.D.Disk.clock g.D.Disk.image g.D.Disk.faults subject one two c.args.node.now c.args.node.now c.read_whole.new.node c.read_whole.new.node (stays_itself g.D.Disk.told g.D.Disk.clock g.D.Disk.image g.D.Disk.faults c.args.node.now) leads more (stays_itself g.D.Disk.told g.D.Disk.clock g.D.Disk.image g.D.Disk.faults c.read_whole.new.node),
-      halt_lost g.D.Disk.told g.D.Disk.clock g.D.Disk.image g.D.Disk.faults subject dn c.args.piece.block c.in-Err-Halted.count c.args.piece.length c.args.node.now c.read_whole.new.node c.requires.its_block halts.id))
+    let two = notes.Refused dn c.args.piece.block (refusals.Stopped c.in-Err-Halted.count) in (
+      one ∷ two ∷ [],
+      (
+        g.met.N.Noter.joins c.args.noter.now c.ready.new.self c.note_halt.new.noter [] (one ∷ two ∷ []) c.ready.ensures.noted c.note_halt.ensures.noted,
+        goes_two g.D.Disk.told g.D.Disk.clock g.D.Disk.image g.D.Disk.faults subject one two c.args.node.now c.args.node.now c.read_whole.new.node c.read_whole.new.node (stays_itself g.D.Disk.told g.D.Disk.clock g.D.Disk.image g.D.Disk.faults c.args.node.now) leads more (stays_itself g.D.Disk.told g.D.Disk.clock g.D.Disk.image g.D.Disk.faults c.read_whole.new.node),
+        halt_lost g.D.Disk.told g.D.Disk.clock g.D.Disk.image g.D.Disk.faults subject dn c.args.piece.block c.in-Err-Halted.count c.args.piece.length c.args.node.now c.read_whole.new.node c.requires.its_block halts.id,
+      ),
+    )
 
 pub note-requires-in-Err-Bad : goal.note-requires-in-Err-Bad
 note-requires-in-Err-Bad g c =
@@ -61,7 +69,11 @@ returns-in-Err-Bad-clause-given g c =
     let loses = rw c.in-Err-Bad.field-0-is at c.in-Err-Bad.ensures.loses in
     let member = member_of g.D.Disk.told g.D.Disk.clock g.D.Disk.image g.D.Disk.faults subject c.id-dn.result c.args.node.now c.id-dn.ensures c.requires.member in
     let leads = leads_bad g.D.Disk.told g.D.Disk.clock g.D.Disk.image g.D.Disk.faults subject c.id-dn.result c.args.piece.block c.args.node.now c.read_whole.new.node c.requires.its_block member loses in
-    let note = notes.Bad c.id-dn.result c.args.piece.block in
-    (note ∷ [], (g.met.N.Noter.joins c.args.noter.now c.ready.new.self c.note-in-Err-Bad.new.self [] (note ∷ []) c.ready.ensures.noted c.note-in-Err-Bad.ensures.noted,
-      goes_one g.D.Disk.told g.D.Disk.clock g.D.Disk.image g.D.Disk.faults subject note c.args.node.now c.args.node.now c.read_whole.new.node c.read_whole.new.node (stays_itself g.D.Disk.told g.D.Disk.clock g.D.Disk.image g.D.Disk.faults c.args.node.now) leads (stays_itself g.D.Disk.told g.D.Disk.clock g.D.Disk.image g.D.Disk.faults c.read_whole.new.node),
-      bad_lost g.D.Disk.told g.D.Disk.clock g.D.Disk.image g.D.Disk.faults subject c.id-dn.result c.args.piece.block c.args.piece.length c.args.node.now c.read_whole.new.node c.requires.its_block c.id-dn.ensures))
+    let note = notes.Bad c.id-dn.result c.args.piece.block in (
+      note ∷ [],
+      (
+        g.met.N.Noter.joins c.args.noter.now c.ready.new.self c.note-in-Err-Bad.new.self [] (note ∷ []) c.ready.ensures.noted c.note-in-Err-Bad.ensures.noted,
+        goes_one g.D.Disk.told g.D.Disk.clock g.D.Disk.image g.D.Disk.faults subject note c.args.node.now c.args.node.now c.read_whole.new.node c.read_whole.new.node (stays_itself g.D.Disk.told g.D.Disk.clock g.D.Disk.image g.D.Disk.faults c.args.node.now) leads (stays_itself g.D.Disk.told g.D.Disk.clock g.D.Disk.image g.D.Disk.faults c.read_whole.new.node),
+        bad_lost g.D.Disk.told g.D.Disk.clock g.D.Disk.image g.D.Disk.faults subject c.id-dn.result c.args.piece.block c.args.piece.length c.args.node.now c.read_whole.new.node c.requires.its_block c.id-dn.ensures,
+      ),
+    )

@@ -1,4 +1,4 @@
-use Rattle.std.proofs.Common.{rules, arith}
+use Rattle.std.proofs.Common.{rules}
 use Rattle.std.proofs.lemmas.Result.{err_from_is_err_and}
 use Rattle.oz_replicas.proofs.Members.{all_three, short_one, short_two}
 use Rattle.oz_replicas.proofs.replicas.write_block.Goals as goal

@@ -21,9 +21,13 @@ returns-in-Ok-clause-answers g c =
     let member = member_still g.D.Disk.told g.D.Disk.clock g.D.Disk.image g.D.Disk.faults subject c.id-dn.result c.args.node.now goes.0 goes.1.0.id (member_of g.D.Disk.told g.D.Disk.clock g.D.Disk.image g.D.Disk.faults subject c.id-dn.result c.args.node.now c.id-dn.ensures c.requires.member) in
     let leads = leads_put g.D.Disk.told g.D.Disk.clock g.D.Disk.image g.D.Disk.faults subject c.id-dn.result c.args.block (length c.args.bytes.now) c.args.bytes.now goes.0 c.write_whole.new.node c.requires.its_block c.requires.its_bytes member refl goes.1.1 in
     let whole : length c.args.bytes.now ≡ length subject.bytes = rw c.requires.its_bytes refl in
-    let note = notes.Put c.id-dn.result c.args.block (length c.args.bytes.now) in
-    (note ∷ [], (g.met.N.Noter.joins c.args.noter.now c.ready.new.self c.note.new.self [] (note ∷ []) c.ready.ensures.noted c.note.ensures.noted,
-      put_answers g.D.Disk.told g.D.Disk.clock g.D.Disk.image g.D.Disk.faults subject c.id-dn.result c.args.block (length c.args.bytes.now) c.args.node.now goes.0 c.write_whole.new.node c.requires.its_block c.id-dn.ensures whole goes.1.0 leads))
+    let note = notes.Put c.id-dn.result c.args.block (length c.args.bytes.now) in (
+      note ∷ [],
+      (
+        g.met.N.Noter.joins c.args.noter.now c.ready.new.self c.note.new.self [] (note ∷ []) c.ready.ensures.noted c.note.ensures.noted,
+        put_answers g.D.Disk.told g.D.Disk.clock g.D.Disk.image g.D.Disk.faults subject c.id-dn.result c.args.block (length c.args.bytes.now) c.args.node.now goes.0 c.write_whole.new.node c.requires.its_block c.id-dn.ensures whole goes.1.0 leads,
+      ),
+    )
 
 pub returns-in-Ok-clause-stands : goal.returns-in-Ok-clause-stands
 returns-in-Ok-clause-stands g c =
@@ -49,9 +53,13 @@ returns-in-Err-Refused-clause-answers g c =
     let goes = rw c.in-Err-Refused.field-0-is at c.in-Err-Refused.ensures.goes in
     let member = member_still g.D.Disk.told g.D.Disk.clock g.D.Disk.image g.D.Disk.faults subject c.id-dn.result c.args.node.now goes.0 goes.1.0.id (member_of g.D.Disk.told g.D.Disk.clock g.D.Disk.image g.D.Disk.faults subject c.id-dn.result c.args.node.now c.id-dn.ensures c.requires.member) in
     let leads = leads_refused g.D.Disk.told g.D.Disk.clock g.D.Disk.image g.D.Disk.faults subject c.id-dn.result c.args.block c.args.bytes.now c.in-Err-Refused.refusal goes.0 c.requires.its_block c.requires.its_bytes member goes.1.1 in
-    let note = notes.Refused c.id-dn.result c.args.block c.in-Err-Refused.refusal in
-    (note ∷ [], (g.met.N.Noter.joins c.args.noter.now c.ready.new.self c.note-in-Err-Refused.new.self [] (note ∷ []) c.ready.ensures.noted c.note-in-Err-Refused.ensures.noted,
-      refused_answers g.D.Disk.told g.D.Disk.clock g.D.Disk.image g.D.Disk.faults subject c.id-dn.result c.args.block c.in-Err-Refused.refusal c.args.node.now goes.0 c.write_whole.new.node c.requires.its_block c.id-dn.ensures goes.1.0 leads goes.1.2))
+    let note = notes.Refused c.id-dn.result c.args.block c.in-Err-Refused.refusal in (
+      note ∷ [],
+      (
+        g.met.N.Noter.joins c.args.noter.now c.ready.new.self c.note-in-Err-Refused.new.self [] (note ∷ []) c.ready.ensures.noted c.note-in-Err-Refused.ensures.noted,
+        refused_answers g.D.Disk.told g.D.Disk.clock g.D.Disk.image g.D.Disk.faults subject c.id-dn.result c.args.block c.in-Err-Refused.refusal c.args.node.now goes.0 c.write_whole.new.node c.requires.its_block c.id-dn.ensures goes.1.0 leads goes.1.2,
+      ),
+    )
 
 pub returns-in-Err-Refused-clause-stands : goal.returns-in-Err-Refused-clause-stands
 returns-in-Err-Refused-clause-stands g c =
@@ -84,6 +92,10 @@ returns-in-Err-Halted-clause-answers g c =
     let member = member_still g.D.Disk.told g.D.Disk.clock g.D.Disk.image g.D.Disk.faults subject dn c.args.node.now goes.0 found.0.id (member_of g.D.Disk.told g.D.Disk.clock g.D.Disk.image g.D.Disk.faults subject dn c.args.node.now same c.requires.member) in
     let leads = leads_halt g.D.Disk.told g.D.Disk.clock g.D.Disk.image g.D.Disk.faults subject dn c.args.block c.args.bytes.now c.in-Err-Halted.count goes.0 goes.1.0 c.requires.its_block c.requires.its_bytes member found.1 in
     let more = leads_stop_after g.D.Disk.told g.D.Disk.clock g.D.Disk.image g.D.Disk.faults subject dn c.args.block c.args.bytes.now c.in-Err-Halted.count goes.0 goes.1.0 c.requires.its_block member found.1 in
-    let said = notes.Halt dn c.in-Err-Halted.count ∷ notes.Refused dn c.args.block (refusals.Stopped c.in-Err-Halted.count) ∷ [] in
-    (said, (g.met.N.Noter.joins c.args.noter.now c.ready.new.self c.note_halt.new.noter [] said c.ready.ensures.noted c.note_halt.ensures.noted,
-      halt_answers g.D.Disk.told g.D.Disk.clock g.D.Disk.image g.D.Disk.faults subject dn c.args.block c.in-Err-Halted.count c.note_halt.result c.args.node.now goes.0 goes.1.0 c.write_whole.new.node c.requires.its_block same c.note_halt.ensures.answer found.0 leads more found.2))
+    let said = notes.Halt dn c.in-Err-Halted.count ∷ notes.Refused dn c.args.block (refusals.Stopped c.in-Err-Halted.count) ∷ [] in (
+      said,
+      (
+        g.met.N.Noter.joins c.args.noter.now c.ready.new.self c.note_halt.new.noter [] said c.ready.ensures.noted c.note_halt.ensures.noted,
+        halt_answers g.D.Disk.told g.D.Disk.clock g.D.Disk.image g.D.Disk.faults subject dn c.args.block c.in-Err-Halted.count c.note_halt.result c.args.node.now goes.0 goes.1.0 c.write_whole.new.node c.requires.its_block same c.note_halt.ensures.answer found.0 leads more found.2,
+      ),
+    )

@@ -1,6 +1,6 @@
 //! Noting that a disk failed.
 
-ghost use Rattle.std.specs.Prelude.{◌≡◌, [], ◌∷◌};
+ghost use Rattle.std.specs.Prelude.{◌≡◌, ◌≤◌, [], ◌∷◌};
 ghost use Rattle.oz_core.specs.declared.event.PutRefusal.TheVariants as refusals;
 ghost use Rattle.oz_datanode.specs.Datanode.{State};
 ghost use Rattle.oz_replicas.specs.Notes.{IsMember};
@@ -25,6 +25,7 @@ pub(crate) fn note_halt<D: Disk, K: Kept<D>, N: Noter<D, K>>(
     noter: &mut N,
 ) -> PutRefusal
     requires block { (N.subject noter.old).block ≡ block }
+    requires room { 2 ≤ K.room kept.old }
     requires halts { (old : State D) × ((after : State D) × (K.stands kept.old old
         × IsMember (N.subject noter.old) node.now.id old
         × Halts D.told D.clock D.image D.faults block (N.subject noter.old).bytes old after count

@@ -1,6 +1,6 @@
 //! Who is told what comes of a block at its datanodes.
 
-ghost use Rattle.std.specs.Prelude.{◌≡◌, List, [], ◌∷◌, ◌++◌};
+ghost use Rattle.std.specs.Prelude.{◌≡◌, ◌≤◌, ◌+◌, List, [], ◌∷◌, ◌++◌, OnOk};
 ghost use Rattle.oz_datanode.specs.Datanode.{State};
 ghost use Rattle.oz_replicas.specs.Notes.{Subject, Leads};
 ghost use Rattle.oz_replicas.specs.declared.note.Note.{Note as AnyNote};
@@ -23,17 +23,21 @@ pub trait Noter<D: Disk, K: Kept<D>> {
     fn ready(&mut self, kept: &mut K) -> Result<(), OutOfMemory>
         ensures subject { subject self.new ≡ subject self.old }
         ensures noted { noted self.old [] self.new }
+        ensures room { OnOk result (2 ≤ K.room kept.new) }
         ensures stands { (node : State D) → K.stands kept.old node → K.stands kept.new node };
 
     /// Notes what happened: at most twice after each time that it was made ready.
     fn note(&mut self, kept: &mut K, note: Note)
-        requires { (old : State D) × ((new : State D) × (K.stands kept.old old
+        requires room { 1 ≤ K.room kept.old }
+        requires happened { (old : State D) × ((new : State D) × (K.stands kept.old old
             × Leads D.told D.clock D.image D.faults (subject self.old) note old new)) }
+        ensures room { K.room kept.old ≤ K.room kept.new + 1 }
         ensures subject { subject self.new ≡ subject self.old }
         ensures noted { noted self.old (note ∷ []) self.new }
         ensures stands { (old new : State D) → K.stands kept.old old →
             Leads D.told D.clock D.image D.faults (subject self.old) note old new → K.stands kept.new new };
 
+    /// What led on from one to the next led from the first to the last.
     ghost joins: { (first second third : Self) (before after : List AnyNote) → noted first before second
         → noted second after third → noted first (before ++ after) third };
 }

@@ -5,8 +5,8 @@ use Rattle.oz_replicas.specs.declared.note.Note.TheVariants as notes
 use Rattle.oz_replicas.proofs.Telling.{leads_halt, leads_stop_after}
 use Rattle.oz_replicas.proofs.halting.note_halt.Goals as goal
 
-pub note-requires : goal.note-requires
-note-requires g c =
+pub note-requires-clause-happened : goal.note-requires-clause-happened
+note-requires-clause-happened g c =
     let subject = g.N.Noter.subject c.args.noter.now in
     let old = c.requires.halts.0 in
     let after = c.requires.halts.1.0 in
@@ -14,8 +14,8 @@ note-requires g c =
     let member : IsMember subject c.id-dn.result old = subst (λ (n : ℕ). IsMember subject n old) (sym c.id-dn.ensures) found.1 in
     (old, (after, (found.0, leads_halt g.D.Disk.told g.D.Disk.clock g.D.Disk.image g.D.Disk.faults subject c.id-dn.result c.args.block subject.bytes c.args.count old after c.requires.block refl member found.2)))
 
-pub note-requires-2 : goal.note-requires-2
-note-requires-2 g c =
+pub note-requires-2-clause-happened : goal.note-requires-2-clause-happened
+note-requires-2-clause-happened g c =
     let subject = g.N.Noter.subject c.args.noter.now in
     let old = c.requires.halts.0 in
     let after = c.requires.halts.1.0 in

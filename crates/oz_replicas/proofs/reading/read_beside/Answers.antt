@@ -5,8 +5,8 @@ use Rattle.oz_replicas.proofs.Staying.{stays_itself, stays_same}
 use Rattle.oz_replicas.proofs.Telling.{leads_stopped, leads_halt, leads_stop_after, leads_bad, member_of, goes_one, goes_two, bad_lost, stopped_lost, halt_lost}
 use Rattle.oz_replicas.proofs.reading.read_beside.Goals as goal
 
-pub note-requires : goal.note-requires
-note-requires g c =
+pub note-requires-clause-happened : goal.note-requires-clause-happened
+note-requires-clause-happened g c =
     let subject = g.N.Noter.subject c.args.noter.now in
     let loses = rw c.in-Err-Stopped.field-0-is at c.in-Err-Stopped.ensures.loses in
     let member = member_of g.D.Disk.told g.D.Disk.clock g.D.Disk.image g.D.Disk.faults subject c.id-dn.result c.args.node.now c.id-dn.ensures c.requires.member in
@@ -55,8 +55,8 @@ returns-in-Err-Halted-clause-given g c =
       ),
     )
 
-pub note-requires-in-Err-Bad : goal.note-requires-in-Err-Bad
-note-requires-in-Err-Bad g c =
+pub note-requires-in-Err-Bad-clause-happened : goal.note-requires-in-Err-Bad-clause-happened
+note-requires-in-Err-Bad-clause-happened g c =
     let subject = g.N.Noter.subject c.args.noter.now in
     let loses = rw c.in-Err-Bad.field-0-is at c.in-Err-Bad.ensures.loses in
     let member = member_of g.D.Disk.told g.D.Disk.clock g.D.Disk.image g.D.Disk.faults subject c.id-dn.result c.args.node.now c.id-dn.ensures c.requires.member in

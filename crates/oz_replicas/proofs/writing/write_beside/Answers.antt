@@ -5,8 +5,8 @@ use Rattle.oz_replicas.specs.declared.note.Note.TheVariants as notes
 use Rattle.oz_replicas.proofs.Telling.{leads_put, leads_refused, leads_halt, leads_stop_after, member_of, member_still, put_answers, refused_answers, halt_answers}
 use Rattle.oz_replicas.proofs.writing.write_beside.Goals as goal
 
-pub note-requires : goal.note-requires
-note-requires g c =
+pub note-requires-clause-happened : goal.note-requires-clause-happened
+note-requires-clause-happened g c =
     let subject = g.N.Noter.subject c.args.noter.now in
     let goes = c.in-Ok.ensures.goes in
     let member = member_still g.D.Disk.told g.D.Disk.clock g.D.Disk.image g.D.Disk.faults subject c.id-dn.result c.args.node.now goes.0 goes.1.0.id (member_of g.D.Disk.told g.D.Disk.clock g.D.Disk.image g.D.Disk.faults subject c.id-dn.result c.args.node.now c.id-dn.ensures c.requires.member) in
@@ -38,8 +38,8 @@ returns-in-Ok-clause-stands g c =
     let stood = g.met.K.Kept.stays c.ready.new.kept c.args.node.now goes.0 goes.1.0 (c.ready.ensures.stands c.args.node.now c.requires.stood) in
     c.note.ensures.stands goes.0 c.write_whole.new.node stood (rw c.ready.ensures.subject leads)
 
-pub note-requires-in-Err-Refused : goal.note-requires-in-Err-Refused
-note-requires-in-Err-Refused g c =
+pub note-requires-in-Err-Refused-clause-happened : goal.note-requires-in-Err-Refused-clause-happened
+note-requires-in-Err-Refused-clause-happened g c =
     let subject = g.N.Noter.subject c.args.noter.now in
     let goes = rw c.in-Err-Refused.field-0-is at c.in-Err-Refused.ensures.goes in
     let member = member_still g.D.Disk.told g.D.Disk.clock g.D.Disk.image g.D.Disk.faults subject c.id-dn.result c.args.node.now goes.0 goes.1.0.id (member_of g.D.Disk.told g.D.Disk.clock g.D.Disk.image g.D.Disk.faults subject c.id-dn.result c.args.node.now c.id-dn.ensures c.requires.member) in

@@ -1,18 +1,20 @@
 -- How far the chunks of a block were written, one behind the other.
-use Rattle.std.proofs.Common.{◌≡◌, ◌⊎◌, inl, inr, ℕ, ◌+◌, ◌-◌, ◌*◌, ◌/◌, ◌<◌, ◌≤◌, min, Bool, true, false, cond, List, [], ◌∷◌, ◌++◌, length, take, drop, slice_range, Option, Ok, Err, refl, sym, ap, ◌∙◌, subst, arith, length-take, length-append}
+use Rattle.std.proofs.Common.{◌≡◌, inl, inr, ℕ, ◌+◌, ◌-◌, ◌*◌, ◌/◌, ◌<◌, ◌≤◌, min, ◌||◌, Bool, true, false, List, [], ◌∷◌, ◌++◌, length, take, drop, slice_range, Option, Ok, Err, refl, sym, ap, ◌∙◌, subst, arith, length-take}
 use Rattle.std.proofs.lemmas.Bool.{cases_lt}
 use Rattle.std.proofs.lemmas.List.{take-take, take-append-drop, drop-take, take_all}
 use Rattle.oz_datanode.specs.Datanode.{State, Runs, node_in}
 use Rattle.oz_datanode.specs.Pairs.{Content, NodeHolds}
-use Rattle.oz_datanode.specs.Writing.{IsDrafted, IsOpen, Wrote, WriteEnds, is_open}
+use Rattle.oz_datanode.specs.Writing.{MakeBytes, IsOpen, Wrote, WriteEnds, is_open}
 use Rattle.oz_datanode.specs.declared.refusal.NodeRefusal.{NodeRefusal}
 use Rattle.oz_datanode.specs.declared.refusal.NodeRefusal.TheVariants as refusals
-use Rattle.oz_entries.specs.Node.{is_same_block}
-use Rattle.oz_entries.specs.declared.row.Chunk.{Chunk}
-use Rattle.oz_entries.specs.laws.Blocks.{itself}
+use Rattle.oz_entries.specs.Held.{any_in}
+use Rattle.oz_entries.specs.Node.{chunk_count, is_used}
 use Rattle.oz_fields.specs.declared.block.Block.{Block}
-use Rattle.oz_shelf.specs.declared.draft.Part.{Part}
-use Rattle.oz_shelf.specs.Shelf.{DraftView, ShelfView, follows, with_part}
+use Rattle.oz_shelf.specs.declared.written.Written.{Written}
+use Rattle.oz_shelf.specs.laws.Parting.{any_parts}
+use Rattle.oz_shelf.specs.laws.Written.{besides_written, makes_count}
+use Rattle.oz_shelf.specs.Shelf.{ShelfView}
+use Rattle.oz_shelf.specs.Written.{chunks_in, is_of, written_of, written_besides}
 use Rattle.oz_world.specs.Disk.{Images}
 use Rattle.oz_replicas.specs.Nodes.{AreOf, WrittenTo, FillGoes}
 use Rattle.oz_replicas.specs.Outcomes.{HasAlready}
@@ -47,36 +49,45 @@ within place size less = omega (arith, less)
 all_places : (place size : ℕ) → (size + 16383) / 16384 ≤ place → size ≤ place * 16384
 all_places place size past = omega (arith, past)
 
--- a chunk more is of its block, and the draft has one more at most
-part_block : (old : DraftView) (block : Block) (part : Part) (chunk : Chunk) → (with_part old block part chunk).block ≡ block
-part_block old block part chunk = by (follows old block part.place)
-  where
-    by : (on : Bool) → (cond {A = DraftView} on (record { block = block; parts = old.parts ++ part ∷ []; chunks = old.chunks ++ chunk ∷ [] }) (record { block = block; parts = part ∷ []; chunks = chunk ∷ [] })).block ≡ block
-    by true = refl
-    by false = refl
+none_of : {A : Type 0} (l : List A) → length l ≤ 0 → l ≡ []
+none_of [] small = refl
+none_of (x ∷ l) small = absurd (omega (arith, small))
 
-part_count : (old : DraftView) (block : Block) (part : Part) (chunk : Chunk) → length (with_part old block part chunk).chunks ≤ length old.chunks + 1
-part_count old block part chunk = by (follows old block part.place)
-  where
-    by : (on : Bool) → length (cond {A = DraftView} on (record { block = block; parts = old.parts ++ part ∷ []; chunks = old.chunks ++ chunk ∷ [] }) (record { block = block; parts = part ∷ []; chunks = chunk ∷ [] })).chunks ≤ length old.chunks + 1
-    by true = omega (arith, length-append old.chunks (chunk ∷ []))
-    by false = omega arith
+-- there are as many chunks as places
+chunks_made : (place size : ℕ) → size ≤ (place + 1) * 16384 → chunk_count size ≤ place + 1
+chunks_made place size small = omega (arith, small)
 
-pub own_draft : {D : Type 0} (block : Block) (old new : ShelfView D) → new.draft ≡ old.draft → AreOf block old → AreOf block new
-own_draft block old new same own = subst (λ (d : DraftView). (d.chunks ≡ []) ⊎ (is_same_block d.block block ≡ true)) (sym same) own
+few_chunks : (place size : ℕ) → place * 16384 < size → place < chunk_count size
+few_chunks place size less = omega (arith, less)
+
+pub own_still : {D : Type 0} (block : Block) (old new : ShelfView D) → new.written ≡ old.written → AreOf block old → AreOf block new
+own_still block old new same own = ap (λ (w : List Written). written_besides block w) same ∙ own
+
+-- what is taken by chunks is taken by those of the block
+whose_own : (block : Block) (written : List Written) (slot : ℕ) → written_besides block written ≡ [] → any_in (chunks_in written) slot ≡ any_in (chunks_in (written_of block written)) slot
+whose_own block written slot own =
+    any_parts (is_of block) written slot ∙ (ap (λ (w : List Written). any_in (chunks_in (written_of block written)) slot || any_in (chunks_in w) slot) own ∙ or_none (any_in (chunks_in (written_of block written)) slot))
+  where
+    or_none : (b : Bool) → (b || false) ≡ b
+    or_none true = refl
+    or_none false = refl
+
+chunks_length : (written : List Written) → length (chunks_in written) ≡ length written
+chunks_length [] = refl
+chunks_length (one ∷ written) = omega (arith, chunks_length written)
 
 module _ {D : Type 0} (told : D → Option (List ℕ)) (clock : D → ℕ) (image : D → Images) (faults : D → ℕ) (block : Block) (bytes : List ℕ) where
   pub written_none : (old : State D) → IsIdle old → WrittenTo told clock image faults block bytes 0 old old
   written_none old idle = record {
     same = refl;
-    own = inl idle;
-    count = let size : length old.shelf.draft.chunks ≡ 0 = ap (λ (l : List Chunk). length l) idle in omega (arith, size);
-    drafted = inl (refl, refl);
+    own = ap (λ (w : List Written). written_besides block w) idle;
+    count = let size : length (written_of block old.shelf.written) ≡ 0 = ap (λ (w : List Written). length (written_of block w)) idle in omega (arith, size);
+    made = inl (refl, refl);
     holds = λ contents holding. holding;
   }
 
   pub written_stays : (place : ℕ) (old now : State D) → WrittenTo told clock image faults block bytes place old now → Stays told clock image faults old now
-  written_stays place old now written = elim written.drafted [
+  written_stays place old now written = elim written.made [
     | inl none ↦ subst (λ (n : State D). Stays told clock image faults old n) (sym none.1) (stays_itself told clock image faults old)
     | inr some ↦ stays_running told clock image faults old now written.same some.0.ran some.1 written.holds
   ]
@@ -88,30 +99,34 @@ module _ {D : Type 0} (told : D → Option (List ℕ)) (clock : D → ℕ) (imag
   open_was old now same runs opened = record { ran = runs; is = ap (λ (n : State D). is_open ((node_in n).states block.container)) (sym same) ∙ opened.is }
 
   pub written_more : (place : ℕ) (part : List ℕ) (old mid new : State D) → WrittenTo told clock image faults block bytes place old mid → IsOpen faults block mid → Wrote told faults block place part mid new → part ≡ slice_range bytes (place * 16384) (place * 16384 + min (length bytes - place * 16384) 16384) → place * 16384 < length bytes
-      → (place ≡ 0 → IsDrafted told block part new.shelf) → ((front : List ℕ) → IsDrafted told block front mid.shelf → length front ≡ place * 16384 → IsDrafted told block (front ++ part) new.shelf)
+      → (place ≡ 0 → written_of block mid.shelf.written ≡ [] → MakeBytes told block part new.shelf) → ((front : List ℕ) → MakeBytes told block front mid.shelf → length front ≡ place * 16384 → MakeBytes told block (front ++ part) new.shelf)
       → ((contents : Block → Content) → NodeHolds told clock image faults contents mid → NodeHolds told clock image faults contents new) → WrittenTo told clock image faults block bytes (place + 1) old new
   written_more place part old mid new written opened wrote is less first next holds = record {
     same = wrote.same ∙ ap (λ (n : State D). record { id = n.id; blocks = n.blocks; shelf = new.shelf; stopped = n.stopped }) written.same;
-    own = inr (ap (λ (d : DraftView). is_same_block d.block block) wrote.written.draft ∙ (ap (λ (b : Block). is_same_block b block) (part_block mid.shelf.draft block _ _) ∙ itself block));
-    count =
-        let size : length new.shelf.draft.chunks ≤ length mid.shelf.draft.chunks + 1 = subst (λ (d : DraftView). length d.chunks ≤ length mid.shelf.draft.chunks + 1) (sym wrote.written.draft) (part_count mid.shelf.draft block _ _) in
-        omega (arith, size, written.count);
-    drafted = elim written.drafted [
+    own = ap (λ (w : List Written). written_besides block w) wrote.written.listed ∙ (besides_written mid.shelf.written _ ∙ written.own);
+    count = omega (arith, makes_count new.shelf.written block (length whole) all.1.made, chunks_made place (length whole) (omega (arith, length-take ((place + 1) * 16384) bytes)));
+    made = inr (all.0, wrote.runs, all.1);
+    holds = λ contents holding. holds contents (written.holds contents holding);
+  } where
+    whole : List ℕ
+    whole = take ((place + 1) * 16384) bytes
+
+    all : IsOpen faults block old × MakeBytes told block whole new.shelf
+    all = elim written.made [
       | inl none ↦
           let start : place * 16384 ≡ 0 = omega (arith, none.0) in
           let empty : take (place * 16384) bytes ++ part ≡ part = ap (λ (k : ℕ). take k bytes ++ part) start in
-          inr (subst (λ (n : State D). IsOpen faults block n) none.1 opened, wrote.runs, subst (λ (l : List ℕ). IsDrafted told block l new.shelf) (sym empty ∙ one_more place bytes part is less) (first none.0))
+          let few : length (written_of block mid.shelf.written) ≤ 0 = omega (arith, written.count, none.0) in
+          (subst (λ (n : State D). IsOpen faults block n) none.1 opened, subst (λ (l : List ℕ). MakeBytes told block l new.shelf) (sym empty ∙ one_more place bytes part is less) (first none.0 (none_of (written_of block mid.shelf.written) few)))
       | inr some ↦
-          inr (some.0, wrote.runs, subst (λ (l : List ℕ). IsDrafted told block l new.shelf) (one_more place bytes part is less) (next (take (place * 16384) bytes) some.2 (omega (arith, length-take (place * 16384) bytes, less))))
-    ];
-    holds = λ contents holding. holds contents (written.holds contents holding);
-  }
+          (some.0, subst (λ (l : List ℕ). MakeBytes told block l new.shelf) (one_more place bytes part is less) (next (take (place * 16384) bytes) some.2 (omega (arith, length-take (place * 16384) bytes, less))))
+    ]
 
   pub written_all : {T : Type 0} (done : T) (place : ℕ) (old new : State D) → WrittenTo told clock image faults block bytes place old new → (length bytes + 16383) / 16384 ≤ place → 1 ≤ length bytes → FillGoes told clock image faults block bytes old new (Ok done)
-  written_all done place old new written past some = elim written.drafted [
+  written_all done place old new written past some = elim written.made [
     | inl none ↦ absurd (omega (arith, all_places place (length bytes) past, none.0, some))
-    | inr drafted ↦
-        (written_stays place old new written, open_still old new written.same drafted.1 drafted.0, subst (λ (l : List ℕ). IsDrafted told block l new.shelf) (take_all (place * 16384) bytes (all_places place (length bytes) past)) drafted.2)
+    | inr made ↦
+        (written_stays place old new written, open_still old new written.same made.1 made.0, subst (λ (l : List ℕ). MakeBytes told block l new.shelf) (take_all (place * 16384) bytes (all_places place (length bytes) past)) made.2)
   ]
 
   -- the call at a chunk is refused
@@ -143,9 +158,9 @@ module _ {D : Type 0} (told : D → Option (List ℕ)) (clock : D → ℕ) (imag
       (
         record {
           took = takes told clock image faults block mid ends.0 (λ has. wanted (has_before told clock image faults block old mid (written_stays place old mid written) has));
-          chunks = mid.shelf.draft.chunks;
-          fewer = omega (arith, written.count, less);
-          full = ends.1.whose;
+          chunks = chunks_in (written_of block mid.shelf.written);
+          fewer = omega (arith, written.count, few_chunks place (length bytes) less, chunks_length (written_of block mid.shelf.written));
+          full = λ slot small. ap (λ (b : Bool). is_used (node_in mid) slot || b) (sym (whose_own block mid.shelf.written slot written.own)) ∙ ends.1.whose slot small;
           used = ends.1.used;
           asked = ends.1.asked;
           capacity = ends.1.capacity;
@@ -155,7 +170,7 @@ module _ {D : Type 0} (told : D → Option (List ℕ)) (clock : D → ℕ) (imag
     ),
   )
   write_gives_up T (refusals.NotOpen state) place part old mid new written less wanted ends holds = (mid, (written_stays place old mid written, (record { ran = ends.ran; is = ends.is; not_open = ends.not_open }, ends.same)))
-  write_gives_up T refusals.OutOfMemory place part old mid new written less wanted ends holds = (mid, (written_stays place old mid written, inl ends))
+  write_gives_up T refusals.OutOfMemory place part old mid new written less wanted ends holds = (mid, (written_stays place old mid written, inl ends.1))
   write_gives_up T refusals.NoBlock place part old mid new written less wanted ends holds = absurd ends
   write_gives_up T (refusals.Bad kept found) place part old mid new written less wanted ends holds = absurd ends
 
@@ -163,10 +178,10 @@ module _ {D : Type 0} (told : D → Option (List ℕ)) (clock : D → ℕ) (imag
   pub refused_own : (T : Type 0) (refusal : NodeRefusal) (place : ℕ) (part : List ℕ) (mid new : State D) → WriteEnds {T = T} told faults block place part mid new (Err refusal) → AreOf block mid.shelf → AreOf block new.shelf
   refused_own T (refusals.Stopped count) place part mid new ends own = elim ends [
     | inl was ↦ subst (λ (n : State D). AreOf block n.shelf) (sym was.same) own
-    | inr halts ↦ own_draft block mid.shelf new.shelf halts.1.halts.draft own
+    | inr halts ↦ own_still block mid.shelf new.shelf halts.1.halts.written own
   ]
   refused_own T (refusals.Full used asked capacity) place part mid new ends own = subst (λ (n : State D). AreOf block n.shelf) (sym ends.1.same) own
   refused_own T (refusals.NotOpen state) place part mid new ends own = subst (λ (n : State D). AreOf block n.shelf) (sym ends.same) own
-  refused_own T refusals.OutOfMemory place part mid new ends own = subst (λ (n : State D). AreOf block n.shelf) (sym ends) own
+  refused_own T refusals.OutOfMemory place part mid new ends own = subst (λ (n : State D). AreOf block n.shelf) (sym ends.1) own
   refused_own T refusals.NoBlock place part mid new ends own = absurd ends
   refused_own T (refusals.Bad kept found) place part mid new ends own = absurd ends

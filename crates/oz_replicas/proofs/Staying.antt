@@ -1,12 +1,11 @@
 -- What stays where nothing is noted.
-use Rattle.std.proofs.Common.{◌≡◌, inl, inr, ℕ, Bool, true, false, cond, ◌||◌, List, [], Option, None, Some, IsSome, IfSome, refl, sym, ap, ◌∙◌, subst}
+use Rattle.std.proofs.Common.{◌≡◌, ℕ, Bool, true, false, cond, ◌||◌, List, Option, None, Some, IsSome, IfSome, refl, sym, ap, ◌∙◌, subst}
 use Rattle.std.proofs.lemmas.Bool.{false≢true}
 use Rattle.oz_datanode.specs.Datanode.{State, node_in, meta_of, slots_of, is_halted, count_of, stop_of, Runs}
 use Rattle.oz_datanode.specs.Pairs.{Content, HaveAll, NodeHolds}
 use Rattle.oz_datanode.specs.Writing.{IsOpen, Abandons, is_open}
-use Rattle.oz_entries.specs.Node.{Node, is_held, is_same_block}
+use Rattle.oz_entries.specs.Node.{Node, is_held}
 use Rattle.oz_fields.specs.declared.block.Block.{Block}
-use Rattle.oz_shelf.specs.Shelf.{DraftView, empty_draft}
 use Rattle.oz_world.specs.Disk.{Images}
 use Rattle.oz_replicas.specs.Nodes.{AreOf}
 use Rattle.oz_replicas.specs.Outcomes.{HasAlready, Takes}
@@ -125,12 +124,4 @@ module _ {D : Type 0} (told : D → Option (List ℕ)) (clock : D → ℕ) (imag
 
 -- chunks of one block are gone once they are abandoned
 pub idle_abandoned : {D : Type 0} (block : Block) (old new : State D) → AreOf block old.shelf → Abandons block old new → IsIdle new
-idle_abandoned {D} block old new own abandons = ap (λ (d : DraftView). d.chunks) abandons.draft ∙ by (is_same_block old.shelf.draft.block block) refl own
-  where
-    by : (same : Bool) → same ≡ is_same_block old.shelf.draft.block block → AreOf block old.shelf → (cond {A = DraftView} same (empty_draft block) old.shelf.draft).chunks ≡ []
-    by true is own = refl
-    by false is (inl none) = none
-    by false is (inr same) = absurd (false≢true (is ∙ same))
-
-pub idle_own : {D : Type 0} (block : Block) (node : State D) → IsIdle node → AreOf block node.shelf
-idle_own block node idle = inl idle
+idle_abandoned block old new own abandons = abandons.written ∙ own

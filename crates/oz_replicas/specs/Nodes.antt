@@ -4,10 +4,9 @@ use Rattle.oz_chunk.specs.declared.table.TheConstants.{SLOT_SIZE}
 use Rattle.oz_core.specs.declared.event.PutRefusal.TheVariants as reasons
 use Rattle.oz_datanode.specs.Datanode.{State, Runs, stop_of}
 use Rattle.oz_datanode.specs.Pairs.{Content, NodeHolds}
-use Rattle.oz_datanode.specs.Writing.{IsDrafted, IsOpen, NoMemory}
+use Rattle.oz_datanode.specs.Writing.{IsOpen, MakeBytes, NoMemory}
 use Rattle.oz_datanode.specs.declared.refusal.NodeRefusal.{NodeRefusal}
 use Rattle.oz_datanode.specs.declared.refusal.NodeRefusal.TheVariants as refusals
-use Rattle.oz_entries.specs.Node.{is_same_block}
 use Rattle.oz_fields.specs.declared.block.Block.{Block}
 use Rattle.oz_replicas.specs.Outcomes.{IsPut, IsFull, IsShut, IsReason, Halts, FindsBad, IsAbsent, HasOther}
 use Rattle.oz_replicas.specs.Stays.{Stays}
@@ -16,22 +15,23 @@ use Rattle.oz_replicas.specs.declared.unput.Unput.TheVariants as unput
 use Rattle.oz_replicas.specs.declared.unread.Unread.{Unread}
 use Rattle.oz_replicas.specs.declared.unread.Unread.TheVariants as unread
 use Rattle.oz_shelf.specs.Shelf.{ShelfView}
+use Rattle.oz_shelf.specs.Written.{written_of, written_besides}
 use Rattle.oz_world.specs.Disk.{Images}
 
 -- ---- writing
 
 -- the chunks that were written are of this block
 abbrev pub AreOf : {D : Type 0} → Block → ShelfView D → Type 0
-AreOf block shelf = (shelf.draft.chunks ≡ []) ⊎ (is_same_block shelf.draft.block block ≡ true)
+AreOf block shelf = written_besides block shelf.written ≡ []
 
 -- the chunks of a block are written up to this place, and nothing else has changed
 pub record WrittenTo {D : Type 0} (told : D → Option (List ℕ)) (clock : D → ℕ) (image : D → Images) (faults : D → ℕ)
     (block : Block) (bytes : List ℕ) (place : ℕ) (old now : State D) : Type 0 where
   pub same : now ≡ record old { shelf = now.shelf }
   pub own : AreOf block now.shelf
-  pub count : length now.shelf.draft.chunks ≤ place
-  pub drafted : ((place ≡ 0) × (now ≡ old))
-      ⊎ (IsOpen faults block old × Runs faults now × IsDrafted told block (take (place * SLOT_SIZE) bytes) now.shelf)
+  pub count : length (written_of block now.shelf.written) ≤ place
+  pub made : ((place ≡ 0) × (now ≡ old))
+      ⊎ (IsOpen faults block old × Runs faults now × MakeBytes told block (take (place * SLOT_SIZE) bytes) now.shelf)
   pub holds : (contents : Block → Content) → NodeHolds told clock image faults contents old
       → NodeHolds told clock image faults contents now
 
@@ -53,7 +53,7 @@ GivesUp told clock image faults block bytes (refusals.Bad kept found) old new = 
 abbrev pub FillGoes : {D T : Type 0} → (D → Option (List ℕ)) → (D → ℕ) → (D → Images) → (D → ℕ) → Block → List ℕ
     → State D → State D → Result T NodeRefusal → Type 0
 FillGoes told clock image faults block bytes old new (Ok done) =
-    Stays told clock image faults old new × IsOpen faults block new × IsDrafted told block bytes new.shelf
+    Stays told clock image faults old new × IsOpen faults block new × MakeBytes told block bytes new.shelf
 FillGoes {D} told clock image faults block bytes old new (Err refusal) =
     (before : State D) × (Stays told clock image faults old before
     × GivesUp told clock image faults block bytes refusal before new)

@@ -7,7 +7,7 @@ use Rattle.oz_world.specs.Disk.{Images}
 
 -- No chunk was written that isn't put.
 abbrev pub IsIdle : {D : Type 0} → State D → Type 0
-IsIdle node = node.shelf.draft.chunks ≡ []
+IsIdle node = node.shelf.written ≡ []
 
 -- Nothing happened that is noted: it holds what it held and is stopped as it was, its journal is as it was, and its
 -- blocks have the contents that they had.

@@ -2,7 +2,7 @@
 
 ghost use Rattle.std.specs.Prelude.{◌≡◌, ◌≤◌, ◌<◌, ◌*◌, ◌+◌, ◌-◌, min, length, slice_range, OnOk};
 ghost use Rattle.oz_chunk.specs.declared.table.TheConstants.{SLOT_SIZE as SLOT_BYTES};
-ghost use Rattle.oz_datanode.specs.Writing.{IsDrafted, IsOpen};
+ghost use Rattle.oz_datanode.specs.Writing.{IsOpen, MakeBytes};
 ghost use Rattle.oz_fields.specs.declared.block.TheConstants.{LONGEST_PIECE};
 ghost use Rattle.oz_replicas.specs.Nodes.{AreOf, FillGoes, PutGoes};
 ghost use Rattle.oz_replicas.specs.Outcomes.{HasAlready};
@@ -46,7 +46,7 @@ fn put<D: Disk>(
     requires least { 1 ≤ length bytes.now }
     requires most { length bytes.now ≤ LONGEST_PIECE }
     requires opened { IsOpen D.faults block node.old }
-    requires drafted { IsDrafted D.told block bytes.now node.old.shelf }
+    requires made { MakeBytes D.told block bytes.now node.old.shelf }
     requires own { AreOf block node.old.shelf }
     requires wanted { ¬ HasAlready D.faults block node.old }
     ensures goes { PutGoes D.told D.clock D.image D.faults block bytes.now node.old node.new result }

@@ -1,5 +1,6 @@
 pub mod Chunks
 pub mod Giving
+pub mod Listed
 pub mod Members
 pub mod Putting
 pub mod Staying

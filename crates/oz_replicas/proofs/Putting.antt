@@ -1,5 +1,5 @@
 -- What a put comes to, of a block whose chunks are written.
-use Rattle.std.proofs.Common.{◌≡◌, inl, inr, ℕ, Bool, false, cond, List, [], length, Option, Result, Ok, Err, OnOk, IfSome, refl, sym, ◌∙◌, subst}
+use Rattle.std.proofs.Common.{◌≡◌, inl, inr, ℕ, Bool, false, cond, List, [], length, Option, Result, Ok, Err, OnOk, IfSome, refl, sym, ap, ◌∙◌, subst}
 use Rattle.std.proofs.lemmas.Bool.{false≢true}
 use Rattle.oz_datanode.specs.Datanode.{State, Runs, is_halted, node_in, slots_of}
 use Rattle.oz_datanode.specs.Pairs.{Content, Has, NodeHolds, with_content}

@@ -1,5 +1,5 @@
 -- What stays where nothing is noted.
-use Rattle.std.proofs.Common.{◌≡◌, ℕ, Bool, true, false, cond, ◌||◌, List, Option, None, Some, IsSome, IfSome, refl, sym, ap, ◌∙◌, subst}
+use Rattle.std.proofs.Common.{◌≡◌, inl, inr, ℕ, Bool, true, false, cond, ◌||◌, List, [], Option, None, Some, IsSome, IfSome, refl, sym, ap, ◌∙◌, subst}
 use Rattle.std.proofs.lemmas.Bool.{false≢true}
 use Rattle.oz_datanode.specs.Datanode.{State, node_in, meta_of, slots_of, is_halted, count_of, stop_of, Runs}
 use Rattle.oz_datanode.specs.Pairs.{Content, HaveAll, NodeHolds}

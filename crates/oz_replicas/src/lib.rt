@@ -5,6 +5,7 @@ mod cell;
 mod filling;
 mod halting;
 mod kept;
+mod laws;
 mod nodes;
 mod note;
 mod noter;
@@ -19,6 +20,7 @@ mod writing;
 
 pub use cell::NodeCell;
 pub use kept::Kept;
+pub use laws::cells_stay_in_order;
 pub use nodes::{NodeGuard, Nodes};
 pub use note::Note;
 pub use noter::Noter;

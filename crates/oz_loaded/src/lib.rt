@@ -8,7 +8,9 @@ mod parting;
 mod unseated;
 mod walking;
 
-pub use laws::a_disk_loads_as_one_thing;
+pub use laws::{
+    a_disk_loads_as_one_thing, the_parts_are_the_whole, what_is_left_stands_in_deleted_rows,
+};
 pub use loading::load;
 pub use parting::part;
 pub use unseated::Unseated;

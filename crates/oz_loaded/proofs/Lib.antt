@@ -4,4 +4,6 @@ mod Greatest
 mod Left
 mod Places
 mod Puts
+mod Sounds
+mod Stand
 mod Whole

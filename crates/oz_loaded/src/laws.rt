@@ -6,11 +6,15 @@ ghost use Rattle.oz_fields.specs.declared.block.Block.{Block as AnyBlock};
 ghost use Rattle.oz_journal.specs.Grammar.{IsJournal};
 ghost use Rattle.oz_loaded.specs.Loads.{IsDamagedDisk, IsLoaded};
 ghost use Rattle.oz_loaded.specs.Unseated.{UnseatedView};
+ghost use Rattle.oz_loaded.specs.Volumes.{IsOfStripe};
+ghost use Rattle.oz_namespace.specs.declared.namespace.Namespace.{Namespace as AnyNamespace};
 ghost use Rattle.oz_names.specs.declared.limits.TheConstants.{STRIPES};
 ghost use Rattle.oz_rows.specs.declared.key.RowKey.{RowKey as AnyKey};
-ghost use Rattle.oz_rows.specs.RowMaps.{row_of};
+ghost use Rattle.oz_rows.specs.RowMaps.{Rows as AnyRows, row_of};
+ghost use Rattle.oz_sound.specs.Sound.{IsSound};
+ghost use Rattle.oz_sound.specs.StandsFor.{StandsFor};
 ghost use Rattle.oz_store.specs.Store.{IsInADeletedRow};
-ghost use Rattle.oz_stripes.specs.Stripes.{stripe_of_key};
+ghost use Rattle.oz_stripes.specs.Stripes.{only, stripe_of_key};
 
 use oz_build::bodies_make_one_thing;
 use oz_effects::a_batch_makes_a_body;
@@ -49,3 +53,11 @@ pub fn what_is_left_stands_in_deleted_rows()
 {
     a_batch_makes_a_body();
 }
+
+/// Where all rows are sound and stand for a namespace, the rows of one stripe alone are sound and stand for what the
+/// namespace has of that stripe.
+pub fn a_stripes_rows_are_sound()
+    ensures sound { (stripe : ℕ) (all : AnyRows) → IsSound all → IsSound (only stripe all) }
+    ensures stand { (stripe : ℕ) (all : AnyRows) (namespace part : AnyNamespace) →
+        StandsFor all namespace → IsOfStripe stripe namespace part → StandsFor (only stripe all) part }
+{}

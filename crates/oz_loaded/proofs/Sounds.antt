@@ -1,5 +1,5 @@
 -- The rows of one stripe are sound where all rows are.
-use Rattle.std.proofs.Common.{◌≡◌, ◌≢◌, ◌⊎◌, inl, inr, ◌==◌, ℕ, ◌<◌, ◌≤◌, Bool, true, false, List, [], ◌∷◌, Option, None, Some, IsSome, cond, refl, sym, ◌∙◌, ap, subst}
+use Rattle.std.proofs.Common.{◌≡◌, inl, inr, ◌==◌, ℕ, ◌≤◌, Bool, true, false, List, [], ◌∷◌, Option, None, Some, IsSome, cond, refl, sym, ◌∙◌, ap, subst}
 use mathlib.Core.Bool.{false≢true}
 use Rattle.std.specs.List.{AllByRecursion}
 use Rattle.oz_fields.specs.declared.block.Block.{Block}
@@ -10,7 +10,7 @@ use Rattle.oz_rows.specs.declared.row.Row.{Row}
 use Rattle.oz_rows.specs.RowMaps.{Rows}
 use Rattle.oz_sound.specs.Sound.{AreTogether, AtMost, BlocksAreSound, CountsAreSound, IsKeeper, IsNamedAnew, IsRename, IsSound, IsUsing, NamesAreSound, NumbersAreSound, RenamesAreSound, SnapshotHas, StandsIn, bucket_of_row}
 use Rattle.oz_sound.specs.StandsFor.{IsLive, drawn_in}
-use Rattle.oz_stripes.specs.Stripes.{is_own, only, stripe_of_key}
+use Rattle.oz_stripes.specs.Stripes.{is_own, only}
 
 first_volume : Option (List ℕ × List ℕ) → List ℕ
 first_volume None = []

@@ -10,10 +10,9 @@ use Rattle.oz_namespace.specs.declared.namespace.Snapshot.{Snapshot}
 use Rattle.oz_namespace.specs.Namespace.{ByName, buckets_of, bucket_of, pieces_of, session_of, sixteen, snapshots_in, snapshots_of}
 use Rattle.oz_rows.specs.declared.key.RowKey.{RowKey}
 use Rattle.oz_rows.specs.declared.key.RowKey.TheVariants as keys
-use Rattle.oz_rows.specs.declared.row.Row.{Row}
 use Rattle.oz_rows.specs.declared.row.Row.TheVariants as rows
 use Rattle.oz_rows.specs.RowMaps.{Rows}
-use Rattle.oz_sound.specs.StandsFor.{AreSnapshots, IsLive, SessionStands, SnapshotsStand, StandsFor, drawn_in, pieces_in}
+use Rattle.oz_sound.specs.StandsFor.{AreSnapshots, SessionStands, SnapshotsStand, StandsFor, drawn_in, pieces_in}
 use Rattle.oz_stripes.specs.Stripes.{is_own, only}
 use Rattle.oz_loaded.specs.Volumes.{IsOfStripe}
 

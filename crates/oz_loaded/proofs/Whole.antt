@@ -1,5 +1,5 @@
 -- Each row stands in the part of its stripe.
-use Rattle.std.proofs.Common.{◌≡◌, ◌==◌, ℕ, ◌<◌, ◌%◌, true, List, Option, None, Some, IsSome, cond, slice_get, sum, refl, sym, ◌∙◌, ap, subst, arith}
+use Rattle.std.proofs.Common.{◌≡◌, ◌==◌, ℕ, ◌<◌, true, List, Option, None, Some, IsSome, cond, slice_get, sum, refl, ◌∙◌, ap, subst, arith}
 use mathlib.Core.Bool.{false≢true}
 use Rattle.std.proofs.lemmas.Bool.Decides.{nat_tests}
 use Rattle.std.proofs.lemmas.Nat.{mod_below}

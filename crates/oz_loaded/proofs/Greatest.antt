@@ -33,13 +33,13 @@ local_same block other e = by (other.container == block.container) (other.local 
     by true false same both = absurd (false≢true both)
     by false t same both = absurd (false≢true both)
 
-is_itself : (block : Block) → is_block block block ≡ true
+pub is_itself : (block : Block) → is_block block block ≡ true
 is_itself block =
     let container : (block.container == block.container) ≡ true = grind (arith, nat_tests) in
     let local : (block.local == block.local) ≡ true = grind (arith, nat_tests) in
     λ i. container i && local i
 
-or_true : (t : Bool) → (t || true) ≡ true
+pub or_true : (t : Bool) → (t || true) ≡ true
 or_true true = refl
 or_true false = refl
 

@@ -1,5 +1,9 @@
 mod Firsts
 mod Gathering
 mod Greatest
+mod Left
 mod Places
 mod Puts
+mod Sounds
+mod Stand
+mod Whole

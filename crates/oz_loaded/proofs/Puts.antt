@@ -1,6 +1,5 @@
 -- What puts of some rows lead to, and lists that grow by one.
 use Rattle.std.proofs.Common.{◌≡◌, ℕ, zero, suc, Bool, true, false, List, [], ◌∷◌, ◌++◌, length, slice_get, Option, None, Some, cond, refl, sym, ◌∙◌, ap, subst}
-use Rattle.std.specs.Ordering.{is_eq}
 use Rattle.oz_rows.specs.declared.key.RowKey.{RowKey}
 use Rattle.oz_rows.specs.declared.row.Row.{Row}
 use Rattle.oz_rows.specs.declared.entry.RowEntry.{RowEntry}

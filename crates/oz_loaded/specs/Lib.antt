@@ -2,4 +2,5 @@ pub mod Counted
 pub mod Loads
 pub mod Parts
 pub mod Unseated
+pub mod Volumes
 pub mod Walks

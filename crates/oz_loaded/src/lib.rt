@@ -8,7 +8,10 @@ mod parting;
 mod unseated;
 mod walking;
 
-pub use laws::a_disk_loads_as_one_thing;
+pub use laws::{
+    a_disk_loads_as_one_thing, a_stripes_rows_are_sound, the_parts_are_the_whole,
+    what_is_left_stands_in_deleted_rows,
+};
 pub use loading::load;
 pub use parting::part;
 pub use unseated::Unseated;

@@ -1,9 +1,13 @@
-//! Tests of three replicas.
+//! Tests of blocks in three replicas: what three datanodes answer to a write, and which of them gives a piece.
 #![tactic(auto)]
 
 #[cfg(test)]
-mod counts;
+mod full;
 #[cfg(test)]
-mod nodes;
+mod noting;
 #[cfg(test)]
-mod replicas;
+mod reading;
+#[cfg(test)]
+mod three;
+#[cfg(test)]
+mod writing;

@@ -140,23 +140,22 @@ fn tell(rt: &HostRuntime, held: u64, what: &str, number: u128) -> anyhow::Result
     Ok(())
 }
 
-fn measure(rt: &HostRuntime, rounds: u64, held: u64) -> anyhow::Result<()> {
-    let alloc = rt.alloc();
-    let Some(mut node) = load(alloc)? else {
-        println!(rt; "# loaded: false")?;
-        return Ok(());
-    };
-    let bytes = bytes_of(alloc)?;
-    let holds = hold(alloc, &mut node, &bytes, held);
-    println!(rt; "# holds: {holds}")?;
+/// The least of so many rounds of each.
+fn least_of(rt: &HostRuntime, node: &mut Node, bytes: &[u8], rounds: u64, held: u64) -> anyhow::Result<[u128; 5]> {
     let mut least = [u128::MAX; 5];
     for number in 0..rounds {
         let local = held.saturating_add(number).saturating_add(1);
-        let [put, digest, copy, read, delete] = round(rt, &mut node, &bytes, local)?;
+        let [put, digest, copy, read, delete] = round(rt, node, bytes, local)?;
         let [a, b, c, d, e] = least;
         least = [a.min(put), b.min(digest), c.min(copy), d.min(read), e.min(delete)];
     }
-    let [put, digest, copy, read, delete] = least;
+    Ok(least)
+}
+
+fn measure(rt: &HostRuntime, node: &mut Node, bytes: &[u8], rounds: u64, held: u64) -> anyhow::Result<()> {
+    let holds = hold(rt.alloc(), node, bytes, held);
+    println!(rt; "# holds: {holds}")?;
+    let [put, digest, copy, read, delete] = least_of(rt, node, bytes, rounds, held)?;
     tell(rt, held, "put", put)?;
     tell(rt, held, "digest", digest)?;
     tell(rt, held, "copy", copy)?;
@@ -164,6 +163,21 @@ fn measure(rt: &HostRuntime, rounds: u64, held: u64) -> anyhow::Result<()> {
     tell(rt, held, "delete", delete)?;
     let ratio = put.saturating_mul(100).checked_div(digest.saturating_add(copy));
     tell(rt, held, "ratio", ratio.unwrap_or(0))
+}
+
+fn measured(rt: &HostRuntime, mut node: Node, bytes: &[u8], rounds: u64, held: u64) -> anyhow::Result<()> {
+    measure(rt, &mut node, bytes, rounds, held)
+}
+
+/// Beside so many blocks that are held.
+fn over(rt: &HostRuntime, bytes: &[u8], rounds: u64, held: u64) -> anyhow::Result<()> {
+    match load(rt.alloc())? {
+        Some(node) => measured(rt, node, bytes, rounds, held),
+        None => {
+            println!(rt; "# loaded: false")?;
+            Ok(())
+        }
+    }
 }
 
 fn number_in(word: Option<String>) -> u64 {
@@ -177,8 +191,9 @@ fn main(rt: HostRuntime) -> anyhow::Result<()> {
     let mut words = env::args(&rt)?;
     let _program = words.next();
     let rounds = number_in(words.next());
+    let bytes = bytes_of(rt.alloc())?;
     for word in words {
-        measure(&rt, rounds, number_in(Some(word)))?;
+        over(&rt, &bytes, rounds, number_in(Some(word)))?;
     }
     Ok(())
 }

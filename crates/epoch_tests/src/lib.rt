@@ -5,5 +5,4 @@
 mod calls;
 #[cfg(test)]
 mod draws;
-#[cfg(test)]
 mod twin;

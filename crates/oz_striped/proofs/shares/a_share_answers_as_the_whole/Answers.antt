@@ -1,0 +1,11 @@
+use Rattle.oz_striped.specs.laws.Requests.{share_after, share_answers, share_stays}
+use Rattle.oz_striped.proofs.shares.a_share_answers_as_the_whole.Goals as goal
+
+pub returns-clause-replies : goal.returns-clause-replies
+returns-clause-replies c = λ stripe namespace part request reply its of. share_answers stripe namespace part request reply its of
+
+pub returns-clause-left : goal.returns-clause-left
+returns-clause-left c = λ stripe namespace part request reply its of all. share_after stripe namespace part request reply its of all
+
+pub returns-clause-stays : goal.returns-clause-stays
+returns-clause-stays c = λ stripe namespace part request reply its of all. share_stays stripe namespace part request reply its of all

@@ -1,0 +1,9 @@
+//! What a story makes of one stripe's volumes: laws on the definitions alone.
+#![tactic(auto)]
+
+mod shares;
+
+pub use shares::{
+    a_namespace_has_a_share, a_share_agrees_on_its_stripe, a_share_answers_as_the_whole,
+    all_stripes_have_numbers, other_stripes_leave_a_share, rows_that_stand_for_both,
+};

@@ -2,3 +2,6 @@
 pub mod Shares
 pub mod Requests
 pub mod Rows
+pub mod Stories
+pub mod Indexes
+pub mod Asked

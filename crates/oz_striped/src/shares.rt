@@ -29,7 +29,8 @@ pub fn a_share_agrees_on_its_stripe()
 
 /// A namespace has the numbers of all stripes where rows stand for it, and so has a share; a request leaves them all.
 pub fn all_stripes_have_numbers()
-    ensures standing { (rows : AnyRows) (namespace : AnyNamespace) → StandsFor rows namespace → HasAllStripes namespace }
+    ensures standing { (rows : AnyRows) (namespace : AnyNamespace) →
+        StandsFor rows namespace → HasAllStripes namespace }
     ensures share { (stripe : ℕ) (namespace part : AnyNamespace) →
         IsOfStripe stripe namespace part → HasAllStripes part }
     ensures left { (namespace : AnyNamespace) (request : AnyRequest) (reply : AnyReply) →

@@ -1,7 +1,7 @@
 //! What a namespace has of a stripe, and what requests make of it.
 
 ghost use Rattle.std.specs.Prelude.{◌≡◌, ◌≢◌, ◌↔◌, ℕ};
-ghost use Rattle.oz_model.specs.Answers.{Answers, after};
+ghost use Rattle.oz_model.specs.Answers.{Answers, WritesNothing, after};
 ghost use Rattle.oz_model.specs.Stripes.{AgreeOn};
 ghost use Rattle.oz_names.specs.Names.{stripe_of};
 ghost use Rattle.oz_namespace.specs.declared.namespace.Namespace.{Namespace as AnyNamespace};
@@ -49,6 +49,9 @@ pub fn a_share_answers_as_the_whole()
     ensures stays { (stripe : ℕ) (namespace part : AnyNamespace) (request : AnyRequest) (reply : AnyReply) →
         stripe_of (volume_in request) ≡ stripe → IsOfStripe stripe namespace part → HasAllStripes namespace →
         (after namespace request reply ≡ namespace) ↔ (after part request reply ≡ part) }
+    ensures writes_nothing { (stripe : ℕ) (namespace part : AnyNamespace) (request : AnyRequest) (reply : AnyReply) →
+        stripe_of (volume_in request) ≡ stripe → IsOfStripe stripe namespace part → HasAllStripes namespace →
+        WritesNothing namespace request reply ↔ WritesNothing part request reply }
 {}
 
 /// A request of another stripe leaves a share as it was.

@@ -14,7 +14,7 @@ use Rattle.oz_requests.specs.declared.reply.Reply.{Reply}
 use Rattle.oz_requests.specs.declared.request.Request.{Request}
 use Rattle.oz_requests.specs.Names.{volume_in}
 use Rattle.oz_model.specs.declared.scope.Scope.{Scope}
-use Rattle.oz_model.specs.Answers.{scope_after, AnswersIn, Answers, after}
+use Rattle.oz_model.specs.Answers.{scope_after, AnswersIn, Answers, after, WritesNothing}
 use Rattle.oz_model.specs.Scope.{scope_of, with_scope}
 use Rattle.oz_model.specs.laws.Stripes.{found_with, others_stay, elsewhere}
 use Rattle.oz_model.specs.laws.Scopes.{stays}
@@ -118,6 +118,9 @@ module _ (stripe : ℕ) (namespace part : Namespace) (request : Request) (reply 
     where
       moved : (one other : Scope) → one ≡ other → scope_after one request reply ≡ one → scope_after other request reply ≡ other
       moved one other same e = subst (λ (scope : Scope). scope_after scope request reply ≡ scope) same e
+
+  pub share_writes_nothing : HasAllStripes namespace → (WritesNothing namespace request reply ↔ WritesNothing part request reply)
+  share_writes_nothing all = let both = share_stays all in (λ none. (both.0 none.0, none.1), λ none. (both.1 none.0, none.1))
 
 -- ---- a request of another stripe
 

@@ -1,4 +1,4 @@
-use Rattle.oz_striped.specs.laws.Requests.{share_after, share_answers, share_stays}
+use Rattle.oz_striped.specs.laws.Requests.{share_after, share_answers, share_stays, share_writes_nothing}
 use Rattle.oz_striped.proofs.shares.a_share_answers_as_the_whole.Goals as goal
 
 pub returns-clause-replies : goal.returns-clause-replies
@@ -9,3 +9,6 @@ returns-clause-left c = λ stripe namespace part request reply its of all. share
 
 pub returns-clause-stays : goal.returns-clause-stays
 returns-clause-stays c = λ stripe namespace part request reply its of all. share_stays stripe namespace part request reply its of all
+
+pub returns-clause-writes_nothing : goal.returns-clause-writes_nothing
+returns-clause-writes_nothing c = λ stripe namespace part request reply its of all. share_writes_nothing stripe namespace part request reply its of all

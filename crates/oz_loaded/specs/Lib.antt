@@ -2,5 +2,4 @@ pub mod Counted
 pub mod Loads
 pub mod Parts
 pub mod Unseated
-pub mod Volumes
 pub mod Walks

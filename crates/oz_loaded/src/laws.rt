@@ -6,7 +6,6 @@ ghost use Rattle.oz_fields.specs.declared.block.Block.{Block as AnyBlock};
 ghost use Rattle.oz_journal.specs.Grammar.{IsJournal};
 ghost use Rattle.oz_loaded.specs.Loads.{IsDamagedDisk, IsLoaded};
 ghost use Rattle.oz_loaded.specs.Unseated.{UnseatedView};
-ghost use Rattle.oz_loaded.specs.Volumes.{IsOfStripe};
 ghost use Rattle.oz_namespace.specs.declared.namespace.Namespace.{Namespace as AnyNamespace};
 ghost use Rattle.oz_names.specs.declared.limits.TheConstants.{STRIPES};
 ghost use Rattle.oz_rows.specs.declared.key.RowKey.{RowKey as AnyKey};
@@ -15,6 +14,7 @@ ghost use Rattle.oz_sound.specs.Sound.{IsSound};
 ghost use Rattle.oz_sound.specs.StandsFor.{StandsFor};
 ghost use Rattle.oz_store.specs.Store.{IsInADeletedRow};
 ghost use Rattle.oz_stripes.specs.Stripes.{only, stripe_of_key};
+ghost use Rattle.oz_striped.specs.Shares.{IsOfStripe};
 
 use oz_build::bodies_make_one_thing;
 use oz_effects::a_batch_makes_a_body;

@@ -1,0 +1,5 @@
+-- Laws with their proofs, which proofs cite, those of other crates too. A reader has nothing to believe here.
+pub mod Grants
+pub mod Numbers
+pub mod Handed
+pub mod Free

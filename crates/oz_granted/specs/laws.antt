@@ -3,3 +3,4 @@ pub mod Grants
 pub mod Numbers
 pub mod Handed
 pub mod Free
+pub mod Listed

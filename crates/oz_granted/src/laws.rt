@@ -100,7 +100,8 @@ pub fn what_is_free_is_unused()
 /// the stripe.
 pub fn what_is_free_is_new()
     ensures { (opening : AnyOpening) (story : List AnyEvent) (loaded now : Rows) (stripe pipeline : ℕ)
-        (block twin : AnyBlock) (key : AnyKey) →
+        (block : AnyBlock) →
         RowsAreCoherent loaded opening → AreOld loaded (handed_out stripe story) now → IsLegal opening story →
-        IsFree story stripe block pipeline → StandsIn now twin key → twin.local ≡ block.local → ⊥ }
+        IsFree story stripe block pipeline →
+        (twin : AnyBlock) (key : AnyKey) → StandsIn now twin key → twin.local ≡ block.local → ⊥ }
 {}

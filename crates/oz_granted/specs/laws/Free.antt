@@ -31,8 +31,8 @@ module _ (opening : Opening) (story : List Event) (legal : IsLegal opening story
   free_allowed fresh log exclude allowed = record { to_stripe = free.granted; unused = free_unused fresh log; allowed = allowed }
 
   -- no block of rows that were loaded or handed out has its id
-  pub free_new : (loaded now : Rows) (twin : Block) (key : RowKey) → RowsAreCoherent loaded opening → AreOld loaded (handed_out stripe story) now → StandsIn now twin key → twin.local ≡ block.local → ⊥
-  free_new loaded now twin key coherent old stands same = ⊎_elim
+  pub free_new : (loaded now : Rows) → RowsAreCoherent loaded opening → AreOld loaded (handed_out stripe story) now → (twin : Block) (key : RowKey) → StandsIn now twin key → twin.local ≡ block.local → ⊥
+  free_new loaded now coherent old twin key stands same = ⊎_elim
       (λ row. not_old (subst (λ (n : ℕ). n < opening.next_id) same (coherent.fresh twin row)))
       (λ handed.
       let of = handed_granted opening story legal stripe twin handed in

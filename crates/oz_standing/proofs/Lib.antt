@@ -1,0 +1,7 @@
+mod Filling
+mod Gathered
+mod OneBucket
+mod Results
+mod Stands
+mod Striped
+mod Walking

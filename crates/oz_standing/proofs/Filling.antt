@@ -1,11 +1,10 @@
 -- What is found in a map that was filled from rows.
 use Rattle.std.proofs.Common.{◌≡◌, Bool, true, false, List, [], ◌∷◌, Option, None, Some, IsSome, cond, refl, sym, ◌∙◌, ap, subst}
-use mathlib.Core.Bool.{false≢true}
 use Rattle.std.specs.List.{AllByRecursion, fold}
 use Rattle.std.specs.Cmp.{IsTotalOrder}
 use Rattle.std.specs.Ordering.{eq_by_cmp, is_eq}
 use Rattle.std.specs.declared.cmp.Ordering.{Ordering}
-use Rattle.std.specs.FinMap.{FinMap, IsAntisymmetric, empty, get, get-empty, get-insert, insert}
+use Rattle.std.specs.FinMap.{FinMap, IsAntisymmetric, empty, get, get-empty, get-insert}
 use Rattle.std.proofs.lemmas.Cmp.{tied_itself}
 use Rattle.oz_rows.specs.declared.key.RowKey.{RowKey}
 use Rattle.oz_rows.specs.declared.row.Row.{Row}

@@ -1,6 +1,5 @@
 -- The rows of a part are those of all rows whose keys begin with its fields.
 use Rattle.std.proofs.Common.{◌≡◌, ℕ, Bool, true, false, List, [], ◌∷◌, ◌++◌, length, take, Option, None, Some, cond, refl, sym, ◌∙◌, ap, subst}
-use mathlib.Core.Bool.{false≢true}
 use Rattle.std.specs.List.{AllByRecursion}
 use Rattle.std.specs.Cmp.Lexicographic.{slice_cmp}
 use Rattle.std.specs.Ordering.{is_eq, nat_cmp}
@@ -14,7 +13,7 @@ use Rattle.oz_rows.specs.declared.entry.RowEntry.{RowEntry}
 use Rattle.oz_rows.specs.RowMaps.{AreRows, KeysRise, row_of}
 use Rattle.oz_rows.specs.laws.Order.{equal_from_test}
 use Rattle.oz_stripes.specs.Parts.{part_of}
-use Rattle.oz_stripes.specs.laws.Lists.{taken, left_out, each_found, part_rises, row_of_part, in_part}
+use Rattle.oz_stripes.specs.laws.Lists.{taken, left_out, each_found, part_rises, row_of_part}
 
 module _ (front : List (List ℕ)) where
   abbrev pub is_in : RowKey → Bool

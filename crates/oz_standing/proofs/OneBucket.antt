@@ -1,9 +1,9 @@
 -- What is made of a bucket's rows is what they have of it.
 use Rattle.std.proofs.Common.{◌≡◌, ◌==◌, ◌<◌, ℕ, Bool, true, false, ◌||◌, List, [], ◌∷◌, ◌++◌, Option, None, Some, IsSome, cond, refl, sym, ◌∙◌, ap, subst, arith}
 use mathlib.Core.Bool.{false≢true}
-use Rattle.std.specs.List.{AllByRecursion, flat_map}
+use Rattle.std.specs.List.{AllByRecursion}
 use Rattle.std.specs.Cmp.Lexicographic.{slice_cmp}
-use Rattle.std.specs.Ordering.{MatchOrdering, is_eq, nat_cmp, ordering_then}
+use Rattle.std.specs.Ordering.{MatchOrdering, nat_cmp, ordering_then}
 use Rattle.std.specs.declared.cmp.Ordering.{Ordering}
 use Rattle.std.specs.declared.cmp.Ordering.TheVariants.{Less, Equal, Greater}
 use Rattle.std.specs.FinMap.{get, IsAntisymmetric, nat_cmp-IsAntisymmetric, slice_cmp-IsAntisymmetric}
@@ -25,7 +25,7 @@ use Rattle.oz_rows.specs.declared.row.Row.TheVariants as rows
 use Rattle.oz_rows.specs.declared.row.SnapshotState.TheVariants.{Live}
 use Rattle.oz_rows.specs.RowMaps.{IsBelow, KeysRise, is_same, row_of}
 use Rattle.oz_rows.specs.laws.Same.{same_is_one}
-use Rattle.oz_sound.specs.StandsFor.{AreSnapshots, IsLive, NumbersRise, SnapshotsStand, is_among, pieces_in}
+use Rattle.oz_sound.specs.StandsFor.{AreSnapshots, NumbersRise, SnapshotsStand, is_among, pieces_in}
 use Rattle.oz_stripes.specs.Parts.{part_of}
 use Rattle.oz_stripes.specs.laws.Lists.{in_part, part_rises}
 use Rattle.oz_standing.specs.Made.{bucket_in, bucket_made, bucket_shown, buckets_made, filled, name_shown, named, pieces_shown, rows_in, session_in, session_shown, snapshot_in, snapshots_in_order}

@@ -1,12 +1,12 @@
 -- A namespace that has the volumes and the numbers of rows is the one that they stand for.
-use Rattle.std.proofs.Common.{◌≡◌, ◌⊎◌, inl, inr, ℕ, Bool, true, false, List, [], ◌∷◌, map, Option, None, Some, IsSome, is_some, refl, sym, ◌∙◌, ap, subst}
+use Rattle.std.proofs.Common.{◌≡◌, ◌⊎◌, inl, inr, ℕ, false, List, map, Option, None, Some, IsSome, is_some, refl, sym, ◌∙◌, ap, subst}
 use mathlib.Core.Bool.{false≢true}
 use Rattle.std.specs.FinMap.{get}
 use Rattle.std.specs.Option.{option_and_then}
 use Rattle.oz_namespace.specs.declared.namespace.Bucket.{Bucket}
 use Rattle.oz_namespace.specs.declared.namespace.Namespace.{Namespace}
 use Rattle.oz_namespace.specs.declared.namespace.Session.{Session}
-use Rattle.oz_namespace.specs.Namespace.{ByName, bucket_of, buckets_of, has_bucket, pieces_of, session_of, sixteen, snapshots_in, snapshots_of}
+use Rattle.oz_namespace.specs.Namespace.{ByName, bucket_of, buckets_of, pieces_of, session_of, sixteen, snapshots_in, snapshots_of}
 use Rattle.oz_rows.specs.declared.key.RowKey.TheVariants as keys
 use Rattle.oz_rows.specs.declared.row.Row.TheVariants as rows
 use Rattle.oz_rows.specs.RowMaps.{Rows}

@@ -9,7 +9,6 @@ use Rattle.std.proofs.lemmas.Bool.Decides.{nat_tests}
 use Rattle.std.proofs.lemmas.Nat.{mod_below}
 use Rattle.oz_cache.specs.Cache.{CacheView}
 use Rattle.oz_names.specs.Names.{stripe_of}
-use Rattle.oz_names.specs.declared.limits.TheConstants.{STRIPES}
 use Rattle.oz_namespace.specs.declared.namespace.Bucket.{Bucket}
 use Rattle.oz_namespace.specs.declared.namespace.Snapshot.{Snapshot}
 use Rattle.oz_namespace.specs.Namespace.{ByName, sixteen}

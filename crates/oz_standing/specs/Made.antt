@@ -28,13 +28,15 @@ entered made None = made
 entered made (Some (key, value)) = insert made key value
 
 -- the map of what is picked of each row, of which a later one goes before an earlier one
-abbrev pub filled : {K V : Type 0} {R : K → K → Ordering} → (RowEntry → Option (K × V)) → List RowEntry → FinMap R V
+abbrev pub filled : {K V : Type 0} {R : K → K → Ordering} → (RowEntry → Option (K × V)) → List RowEntry
+    → FinMap R V
 filled pick all = fold (λ made entry. entered made (pick entry)) empty all
 
 -- the name of a key, or of a key of this snapshot where one is given
 abbrev pub name_shown : Option ℕ → RowKey → Option (List ℕ)
 name_shown None (keys.Key volume bucket key) = Some key
-name_shown (Some snapshot) (keys.SnapshotKey volume bucket number key) = if number == snapshot then Some key else None
+name_shown (Some snapshot) (keys.SnapshotKey volume bucket number key) =
+    if number == snapshot then Some key else None
 name_shown snapshot key = None
 
 -- a name and its pieces, where there are both
@@ -47,7 +49,8 @@ pieces_shown snapshot entry = named (name_shown snapshot entry.key) (pieces_in (
 
 -- a session under its number
 abbrev pub session_in : RowKey → Row → Option (ℕ × Session)
-session_in (keys.Open volume bucket key number) (rows.Open blocks) = Some (number, record { key = key; blocks = blocks })
+session_in (keys.Open volume bucket key number) (rows.Open blocks) =
+    Some (number, record { key = key; blocks = blocks })
 session_in key row = None
 
 abbrev pub session_shown : RowEntry → Option (ℕ × Session)

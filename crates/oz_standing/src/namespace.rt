@@ -14,9 +14,9 @@ use oz_namespace::{Bucket, NameMap, Namespace};
 use oz_rows::{Row, RowKey};
 use std::alloc::Global;
 
-/// The namespace that rows stand for, of their tables in sixteen parts. Where they stand for none it is some namespace. Names,
-/// blocks and pieces are copied, and each row is found once, but those of snapshots' keys once for each live snapshot of their
-/// bucket.
+/// The namespace that rows stand for, of their tables in sixteen parts. Where they stand for none it is some namespace.
+/// Names, blocks and pieces are copied. Each row is found once, by a search and steps from key to key, and put into its
+/// map by a search; those that are kept for snapshots are passed over once more for each live snapshot of their bucket.
 pub fn namespace_of(alloc: Global, parts: &[Cached]) -> Result<Namespace, OutOfMemory>
     ensures { IfOk result (λ made. (all : AnyRows) (namespace : AnyNamespace) →
         AreStripesOf all parts.now → StandsFor all namespace → made ≡ namespace) }

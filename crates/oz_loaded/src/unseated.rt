@@ -1,15 +1,20 @@
 //! What was loaded, before it has its seats.
 
-ghost use Rattle.std.specs.Prelude.{◌≡◌, IfOk};
+ghost use Rattle.std.specs.Prelude.{◌≡◌, IfOk, List as AnyList};
 ghost use Rattle.oz_loaded.specs.Counted.{IsGreatestId, left_in as blocks_left};
 ghost use Rattle.oz_loaded.specs.Parts.{AreParts};
+ghost use Rattle.oz_namespace.specs.declared.namespace.Namespace.{Namespace as AnyNamespace};
+ghost use Rattle.oz_rows.specs.declared.entry.RowEntry.{RowEntry as AnyEntry};
 ghost use Rattle.oz_rows.specs.RowMaps.{row_of};
+ghost use Rattle.oz_sound.specs.StandsFor.{StandsFor};
 
 use crate::counting::{greatest_in, left_in};
 use crate::parting::parts_of;
 use crate::walking::{all_rows, first_keys};
 use oz_cache::Cached;
 use oz_fields::{Block, List, OutOfMemory, TryClone};
+use oz_namespace::Namespace;
+use oz_standing::namespace_of;
 use oz_tables::Tables;
 use std::alloc::Global;
 use std::marker::Model;
@@ -77,6 +82,14 @@ impl Unseated {
     {
         let left = self.left.try_clone(alloc)?;
         Ok(left.into_items())
+    }
+
+    /// The namespace that the rows stand for, made of copies. Where they stand for none it is some namespace.
+    pub fn namespace(&self, alloc: Global) -> Result<Namespace, OutOfMemory>
+        ensures { IfOk result (λ made. (all : AnyList AnyEntry) (namespace : AnyNamespace) →
+            AreParts all self.now.last_index self.now.parts → StandsFor (row_of all) namespace → made ≡ namespace) }
+    {
+        namespace_of(alloc, &self.parts)
     }
 
     /// The sixteen parts, in the order of the stripes. It takes no memory.

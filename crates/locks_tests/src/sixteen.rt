@@ -1,6 +1,7 @@
 //! All sixteen stripes.
 
 ghost use Rattle.std.specs.Prelude.{◌≡◌, ◌≤◌, ◌<◌, ◌+◌, vec_len, length, IfOk};
+ghost use Rattle.locks_tests.specs.Stripes.{AreNoMore};
 ghost use Rattle.oz_core.specs.Seats.{stripe_seat};
 ghost use Rattle.oz_locks.specs.Stripe.{AreInOrder, AreSixteen};
 ghost use Rattle.oz_turn.specs.Seat.{AreNewSeats};
@@ -28,12 +29,12 @@ fn stripes_below<R: Ring>(
     requires count { vec_len seats.old ≡ stripe_seat count }
     requires new { AreNewSeats R.turn seats.old.items }
     ensures count { IfOk result (λ stripes. length stripes.items ≡ count) }
-    ensures in_order { IfOk result (λ stripes. AreInOrder 0 stripes.items) }
+    ensures in_order { IfOk result (λ stripes. AreInOrder 0 (Unit {0}) AreNoMore stripes.items) }
 {
     if count == 0 {
         return Ok(Vec::new(alloc));
     }
-    stripes_stay_in_order::<Story>();
+    stripes_stay_in_order::<Story, NoRows>();
     let Some(stripe) = last_stripe::<R>(alloc, seats, count - 1) else {
         return Err("a seat".into());
     };

@@ -41,16 +41,24 @@ impl Told for Story {
     }
 }
 
-/// A disk without rows.
+/// A disk without rows, which agrees with all others.
 #[derive(Drop)]
 pub struct NoRows;
 
 impl Loaded for NoRows {
     ghost use Rattle.std.specs.Prelude.{None};
+    ghost use Rattle.std.specs.Coded.{le_prop};
+    ghost use Rattle.locks_tests.specs.Stripes.{AreNoMore};
 
     ghost rows = { λ key. None };
 
     ghost last_index = { 0 };
+
+    ghost coherent = { Unit {0} };
+
+    ghost keeps = { AreNoMore };
+
+    ghost keeps_once = { λ stripe mine seen rows. le_prop };
 }
 
 pub type OneStripe<R> = Stripe<Story, NoRows, R>;

@@ -30,10 +30,6 @@ AllUpTo epoch batches = AllByRecursion (λ (batch : Batch). batch.epoch ≤ epoc
 abbrev pub AllBelow : ℕ → List Batch → Type 0
 AllBelow epoch batches = AllByRecursion (λ (batch : Batch). batch.epoch < epoch) batches
 
-pub below_behind : (epoch : ℕ) (a b : List Batch) → AllBelow epoch (a ++ b) → AllBelow epoch b
-below_behind epoch [] b all = all
-below_behind epoch (x ∷ a) b all = below_behind epoch a b all.1
-
 pub up_to_both : (epoch : ℕ) (a b : List Batch) → AllUpTo epoch a → AllUpTo epoch b → AllUpTo epoch (a ++ b)
 up_to_both epoch [] b first second = second
 up_to_both epoch (x ∷ a) b first second = (first.0, up_to_both epoch a b first.1 second)
@@ -49,9 +45,19 @@ pub last_up_to : (epoch before : ℕ) (l : List Batch) → before ≤ epoch → 
 last_up_to epoch before [] le all = le
 last_up_to epoch before (x ∷ l) le all = last_up_to epoch x.epoch l all.0 all.1
 
-pub last_below : (epoch before : ℕ) (l : List Batch) → before < epoch → AllBelow epoch l → epoch_after before l < epoch
-last_below epoch before [] lt all = lt
-last_below epoch before (x ∷ l) lt all = last_below epoch x.epoch l all.0 all.1
+-- the last of rising epochs is the greatest
+last_above : (before : ℕ) (l : List Batch) → EpochsRise before l → before ≤ epoch_after before l
+last_above before [] rise = omega arith
+last_above before (x ∷ l) rise =
+    let first = rise.0 in
+    let last = last_above x.epoch l rise.1 in
+    omega (arith, first, last)
+
+pub rising_below : (epoch before others : ℕ) (l : List Batch) → EpochsRise before l → epoch_after others l < epoch → AllBelow epoch l
+rising_below epoch before others [] rise last = tt
+rising_below epoch before others (x ∷ l) rise last =
+    let greatest = last_above x.epoch l rise.1 in
+    (omega (arith, greatest, last), rising_below epoch x.epoch x.epoch l rise.1 last)
 
 -- one more batch
 pub rise_more : (before epoch : ℕ) (l : List Batch) (changes : List Change) → EpochsRise before l → before < epoch → AllBelow epoch l → EpochsRise before (l ++ batch_of epoch changes ∷ [])

@@ -66,7 +66,7 @@ purge_flushes_none opened seen seat blocks =
 
 -- ---- what a stripe keeps
 
-module _ {T : Type 0} (loaded : Rows) (opened : ℕ) (s : StripeView T) (kept : IsKept loaded opened s) where
+module _ {T : Type 0} {Coherent : Type 0} (loaded : Rows) (opened : ℕ) (s : StripeView T) (kept : IsKept loaded opened Coherent s) where
   -- the events that were looked at are the same where more follow
   same_known : (more : List Event) → take s.known (s.seen ++ more) ≡ take s.known s.seen
   same_known more = take-append-le s.known s.seen more kept.looked_at
@@ -75,14 +75,14 @@ module _ {T : Type 0} (loaded : Rows) (opened : ℕ) (s : StripeView T) (kept : 
   within_more more = let looked_at = kept.looked_at in omega (arith, looked_at, length-append s.seen more)
 
   -- its seat has seen more
-  pub kept_seen : (more : List Event) (room : ℕ) (taken : Option T) → IsKept loaded opened (record s { seen = s.seen ++ more; room = room; taken = taken })
+  pub kept_seen : (more : List Event) (room : ℕ) (taken : Option T) → IsKept loaded opened Coherent (record s { seen = s.seen ++ more; room = room; taken = taken })
   kept_seen more room taken = record {
     there = kept.there;
     rows = kept.rows;
     on_disk = flushed_seen opened s.seen more s.flushed kept.on_disk;
     looked_at = within_more more;
-    pool_is = kept.pool_is ∙ ap (λ (known : List Event). pool_of s.number known s.mine) (sym (same_known more));
-    used = subst (λ (known : List Event). AreOfGrants s.number known s.mine) (sym (same_known more)) kept.used;
+    pool_is = λ coherent. kept.pool_is coherent ∙ ap (λ (known : List Event). pool_of s.number known s.mine) (sym (same_known more));
+    used = λ coherent. subst (λ (known : List Event). AreOfGrants s.number known s.mine) (sym (same_known more)) (kept.used coherent);
     pinned = pinned_seen s.seen more s.mine s.pins kept.pinned;
     asked = kept.asked;
   }
@@ -91,7 +91,7 @@ module _ {T : Type 0} (loaded : Rows) (opened : ℕ) (s : StripeView T) (kept : 
   pub kept_given : (event : Event) (cache : CacheView) (granted : Option Block) (named : List Pin) (pin_room room : ℕ) (taken : Option T)
       → IsReplayed (only s.number loaded) (writes_of (s.mine ++ event ∷ [])) s.flushed cache → granted_block event.kind ≡ granted → named ≡ pins_in event.kind
       → IfSome granted (λ block. Any (λ (free : FreeBlock). free.block ≡ block) s.pool) → AreAskedWhole (newest cache) (s.mine ++ event ∷ [])
-      → IsKept loaded opened (record s {
+      → IsKept loaded opened Coherent (record s {
         cache = cache;
         pool = without granted s.pool;
         pins = s.pins ++ named;
@@ -106,32 +106,32 @@ module _ {T : Type 0} (loaded : Rows) (opened : ℕ) (s : StripeView T) (kept : 
     rows = rows;
     on_disk = flushed_seen opened s.seen (event ∷ []) s.flushed kept.on_disk;
     looked_at = within_more (event ∷ []);
-    pool_is = ap (without granted) kept.pool_is ∙ sym (pool_granted s.number (take s.known s.seen) s.mine event granted grants)
+    pool_is = λ coherent. ap (without granted) (kept.pool_is coherent) ∙ sym (pool_granted s.number (take s.known s.seen) s.mine event granted grants)
         ∙ ap (λ (known : List Event). pool_of s.number known (s.mine ++ event ∷ [])) (sym (same_known (event ∷ [])));
-    used = subst (λ (known : List Event). AreOfGrants s.number known (s.mine ++ event ∷ [])) (sym (same_known (event ∷ [])))
-        (of_grants_granted s.number (take s.known s.seen) s.mine event granted s.pool grants kept.pool_is pooled kept.used);
+    used = λ coherent. subst (λ (known : List Event). AreOfGrants s.number known (s.mine ++ event ∷ [])) (sym (same_known (event ∷ [])))
+        (of_grants_granted s.number (take s.known s.seen) s.mine event granted s.pool grants (kept.pool_is coherent) pooled (kept.used coherent));
     pinned = pinned_named s.seen s.mine event s.pins named names kept.pinned;
     asked = asked;
   }
 
   -- it has looked at all that its seat has seen
-  pub kept_known : (pool : List FreeBlock) → pool ≡ s.pool ++ blocks_granted s.number (drop s.known s.seen)
-      → AreFresh s.number (take s.known s.seen) (drop s.known s.seen)
-      → (pool ≡ pool_of s.number s.seen s.mine) × IsKept loaded opened (record s { pool = pool; known = length s.seen })
+  pub kept_known : (pool : List FreeBlock) → (Coherent → pool ≡ s.pool ++ blocks_granted s.number (drop s.known s.seen))
+      → (Coherent → AreFresh s.number (take s.known s.seen) (drop s.known s.seen))
+      → (Coherent → pool ≡ pool_of s.number s.seen s.mine) × IsKept loaded opened Coherent (record s { pool = pool; known = length s.seen })
   kept_known pool is fresh =
       let all = take-append-drop s.known s.seen in
       let whole : take (length s.seen) s.seen ≡ s.seen = take_all (length s.seen) s.seen (omega arith) in
-      let pool_is : pool ≡ pool_of s.number s.seen s.mine = is ∙ ap (λ (l : List FreeBlock). l ++ blocks_granted s.number (drop s.known s.seen)) kept.pool_is
-      ∙ sym (pool_more s.number (take s.known s.seen) (drop s.known s.seen) s.mine kept.used fresh) ∙ ap (λ (known : List Event). pool_of s.number known s.mine) all in (
+      let pool_is : Coherent → pool ≡ pool_of s.number s.seen s.mine = λ coherent. is coherent ∙ ap (λ (l : List FreeBlock). l ++ blocks_granted s.number (drop s.known s.seen)) (kept.pool_is coherent)
+      ∙ sym (pool_more s.number (take s.known s.seen) (drop s.known s.seen) s.mine (kept.used coherent) (fresh coherent)) ∙ ap (λ (known : List Event). pool_of s.number known s.mine) all in (
         pool_is,
         record {
           there = kept.there;
           rows = kept.rows;
           on_disk = kept.on_disk;
           looked_at = omega arith;
-          pool_is = pool_is ∙ ap (λ (known : List Event). pool_of s.number known s.mine) (sym whole);
-          used = subst (λ (known : List Event). AreOfGrants s.number known s.mine) (all ∙ sym whole)
-              (of_more_grants s.number (take s.known s.seen) (drop s.known s.seen) s.mine kept.used);
+          pool_is = λ coherent. pool_is coherent ∙ ap (λ (known : List Event). pool_of s.number known s.mine) (sym whole);
+          used = λ coherent. subst (λ (known : List Event). AreOfGrants s.number known s.mine) (all ∙ sym whole)
+              (of_more_grants s.number (take s.known s.seen) (drop s.known s.seen) s.mine (kept.used coherent));
           pinned = kept.pinned;
           asked = kept.asked;
         },

@@ -1,6 +1,7 @@
 -- A pool whose seat has seen more, or has granted; and what a pool has.
 use Rattle.std.proofs.Common.{◌≡◌, ⊎_elim, ◌⊎◌, inl, inr, ℕ, zero, suc, ◌+◌, ◌<◌, ◌≤◌, ◌==◌, Bool, true, false, not, ◌&&◌, ◌||◌, List, [], ◌∷◌, ◌++◌, length, take, slice_index_or, filter, Option, None, Some, IfSome, Any, Contains, cond, refl, sym, ◌∙◌, ap, subst, append_assoc, append-nil, length-append, arith}
 use mathlib.Core.Bool.{false≢true}
+use Rattle.std.proofs.lemmas.List.{take_more}
 use Rattle.std.proofs.lemmas.Bool.{and_parts, eq-eqb, eqb-true}
 use Rattle.std.proofs.lemmas.Grind.{flat_map-append}
 use Rattle.std.proofs.lemmas.List.Elements.{filter-append, filter_agree, filter_map-append, Contains-append_left, Contains-append_right, Contains-append_cases}
@@ -308,13 +309,35 @@ so_many_blocks of_stripe kind stripe container pipeline first count is same =
     ∙ length-map-range_with_len {X = FreeBlock} (λ local. record { block = record { container = container; local = local }; pipeline = pipeline }) first count
 
 pub room_for_next : (stripe : ℕ) (events : List Event) (i : ℕ) (item : Event) (held pool : List FreeBlock) (capacity : ℕ) → item ≡ slice_index_or events i item → i < length events
-    → pool ≡ held ++ blocks_granted stripe (take i events) → length held + length (blocks_granted stripe events) ≤ capacity
+    → length pool ≡ length held + length (blocks_granted stripe (take i events)) → length held + length (blocks_granted stripe events) ≤ capacity
     → length pool + length (blocks_in stripe item.kind) ≤ capacity
-room_for_next stripe events i item held pool capacity item_is within pool_is room =
+room_for_next stripe events i item held pool capacity item_is within long room =
     let step = length-flat_map-take (λ (event : Event). blocks_in stripe event.kind) events i item within in
     let its : length (blocks_in stripe (slice_index_or events i item).kind) ≡ length (blocks_in stripe item.kind) = ap (λ (e : Event). length (blocks_in stripe e.kind)) (sym item_is) in
-    let long : length pool ≡ length held + length (blocks_granted stripe (take i events)) = ap length pool_is ∙ length-append held (blocks_granted stripe (take i events)) in
     omega (arith, step, its, long, room)
+
+-- the blocks of the Grants among one event more
+granted_next : (stripe : ℕ) (events : List Event) (i : ℕ) (item : Event) → item ≡ slice_index_or events i item → i < length events
+    → blocks_granted stripe (take (i + 1) events) ≡ blocks_granted stripe (take i events) ++ blocks_in stripe item.kind
+granted_next stripe events i item item_is within =
+    ap (blocks_granted stripe) (take_more events i item within)
+    ∙ flat_map-append (λ (event : Event). blocks_in stripe event.kind) (take i events) (slice_index_or events i item ∷ [])
+    ∙ ap (λ (l : List FreeBlock). blocks_granted stripe (take i events) ++ l)
+    (append-nil (blocks_in stripe (slice_index_or events i item).kind) ∙ ap (λ (e : Event). blocks_in stripe e.kind) (sym item_is))
+
+pub pool_next : (stripe : ℕ) (events : List Event) (i : ℕ) (item : Event) (held pool all : List FreeBlock) → item ≡ slice_index_or events i item → i < length events
+    → pool ≡ held ++ blocks_granted stripe (take i events) → all ≡ pool ++ blocks_in stripe item.kind → all ≡ held ++ blocks_granted stripe (take (i + 1) events)
+pool_next stripe events i item held pool all item_is within pool_is all_is =
+    all_is ∙ ap (λ (l : List FreeBlock). l ++ blocks_in stripe item.kind) pool_is
+    ∙ append_assoc held (blocks_granted stripe (take i events)) (blocks_in stripe item.kind)
+    ∙ ap (λ (l : List FreeBlock). held ++ l) (sym (granted_next stripe events i item item_is within))
+
+pub count_next : (stripe : ℕ) (events : List Event) (i : ℕ) (item : Event) (held pool all : List FreeBlock) → item ≡ slice_index_or events i item → i < length events
+    → length pool ≡ length held + length (blocks_granted stripe (take i events)) → length all ≡ length pool + length (blocks_in stripe item.kind)
+    → length all ≡ length held + length (blocks_granted stripe (take (i + 1) events))
+count_next stripe events i item held pool all item_is within long all_long =
+    let next = ap length (granted_next stripe events i item item_is within) ∙ length-append (blocks_granted stripe (take i events)) (blocks_in stripe item.kind) in
+    omega (arith, next, long, all_long)
 
 pub one_more_of_grant : (pool : List FreeBlock) (container pipeline first place local : ℕ) → local ≡ first + place
     → (pool ++ blocks_of_grant container pipeline first place) ++ record { block = record { container = container; local = local }; pipeline = pipeline } ∷ [] ≡ pool ++ blocks_of_grant container pipeline first (place + 1)

@@ -1,8 +1,7 @@
 -- Writes replayed: none, one more, and some of them brought down.
 use Rattle.std.proofs.Common.{◌≡◌, ℕ, ◌≤◌, ◌<◌, List, [], ◌∷◌, ◌++◌, length, refl, sym, ◌∙◌, ap, subst, append_assoc, append-nil, arith}
 use Rattle.std.proofs.lemmas.List.Elements.{filter_map-append}
-use Rattle.std.specs.List.{AllByRecursion}
-use Rattle.oz_cache.specs.Cache.{CacheView, batched_changes, batch_of, epoch_after, newest, up_to, later}
+use Rattle.oz_cache.specs.Cache.{CacheView, batched_changes, batch_of, epoch_after, last_epoch, newest, up_to, later}
 use Rattle.oz_cache.specs.Waiting.{EpochsRise}
 use Rattle.oz_cache.specs.declared.batch.Batch.{Batch}
 use Rattle.oz_core.specs.declared.event.Event.{Event}
@@ -18,7 +17,7 @@ use Rattle.oz_rows.specs.RowMaps.{Rows, row_of, row_after, after_changes}
 use Rattle.oz_tables.specs.Tables.{TableView}
 use Rattle.oz_locks.specs.Rows.{AreReplayed, IsReplayed}
 use Rattle.oz_locks.specs.Writes.{Write, AreChangesOf, write_in, writes_of}
-use Rattle.oz_locks.proofs.Batches.{AllBelow, after_both, row_after-append, below_behind, up_to_both, up_to_more, last_up_to, rise_more, parted}
+use Rattle.oz_locks.proofs.Batches.{after_both, row_after-append, rising_below, up_to_both, up_to_more, last_up_to, rise_more, parted}
 
 -- ---- the writes of one event more
 
@@ -62,14 +61,6 @@ more_changes rows (w ∷ writes) (b ∷ batches) write changes are batch = (
       (same_batch _ _ (λ key. row_after-append b.changes (batched_changes batches) key (rows key)) write.bytes changes batch),
 )
 
-changes_below : (rows : Rows) (writes : List Write) (batches : List Batch) (index : ℕ) → AreChangesOf rows writes batches
-    → AllByRecursion (λ (write : Write). write.index < index) writes → AllBelow index batches
-changes_below rows [] [] index are all = tt
-changes_below rows [] (b ∷ batches) index are all = absurd are
-changes_below rows (w ∷ writes) [] index are all = absurd are
-changes_below rows (w ∷ writes) (b ∷ batches) index are all =
-    (subst (λ n. n < index) (sym are.0) all.0, changes_below (after_changes b.changes rows) writes batches index are.2 all.1)
-
 -- ---- what a stripe keeps of its rows
 
 module _ (loaded : Rows) where
@@ -106,15 +97,10 @@ module _ (loaded : Rows) where
     last = subst (λ n. n ≤ flushed) (sym last) is.last;
   }
 
-  pub all_below : (writes : List Write) (flushed : ℕ) (cache : CacheView) (index : ℕ) → IsReplayed loaded writes flushed cache
-      → AllByRecursion (λ (write : Write). write.index < index) writes → AllBelow index cache.entered
-  all_below writes flushed cache index is above =
-      below_behind index is.down cache.entered (changes_below loaded writes (is.down ++ cache.entered) index is.changes above)
-
   -- one write more
   pub more_replayed : (writes : List Write) (flushed : ℕ) (cache after : CacheView) (write : Write) (changes : List Change)
       → IsReplayed loaded writes flushed cache → IsBatchOf (newest cache) write.bytes changes
-      → AllByRecursion (λ (other : Write). other.index < write.index) writes → flushed < write.index
+      → last_epoch cache < write.index → flushed < write.index
       → after.entered ≡ cache.entered ++ batch_of write.index changes ∷ [] → after.durable ≡ cache.durable
       → IsReplayed loaded (writes ++ write ∷ []) flushed after
   more_replayed writes flushed cache after write changes is batch above unflushed entered durable =
@@ -123,7 +109,8 @@ module _ (loaded : Rows) where
         down = is.down;
         changes = subst (AreChangesOf loaded (writes ++ write ∷ [])) (append_assoc is.down cache.entered added ∙ ap (λ l. is.down ++ l) (sym entered)) all;
         brought = is.brought;
-        waiting = subst (EpochsRise flushed) (sym entered) (rise_more flushed write.index cache.entered changes is.waiting unflushed (all_below writes flushed cache write.index is above));
+        waiting = subst (EpochsRise flushed) (sym entered) (rise_more flushed write.index cache.entered changes is.waiting unflushed
+            (rising_below write.index flushed cache.durable.last_index cache.entered is.waiting above));
         in_tables = λ key. ap (λ (t : TableView). row_of t.rows key) durable ∙ is.in_tables key;
         last = subst (λ (t : TableView). t.last_index ≤ flushed) (sym durable) is.last;
       }

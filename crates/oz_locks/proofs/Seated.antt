@@ -1,6 +1,6 @@
 -- A stripe's parts, once its seat has seen more, or has decided or asked for something.
-use Rattle.std.proofs.Common.{◌≡◌, ℕ, ◌<◌, ◌≤◌, true, List, [], ◌∷◌, ◌++◌, length, take, drop, Any, IfSome, Option, None, refl, sym, ◌∙◌, ap, subst, subst₂, append-nil, arith}
-use Rattle.std.specs.List.{AllByRecursion}
+use Rattle.std.proofs.Common.{◌≡◌, ℕ, ◌<◌, ◌≤◌, true, List, [], ◌∷◌, ◌++◌, length, take, drop, All, Any, IfSome, Option, None, refl, sym, ◌∙◌, ap, subst, subst₂, append-nil}
+use Rattle.std.proofs.lemmas.List.Elements.{All-drop}
 use Rattle.oz_turn.specs.Ring.{TurnId}
 use Rattle.oz_turn.specs.Seat.{IsSameSeat, number_of, mine_of, seen_of, room_of, taken_of}
 use Rattle.oz_turn.specs.Told.{AddsOne, BeginsWith}
@@ -25,33 +25,35 @@ use Rattle.oz_locks.specs.declared.pool.FreeBlock.{FreeBlock}
 use Rattle.oz_locks.specs.Decides.{AddsDecide, AddsPurgeAsk}
 use Rattle.oz_locks.specs.Flushes.{IsFlushed, flushed_in}
 use Rattle.oz_locks.specs.Pins.{ArePinned, pins_in, without_line}
-use Rattle.oz_locks.specs.Pool.{AreFresh, blocks_granted, pool_of, without}
+use Rattle.oz_locks.specs.Pool.{AreFresh, GrantFits, blocks_granted, pool_of, without}
 use Rattle.oz_locks.specs.Purges.{AreAskedWhole, HaveWholeRows}
 use Rattle.oz_locks.specs.Rows.{IsReplayed}
 use Rattle.oz_locks.specs.Seats.{IsSeated, seen_as}
 use Rattle.oz_locks.specs.Stripe.{IsKept, StripeView}
-use Rattle.oz_locks.specs.Writes.{Write, writes_of}
-use Rattle.oz_locks.proofs.Batches.{last_below}
+use Rattle.oz_locks.specs.Writes.{writes_of}
 use Rattle.oz_locks.proofs.Kept.{kept_seen, kept_given, kept_known, last_is_flushed}
 use Rattle.oz_locks.proofs.Pinning.{pinned_without}
 use Rattle.oz_locks.proofs.Purging.{asked_kept, asked_anew, asked_alike}
-use Rattle.oz_locks.proofs.Replays.{no_write_more, no_write_of_purge, one_write_more, all_below, same_replayed, more_replayed, down_replayed}
+use Rattle.oz_locks.proofs.Replays.{no_write_more, no_write_of_purge, one_write_more, same_replayed, more_replayed, down_replayed}
 
 abbrev decide : ℕ → AskId → ℕ → Reply → List ℕ → Event
 decide number id index reply batch = record { seat = stripe_seat number; kind = Decide id index reply batch }
 
+abbrev AreFit : List Event → Type 0
+AreFit events = All (λ (event : Event). GrantFits event.kind) events
+
 abbrev purge_ask : ℕ → List Block → Event
 purge_ask number blocks = record { seat = stripe_seat number; kind = PurgeAsk blocks }
 
-module _ {T : Type 0} {told : Ghosts T Event} (turn : TurnId) (loaded : Rows) (opened number flushed : ℕ) where
+module _ {T : Type 0} {told : Ghosts T Event} (turn : TurnId) (loaded : Rows) (opened number flushed : ℕ) (Coherent : Type 0) where
   abbrev pub IsWhole : CacheView → List FreeBlock → ℕ → List Pin → ℕ → Seat T Event told → Type 0
-  IsWhole cached pool known pins pin_room s = IsSeated turn number s × IsKept loaded opened (seen_as number cached flushed pool known pins pin_room s)
+  IsWhole cached pool known pins pin_room s = IsSeated turn number s × IsKept loaded opened Coherent (seen_as number cached flushed pool known pins pin_room s)
 
   pub whole_seen : (cached : CacheView) (pool : List FreeBlock) (known : ℕ) (pins : List Pin) (pin_room : ℕ) (old new : Seat T Event told) → IsWhole cached pool known pins pin_room old
       → IsSameSeat old new → mine_of new ≡ mine_of old → BeginsWith (seen_of new) (seen_of old) → IsWhole cached pool known pins pin_room new
   whole_seen cached pool known pins pin_room old new whole same mine begins = (
     record { of_turn = same.0 ∙ whole.0.of_turn; numbered = same.1 ∙ whole.0.numbered },
-    subst₂ (λ (mine seen : List Event). IsKept loaded opened (record (seen_as number cached flushed pool known pins pin_room new) { mine = mine; seen = seen }))
+    subst₂ (λ (mine seen : List Event). IsKept loaded opened Coherent (record (seen_as number cached flushed pool known pins pin_room new) { mine = mine; seen = seen }))
         (sym mine) (sym begins.1)
         (kept_seen loaded opened (seen_as number cached flushed pool known pins pin_room old) whole.1 begins.0 (room_of new) (taken_of new)),
   )
@@ -66,8 +68,8 @@ module _ {T : Type 0} {told : Ghosts T Event} (turn : TurnId) (loaded : Rows) (o
   whole_given cached after pool left known pins all named pin_room pin_room_after granted event old new whole same mine seen rows grants names left_is all_is pooled asked =
       let kept = kept_given loaded opened (seen_as number cached flushed pool known pins pin_room old) whole.1 event after granted named pin_room_after (room_of new) (taken_of new) rows grants names pooled asked in (
         record { of_turn = same.0 ∙ whole.0.of_turn; numbered = same.1 ∙ whole.0.numbered },
-        subst₂ (λ (mine seen : List Event). IsKept loaded opened (record (seen_as number after flushed left known all pin_room_after new) { mine = mine; seen = seen })) (sym mine) (sym seen)
-            (subst₂ (λ (left : List FreeBlock) (all : List Pin). IsKept loaded opened (record (seen_as number after flushed left known all pin_room_after new) { mine = mine_of old ++ event ∷ []; seen = seen_of old ++ event ∷ [] })) (sym left_is) (sym all_is) kept),
+        subst₂ (λ (mine seen : List Event). IsKept loaded opened Coherent (record (seen_as number after flushed left known all pin_room_after new) { mine = mine; seen = seen })) (sym mine) (sym seen)
+            (subst₂ (λ (left : List FreeBlock) (all : List Pin). IsKept loaded opened Coherent (record (seen_as number after flushed left known all pin_room_after new) { mine = mine_of old ++ event ∷ []; seen = seen_of old ++ event ∷ [] })) (sym left_is) (sym all_is) kept),
       )
 
   -- the seat gave a Decide that changes no rows
@@ -88,7 +90,7 @@ module _ {T : Type 0} {told : Ghosts T Event} (turn : TurnId) (loaded : Rows) (o
       → seen_as number cached flushed pool known pins pin_room old ≡ v → IsWhole cached pool known pins pin_room old → IsSameSeat old new
       → ((event : Event) → story ≡ seen_of old ++ event ∷ [] → mine_of new ≡ mine_of old ++ event ∷ []) → seen_of new ≡ story
       → AddsDecide v story index batch granted named → 1 ≤ length batch → IsBatchOf (newest v.cache) batch changes
-      → AllByRecursion (λ (write : Write). write.index < index) (writes_of v.mine) → v.flushed < index
+      → last_epoch v.cache < index → v.flushed < index
       → IfSome granted (λ block. Any (λ (free : FreeBlock). free.block ≡ block) v.pool) → AreAskedWhole (after_changes changes (newest v.cache)) v.mine
       → after.entered ≡ cached.entered ++ batch_of index changes ∷ [] → after.durable ≡ cached.durable
       → ((key : RowKey) → newest after key ≡ row_after changes key (newest cached key))
@@ -96,7 +98,7 @@ module _ {T : Type 0} {told : Ghosts T Event} (turn : TurnId) (loaded : Rows) (o
   whole_entered cached after pool left known pins all named pin_room pin_room_after old new v story index granted batch changes view_is whole same mine seen adds_v some batch_v above_v unflushed_v pooled_v asked_v entered durable rows left_is all_is =
       let adds = subst (λ (v : StripeView T). AddsDecide v story index batch granted named) (sym view_is) adds_v in
       let is_batch = subst (λ (v : StripeView T). IsBatchOf (newest v.cache) batch changes) (sym view_is) batch_v in
-      let above = subst (λ (v : StripeView T). AllByRecursion (λ (write : Write). write.index < index) (writes_of v.mine)) (sym view_is) above_v in
+      let above = subst (λ (v : StripeView T). last_epoch v.cache < index) (sym view_is) above_v in
       let unflushed = subst (λ (v : StripeView T). v.flushed < index) (sym view_is) unflushed_v in
       let pooled = subst (λ (v : StripeView T). IfSome granted (λ block. Any (λ (free : FreeBlock). free.block ≡ block) v.pool)) (sym view_is) pooled_v in
       let asked = subst (λ (v : StripeView T). AreAskedWhole (after_changes changes (newest v.cache)) v.mine) (sym view_is) asked_v in
@@ -143,7 +145,7 @@ module _ {T : Type 0} {told : Ghosts T Event} (turn : TurnId) (loaded : Rows) (o
       → ((key : RowKey) → row_of after.durable.rows key ≡ row_after (batched_changes (up_to index cached.entered)) key (row_of cached.durable.rows key))
       → after.durable.last_index ≡ epoch_after cached.durable.last_index (up_to index cached.entered) → after.entered ≡ later index cached.entered
       → ((key : RowKey) → newest after key ≡ newest cached key)
-      → IsSeated turn number s × IsKept loaded opened (seen_as number after index pool known pins pin_room s)
+      → IsSeated turn number s × IsKept loaded opened Coherent (seen_as number after index pool known pins pin_room s)
   whole_down cached after pool known pins pin_room s v index view_is whole is_v le_v rows last entered same =
       let is = subst (λ (v : StripeView T). index ≡ flushed_in opened v.seen) (sym view_is) is_v in
       let le = subst (λ (v : StripeView T). v.flushed ≤ index) (sym view_is) le_v in (
@@ -180,16 +182,21 @@ module _ {T : Type 0} {told : Ghosts T Event} (turn : TurnId) (loaded : Rows) (o
       )
 
   -- the Grants that were seen are in the pool
-  pub whole_known : (cached : CacheView) (pool all : List FreeBlock) (known : ℕ) (pins : List Pin) (pin_room : ℕ) (s : Seat T Event told) (v : StripeView T) (story : List Event)
+  pub whole_known : (cached : CacheView) (pool all : List FreeBlock) (known : ℕ) (pins : List Pin) (pin_room : ℕ) (s : Seat T Event told) (v : StripeView T) (story more : List Event)
       → seen_as number cached flushed pool known pins pin_room s ≡ v → IsWhole cached pool known pins pin_room s → story ≡ v.seen
-      → AreFresh v.number (take v.known v.seen) (drop v.known v.seen) → all ≡ pool ++ blocks_granted number (drop known story)
-      → (all ≡ pool_of v.number v.seen v.mine) × IsWhole cached all (length story) pins pin_room s
-  whole_known cached pool all known pins pin_room s v story view_is whole story_is fresh_v all_is =
+      → (Coherent → AreFit v.seen) → (Coherent → AreFresh v.number (take v.known v.seen) (drop v.known v.seen)) → more ≡ drop known story
+      → (AreFit more → all ≡ pool ++ blocks_granted number more)
+      → (Coherent → all ≡ pool_of v.number v.seen v.mine) × IsWhole cached all (length story) pins pin_room s
+  whole_known cached pool all known pins pin_room s v story more view_is whole story_is fit_v fresh_v more_is added =
       let same : story ≡ seen_of s = story_is ∙ sym (ap (λ (v : StripeView T). v.seen) view_is) in
-      let fresh = subst (λ (v : StripeView T). AreFresh v.number (take v.known v.seen) (drop v.known v.seen)) (sym view_is) fresh_v in
-      let kept = kept_known loaded opened (seen_as number cached flushed pool known pins pin_room s) whole.1 all (all_is ∙ ap (λ (l : List Event). pool ++ blocks_granted number (drop known l)) same) fresh in (
-        subst (λ (v : StripeView T). all ≡ pool_of v.number v.seen v.mine) view_is kept.0,
-        (whole.0, subst (λ n. IsKept loaded opened (seen_as number cached flushed all n pins pin_room s)) (ap length (sym same)) kept.1),
+      let fresh = subst (λ (v : StripeView T). Coherent → AreFresh v.number (take v.known v.seen) (drop v.known v.seen)) (sym view_is) fresh_v in
+      let fit : Coherent → AreFit more = λ coherent. subst AreFit (sym more_is)
+      (All-drop (λ (event : Event). GrantFits event.kind) known story (subst AreFit (sym story_is) (fit_v coherent))) in
+      let all_is : Coherent → all ≡ pool ++ blocks_granted number (drop known (seen_of s)) = λ coherent. added (fit coherent)
+      ∙ ap (λ (l : List Event). pool ++ blocks_granted number l) (more_is ∙ ap (drop known) same) in
+      let kept = kept_known loaded opened (seen_as number cached flushed pool known pins pin_room s) whole.1 all all_is fresh in (
+        subst (λ (v : StripeView T). Coherent → all ≡ pool_of v.number v.seen v.mine) view_is kept.0,
+        (whole.0, subst (λ n. IsKept loaded opened Coherent (seen_as number cached flushed all n pins pin_room s)) (ap length (sym same)) kept.1),
       )
 
   -- what the turn asks of a Decide
@@ -209,13 +216,3 @@ module _ {T : Type 0} {told : Ghosts T Event} (turn : TurnId) (loaded : Rows) (o
       let adds = subst (λ (v : StripeView T). AddsPurgeAsk v story blocks) (sym view_is) adds_v in
       let event = purge_ask number blocks in
       (event, adds, tells event ∙ sym whole.0.numbered)
-
-  -- and what the cache asks
-  pub last_before : (cached : CacheView) (pool : List FreeBlock) (known : ℕ) (pins : List Pin) (pin_room : ℕ) (s : Seat T Event told) (v : StripeView T) (index : ℕ)
-      → seen_as number cached flushed pool known pins pin_room s ≡ v → IsWhole cached pool known pins pin_room s
-      → AllByRecursion (λ (write : Write). write.index < index) (writes_of v.mine) → v.flushed < index → last_epoch cached < index
-  last_before cached pool known pins pin_room s v index view_is whole above_v unflushed_v =
-      let above = subst (λ (v : StripeView T). AllByRecursion (λ (write : Write). write.index < index) (writes_of v.mine)) (sym view_is) above_v in
-      let unflushed = subst (λ (v : StripeView T). v.flushed < index) (sym view_is) unflushed_v in
-      let last = whole.1.rows.last in
-      last_below index cached.durable.last_index cached.entered (omega (arith, last, unflushed)) (all_below (only number loaded) (writes_of (mine_of s)) flushed cached index whole.1.rows above)

@@ -30,33 +30,38 @@ pub record StripeView (T : Type 0) : Type 0 where
   pub room : ℕ
   pub taken : Option T
 
--- what was loaded: the rows of all stripes, and the last index
-module _ {T : Type 0} (loaded : Rows) (opened : ℕ) where
+-- what was loaded: the rows of all stripes, and the last index; and that the disks agree with one another
+module _ {T : Type 0} (loaded : Rows) (opened : ℕ) (Coherent : Type 0) where
   pub record IsKept (s : StripeView T) : Type 0 where
     pub there : s.number < STRIPES
     -- The rows are the stripe's own Decides replayed over its own loaded rows.
     pub rows : IsReplayed (only s.number loaded) (writes_of s.mine) s.flushed s.cache
     -- No row is in the tables that isn't flushed.
     pub on_disk : IsFlushed opened s.seen s.flushed
-    -- The pool has all that is left of the Grants in the events that were looked at, and its Decides granted none of others.
+    -- The pool has all that is left of the Grants in the events that were looked at, and its Decides granted none of others. Over
+    -- disks that don't agree a later Grant may repeat an earlier one.
     pub looked_at : s.known ≤ length s.seen
-    pub pool_is : s.pool ≡ pool_of s.number (take s.known s.seen) s.mine
-    pub used : AreOfGrants s.number (take s.known s.seen) s.mine
+    pub pool_is : Coherent → s.pool ≡ pool_of s.number (take s.known s.seen) s.mine
+    pub used : Coherent → AreOfGrants s.number (take s.known s.seen) s.mine
     -- What its Decides named is pinned.
     pub pinned : ArePinned s.seen s.mine s.pins
     -- A deleted row of which a block stands in a PurgeAsk of the stripe has all of them there.
     pub asked : AreAskedWhole (newest s.cache) s.mine
 
--- The seat doesn't hold the value, and all that it knows to be flushed is in the tables.
-pub record IsAtRest {T : Type 0} (opened : ℕ) (s : StripeView T) : Type 0 where
-  pub free : s.taken ≡ None
-  pub whole : s.flushed ≡ flushed_in opened s.seen
+-- the last index that was loaded; that the disks agree; and what holds of each stripe's number, of the events that its seat gave
+-- and of those that it has seen, and of its newest rows, while nobody works on it
+module _ {T : Type 0} (opened : ℕ) (Coherent : Type 0) (Keeps : ℕ → List Event → List Event → Rows → Type 0) where
+  -- The seat doesn't hold the value, and all that it knows to be flushed is in the tables. Over disks that don't agree nothing is
+  -- known of indexes.
+  pub record IsAtRest (s : StripeView T) : Type 0 where
+    pub free : s.taken ≡ None
+    pub whole : Coherent → s.flushed ≡ flushed_in opened s.seen
+    pub keeps : Keeps s.number s.mine s.seen (newest s.cache)
 
--- stripes at rest, each at the place of its number
-abbrev pub AreInOrder : {T : Type 0} → ℕ → List (StripeView T) → Type 0
-AreInOrder {T} opened stripes =
-    (n : ℕ) (s : StripeView T) → slice_get stripes n ≡ Some s → (s.number ≡ n) × IsAtRest opened s
+  -- stripes at rest, each at the place of its number
+  abbrev pub AreInOrder : List (StripeView T) → Type 0
+  AreInOrder stripes = (n : ℕ) (s : StripeView T) → slice_get stripes n ≡ Some s → (s.number ≡ n) × IsAtRest s
 
--- all sixteen of them
-abbrev pub AreSixteen : {T : Type 0} → ℕ → List (StripeView T) → Type 0
-AreSixteen opened stripes = (length stripes ≡ STRIPES) × AreInOrder opened stripes
+  -- all sixteen of them
+  abbrev pub AreSixteen : List (StripeView T) → Type 0
+  AreSixteen stripes = (length stripes ≡ STRIPES) × AreInOrder stripes

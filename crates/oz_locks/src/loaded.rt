@@ -5,7 +5,8 @@ use std::marker::Brand;
 /// What was loaded from the manager's disk. A type that replays Decides takes it as a parameter, so that all of them go on from
 /// the same rows.
 pub trait Loaded {
-    ghost use Rattle.std.specs.Prelude.{ℕ};
+    ghost use Rattle.std.specs.Prelude.{ℕ, List};
+    ghost use Rattle.oz_core.specs.declared.event.Event.{Event};
     ghost use Rattle.oz_rows.specs.RowMaps.{Rows};
 
     /// The rows of all stripes.
@@ -13,12 +14,29 @@ pub trait Loaded {
 
     /// The last transaction index of the disk.
     ghost last_index: { ℕ };
+
+    /// That the disks agree with one another, as far as what is kept of Grants rests on it.
+    ghost coherent: { Type 0 };
+
+    /// What holds of each stripe that nobody works on: of its number, the events of its own seat, what its seat has seen, and its
+    /// newest rows.
+    ghost keeps: { ℕ → List Event → List Event → Rows → Type 0 };
+
+    /// It is so in one way at most.
+    ghost keeps_once: { (stripe : ℕ) (mine seen : List Event) (rows : Rows) → IsProp (keeps stripe mine seen rows) };
 }
 
 impl Loaded for Brand {
     ghost use Rattle.std.specs.Prelude.{None};
+    ghost use Rattle.std.specs.Coded.{Unit-prop};
 
     ghost rows = { λ key. None };
 
     ghost last_index = { 0 };
+
+    ghost coherent = { ⊥ };
+
+    ghost keeps = { λ stripe mine seen rows. Unit {0} };
+
+    ghost keeps_once = { λ stripe mine seen rows. Unit-prop };
 }

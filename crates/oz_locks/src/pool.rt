@@ -39,11 +39,12 @@ fn count_in(kind: &EventKind, of_stripe: u8) -> usize
     }
 }
 
-/// Puts the blocks of the Grants to a stripe among events behind a pool, which has room for them.
+/// Puts the blocks of the Grants to a stripe among events behind a pool, which has room for them. Of a Grant that goes beyond the
+/// greatest local id it is known only how many it has.
 pub(crate) fn add_granted(pool: &mut Vec<FreeBlock>, events: &[Event], stripe: u8)
-    requires fit { All (λ (event : AnyEvent). GrantFits event.kind) events.now }
     requires room { length pool.old.items + length (blocks_granted stripe events.now) ≤ vec_capacity pool.old }
-    ensures { pool.new.items ≡ pool.old.items ++ blocks_granted stripe events.now }
+    ensures { All (λ (event : AnyEvent). GrantFits event.kind) events.now
+        → pool.new.items ≡ pool.old.items ++ blocks_granted stripe events.now }
 {
     for event in events {
         add_those_in(pool, &event.kind, stripe);
@@ -51,9 +52,9 @@ pub(crate) fn add_granted(pool: &mut Vec<FreeBlock>, events: &[Event], stripe: u
 }
 
 fn add_those_in(pool: &mut Vec<FreeBlock>, kind: &EventKind, of_stripe: u8)
-    requires fits { GrantFits kind.now }
     requires room { length pool.old.items + length (blocks_in of_stripe kind.now) ≤ vec_capacity pool.old }
-    ensures items { pool.new.items ≡ pool.old.items ++ blocks_in of_stripe kind.now }
+    ensures items { GrantFits kind.now → pool.new.items ≡ pool.old.items ++ blocks_in of_stripe kind.now }
+    ensures length { length pool.new.items ≡ length pool.old.items + length (blocks_in of_stripe kind.now) }
     ensures capacity { vec_capacity pool.old ≤ vec_capacity pool.new }
 {
     if let EventKind::Grant {
@@ -72,13 +73,14 @@ fn add_those_in(pool: &mut Vec<FreeBlock>, kind: &EventKind, of_stripe: u8)
 
 /// Puts the blocks of a Grant behind a pool, which has room for them.
 fn add_blocks(pool: &mut Vec<FreeBlock>, container: u64, pipeline: u8, first: u64, count: u32)
-    requires within { first + count ≤ GREATEST_BLOCK_NUMBER }
     requires room { length pool.old.items + count ≤ vec_capacity pool.old }
-    ensures items { pool.new.items ≡ pool.old.items ++ blocks_of_grant container pipeline first count }
+    ensures items { first + count ≤ GREATEST_BLOCK_NUMBER
+        → pool.new.items ≡ pool.old.items ++ blocks_of_grant container pipeline first count }
+    ensures length { length pool.new.items ≡ length pool.old.items + count }
     ensures capacity { vec_capacity pool.old ≤ vec_capacity pool.new }
 {
     for place in 0..u64::from(count) {
-        let local = first + place;
+        let local = first.saturating_add(place);
         let block = Block { container, local };
         pool.push_reserved(FreeBlock { block, pipeline });
     }

@@ -1,8 +1,7 @@
 //! One stripe: its rows, and the seat whose Decides they are.
 
 ghost use Rattle.std.specs.Prelude.{◌≡◌, ℕ, ◌+◌, ◌<◌, ◌≤◌, List as AnyList, [], ◌∷◌, ◌++◌, length, take, drop, true, All, Any, None, IfOk, IfSome, OnOk, OnErr, MatchOption};
-ghost use Rattle.std.specs.List.{AllByRecursion};
-ghost use Rattle.oz_cache.specs.Cache.{batch_of, batched_changes, later, newest, up_to};
+ghost use Rattle.oz_cache.specs.Cache.{batch_of, batched_changes, last_epoch, later, newest, up_to};
 ghost use Rattle.oz_core.specs.Asks.{is_told};
 ghost use Rattle.oz_core.specs.Grants.{IsExcluded};
 ghost use Rattle.oz_core.specs.Seats.{stripe_seat};
@@ -16,7 +15,7 @@ ghost use Rattle.oz_locks.specs.Purges.{AreAskedWhole, HaveWholeRows};
 ghost use Rattle.oz_locks.specs.declared.pool.FreeBlock.{FreeBlock as AnyBlock};
 ghost use Rattle.oz_locks.specs.Stripe.{IsKept, IsAtRest};
 ghost use Rattle.oz_locks.specs.Rows.{AreReplayed};
-ghost use Rattle.oz_locks.specs.Writes.{Write as AnyWrite, writes_of};
+ghost use Rattle.oz_locks.specs.Writes.{writes_of};
 ghost use Rattle.oz_names.specs.declared.limits.TheConstants.{STRIPES};
 ghost use Rattle.oz_rows.specs.RowMaps.{after_changes, row_of, row_after};
 ghost use Rattle.oz_rows.specs.declared.key.RowKey.{RowKey as AnyKey};
@@ -65,8 +64,8 @@ impl<T: Told<Entry = Event>, L: Loaded, R: Ring> Model for Stripe<T, L, R> {
     ghost view = { λ s. seen_as s.number s.cached s.flushed s.pool.items s.known s.pins.items
         (vec_capacity s.pins - length s.pins.items) s.seat };
 
-    ghost invariant = { λ s. IsSeated R.turn s.number s.seat × IsKept L.rows L.last_index (seen_as s.number s.cached s.flushed
-        s.pool.items s.known s.pins.items (vec_capacity s.pins - length s.pins.items) s.seat) };
+    ghost invariant = { λ s. IsSeated R.turn s.number s.seat × IsKept L.rows L.last_index L.coherent (seen_as s.number s.cached
+        s.flushed s.pool.items s.known s.pins.items (vec_capacity s.pins - length s.pins.items) s.seat) };
 }
 
 impl<T: Told<Entry = Event>, L: Loaded, R: Ring> Stripe<T, L, R> {
@@ -77,11 +76,12 @@ impl<T: Told<Entry = Event>, L: Loaded, R: Ring> Stripe<T, L, R> {
         requires rows { (key : AnyKey) → row_of cached.durable.rows key ≡ only number L.rows key }
         requires last_index { cached.durable.last_index ≡ L.last_index }
         requires entered { cached.entered ≡ [] }
+        requires keeps { L.keeps number [] [] (newest cached) }
         ensures number { result.number ≡ number }
         ensures cache { result.cache ≡ cached }
         ensures empty { (result.pool ≡ []) × (result.known ≡ 0) × (result.pins ≡ []) }
         ensures events { (result.mine ≡ []) × (result.seen ≡ []) }
-        ensures rests { IsAtRest L.last_index result }
+        ensures rests { IsAtRest L.last_index L.coherent L.keeps result }
     {
         let flushed = cached.last_epoch();
         Stripe {
@@ -118,7 +118,7 @@ impl<T: Told<Entry = Event>, L: Loaded, R: Ring> Stripe<T, L, R> {
 
     /// What holds of every stripe; so its newest rows are its Decides replayed. It does nothing when it runs.
     pub fn is_kept(&self)
-        ensures kept { IsKept L.rows L.last_index self.now }
+        ensures kept { IsKept L.rows L.last_index L.coherent self.now }
         ensures rows { AreReplayed (only self.now.number L.rows) (writes_of self.now.mine) (newest self.now.cache) }
     {
         let _number = &self.number;
@@ -135,6 +135,13 @@ impl<T: Told<Entry = Event>, L: Loaded, R: Ring> Stripe<T, L, R> {
         ensures { result.now ≡ self.now.cache }
     {
         &self.cached
+    }
+
+    /// The index up to which rows were brought down into the tables.
+    pub fn brought_down(&self) -> u64
+        ensures { result ≡ self.now.flushed }
+    {
+        self.flushed
     }
 
     /// The blocks that lines work with.
@@ -191,10 +198,10 @@ impl<T: Told<Entry = Event>, L: Loaded, R: Ring> Stripe<T, L, R> {
     }
 
     /// Gives the value back with a Decide of the stripe that changes no rows, and pins what it named.
-    pub fn note(&mut self, turn: &Turn<T>, value: T, held: Held, index: u64, pins: &[Pin]) -> u64
+    pub fn note(&mut self, turn: &Turn<T>, value: T, held: Held, pins: &[Pin]) -> u64
         requires turn { turn_id turn.now ≡ R.turn }
         requires tells_seats { (event : AnyEvent) → T.seat_of event ≡ event.seat }
-        requires decides { AddsDecide self.old (T.entries value) index [] None pins.now }
+        requires decides { (index : ℕ) × AddsDecide self.old (T.entries value) index [] None pins.now }
         requires rooms { KeepsOtherRooms T.room (stripe_seat self.old.number) self.old.taken value }
         requires pins { length pins.now ≤ self.old.pin_room }
         ensures length { result ≡ length (T.entries value) }
@@ -211,7 +218,6 @@ impl<T: Told<Entry = Event>, L: Loaded, R: Ring> Stripe<T, L, R> {
           taken = None;
         } }
     {
-        let _ = index;
         pin_all(&mut self.pins, pins);
         turn.give(&mut self.seat, value, held)
     }
@@ -233,7 +239,7 @@ impl<T: Told<Entry = Event>, L: Loaded, R: Ring> Stripe<T, L, R> {
         requires decides { (batch : AnyList ℕ) × AddsDecide self.old (T.entries value) index batch granted pins.now
             × (1 ≤ length batch) × IsBatchOf (newest self.old.cache) batch changes }
         requires rooms { KeepsOtherRooms T.room (stripe_seat self.old.number) self.old.taken value }
-        requires above { AllByRecursion (λ (write : AnyWrite). write.index < index) (writes_of self.old.mine) }
+        requires above { last_epoch self.old.cache < index }
         requires unflushed { self.old.flushed < index }
         requires limit { index < END_OF_INDEXES }
         requires room { length changes ≤ self.old.cache.spare }
@@ -304,15 +310,15 @@ impl<T: Told<Entry = Event>, L: Loaded, R: Ring> Stripe<T, L, R> {
     }
 
     /// The blocks of those Grants to the stripe that it didn't look at yet come into the pool, behind the others. The story is
-    /// the one that its seat has seen.
+    /// the one that its seat has seen. Where the disks agree, the pool then has all that is left of the Grants in it.
     pub fn grant(&mut self, story: &[Event]) -> Result<(), OutOfMemory>
         requires story { story.now ≡ self.old.seen }
-        requires fit { All (λ (event : AnyEvent). GrantFits event.kind) self.old.seen }
-        requires fresh { AreFresh self.old.number (take self.old.known self.old.seen) (drop self.old.known self.old.seen) }
-        ensures ok { OnOk result (self.new ≡ record self.old {
-          pool = pool_of self.old.number self.old.seen self.old.mine;
-          known = length self.old.seen;
-        }) }
+        requires fit { L.coherent → All (λ (event : AnyEvent). GrantFits event.kind) self.old.seen }
+        requires fresh { L.coherent
+            → AreFresh self.old.number (take self.old.known self.old.seen) (drop self.old.known self.old.seen) }
+        ensures ok { OnOk result (self.new ≡ record self.old { pool = self.new.pool; known = length self.old.seen }) }
+        ensures pool { OnOk result (L.coherent
+            → self.new.pool ≡ pool_of self.old.number self.old.seen self.old.mine) }
         ensures err { OnErr result (self.new ≡ self.old) }
     {
         let more = &story[self.known..];

@@ -41,7 +41,7 @@ impl<T: Told<Entry = Event>, L: Loaded, R: Ring> Stripes<T, L, R> {
         alloc: Global,
         mut parts: Vec<Stripe<T, L, R>>,
     ) -> Result<Stripes<T, L, R>, (Vec<Stripe<T, L, R>>, OutOfMemory)>
-        requires { AreSixteen L.last_index parts.items }
+        requires { AreSixteen L.last_index L.coherent L.keeps parts.items }
         ensures { IfErr result (λ error. error.0 ≡ parts) }
     {
         let Ok(mut locks) = Vec::with_capacity(alloc, usize::from(STRIPES)) else {
@@ -58,7 +58,7 @@ impl<T: Told<Entry = Event>, L: Loaded, R: Ring> Stripes<T, L, R> {
 
     /// The sixteen stripes in order, in the list that they came in. It takes no memory.
     pub fn into_parts<W: Wait>(self, rt: &W) -> Vec<Stripe<T, L, R>>
-        ensures { AreSixteen L.last_index result.items }
+        ensures { AreSixteen L.last_index L.coherent L.keeps result.items }
     {
         let Stripes { mut locks, list } = self;
         let EmptyList { mut parts } = list.into_inner();
@@ -92,7 +92,7 @@ fn numbered<T: Told<Entry = Event>, L: Loaded, R: Ring, W: Wait>(
     number: usize,
 ) -> Stripe<T, L, R>
     ensures number { result.number ≡ number }
-    ensures rests { IsAtRest L.last_index result }
+    ensures rests { IsAtRest L.last_index L.coherent L.keeps result }
 {
     for _ in rt.forever() {
         if usize::from(resting.stripe.number()) == number {

@@ -7,7 +7,7 @@ pub loop-lock-preserved : goal.loop-lock-preserved
 loop-lock-preserved g c =
     let made = c.numbered-stripe.ensures in
     let number : c.numbered-stripe.result.number ≡ length c.loop-lock.parts.items = search rules in record {
-      order = subst (AreInOrder _) (sym c.push_reserved.ensures.items) (more_in_order _ _ _ c.loop-lock.invariant.order number made.rests);
+      order = subst (AreInOrder _ _ _) (sym c.push_reserved.ensures.items) (more_in_order _ _ _ _ _ c.loop-lock.invariant.order number made.rests);
       count = search rules;
       room = search rules;
     }

@@ -6,7 +6,7 @@ use Rattle.oz_locks.proofs.stripes.Stripes.into_parts.Given as goal
 -- so many have left, in order
 abbrev pub invariant-loop-lock : goal.invariant-loop-lock
 invariant-loop-lock g l = record {
-  order : AreInOrder g.L.Loaded.last_index l.parts.items;
+  order : AreInOrder g.L.Loaded.last_index g.L.Loaded.coherent g.L.Loaded.keeps l.parts.items;
   count : length l.locks.items + length l.parts.items ≡ STRIPES;
   room : STRIPES ≤ vec_capacity l.parts;
 }

@@ -6,7 +6,7 @@ use Rattle.oz_locks.proofs.stripes.Stripes.make.Given as goal
 -- the stripes that are left are in order, and the others are locked
 abbrev pub invariant-loop-stripe : goal.invariant-loop-stripe
 invariant-loop-stripe g l = record {
-  left : AreInOrder g.L.Loaded.last_index l.parts.items;
+  left : AreInOrder g.L.Loaded.last_index g.L.Loaded.coherent g.L.Loaded.keeps l.parts.items;
   count : length l.locks.items + length l.parts.items ≡ STRIPES;
   room : STRIPES ≤ vec_capacity l.locks;
   kept : STRIPES ≤ vec_capacity l.parts;

@@ -1,0 +1,11 @@
+//! Why an ask isn't put.
+
+/// Why nothing that an id asks is to be decided now.
+#[derive(Clone, Copy, Debug, PartialEq, Eq)]
+pub enum AskFault {
+    /// The law doesn't let the id ask this yet, or any more.
+    Early,
+    /// The manager had halted before the Ask; `count` is how often its disks had failed.
+    Stopped { count: u64 },
+    OutOfMemory,
+}

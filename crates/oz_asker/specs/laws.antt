@@ -1,4 +1,5 @@
 -- Laws with their proofs, which proofs cite, those of other crates too. A reader has nothing to believe here.
 pub mod Asks
 pub mod Halts
+pub mod Once
 pub mod Indexes

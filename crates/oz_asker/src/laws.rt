@@ -4,6 +4,7 @@ ghost use Rattle.std.specs.Prelude.{◌≡◌, ◌<◌, ◌≤◌, ℕ, [], true
 ghost use Rattle.oz_asker.specs.Asked.{IsAskAt};
 ghost use Rattle.oz_asker.specs.Decided.{IsDecidedAsAsked};
 ghost use Rattle.oz_buffer.specs.Buffer.{AllFollow, Follows};
+ghost use Rattle.oz_buffer.specs.Courses.{index_of};
 ghost use Rattle.oz_core.specs.declared.event.Event.{Event as AnyEvent};
 ghost use Rattle.oz_core.specs.declared.event.EventKind.TheVariants.{Decide};
 ghost use Rattle.oz_core.specs.declared.opening.Opening.{Opening as AnyOpening};
@@ -22,13 +23,18 @@ pub fn what_follows_is_legal<O: Opened>()
 {}
 
 /// In a legal story a script's id is decided as it asked: the request was pending, the stripe of its volume decided it,
-/// and the reply is that of one thread.
+/// and the reply is that of one thread. It is decided once: its index is that of the one Decide.
 pub fn what_was_decided()
-    ensures { (opening : AnyOpening) (story : List AnyEvent) (id : AnyId) (request : AnyRequest)
+    ensures as_asked { (opening : AnyOpening) (story : List AnyEvent) (id : AnyId) (request : AnyRequest)
         (asked place seat index : ℕ) (reply : AnyReply) (batch : List ℕ) →
         IsLegal opening story → is_script id ≡ true → IsAskAt story asked id request →
         slice_get story place ≡ Some (record { seat = seat; kind = Decide id index reply batch }) →
         IsDecidedAsAsked opening story place seat id request reply }
+    ensures once { (opening : AnyOpening) (story : List AnyEvent) (id : AnyId) (place seat index : ℕ) (reply : AnyReply)
+        (batch : List ℕ) →
+        IsLegal opening story → is_script id ≡ true →
+        slice_get story place ≡ Some (record { seat = seat; kind = Decide id index reply batch }) →
+        index_of id story ≡ Some index }
 {}
 
 /// In a legal story no Decide has a greater index than a later one: where one is stable, so is all that was decided

@@ -14,8 +14,8 @@ use oz_requests::AskId;
 use oz_turn::{Seat, Turn};
 use std::sync::Wait;
 
-/// Whether the last Decide of an id is stable. Where the manager has halted before it never will be, and the answer is how
-/// often its disks had failed. `by` is the seat's number.
+/// Whether the last Decide of an id is stable. Where the manager has halted before that, it never will be, and the answer
+/// is how often its disks had failed. `by` is the seat's number.
 pub fn settle<O: Opened, W: Wait>(
     rt: &W,
     turn: &Turn<Ledger<O>>,

@@ -14,7 +14,7 @@ use oz_requests::AskId;
 use oz_turn::{Seat, Turn};
 use std::sync::Wait;
 
-/// Whether the last Decide of an id is stable. Where the manager has halted before that, it never will be, and the answer
+/// Whether the last Decide of an id is stable. Where it isn't, and the manager has halted, it never will be: the answer
 /// is how often its disks had failed. `by` is the seat's number.
 pub fn settle<O: Opened, W: Wait>(
     rt: &W,

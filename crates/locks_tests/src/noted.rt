@@ -42,7 +42,7 @@ fn done_by(alloc: Global, stripe: u8) -> Event
     }
 }
 
-/// Notes a Decide of a stripe, brings down what is flushed, and lets the stripe go. Its answer is how many events there are.
+/// Notes a Decide of a stripe, brings down what is flushed, and lets the stripe go. It answers how many events stand.
 fn note<R: Ring, W: Wait + Abort, S: Ledger>(
     rt: &W,
     turn: &Turn<Story>,

@@ -38,8 +38,8 @@ module _ {T : Type 0} (loaded : Rows) (opened : ℕ) (Coherent : Type 0) where
     pub rows : IsReplayed (only s.number loaded) (writes_of s.mine) s.flushed s.cache
     -- No row is in the tables that isn't flushed.
     pub on_disk : IsFlushed opened s.seen s.flushed
-    -- The pool has all that is left of the Grants in the events that were looked at, and its Decides granted none of others. Over
-    -- disks that don't agree a later Grant may repeat an earlier one.
+    -- The pool has all that is left of the Grants in the events that were looked at, and its Decides granted none of
+    -- others. Over disks that don't agree a later Grant may repeat an earlier one.
     pub looked_at : s.known ≤ length s.seen
     pub pool_is : Coherent → s.pool ≡ pool_of s.number (take s.known s.seen) s.mine
     pub used : Coherent → AreOfGrants s.number (take s.known s.seen) s.mine
@@ -48,11 +48,11 @@ module _ {T : Type 0} (loaded : Rows) (opened : ℕ) (Coherent : Type 0) where
     -- A deleted row of which a block stands in a PurgeAsk of the stripe has all of them there.
     pub asked : AreAskedWhole (newest s.cache) s.mine
 
--- the last index that was loaded; that the disks agree; and what holds of each stripe's number, of the events that its seat gave
--- and of those that it has seen, and of its newest rows, while nobody works on it
+-- the last index that was loaded; that the disks agree; and what holds of each stripe's number, of the events that its
+-- seat gave and of those that it has seen, and of its newest rows, while nobody works on it
 module _ {T : Type 0} (opened : ℕ) (Coherent : Type 0) (Keeps : ℕ → List Event → List Event → Rows → Type 0) where
-  -- The seat doesn't hold the value, and all that it knows to be flushed is in the tables. Over disks that don't agree nothing is
-  -- known of indexes.
+  -- The seat doesn't hold the value, and all that it knows to be flushed is in the tables. Over disks that don't agree
+  -- nothing is known of indexes. What is kept of each stripe holds.
   pub record IsAtRest (s : StripeView T) : Type 0 where
     pub free : s.taken ≡ None
     pub whole : Coherent → s.flushed ≡ flushed_in opened s.seen

@@ -15,7 +15,8 @@ pub fn stripes_stay_in_order<T, L: Loaded>()
         → IsAtRest L.last_index L.coherent L.keeps stripe
         → AreInOrder L.last_index L.coherent L.keeps (stripes ++ stripe ∷ []) }
     ensures front { (stripes rest : List (StripeView T))
-        → AreInOrder L.last_index L.coherent L.keeps (stripes ++ rest) → AreInOrder L.last_index L.coherent L.keeps stripes }
+        → AreInOrder L.last_index L.coherent L.keeps (stripes ++ rest)
+        → AreInOrder L.last_index L.coherent L.keeps stripes }
     ensures last { (stripes : List (StripeView T)) (stripe : StripeView T)
         → AreInOrder L.last_index L.coherent L.keeps (stripes ++ stripe ∷ [])
         → (stripe.number ≡ length stripes) × IsAtRest L.last_index L.coherent L.keeps stripe }

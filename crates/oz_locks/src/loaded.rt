@@ -18,8 +18,8 @@ pub trait Loaded {
     /// That the disks agree with one another, as far as what is kept of Grants rests on it.
     ghost coherent: { Type 0 };
 
-    /// What holds of each stripe that nobody works on: of its number, the events of its own seat, what its seat has seen, and its
-    /// newest rows.
+    /// What holds of each stripe that nobody works on: of its number, the events of its own seat, what its seat has
+    /// seen, and its newest rows.
     ghost keeps: { ℕ → List Event → List Event → Rows → Type 0 };
 
     /// It is so in one way at most.

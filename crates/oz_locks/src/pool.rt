@@ -39,8 +39,8 @@ fn count_in(kind: &EventKind, of_stripe: u8) -> usize
     }
 }
 
-/// Puts the blocks of the Grants to a stripe among events behind a pool, which has room for them. Of a Grant that goes beyond the
-/// greatest local id it is known only how many it has.
+/// Puts the blocks of the Grants to a stripe among events behind a pool, which has room for them. Of a Grant that goes
+/// beyond the greatest local id it is known only how many it has.
 pub(crate) fn add_granted(pool: &mut Vec<FreeBlock>, events: &[Event], stripe: u8)
     requires room { length pool.old.items + length (blocks_granted stripe events.now) ≤ vec_capacity pool.old }
     ensures { All (λ (event : AnyEvent). GrantFits event.kind) events.now

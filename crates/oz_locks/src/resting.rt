@@ -9,8 +9,9 @@ use crate::stripe::Stripe;
 use oz_core::Event;
 use oz_turn::{Ring, Told};
 
-/// A stripe that nobody works on: its seat doesn't hold the value; what it knows to be flushed was brought down, where the disks
-/// agree; and it keeps what is kept of each. Who holds the lock may use the stripe as long as this holds again at the end.
+/// A stripe that nobody works on: its seat doesn't hold the value; what it knows to be flushed was brought down, where
+/// the disks agree; and what is kept of each holds of it. Who has the lock may use the stripe as long as this holds
+/// again at the end.
 #[derive(Drop)]
 pub struct Resting<T: Told<Entry = Event>, L: Loaded, R: Ring> {
     pub stripe: Stripe<T, L, R>,

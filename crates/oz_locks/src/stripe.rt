@@ -64,8 +64,9 @@ impl<T: Told<Entry = Event>, L: Loaded, R: Ring> Model for Stripe<T, L, R> {
     ghost view = { λ s. seen_as s.number s.cached s.flushed s.pool.items s.known s.pins.items
         (vec_capacity s.pins - length s.pins.items) s.seat };
 
-    ghost invariant = { λ s. IsSeated R.turn s.number s.seat × IsKept L.rows L.last_index L.coherent (seen_as s.number s.cached
-        s.flushed s.pool.items s.known s.pins.items (vec_capacity s.pins - length s.pins.items) s.seat) };
+    ghost invariant = { λ s. IsSeated R.turn s.number s.seat × IsKept L.rows L.last_index L.coherent
+        (seen_as s.number s.cached s.flushed s.pool.items s.known s.pins.items
+        (vec_capacity s.pins - length s.pins.items) s.seat) };
 }
 
 impl<T: Told<Entry = Event>, L: Loaded, R: Ring> Stripe<T, L, R> {
@@ -309,8 +310,9 @@ impl<T: Told<Entry = Event>, L: Loaded, R: Ring> Stripe<T, L, R> {
         self.flushed = index;
     }
 
-    /// The blocks of those Grants to the stripe that it didn't look at yet come into the pool, behind the others. The story is
-    /// the one that its seat has seen. Where the disks agree, the pool then has all that is left of the Grants in it.
+    /// The blocks of those Grants to the stripe that it didn't look at yet come into the pool, behind the others. The
+    /// story is the one that its seat has seen. Where the disks agree, the pool then has all that is left of the Grants
+    /// in it.
     pub fn grant(&mut self, story: &[Event]) -> Result<(), OutOfMemory>
         requires story { story.now ≡ self.old.seen }
         requires fit { L.coherent → All (λ (event : AnyEvent). GrantFits event.kind) self.old.seen }

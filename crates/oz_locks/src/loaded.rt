@@ -21,14 +21,10 @@ pub trait Loaded {
     /// What holds of each stripe that nobody works on: of its number, the events of its own seat, what its seat has
     /// seen, and its newest rows.
     ghost keeps: { ℕ → List Event → List Event → Rows → Type 0 };
-
-    /// It is so in one way at most.
-    ghost keeps_once: { (stripe : ℕ) (mine seen : List Event) (rows : Rows) → IsProp (keeps stripe mine seen rows) };
 }
 
 impl Loaded for Brand {
     ghost use Rattle.std.specs.Prelude.{None};
-    ghost use Rattle.std.specs.Coded.{Unit-prop};
 
     ghost rows = { λ key. None };
 
@@ -37,6 +33,4 @@ impl Loaded for Brand {
     ghost coherent = { ⊥ };
 
     ghost keeps = { λ stripe mine seen rows. Unit {0} };
-
-    ghost keeps_once = { λ stripe mine seen rows. Unit-prop };
 }

@@ -1,6 +1,6 @@
 //! Sixteen stripes, each behind a lock.
 
-ghost use Rattle.std.specs.Prelude.{◌≡◌, ◌≤◌, ◌<◌, ◌+◌, ℕ, [], length, vec_capacity, IfErr};
+ghost use Rattle.std.specs.Prelude.{◌≡◌, ◌≤◌, ◌<◌, ◌+◌, ℕ, [], length, vec_capacity, IfErr, IsSomeAnd};
 ghost use Rattle.std.specs.Sync.Mutex.{mutex_guard_value};
 ghost use Rattle.oz_locks.specs.Stripe.{AreSixteen, IsAtRest};
 ghost use Rattle.oz_names.specs.declared.limits.TheConstants.{STRIPES};
@@ -48,7 +48,7 @@ impl<T: Told<Entry = Event>, L: Loaded, R: Ring> Stripes<T, L, R> {
             return Err((parts, OutOfMemory));
         };
         while let Some(stripe) = parts.pop() {
-            locks.push_reserved(Mutex::new(Resting { stripe }));
+            locks.push_reserved(Mutex::new(Resting::of(stripe)));
         }
         Ok(Stripes {
             locks,
@@ -69,15 +69,15 @@ impl<T: Told<Entry = Event>, L: Loaded, R: Ring> Stripes<T, L, R> {
         parts
     }
 
-    /// Waits for the lock of a stripe.
+    /// Waits for the lock of a stripe, and until the stripe lies behind it.
     pub fn lock<W: Wait>(&self, rt: &W, stripe: u8) -> StripeGuard<'_, T, L, R>
         requires { stripe < STRIPES }
-        ensures { (mutex_guard_value result).stripe.number ≡ stripe }
+        ensures { IsSomeAnd (mutex_guard_value result) (λ inside. inside.number ≡ stripe) }
     {
         let lock = &self.locks[usize::from(STRIPES - 1 - stripe)];
         for _ in rt.forever() {
             let guard = lock.lock(rt);
-            if guard.stripe.number() == stripe {
+            if guard.number() == Some(stripe) {
                 return guard;
             }
         }
@@ -94,10 +94,11 @@ fn numbered<T: Told<Entry = Event>, L: Loaded, R: Ring, W: Wait>(
     ensures number { result.number ≡ number }
     ensures rests { IsAtRest L.last_index L.coherent L.keeps result }
 {
-    for _ in rt.forever() {
-        if usize::from(resting.stripe.number()) == number {
-            return resting.into_stripe();
-        }
+    if let Some(stripe) = resting.into_stripe()
+        && usize::from(stripe.number()) == number
+    {
+        return stripe;
     }
+    for _ in rt.forever() {}
     unreachable!()
 }

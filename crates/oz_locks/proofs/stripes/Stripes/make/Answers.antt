@@ -3,8 +3,8 @@ use Rattle.oz_locks.specs.Stripe.{AreInOrder}
 use Rattle.oz_locks.proofs.Listed.{front_in_order, last_in_order}
 use Rattle.oz_locks.proofs.stripes.Stripes.make.Goals as goal
 
-pub invariant_of-new : goal.invariant_of-new
-invariant_of-new g c = record { rests = (last_in_order _ _ _ _ _ (subst (AreInOrder _ _ _) c.in-Some.ensures.items c.loop-stripe.invariant.left)).1 }
+pub of-requires : goal.of-requires
+of-requires g c = (last_in_order _ _ _ _ _ (subst (AreInOrder _ _ _) c.in-Some.ensures.items c.loop-stripe.invariant.left)).1
 
 pub loop-stripe-preserved : goal.loop-stripe-preserved
 loop-stripe-preserved g c = record {

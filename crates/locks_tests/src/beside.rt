@@ -43,9 +43,9 @@ fn pass<R: Ring, W: Wait>(
     stripes: &Stripes<Story, NoRows, R>,
     held: &Barrier,
     done: &AtomicBool,
-) -> u8 {
+) -> Option<u8> {
     let _ = held.wait(rt);
-    let number = stripes.lock(rt, 3).stripe.number();
+    let number = stripes.lock(rt, 3).number();
     done.store(true, Ordering::SeqCst);
     number
 }
@@ -55,11 +55,11 @@ fn both<R: Ring + Send + Sync, W: Threads + Wait + Sync>(
     stripes: &Stripes<Story, NoRows, R>,
     held: &Barrier,
     done: &AtomicBool,
-) -> (bool, u8) {
+) -> (bool, Option<u8>) {
     join(
         rt,
         || -> bool { hold(rt, stripes, held, done) },
-        || -> u8 { pass(rt, stripes, held, done) },
+        || -> Option<u8> { pass(rt, stripes, held, done) },
     )
 }
 
@@ -76,7 +76,7 @@ fn hold_beside<R: Ring + Send + Sync, W: Threads + Wait + Abort + Sync>(
 {
     let stripes = locked::<R>(alloc, seats)?;
     let (within, number) = both(rt, &stripes, &Barrier::new(2), &AtomicBool::new(false));
-    holds(rt, number == 3, "the other stripe");
+    holds(rt, number == Some(3), "the other stripe");
     holds(rt, within, "taken and given back within the turns");
     Ok(())
 }

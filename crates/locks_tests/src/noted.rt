@@ -1,13 +1,14 @@
 //! A stripe that is worked on behind its lock.
 
 ghost use Rattle.std.specs.Prelude.{◌≡◌, ◌<◌, [], vec_len, length};
-ghost use Rattle.locks_tests.specs.Stripes.{decide, id_of};
+ghost use Rattle.locks_tests.specs.Stripes.{AreNoMore, decide, id_of};
+ghost use Rattle.oz_locks.specs.Stripe.{IsAtRest};
 ghost use Rattle.oz_requests.specs.declared.reply.Reply.{Reply as AnyReply};
 ghost use Rattle.oz_turn.specs.Seat.{AreNewSeats};
 ghost use Rattle.oz_turn.specs.Turn.{turn_id};
 
 use crate::sixteen::{ALL_SEATS, locked};
-use crate::store::{NoRows, Story, holds, made};
+use crate::store::{NoRows, OneStripe, Story, holds, made};
 use crate::teller::{add, last_flushed};
 use oz_core::{Event, EventKind};
 use oz_epochs::Steps;
@@ -42,7 +43,30 @@ fn done_by(alloc: Global, stripe: u8) -> Event
     }
 }
 
-/// Notes a Decide of a stripe, brings down what is flushed, and lets the stripe go. It answers how many events stand.
+/// Notes a Decide of a stripe that rests, and brings down what is flushed, so that it rests again. It answers how many events
+/// stand.
+fn note_of<R: Ring, W: Wait + Abort, S: Ledger>(
+    rt: &W,
+    turn: &Turn<Story>,
+    stripe: &mut OneStripe<R>,
+    event: Event,
+    steps: &mut Steps<S>,
+) -> u64
+    requires turn { turn_id turn.now ≡ R.turn }
+    requires rests { IsAtRest 0 (Unit {0}) AreNoMore stripe.old }
+    requires event { event ≡ decide stripe.old.number (id_of 1) 0 AnyReply.Done [] }
+    ensures { IsAtRest 0 (Unit {0}) AreNoMore stripe.new }
+{
+    let (mut story, held) = stripe.take(rt, turn);
+    let index = last_flushed(story.events.as_slice());
+    add(rt, &mut story, event);
+    let length = stripe.note(turn, story, held, &[]);
+    assert!(rt; stripe.brought_down() <= index, "flushed indexes rise");
+    stripe.flushed(index, steps);
+    length
+}
+
+/// Takes a stripe out from behind its lock, notes a Decide of it, and puts it back.
 fn note<R: Ring, W: Wait + Abort, S: Ledger>(
     rt: &W,
     turn: &Turn<Story>,
@@ -57,15 +81,11 @@ fn note<R: Ring, W: Wait + Abort, S: Ledger>(
 {
     let mut guard = stripes.lock(rt, number);
     let resting = &mut *guard;
-    let (mut story, held) = resting.stripe.take(rt, turn);
-    let index = last_flushed(story.events.as_slice());
-    add(rt, &mut story, event);
-    let length = resting.stripe.note(turn, story, held, &[]);
-    assert!(rt;
-        resting.stripe.brought_down() <= index,
-        "flushed indexes rise"
-    );
-    resting.stripe.flushed(index, steps);
+    let Some(mut stripe) = resting.take_out() else {
+        unreachable!()
+    };
+    let length = note_of(rt, turn, &mut stripe, event, steps);
+    resting.put_back(stripe);
     length
 }
 

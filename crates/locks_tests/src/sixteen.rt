@@ -72,7 +72,7 @@ fn lock_and_leave<R: Ring, W: Wait + Abort>(
     let stripes = locked::<R>(alloc, seats)?;
     for number in 0..16u8 {
         let guard = stripes.lock(rt, number);
-        holds(rt, guard.stripe.number() == number, "its number");
+        holds(rt, guard.number() == Some(number), "its number");
     }
     let parts = stripes.into_parts(rt);
     holds(rt, parts.len() == 16, "sixteen");

@@ -47,7 +47,6 @@ pub struct NoRows;
 
 impl Loaded for NoRows {
     ghost use Rattle.std.specs.Prelude.{None};
-    ghost use Rattle.std.specs.Coded.{le_prop};
     ghost use Rattle.locks_tests.specs.Stripes.{AreNoMore};
 
     ghost rows = { λ key. None };
@@ -57,8 +56,6 @@ impl Loaded for NoRows {
     ghost coherent = { Unit {0} };
 
     ghost keeps = { AreNoMore };
-
-    ghost keeps_once = { λ stripe mine seen rows. le_prop };
 }
 
 pub type OneStripe<R> = Stripe<Story, NoRows, R>;

@@ -13,8 +13,8 @@ use Rattle.oz_rows.specs.declared.row.Row.{Row}
 use Rattle.oz_rows.specs.declared.row.Row.TheVariants as rows
 use Rattle.oz_rows.specs.RowMaps.{Rows, put}
 
--- Its own events are among those that its seat has seen, so they aren't more. It is said by a number between, of which there
--- may be several: what is kept of a stripe need be no proposition.
+-- Its own events are among those that its seat has seen, so they aren't more. It is said by a number between, of which
+-- there may be several: what is kept of a stripe need be no proposition.
 abbrev pub AreNoMore : ℕ → List Event → List Event → Rows → Type 0
 AreNoMore stripe mine seen all = (between : ℕ) × (length mine ≤ between) × (between ≤ length seen)
 

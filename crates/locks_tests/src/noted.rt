@@ -43,8 +43,8 @@ fn done_by(alloc: Global, stripe: u8) -> Event
     }
 }
 
-/// Notes a Decide of a stripe that rests, and brings down what is flushed, so that it rests again. It answers how many events
-/// stand.
+/// Notes a Decide of a stripe that rests, and brings down what is flushed, so that it rests again. It answers how many
+/// events stand.
 fn note_of<R: Ring, W: Wait + Abort, S: Ledger>(
     rt: &W,
     turn: &Turn<Story>,

@@ -14,4 +14,4 @@ pub use laws::{
 };
 pub use loading::load;
 pub use parting::part;
-pub use unseated::Unseated;
+pub use unseated::{Counted, Unseated};

@@ -19,6 +19,14 @@ use oz_tables::Tables;
 use std::alloc::Global;
 use std::marker::Model;
 
+/// What was counted of the rows of a disk.
+#[derive(Drop)]
+pub struct Counted {
+    pub last_index: u64,
+    pub greatest_id: u64,
+    pub left: List<Block>,
+}
+
 /// The rows of a disk in sixteen parts, and what was counted of them.
 #[derive(Drop)]
 pub struct Unseated {
@@ -92,16 +100,48 @@ impl Unseated {
         namespace_of(alloc, &self.parts)
     }
 
-    /// The sixteen parts, in the order of the stripes. It takes no memory.
-    pub fn into_parts(self) -> Vec<Cached>
-        ensures { result.items ≡ self.parts }
+    /// The sixteen parts, in the order of the stripes, and what was counted. It takes no memory.
+    pub fn into_parts(self) -> (Vec<Cached>, Counted)
+        ensures { self ≡ record {
+          parts = result.0.items;
+          last_index = result.1.last_index;
+          greatest_id = result.1.greatest_id;
+          left = result.1.left;
+        } }
     {
         let Unseated {
             parts,
-            last_index: _,
-            greatest_id: _,
-            left: _,
+            last_index,
+            greatest_id,
+            left,
         } = self;
-        parts
+        let counted = Counted {
+            last_index,
+            greatest_id,
+            left,
+        };
+        (parts, counted)
+    }
+
+    /// Parts, and what was counted of them, put together again. It takes no memory.
+    pub fn from_parts(parts: Vec<Cached>, counted: Counted) -> Unseated
+        ensures { result ≡ record {
+          parts = parts.items;
+          last_index = counted.last_index;
+          greatest_id = counted.greatest_id;
+          left = counted.left;
+        } }
+    {
+        let Counted {
+            last_index,
+            greatest_id,
+            left,
+        } = counted;
+        Unseated {
+            parts,
+            last_index,
+            greatest_id,
+            left,
+        }
     }
 }

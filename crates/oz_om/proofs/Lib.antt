@@ -1,0 +1,14 @@
+pub mod Legal
+pub mod Recorded
+pub mod Old
+pub mod Granting
+pub mod Tellable
+pub mod Empty
+pub mod Picking
+pub mod Roomier
+pub mod Told
+pub mod Longer
+pub mod Rests
+pub mod Answered
+pub mod Placed
+pub mod Undecided

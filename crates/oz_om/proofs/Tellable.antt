@@ -1,0 +1,220 @@
+-- What is made over the rows of a stripe may be told.
+use Rattle.std.proofs.Common.{◌≡◌, ◌≢◌, ◌↔◌, ◌+◌, ℕ, true, List, [], ◌∷◌, ◌++◌, Option, None, Some, is_some, refl, sym, ap, ◌∙◌, subst, arith}
+use mathlib.Core.Bool.{false≢true}
+use Rattle.std.specs.Prelude.{Contains}
+use Rattle.oz_cache.specs.Cache.{newest}
+use Rattle.oz_core.specs.declared.event.Event.{Event}
+use Rattle.oz_core.specs.declared.event.EventKind.TheVariants.{Decide}
+use Rattle.oz_core.specs.declared.opening.Opening.{Opening}
+use Rattle.oz_core.specs.Asks.{is_script, pending}
+use Rattle.oz_core.specs.Contents.{OpeningBytes}
+use Rattle.oz_core.specs.Law.{DecideIsEnabled, GrantIsAllowed, IndexGoesOn, IsLegal, MayBeGranted}
+use Rattle.oz_core.specs.Scm.{IsOfGrant}
+use Rattle.oz_core.specs.Manager.{last_index, namespace_of}
+use Rattle.oz_core.specs.Seats.{stripe_seat}
+use Rattle.oz_deciding.specs.Premises.{GrantsNew}
+use Rattle.oz_deciding.specs.Records.{AreRecorded}
+use Rattle.oz_decision.specs.declared.decision.Decision.{Decision}
+use Rattle.oz_decision.specs.Meets.{Meets, Stand, MayGo}
+use Rattle.oz_fields.specs.declared.block.Block.{Block}
+use Rattle.oz_granted.specs.Granted.{AreOld, IsFree, handed_out}
+use Rattle.oz_granted.specs.laws.Free.{free_allowed, free_new}
+use Rattle.oz_lines.specs.declared.script.Script.{Script}
+use Rattle.oz_locks.specs.Pool.{IsFirstAllowed, pool_of, used_by}
+use Rattle.oz_locks.specs.Pool.{IsFree as IsFreeIn}
+use Rattle.oz_locks.specs.Stripe.{StripeView}
+use Rattle.oz_locks.specs.declared.pool.FreeBlock.{FreeBlock}
+use Rattle.oz_model.specs.Answers.{after}
+use Rattle.oz_model.specs.Grants.{IsPicked as IsPickedBy}
+use Rattle.oz_names.specs.Names.{stripe_of}
+use Rattle.oz_namespace.specs.declared.namespace.Namespace.{Namespace}
+use Rattle.oz_requests.specs.declared.reply.Reply.{Reply}
+use Rattle.oz_requests.specs.declared.reply.Reply.TheVariants as replies
+use Rattle.oz_requests.specs.declared.request.AskId.{AskId}
+use Rattle.oz_requests.specs.declared.request.Exclude.{Exclude}
+use Rattle.oz_requests.specs.declared.request.Family.TheVariants.{Allocation, Service}
+use Rattle.oz_requests.specs.declared.request.Request.{Request}
+use Rattle.oz_requests.specs.declared.request.Request.TheVariants.{AllocateBlock, Purge, MoveDeleted, PurgeSnapshot}
+use Rattle.oz_requests.specs.Families.{family_of}
+use Rattle.oz_requests.specs.Names.{volume_in}
+use Rattle.oz_rows.specs.declared.operation.Change.{Change}
+use Rattle.oz_rows.specs.laws.Changes.{become}
+use Rattle.oz_rows.specs.RowMaps.{Rows, after_changes, row_after}
+use Rattle.oz_sound.specs.Sound.{IsSoundButRenames}
+use Rattle.oz_sound.specs.StandsFor.{StandsFor}
+use Rattle.oz_store.specs.Store.{IsStore}
+use Rattle.oz_striped.specs.Shares.{HasAllStripes, IsOfStripe, share_of}
+use Rattle.oz_striped.specs.laws.Asked.{pending_is_asked}
+use Rattle.oz_striped.specs.laws.Requests.{share_answers, share_stays}
+use Rattle.oz_striped.specs.laws.Rows.{left_as_it_was, standing_has_all}
+use Rattle.oz_striped.specs.laws.Shares.{one_share, share_is_there}
+use Rattle.oz_striped.specs.laws.Stories.{share_decided, story_has_all}
+use Rattle.oz_om.specs.Held.{IsHeld, IsMade, IsOpenAsk, IsPickFor, IsPicked, IsTellable}
+use Rattle.oz_om.specs.Keeps.{AreListed, StandAt}
+use Rattle.oz_om.specs.Opens.{Opens}
+use Rattle.oz_om.proofs.Legal.{legal_of}
+use Rattle.oz_om.proofs.Old.{contains_at, handed_with, old_after}
+use Rattle.oz_om.proofs.Recorded.{recorded_spares}
+
+-- what a pool has is free
+abbrev pub PoolLaw : Type 0
+PoolLaw = (stripe : ℕ) (known mine : List Event) (free : FreeBlock) → Contains (pool_of stripe known mine) free ↔ IsFreeIn stripe known mine free
+
+some_bytes : (byte : ℕ) (more : List ℕ) → byte ∷ more ≡ [] → ⊥
+some_bytes byte more e = absurd cc
+
+-- no request of those that the manager asks itself was decided
+served : (all : Rows) (request : Request) (reply : Reply) (changes : List Change) → AreRecorded all request reply changes → family_of request ≡ Service → ⊥
+served all (Purge volume named) reply changes recorded is = recorded
+served all (MoveDeleted volume bucket number to) reply changes recorded is = recorded
+served all (PurgeSnapshot volume bucket number) reply changes recorded is = recorded
+served all request reply changes recorded is = absurd cc
+
+pub listed_after : (all : Rows) (changes : List Change) → AreListed all → AreListed (after_changes changes all)
+listed_after all changes listed =
+    let made = become changes listed.all listed.are.in_order in
+    record {
+      all = made.0;
+      are = record { in_order = made.1.in_order; rows_are = λ key. made.1.rows key ∙ ap (row_after changes key) (listed.are.rows_are key) };
+    }
+
+module _ {T : Type 0} (Coherent Agrees : Type 0) (opening : Opening) (bytes : OpeningBytes) (script : Script) (loaded : Rows) (last : ℕ)
+    (Keeps : ℕ → List Event → List Event → Rows → Type 0) (opens : Opens Coherent opening bytes loaded last Agrees Keeps)
+    (pool : PoolLaw) (s : StripeView T) (story : List Event) (held : IsHeld Coherent opening bytes script loaded s story)
+    (id : AskId) (scripted : is_script id ≡ true) where
+  module _ (coherent : Coherent) where
+    pub legal : IsLegal opening story
+    legal = legal_of Coherent opening bytes script coherent story held.follow
+
+    store : IsStore loaded opening bytes
+    store = opens.store coherent
+
+    at : StandAt opening loaded s.number story (newest s.cache)
+    at = held.keeps.stands coherent
+
+    abbrev pub part : Namespace
+    part = share_of s.number (namespace_of opening story)
+
+    pub of : IsOfStripe s.number (namespace_of opening story) part
+    of = share_is_there s.number (namespace_of opening story)
+
+    all : HasAllStripes opening.namespace
+    all = standing_has_all loaded opening.namespace store.stands
+
+    all_now : HasAllStripes (namespace_of opening story)
+    all_now = story_has_all opening story all
+
+    -- the pending request is the one that was asked
+    pub pends : (place : ℕ) (request : Request) → IsOpenAsk story place id s.number request → pending id story ≡ Some request
+    pends place request ask = by_case (pending id story) refl
+      where
+        by_case : (o : Option Request) → pending id story ≡ o → pending id story ≡ Some request
+        by_case None e = absurd (false≢true (sym (ap is_some e) ∙ ask.undecided))
+        by_case (Some other) e = e ∙ ap (λ (r : Request). Some r) (pending_is_asked opening id scripted story legal place ask.there.0 request ask.there.1 other e)
+
+    among_pool : (exclude : Exclude) (free : FreeBlock) → IsFirstAllowed exclude s.pool free → Contains s.pool free
+    among_pool exclude free first = subst (λ (l : List FreeBlock). Contains l free) (sym first.parts) (contains_at first.before first.behind free)
+
+    free_of : (exclude : Exclude) (block : Block) (pipeline : ℕ) → IsPicked Agrees s exclude (Some (block, pipeline)) → IsFree story s.number block pipeline
+    free_of exclude block pipeline picked =
+        let free : FreeBlock = record { block = block; pipeline = pipeline } in
+        let found = (pool s.number s.seen s.mine free).0 (subst (λ (l : List FreeBlock). Contains l free) (picked.left (opens.agrees.0 coherent)) (among_pool exclude free picked.first)) in
+        record {
+          granted = subst (λ (l : List Event). IsOfGrant l s.number block pipeline) held.seen found.granted;
+          unused = λ among. found.unused (subst (λ (l : List Event). Contains (used_by l) block) held.own among);
+        }
+
+    pub grants_new : (request : Request) (pick : Option (Block × ℕ)) → IsPickFor Agrees s request pick → GrantsNew (newest s.cache) request pick
+    grants_new (AllocateBlock volume bucket key session exclude) None picked = tt
+    grants_new (AllocateBlock volume bucket key session exclude) (Some (block, pipeline)) picked =
+        λ twin of_key stands same. free_new opening story legal s.number pipeline block (free_of exclude block pipeline picked) loaded (newest s.cache) store.rows at.old twin of_key stands same
+    grants_new request pick picked = tt
+
+    granted : (request : Request) (reply : Reply) (pick : Option (Block × ℕ)) → IsPickFor Agrees s request pick
+        → (family_of request ≡ Allocation → IsPickedBy pick reply) → stripe_of (volume_in request) ≡ s.number → GrantIsAllowed opening story request reply
+    granted (AllocateBlock volume bucket key session exclude) (replies.Granted block pipeline) pick picked by its =
+        let this = subst (λ (p : Option (Block × ℕ)). IsPicked Agrees s exclude p) (by refl) picked in
+        subst (λ (n : ℕ). MayBeGranted opening story n exclude block pipeline) (sym its)
+        (free_allowed opening story legal s.number pipeline block (free_of exclude block pipeline this) store.disks.fresh store.disks.log exclude this.first.allowed)
+    granted (AllocateBlock volume bucket key session exclude) reply pick picked by its = tt
+    granted request reply pick picked by its = tt
+
+  module _ (place : ℕ) (decision : Decision) (made : IsMade Agrees s story place id decision) (index : ℕ)
+      (stays : decision.bytes ≡ [] → index ≡ last_index opening story)
+      (rises : decision.bytes ≢ [] → index ≡ last_index opening story + 1) where
+    abbrev pub rows : Rows
+    rows = newest s.cache
+
+    abbrev pub event : Event
+    event = record { seat = stripe_seat s.number; kind = Decide id index decision.reply decision.bytes }
+
+    module _ (coherent : Coherent) where
+      is : pending id story ≡ Some made.request
+      is = pends coherent place made.request made.ask
+
+      its : stripe_of (volume_in made.request) ≡ s.number
+      its = made.ask.of_stripe
+
+      meets : Meets IsSoundButRenames rows (part coherent) made.request decision.reply decision.bytes decision.changes
+      meets = made.made.but_renames (grants_new coherent made.request made.pick made.picked) (part coherent) (at coherent).stand
+
+      whole_stays : (after (namespace_of opening story) made.request decision.reply ≡ namespace_of opening story) ↔ (after (part coherent) made.request decision.reply ≡ part coherent)
+      whole_stays = share_stays s.number (namespace_of opening story) (part coherent) made.request decision.reply its (of coherent) (all_now coherent)
+
+      -- where nothing is written the namespace stays
+      unchanged : decision.bytes ≡ [] → after (namespace_of opening story) made.request decision.reply ≡ namespace_of opening story
+      unchanged none = whole_stays.1 (left_as_it_was rows (part coherent) made.request decision.reply (at coherent).stand.stands
+          (subst (λ (l : List Change). StandsFor (after_changes l rows) (after (part coherent) made.request decision.reply)) (made.made.recorded.0 none) meets.leads.stands))
+
+      goes_on : IndexGoesOn opening story made.request decision.reply index
+      goes_on = record {
+        changes = λ changed. rises (λ none. changed (unchanged none));
+        stays = λ same other. stays (made.made.recorded.1 (meets.keeps (whole_stays.0 same, other)));
+        service = λ service. absurd (served rows made.request decision.reply decision.changes made.made.exact service);
+      }
+
+      to_none : index ≡ last_index opening story → decision.bytes ≡ []
+      to_none same = by_case decision.bytes refl
+        where
+          by_case : (b : List ℕ) → decision.bytes ≡ b → decision.bytes ≡ []
+          by_case [] e = e
+          by_case (byte ∷ more) e = let next = rises (λ none. some_bytes byte more (sym e ∙ none)) in absurd (omega (arith, same, next))
+
+      pub enabled : DecideIsEnabled opening story (stripe_seat s.number) id index decision.reply decision.bytes
+      enabled = record {
+        request = made.request;
+        undecided = is;
+        in_time = made.ask.in_time;
+        of_stripe = ap stripe_seat (sym its);
+        one_thread = (share_answers s.number (namespace_of opening story) (part coherent) made.request decision.reply its (of coherent)).1 meets.answers;
+        granted = granted coherent made.request decision.reply made.pick made.picked made.made.picked its;
+        index_goes_on = goes_on;
+        recorded = (stays, to_none);
+      }
+
+      share_now : after (part coherent) made.request decision.reply ≡ share_of s.number (namespace_of opening (story ++ event ∷ []))
+      share_now = one_share s.number (namespace_of opening (story ++ event ∷ [])) (after (part coherent) made.request decision.reply) (share_of s.number (namespace_of opening (story ++ event ∷ [])))
+          (share_decided s.number opening story (part coherent) (stripe_seat s.number) id index decision.reply decision.bytes made.request (all coherent) is its (of coherent))
+          (share_is_there s.number (namespace_of opening (story ++ event ∷ [])))
+
+      pub stands : StandAt opening loaded s.number (story ++ event ∷ []) (after_changes decision.changes rows)
+      stands = record {
+        stand = subst (λ (n : Namespace). Stand IsSoundButRenames (after_changes decision.changes rows) n) share_now meets.leads;
+        old = subst (λ (l : List Block). AreOld loaded l (after_changes decision.changes rows))
+            (sym (handed_with s.number story id index decision.reply decision.bytes))
+            (old_after loaded rows (handed_out s.number story) (at coherent).old decision.changes meets.leads.fit
+            (recorded_spares rows held.keeps.listed.all held.keeps.listed.are made.request decision.reply decision.changes made.made.exact)
+            decision.reply (MayGo rows made.request) meets.blocks);
+      }
+
+    pub tellable : IsTellable Coherent opening loaded s.number (newest s.cache) story id decision.reply decision.bytes decision.changes index
+    tellable =
+        let safe = made.made.safe held.keeps.fit in
+        record {
+          batch_of = safe.batch;
+          recorded = made.made.recorded;
+          fit = safe.fit;
+          listed = listed_after rows decision.changes held.keeps.listed;
+          enabled = enabled;
+          stands = stands;
+        }

@@ -1,0 +1,57 @@
+-- What is kept of a stripe once its decision is told.
+use Rattle.std.proofs.Common.{◌≡◌, ◌≢◌, ◌==◌, ℕ, Bool, cond, eq-eqb, List, [], ◌∷◌, ◌++◌, Option, None, Some, refl, sym, ap, ◌∙◌, subst}
+use Rattle.std.proofs.lemmas.List.Elements.{filter_map-append, filter-append}
+use Rattle.oz_buffer.specs.Buffer.{AllFollow, Follows}
+use Rattle.oz_cache.specs.Cache.{newest}
+use Rattle.oz_core.specs.declared.event.Event.{Event}
+use Rattle.oz_core.specs.declared.event.EventKind.TheVariants.{Decide}
+use Rattle.oz_core.specs.declared.opening.Opening.{Opening}
+use Rattle.oz_core.specs.Contents.{OpeningBytes}
+use Rattle.oz_core.specs.Seats.{stripe_seat}
+use Rattle.oz_core.specs.Stories.{mine}
+use Rattle.oz_lines.specs.declared.script.Script.{Script}
+use Rattle.oz_locks.specs.Purges.{asked_in}
+use Rattle.oz_locks.specs.Stripe.{StripeView}
+use Rattle.oz_requests.specs.declared.reply.Reply.{Reply}
+use Rattle.oz_requests.specs.declared.request.AskId.{AskId}
+use Rattle.oz_rows.specs.declared.operation.Change.{Change}
+use Rattle.oz_rows.specs.RowMaps.{Rows, after_changes}
+use Rattle.oz_turn.specs.Told.{KeepsOtherRooms}
+use Rattle.oz_om.specs.Held.{IsHeld, IsTellable, IsTold}
+use Rattle.oz_om.specs.Keeps.{KeepsRows}
+
+-- a value that keeps the rooms of another for all other seats keeps those that were taken
+pub rooms_kept : {T : Type 0} (room : T → ℕ → ℕ) (number : ℕ) (taken : Option T) (before after : T) → KeepsOtherRooms room number taken before
+    → ((n : ℕ) → n ≢ number → room after n ≡ room before n) → KeepsOtherRooms room number taken after
+rooms_kept room number None before after keeps same = keeps
+rooms_kept room number (Some value) before after keeps same = λ n other. same n other ∙ keeps n other
+
+module _ {T : Type 0} (Coherent : Type 0) (opening : Opening) (bytes : OpeningBytes) (script : Script) (loaded : Rows) (old new : StripeView T)
+    (story : List Event) (id : AskId) (index : ℕ) (reply : Reply) (batch : List ℕ) (changes : List Change) where
+  abbrev pub decide : Event
+  decide = record { seat = stripe_seat old.number; kind = Decide id index reply batch }
+
+  pub told_of : IsHeld Coherent opening bytes script loaded old story
+      → IsTellable Coherent opening loaded old.number (newest old.cache) story id reply batch changes index
+      → new.number ≡ old.number → new.seen ≡ story ++ decide ∷ [] → new.mine ≡ old.mine ++ decide ∷ []
+      → newest new.cache ≡ after_changes changes (newest old.cache) → AllFollow (Follows Coherent opening bytes script) [] (story ++ decide ∷ [])
+      → IsTold Coherent opening bytes script loaded old new
+  told_of held tellable number seen given rows follow = record {
+    number = number;
+    event = decide;
+    story = seen ∙ ap (λ (l : List Event). l ++ decide ∷ []) (sym held.seen);
+    follow = subst (AllFollow (Follows Coherent opening bytes script) []) (sym seen) follow;
+    keeps = subst (λ (n : ℕ). KeepsRows Coherent opening loaded n new.mine new.seen (newest new.cache)) (sym number)
+        (subst (λ (l : List Event). KeepsRows Coherent opening loaded old.number l new.seen (newest new.cache)) (sym given)
+        (subst (λ (l : List Event). KeepsRows Coherent opening loaded old.number (old.mine ++ decide ∷ []) l (newest new.cache)) (sym seen)
+        (subst (λ (r : Rows). KeepsRows Coherent opening loaded old.number (old.mine ++ decide ∷ []) (story ++ decide ∷ []) r) (sym rows)
+        (record {
+          own = filter-append (λ (e : Event). e.seat == stripe_seat old.number) story (decide ∷ [])
+              ∙ ap (λ (t : Bool). mine (stripe_seat old.number) story ++ cond t (decide ∷ []) []) (eq-eqb (stripe_seat old.number) (stripe_seat old.number) refl)
+              ∙ ap (λ (l : List Event). l ++ decide ∷ []) held.keeps.own;
+          fit = tellable.fit;
+          listed = tellable.listed;
+          unasked = filter_map-append (λ (event : Event). asked_in event.kind) old.mine (decide ∷ []) ∙ ap (λ (l : List _). l ++ []) held.keeps.unasked;
+          stands = tellable.stands;
+        }))));
+  }

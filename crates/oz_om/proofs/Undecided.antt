@@ -1,0 +1,88 @@
+-- The rows of a stripe that has decided nothing: those that were loaded of it.
+use Rattle.std.proofs.Common.{◌≡◌, inl, ℕ, Bool, true, false, List, [], None, Some, cond, refl, sym, ap, ◌∙◌, subst}
+use Rattle.std.proofs.lemmas.Option.{none-some}
+use Rattle.oz_cache.specs.Cache.{CacheView, batched_changes, newest}
+use Rattle.oz_cache.specs.declared.batch.Batch.{Batch}
+use Rattle.oz_core.specs.declared.event.Event.{Event}
+use Rattle.oz_core.specs.declared.opening.Opening.{Opening}
+use Rattle.oz_core.specs.Contents.{OpeningBytes}
+use Rattle.oz_core.specs.Manager.{namespace_from, namespace_of}
+use Rattle.oz_decision.specs.Meets.{AreInGrammar, Stand}
+use Rattle.oz_namespace.specs.declared.namespace.Namespace.{Namespace}
+use Rattle.oz_rows.specs.declared.key.RowKey.{RowKey}
+use Rattle.oz_rows.specs.declared.row.Row.{Row}
+use Rattle.oz_rows.specs.RowMaps.{KeysRise, Rows, row_after, row_of}
+use Rattle.oz_sound.specs.Sound.{IsSound, IsSoundButRenames}
+use Rattle.oz_sound.specs.StandsFor.{StandsFor}
+use Rattle.oz_striped.specs.Shares.{IsOfStripe, share_of}
+use Rattle.oz_striped.specs.laws.Shares.{share_is_there}
+use Rattle.oz_stripes.specs.Stripes.{is_own, only}
+use Rattle.oz_tables.specs.Tables.{TableView}
+use Rattle.oz_om.specs.Keeps.{StandAt}
+use Rattle.oz_om.specs.Opens.{Opens}
+use Rattle.oz_om.specs.Seated.{ArePartsOf, IsPartOf, ArePlaced}
+
+abbrev pub SoundLaw : Type 0
+SoundLaw = (stripe : ℕ) (all : Rows) → IsSound all → IsSound (only stripe all)
+
+abbrev pub StandLaw : Type 0
+StandLaw = (stripe : ℕ) (all : Rows) (namespace part : Namespace) → StandsFor all namespace → IsOfStripe stripe namespace part → StandsFor (only stripe all) part
+
+only_of : (stripe : ℕ) (all : Rows) (key : RowKey) (row : Row) → only stripe all key ≡ Some row → all key ≡ Some row
+only_of stripe all key row is = by (is_own stripe key) is
+  where
+    by : (t : Bool) → cond t (all key) None ≡ Some row → all key ≡ Some row
+    by true e = e
+    by false e = absurd (none-some row e)
+
+but_renames : (all : Rows) → IsSound all → IsSoundButRenames all
+but_renames all sound = record { blocks = sound.blocks; names = sound.names; numbers = sound.numbers; counts = sound.counts }
+
+at_first : (opening : Opening) → opening.namespace ≡ namespace_of opening []
+unfolding namespace_from
+at_first opening = refl
+
+module _ (Coherent Agrees : Type 0) (opening : Opening) (bytes : OpeningBytes) (loaded : Rows) (last : ℕ)
+    (Keeps : ℕ → List Event → List Event → Rows → Type 0) (opens : Opens Coherent opening bytes loaded last Agrees Keeps)
+    (sound_law : SoundLaw) (stand_law : StandLaw) where
+  fit_only : (stripe : ℕ) → AreInGrammar (only stripe loaded)
+  fit_only stripe key row is = opens.fit key row (only_of stripe loaded key row is)
+
+  stand_only : (stripe : ℕ) → Coherent → StandAt opening loaded stripe [] (only stripe loaded)
+  stand_only stripe coherent =
+      let store = opens.store coherent in
+      record {
+        stand = subst (λ (namespace : Namespace). Stand IsSoundButRenames (only stripe loaded) (share_of stripe namespace)) (at_first opening) (record {
+          fit = fit_only stripe;
+          stands = stand_law stripe loaded opening.namespace (share_of stripe opening.namespace) store.stands (share_is_there stripe opening.namespace);
+          sound = but_renames (only stripe loaded) (sound_law stripe loaded store.sound);
+        });
+        old = λ block key it. inl (key, record { row = it.row; there = only_of stripe loaded key it.row it.there; has = it.has });
+      }
+
+  pub keeps_part : (stripe : ℕ) (cache : CacheView) (tables : TableView) → IsPartOf loaded last stripe cache → tables ≡ cache.durable → KeysRise tables.rows
+      → Keeps stripe [] [] (newest cache)
+  keeps_part stripe cache tables part its rise = (opens.keeps stripe [] [] (newest cache)).1 (record {
+    own = refl;
+    fit = subst AreInGrammar (sym same) (fit_only stripe);
+    listed = record { all = cache.durable.rows; are = record { in_order = subst (λ (t : TableView). KeysRise t.rows) its rise; rows_are = λ key. sym (newest_is key) } };
+    unasked = refl;
+    stands = λ coherent. subst (StandAt opening loaded stripe []) (sym same) (stand_only stripe coherent);
+  })
+    where
+      newest_is : (key : RowKey) → newest cache key ≡ row_of cache.durable.rows key
+      newest_is key = ap (λ (batches : List Batch). row_after (batched_changes batches) key (row_of cache.durable.rows key)) part.entered
+
+      same : newest cache ≡ only stripe loaded
+      same i key = (newest_is key ∙ part.rows key) i
+
+-- each part of what was loaded is that of its stripe
+pub parts_placed : (loaded : Rows) (last : ℕ) (parts : List CacheView) → ArePartsOf loaded last parts → ArePlaced (IsPartOf loaded last) parts
+parts_placed loaded last parts are stripe part at =
+    let is = are.are.each stripe part at in
+    let same : row_of are.all ≡ loaded = λ i key. are.rows_are key i in
+    record {
+      rows = λ key. is.rows key ∙ ap (λ (all : Rows). only stripe all key) same;
+      last_index_is = is.last_index_is;
+      entered = is.entered;
+    }

@@ -1,0 +1,41 @@
+use Rattle.std.proofs.Common.{◌≡◌, ℕ, Err, Some, sym, ap, ◌∙◌, subst}
+use Rattle.std.specs.Prelude.{slice_get}
+use Rattle.oz_asker.specs.declared.fault.AskFault.{AskFault}
+use Rattle.oz_core.specs.declared.event.EventKind.TheVariants.{Decide}
+use Rattle.oz_turn.specs.Seat.{seen_of}
+use Rattle.oz_om.specs.declared.refusal.Refusal.{Refusal}
+use Rattle.oz_om.specs.declared.refusal.Refusal.TheVariants as refusals
+use Rattle.oz_om.specs.Refusals.{AskStands}
+use Rattle.oz_om.proofs.Answered.{asked_still, fault_stands, one_err}
+use Rattle.oz_om.proofs.asking.Manager+Ledger+O+O+L+R.ask.Goals as goal
+
+pub returns-in-Err-clause-stopped : goal.returns-in-Err-clause-stopped
+returns-in-Err-clause-stopped g c = λ count same.
+    (c.put_ask.ensures.stopped count (c.in-Err.is ∙ ap (λ (fault : AskFault). Err fault) ((c.of_asker.ensures.stopped count).0 (one_err c.of_asker.result (refusals.Stopped count) same)))).0
+
+pub returns-in-Err-clause-stands : goal.returns-in-Err-clause-stands
+returns-in-Err-clause-stands g c = λ coherent.
+    subst (λ (refusal : Refusal). AskStands (seen_of c.put_ask.new.seat) c.args.id c.args.request (Err refusal)) (sym c.of_asker.ensures.is)
+    (fault_stands (seen_of c.put_ask.new.seat) c.args.id c.args.request c.in-Err.fault
+    (λ count is. ((c.put_ask.ensures.stopped count (c.in-Err.is ∙ ap (λ (fault : AskFault). Err fault) is)).1 coherent).1))
+
+pub returns-clause-ok : goal.returns-clause-ok
+returns-clause-ok g c = λ coherent.
+    let story = seen_of c.see.new.seat in
+    let legal = c.what_follows_is_legal.ensures story coherent c.see.ensures.follow in
+    let decided = c.see.ensures.seen in
+    let asked = asked_still story (seen_of c.put_ask.new.seat) c.in-Ok.place c.args.id c.args.request c.see.ensures.goes_on (c.in-Ok.ensures.ok coherent) in
+    let found = c.what_was_decided.ensures.as_asked g.O.Opened.opening story c.args.id c.args.request c.in-Ok.place c.last_of.result decided.0 decided.1 c.in_ok-length.reply decided.2
+    legal c.requires.script asked decided.3 in
+    record {
+      place = c.last_of.result;
+      index = decided.1;
+      batch = decided.2;
+      there = subst (λ (n : ℕ). slice_get story c.last_of.result ≡ Some (record { seat = n; kind = Decide c.args.id decided.1 c.in_ok-length.reply decided.2 })) found.of_stripe decided.3;
+      asked = found.asked;
+      one_thread = found.one_thread;
+    }
+
+pub returns-clause-stands : goal.returns-clause-stands
+returns-clause-stands g c = λ coherent.
+    (c.in-Ok.place, asked_still (seen_of c.see.new.seat) (seen_of c.put_ask.new.seat) c.in-Ok.place c.args.id c.args.request c.see.ensures.goes_on (c.in-Ok.ensures.ok coherent))

@@ -1,0 +1,58 @@
+-- What comes of a request that was asked.
+use Rattle.std.specs.Prelude.{◌≡◌, ℕ, ◌+◌, ◌<◌, List, length, Some, slice_get, take}
+use Rattle.oz_batches.specs.declared.batches.TheConstants.{LARGEST_BUFFER}
+use Rattle.oz_buffer.specs.Buffer.{buffer_of}
+use Rattle.oz_core.specs.declared.event.Event.{Event}
+use Rattle.oz_core.specs.declared.event.EventKind.TheVariants.{Decide}
+use Rattle.oz_core.specs.declared.opening.Opening.{Opening}
+use Rattle.oz_core.specs.Asks.{pending}
+use Rattle.oz_core.specs.Grants.{IsSpent}
+use Rattle.oz_core.specs.Law.{IsLegal}
+use Rattle.oz_core.specs.Manager.{namespace_at, namespace_of}
+use Rattle.oz_core.specs.Seats.{stripe_seat}
+use Rattle.oz_fields.specs.declared.block.Block.{Block}
+use Rattle.oz_model.specs.Answers.{Answers}
+use Rattle.oz_names.specs.Names.{stripe_of}
+use Rattle.oz_requests.specs.declared.reply.Reply.{Reply}
+use Rattle.oz_requests.specs.declared.reply.Reply.TheVariants.{Granted}
+use Rattle.oz_requests.specs.declared.request.AskId.{AskId}
+use Rattle.oz_requests.specs.declared.request.Exclude.{Exclude}
+use Rattle.oz_requests.specs.declared.request.Request.{Request}
+use Rattle.oz_requests.specs.declared.request.Request.TheVariants.{AllocateBlock}
+use Rattle.oz_requests.specs.Names.{volume_in}
+
+-- At one place of the story the stripe of the request's volume decided the id with this reply, which is that of one
+-- thread to the request there.
+pub record IsDecided (opening : Opening) (story : List Event) (id : AskId) (request : Request) (reply : Reply)
+    : Type 0 where
+  pub place : ℕ
+  pub index : ℕ
+  pub batch : List ℕ
+  pub there : slice_get story place ≡ Some (record {
+    seat = stripe_seat (stripe_of (volume_in request));
+    kind = Decide id index reply batch;
+  })
+  pub asked : pending id (take place story) ≡ Some request
+  pub one_thread : Answers (namespace_at opening story place) request reply
+
+-- Behind a legal story a session wants a block, one thread would grant it any, and each block that its stripe was
+-- granted is used, or excluded.
+pub record IsPoolEmpty (opening : Opening) (id : AskId) (stripe : ℕ) : Type 0 where
+  pub story : List Event
+  pub legal : IsLegal opening story
+  pub volume : List ℕ
+  pub bucket : List ℕ
+  pub key : List ℕ
+  pub session : ℕ
+  pub exclude : Exclude
+  pub asked : pending id story ≡ Some (AllocateBlock volume bucket key session exclude)
+  pub its_stripe : stripe ≡ stripe_of volume
+  pub no_code : (block : Block) (pipeline : ℕ)
+      → Answers (namespace_of opening story) (AllocateBlock volume bucket key session exclude) (Granted block pipeline)
+  pub spent : IsSpent opening story stripe exclude
+
+-- What was decided since the last Swap of some story, and so many bytes more, are too many for the buffer.
+pub record IsTooMuch (held asked : ℕ) : Type 0 where
+  pub story : List Event
+  pub held_is : held ≡ length (buffer_of story)
+  pub too_much : LARGEST_BUFFER < held + asked

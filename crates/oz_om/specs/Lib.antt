@@ -1,0 +1,6 @@
+pub mod Keeps
+pub mod Opens
+pub mod Decided
+pub mod Held
+pub mod Refusals
+pub mod Seated

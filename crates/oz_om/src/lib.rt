@@ -1,0 +1,16 @@
+//! The manager: requests are decided over sixteen stripes of rows, each at one place of the story.
+#![tactic(auto)]
+
+mod asking;
+mod deciding;
+mod draft;
+mod drafting;
+mod finding;
+mod making;
+mod manager;
+mod refusal;
+mod seating;
+mod telling;
+
+pub use manager::Manager;
+pub use refusal::Refusal;

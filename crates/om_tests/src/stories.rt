@@ -64,7 +64,7 @@ fn after(
     place: usize,
 ) -> Result<Option<Namespace>, OutOfMemory> {
     match decided_at(story, place) {
-        Some((id, reply)) => after_ask(alloc, namespace, story, id, reply),
+        Some((id, reply)) => after_ask(alloc, namespace, story, place, id, reply),
         None => Ok(Some(namespace)),
     }
 }
@@ -81,10 +81,11 @@ fn after_ask(
     alloc: Global,
     namespace: Namespace,
     story: &[Event],
+    place: usize,
     id: AskId,
     wanted: Said,
 ) -> Result<Option<Namespace>, OutOfMemory> {
-    let Some(request) = asked_by(story, id) else {
+    let Some(request) = asked_before(story, place, id) else {
         return Ok(None);
     };
     let block = Block {
@@ -99,9 +100,10 @@ fn after_ask(
     }
 }
 
-/// What the id asked.
-fn asked_by(story: &[Event], id: AskId) -> Option<&Request> {
-    for event in story {
+/// What the id asked last before this place.
+fn asked_before(story: &[Event], place: usize, id: AskId) -> Option<&Request> {
+    for back in 0..place {
+        let event = story.get(place - back - 1)?;
         if let Some(request) = asked_in(&event.kind, id) {
             return Some(request);
         }

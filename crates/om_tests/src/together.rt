@@ -18,10 +18,13 @@ use std::test::Fail;
 use std::thread::{Threads, for_each_mut};
 
 /// How many lines each worker has.
-const LINES: u16 = 250;
+const LINES: u16 = 1000;
 
 /// How many lines all have together.
-const ALL_LINES: usize = 1000;
+const ALL_LINES: usize = 4000;
+
+/// From which line on sessions begin, behind which a bucket stays.
+const FIRST_SESSION: u16 = 900;
 
 /// What a line asks, every other one of the volume that all share.
 fn kind_of(line: u16) -> Kind {
@@ -31,6 +34,7 @@ fn kind_of(line: u16) -> Kind {
         2 | 6 => Kind::InfoVolume,
         3 => Kind::DeleteBucket,
         4 => Kind::InfoBucket,
+        _ if line < FIRST_SESSION => Kind::DeleteBucket,
         _ => Kind::CreateKey,
     }
 }

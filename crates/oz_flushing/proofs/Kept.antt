@@ -1,6 +1,6 @@
 -- What is kept, from one flush to the next.
 use Rattle.std.specs.Prelude.{Bool, true, false, if◌then◌else◌}
-use Rattle.std.proofs.Common.{◌≡◌, ℕ, ◌+◌, ◌≤◌, List, [], ◌∷◌, ◌++◌, Option, None, Some, Result, Ok, Err, IfSome, IsSome, refl, sym, ap, ◌∙◌, subst, arith}
+use Rattle.std.proofs.Common.{◌≡◌, ℕ, ◌+◌, ◌≤◌, List, [], ◌∷◌, ◌++◌, Option, None, Some, Result, Ok, Err, IfSome, IsSome, refl, sym, ap, ◌∙◌, subst, append_assoc, arith}
 use Rattle.std.proofs.lemmas.Bool.{false≢true}
 use Rattle.std.proofs.lemmas.List.{append-nil}
 use Rattle.std.proofs.lemmas.List.Elements.{filter_map-append}
@@ -19,6 +19,7 @@ use Rattle.oz_flusher.specs.declared.flushed.Flushed.{Flushed}
 use Rattle.oz_flushing.specs.Kept.{IsKept}
 use Rattle.oz_flushing.proofs.Own.{own}
 use Rattle.oz_journal.specs.Grammar.{IsJournal}
+use Rattle.oz_turn.specs.Told.{BeginsWith}
 use Rattle.oz_world.specs.Disk.{Seen, TellsAsBefore}
 use Rattle.oz_world.specs.declared.failed.Failed.{Failed}
 
@@ -46,8 +47,37 @@ pub not_stopped : (stopped : Bool) (halt : Option ℕ) (faults : ℕ) → halt �
 not_stopped true halt faults none is = absurd (cc (sym none ∙ is))
 not_stopped false halt faults none is = refl
 
+pub no_halt : (stopped : Bool) (halt : Option ℕ) (faults : ℕ) → stopped ≡ false → halt ≡ (if stopped then Some faults else None) → halt ≡ None
+no_halt stopped halt faults running is = is ∙ ap (λ (b : Bool). if b then Some faults else None) running
+
 pub halted_of : (mine front : List Event) (count : ℕ) → mine ≡ front ++ halt_event count ∷ [] → halt_of Manager mine ≡ Some count
 halted_of mine front count is = ap (halt_of Manager) is ∙ told-push (halt_count Manager) None front (halt_event count)
+
+-- the story went on
+after_swap : (seen before more all : List Event) (swap end : Event) → BeginsWith before seen → all ≡ ((before ++ swap ∷ []) ++ more) ++ end ∷ [] → BeginsWith all seen
+after_swap seen before more all swap end begins is =
+    let rest = swap ∷ (more ++ end ∷ []) in (
+      begins.0 ++ rest,
+      is
+      ∙ (append_assoc (before ++ swap ∷ []) more (end ∷ [])
+      ∙ (append_assoc before (swap ∷ []) (more ++ end ∷ [])
+      ∙ (ap (λ (l : List Event). l ++ rest) begins.1 ∙ append_assoc seen begins.0 rest))),
+    )
+
+pub goes_on : (opening : Opening) (seen mine seen_after mine_after : List Event) (now later : Seen) (answer : Option Flushed) → FlushEnds opening seen mine seen_after mine_after now later (Ok answer) → BeginsWith seen_after seen
+goes_on opening seen mine seen_after mine_after now later None ends = ends.0
+goes_on opening seen mine seen_after mine_after now later (Some flushed) ends =
+    let flush = ends.1 in
+    after_swap seen flush.before flush.more seen_after (swap_event flushed.index) (flushed_event flushed.index flushed.moment) flush.begins flush.story
+
+pub halt_goes_on : (opening : Opening) (seen mine until mine_after story : List Event) (now later : Seen) (failed : Failed) → FlushEnds opening seen mine until mine_after now later (Err failed) → BeginsWith story until → BeginsWith story seen
+halt_goes_on opening seen mine until mine_after story now later failed ends begins =
+    let flush = ends.1 in
+    let goes = after_swap seen flush.before flush.more until (swap_event ends.0) (halt_event later.faults) flush.begins flush.story in
+    (goes.0 ++ begins.0, begins.1 ∙ (ap (λ (l : List Event). l ++ begins.0) goes.1 ∙ append_assoc seen goes.0 begins.0))
+
+pub begins_as : (story one other : List Event) → one ≡ other → BeginsWith story one → BeginsWith story other
+begins_as story one other same begins = (begins.0, begins.1 ∙ ap (λ (l : List Event). l ++ begins.0) same)
 
 none_taken : bodies_of [] ≡ []
 unfolding bodies_from

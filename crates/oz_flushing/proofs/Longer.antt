@@ -80,3 +80,8 @@ module _ (Coherent : Type 0) (opening : Opening) (bytes : OpeningBytes) (script 
       others coherent =
           let ours = ours_all Coherent opening bytes script coherent story all in
           others_more seen begins.0 (subst AreOurs begins.1 ours) (ap own (sym begins.1) ∙ (known ∙ sym kept.own))
+
+  pub kept_longer_as : (mine_after : List Event) → mine_after ≡ mine → IsKept Coherent opening loaded faults first stopped seen mine disk → BeginsWith story seen → own story ≡ mine_after
+      → AllFollow (Follows Coherent opening bytes script) [] story → IsKept Coherent opening loaded faults first stopped story mine_after disk
+  kept_longer_as mine_after same kept begins known all =
+      subst (λ (l : List Event). IsKept Coherent opening loaded faults first stopped story l disk) (sym same) (kept_longer kept begins (known ∙ same) all)

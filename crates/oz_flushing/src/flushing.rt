@@ -93,8 +93,9 @@ impl<D: Disk, T: Told<Entry = Event>, O: Opened, M: Mounted, R: Ring> Flushing<D
         ensures journal { result.0 ≡ record { disk = self.disk; stopped = self.stopped } }
         ensures ready { IsReady R.turn flusher_seat result.1 }
         ensures events { (seen_of result.1 ≡ self.seen) × (mine_of result.1 ≡ self.mine) }
-        ensures kept { IsKept O.coherent O.opening O.bodies M.faults M.first self.stopped self.seen self.mine
-            (seen (D.told self.disk) (D.clock self.disk) (D.image self.disk) (D.faults self.disk)) }
+        ensures kept { IsKept O.coherent O.opening O.bodies M.faults M.first result.0.stopped (seen_of result.1)
+            (mine_of result.1)
+            (seen (D.told result.0.disk) (D.clock result.0.disk) (D.image result.0.disk) (D.faults result.0.disk)) }
     {
         let Flushing {
             flusher,

@@ -1,6 +1,6 @@
 -- What is kept, from one flush to the next.
 use Rattle.std.specs.Prelude.{Bool, true, false, if◌then◌else◌}
-use Rattle.std.proofs.Common.{◌≡◌, ℕ, ◌+◌, ◌≤◌, List, [], ◌∷◌, ◌++◌, Option, None, Some, Result, Ok, Err, IfSome, IsSome, refl, sym, ap, ◌∙◌, subst, append_assoc, arith}
+use Rattle.std.proofs.Common.{◌≡◌, ℕ, ◌≤◌, List, [], ◌∷◌, ◌++◌, Option, None, Some, Ok, Err, IfSome, IsSome, refl, sym, ap, ◌∙◌, subst, append_assoc, arith}
 use Rattle.std.proofs.lemmas.Bool.{false≢true}
 use Rattle.std.proofs.lemmas.List.{append-nil}
 use Rattle.std.proofs.lemmas.List.Elements.{filter_map-append}
@@ -20,7 +20,7 @@ use Rattle.oz_flushing.specs.Kept.{IsKept}
 use Rattle.oz_flushing.proofs.Own.{own}
 use Rattle.oz_journal.specs.Grammar.{IsJournal}
 use Rattle.oz_turn.specs.Told.{BeginsWith}
-use Rattle.oz_world.specs.Disk.{Seen, TellsAsBefore}
+use Rattle.oz_world.specs.Disk.{Images, IsStable, Seen, TellsAsBefore}
 use Rattle.oz_world.specs.declared.failed.Failed.{Failed}
 
 -- the moment that was told last, with a Swap, a Halt or a Flushed more
@@ -59,9 +59,9 @@ after_swap seen before more all swap end begins is =
     let rest = swap ∷ (more ++ end ∷ []) in (
       begins.0 ++ rest,
       is
-      ∙ (append_assoc (before ++ swap ∷ []) more (end ∷ [])
-      ∙ (append_assoc before (swap ∷ []) (more ++ end ∷ [])
-      ∙ (ap (λ (l : List Event). l ++ rest) begins.1 ∙ append_assoc seen begins.0 rest))),
+          ∙ (append_assoc (before ++ swap ∷ []) more (end ∷ [])
+          ∙ (append_assoc before (swap ∷ []) (more ++ end ∷ [])
+          ∙ (ap (λ (l : List Event). l ++ rest) begins.1 ∙ append_assoc seen begins.0 rest))),
     )
 
 pub goes_on : (opening : Opening) (seen mine seen_after mine_after : List Event) (now later : Seen) (answer : Option Flushed) → FlushEnds opening seen mine seen_after mine_after now later (Ok answer) → BeginsWith seen_after seen
@@ -82,6 +82,16 @@ begins_as story one other same begins = (begins.0, begins.1 ∙ ap (λ (l : List
 none_taken : bodies_of [] ≡ []
 unfolding bodies_from
 none_taken = refl
+
+pub at_rest : (bytes : List ℕ) (bodies : List (List ℕ)) (clock : ℕ) (image : Images) → IsJournal bytes bodies → IsStable image clock bytes → StopsHold bodies [] clock clock image
+at_rest bytes bodies clock image is stable moment left from by h =
+    let same : left ≡ bytes = stable left (subst (λ n. image n left) (omega (arith, from, by)) h) in record {
+      front = [];
+      behind = [];
+      parts = refl;
+      journal = subst (λ (l : List ℕ). IsJournal l (bodies ++ bodies_of [])) (sym same) (subst (λ (l : List (List ℕ)). IsJournal bytes l) (sym (ap (λ l. bodies ++ l) none_taken ∙ append-nil bodies)) is);
+      later = tt;
+    }
 
 module _ (Coherent : Type 0) (opening : Opening) (loaded : List (List ℕ)) (faults first : ℕ) where
   abbrev Keeps : Bool → List Event → List Event → Seen → Type 0

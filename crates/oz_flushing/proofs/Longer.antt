@@ -3,14 +3,13 @@ use Rattle.std.specs.Prelude.{Bool, false}
 use Rattle.std.specs.List.{AllByRecursion}
 use Rattle.std.proofs.Common.{◌≡◌, ℕ, List, [], ◌∷◌, ◌++◌, IfSome, refl, sym, ap, ◌∙◌, subst, append_assoc}
 use Rattle.std.proofs.lemmas.Bool.{false≢true}
-use Rattle.std.proofs.lemmas.List.{append-nil}
 use Rattle.oz_buffer.specs.Buffer.{AllFollow, Follows}
 use Rattle.oz_core.specs.declared.event.Event.{Event}
 use Rattle.oz_core.specs.declared.event.EventKind.{EventKind}
 use Rattle.oz_core.specs.declared.event.EventKind.TheVariants.{Swap, Flushed}
 use Rattle.oz_core.specs.declared.opening.Opening.{Opening}
 use Rattle.oz_core.specs.Contents.{OpeningBytes}
-use Rattle.oz_flusher.specs.Stops.{IsLater, IsPrefix, StopsHold}
+use Rattle.oz_flusher.specs.Stops.{IsLater, IsPrefix}
 use Rattle.oz_flusher.specs.Taken.{body_taken, bodies_from, bodies_of}
 use Rattle.oz_flushing.specs.Kept.{IsKept}
 use Rattle.oz_flushing.proofs.Own.{is_ours, AreOurs, AreOthers, own, others_more}

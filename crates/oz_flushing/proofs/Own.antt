@@ -1,7 +1,7 @@
 -- The events that the flusher's seat gave in a story, and what others gave.
 use Rattle.std.specs.Prelude.{◌==◌, Bool, true, false}
 use Rattle.std.specs.List.{AllByRecursion, cons_option}
-use Rattle.std.proofs.Common.{◌≡◌, ◌+◌, List, [], ◌∷◌, ◌++◌, length, Option, None, refl, sym, ap, ◌∙◌, cond, eq-eqb, arith, length-append}
+use Rattle.std.proofs.Common.{◌≡◌, List, [], ◌∷◌, ◌++◌, length, Option, None, refl, sym, ap, ◌∙◌, cond, eq-eqb, arith, length-append}
 use Rattle.std.proofs.lemmas.Bool.{false≢true}
 use Rattle.std.proofs.lemmas.List.Elements.{filter-append}
 use Rattle.oz_core.specs.declared.event.Event.{Event}

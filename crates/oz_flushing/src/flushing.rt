@@ -1,10 +1,11 @@
 //! The flusher with its seat.
 
-ghost use Rattle.std.specs.Prelude.{◌≡◌, ◌≤◌, ◌<◌, [], true, false, Ok, None, Some, is_err, IsErr, IsSome, IfSome, IfOk, IfErr};
+ghost use Rattle.std.specs.Prelude.{◌≡◌, ◌≤◌, ◌<◌, [], true, false, Ok, None, Some, is_err};
+ghost use Rattle.std.specs.Prelude.{IsErr, IsSome, IfSome, IfOk, IfErr};
 ghost use Rattle.oz_core.specs.declared.event.Node.TheVariants.{Manager};
 ghost use Rattle.oz_core.specs.Manager.{halt_of};
 ghost use Rattle.oz_flusher.specs.Stops.{StopsHold};
-ghost use Rattle.oz_flushing.specs.Answers.{Answers};
+ghost use Rattle.oz_flushing.specs.Flush.{FlushTells};
 ghost use Rattle.oz_flushing.specs.Kept.{IsKept};
 ghost use Rattle.oz_journal.specs.Grammar.{IsJournal};
 ghost use Rattle.oz_core.specs.Seats.{flusher_seat};
@@ -25,8 +26,8 @@ use oz_world::{Disk, Failed, Gate};
 use std::marker::{Model, PhantomData};
 use std::sync::Wait;
 
-/// The flusher of a run, and its seat. What became of the disk and of the story is kept by the type, so that it can be said
-/// of a value that comes out of a lock.
+/// The flusher of a run, and its seat. What became of the disk and of the story is kept by the type, so that it can be
+/// said of a value that comes out of a lock.
 #[derive(Drop)]
 pub struct Flushing<D: Disk, T: Told<Entry = Event>, O: Opened, M: Mounted, R: Ring> {
     flusher: Flusher<D>,
@@ -36,8 +37,7 @@ pub struct Flushing<D: Disk, T: Told<Entry = Event>, O: Opened, M: Mounted, R: R
 }
 
 impl<D: Disk, T: Told<Entry = Event>, O: Opened, M: Mounted, R: Ring> Model
-    for Flushing<D, T, O, M, R>
-{
+    for Flushing<D, T, O, M, R> {
     ghost use Rattle.std.specs.Prelude.{◌≡◌};
     ghost use Rattle.oz_core.specs.declared.event.Node.TheVariants.{Manager};
     ghost use Rattle.oz_core.specs.Manager.{halt_of};
@@ -93,8 +93,9 @@ impl<D: Disk, T: Told<Entry = Event>, O: Opened, M: Mounted, R: Ring> Flushing<D
         ensures journal { result.0 ≡ record { disk = self.disk; stopped = self.stopped } }
         ensures ready { IsReady R.turn flusher_seat result.1 }
         ensures events { (seen_of result.1 ≡ self.seen) × (mine_of result.1 ≡ self.mine) }
-        ensures kept { IsKept O.coherent O.opening O.bodies M.faults M.first self.stopped self.seen self.mine
-            (seen (D.told self.disk) (D.clock self.disk) (D.image self.disk) (D.faults self.disk)) }
+        ensures kept { IsKept O.coherent O.opening O.bodies M.faults M.first result.0.stopped (seen_of result.1)
+            (mine_of result.1)
+            (seen (D.told result.0.disk) (D.clock result.0.disk) (D.image result.0.disk) (D.faults result.0.disk)) }
     {
         let Flushing {
             flusher,
@@ -107,8 +108,8 @@ impl<D: Disk, T: Told<Entry = Event>, O: Opened, M: Mounted, R: Ring> Flushing<D
 }
 
 impl<D: Disk, O: Opened, M: Mounted, R: Ring> Flushing<D, Ledger<O>, O, M, R> {
-    /// Flushes what was decided and isn't flushed. An error is the count of faults with which the manager halted, now or
-    /// before; where it was before, nothing is done. It takes no memory.
+    /// Flushes what was decided and isn't flushed. An error is the count of faults with which the manager halted, now
+    /// or before; where it was before, nothing is done. It takes no memory.
     pub fn flush<W: Wait, G: Gate>(
         &mut self,
         rt: &W,
@@ -116,13 +117,14 @@ impl<D: Disk, O: Opened, M: Mounted, R: Ring> Flushing<D, Ledger<O>, O, M, R> {
         gate: &G,
     ) -> Result<Option<Flushed>, u64>
         requires { turn_id turn.now ≡ R.turn }
-        ensures running { self.old.stopped ≡ false → Answers O.opening self.old.seen self.old.mine self.new.seen self.new.mine
+        ensures running { self.old.stopped ≡ false →
+            FlushTells O.opening self.old.seen self.old.mine self.new.seen self.new.mine
             (seen (D.told self.old.disk) (D.clock self.old.disk) (D.image self.old.disk) (D.faults self.old.disk))
             (seen (D.told self.new.disk) (D.clock self.new.disk) (D.image self.new.disk) (D.faults self.new.disk))
             result }
         ensures halted { self.old.stopped ≡ true → (self.new ≡ self.old) × IsErr result }
-        ensures err { IfErr result (λ count. (count ≡ D.faults self.new.disk) × (halt_of Manager self.new.mine ≡ Some count)
-            × Rose M.faults count) }
+        ensures err { IfErr result (λ count. (count ≡ D.faults self.new.disk) × Rose M.faults count
+            × (halt_of Manager self.new.mine ≡ Some count)) }
         ensures moment { IfOk result (λ flushed. IfSome flushed (λ this. M.first < this.moment)) }
         ensures none { result ≡ Ok None → self.new.disk ≡ self.old.disk }
         ensures stopped { self.new.stopped ≡ is_err result }

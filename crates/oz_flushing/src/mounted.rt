@@ -2,8 +2,8 @@
 
 use std::marker::Brand;
 
-/// The manager's disk as a run found it. A type that keeps what became of it takes it as a parameter, so that what it keeps
-/// is counted from there.
+/// The manager's disk as a run found it. A type that keeps what became of it takes it as a parameter, so that all of
+/// them count from there.
 pub trait Mounted {
     ghost use Rattle.std.specs.Prelude.{ℕ};
 

@@ -1,4 +1,4 @@
-use Rattle.std.proofs.Common.{◌-◌, sym, ap, ◌∙◌, eq-eqb}
+use Rattle.std.proofs.Common.{◌-◌, ap, eq-eqb}
 use Rattle.oz_core.specs.Seats.{flusher_seat}
 use Rattle.oz_flushing.proofs.Last.{parts_at, is_last, ends_so}
 use Rattle.oz_flushing.proofs.halting.last_halt.Goals as goal

@@ -1,0 +1,4 @@
+-- Laws
+pub mod Going
+pub mod Asks
+pub mod Told

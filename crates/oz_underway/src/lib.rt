@@ -1,0 +1,6 @@
+//! Laws of a line that is under way: what a story has of it stays as it is while the line asks nothing more.
+#![tactic(auto)]
+
+mod laws;
+
+pub use laws::asks_stay;

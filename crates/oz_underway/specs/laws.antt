@@ -2,3 +2,5 @@
 pub mod Going
 pub mod Asks
 pub mod Told
+pub mod Replies
+pub mod Blocks

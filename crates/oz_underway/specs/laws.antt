@@ -4,3 +4,4 @@ pub mod Asks
 pub mod Told
 pub mod Replies
 pub mod Blocks
+pub mod Order

@@ -4,10 +4,9 @@ ghost use Rattle.std.specs.Prelude.{◌≡◌, ◌≢◌, ℕ, [], List, true, N
 ghost use Rattle.oz_buffer.specs.Buffer.{AllFollow, Follows};
 ghost use Rattle.oz_core.specs.declared.event.Event.{Event as AnyEvent};
 ghost use Rattle.oz_core.specs.declared.limits.TheConstants.{SERVICE_CLIENT};
-ghost use Rattle.oz_core.specs.Asks.{asks_of, is_told, last_ask, replies_to};
-ghost use Rattle.oz_core.specs.Contents.{written_for};
-ghost use Rattle.oz_core.specs.Steps.{granted_to};
-ghost use Rattle.std.specs.Prelude.{◌≤◌};
+ghost use Rattle.oz_core.specs.Asks.{asks_of, is_told, last_ask};
+ghost use Rattle.oz_core.specs.Fits.{Fits};
+ghost use Rattle.oz_lines.specs.Numbered.{IsNumbered};
 ghost use Rattle.oz_requests.specs.declared.request.AskId.{AskId as AnyId};
 ghost use Rattle.oz_turn.specs.Told.{BeginsWith};
 ghost use Rattle.oz_underway.specs.GoingOn.{FromHereOn};
@@ -31,10 +30,9 @@ pub fn asks_stay<O: Opened>()
         asks_of client line story ≡ asks_of client line seen) }
 {}
 
-/// Try.
-pub fn few_try<O: Opened>()
-    ensures a { O.coherent → (client line : ℕ) (story : List AnyEvent) → client ≢ SERVICE_CLIENT →
-        AllFollow (Follows O.coherent O.opening O.bytes O.script) [] story → length (replies_to client line story) ≤ length (asks_of client line story) }
-    ensures b { O.coherent → (client line : ℕ) (story seen : List AnyEvent) →
-        AllFollow (Follows O.coherent O.opening O.bytes O.script) [] story → BeginsWith story seen → granted_to client line seen ≡ [] → granted_to client line story ≡ granted_to client line seen → written_for client line story ≡ written_for client line seen }
+/// Where each event follows, the whole story is that of the script: each client's lines were told in their order.
+pub fn lines_are_told_in_order<O: Opened>()
+    ensures { O.coherent → IsNumbered O.script → (story : List AnyEvent) →
+        AllFollow (Follows O.coherent O.opening O.bytes O.script) [] story →
+        Fits O.opening O.bytes O.script story }
 {}

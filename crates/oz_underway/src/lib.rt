@@ -3,4 +3,4 @@
 
 mod laws;
 
-pub use laws::asks_stay;
+pub use laws::{asks_stay, lines_are_told_in_order};

@@ -3,4 +3,7 @@
 
 mod laws;
 
-pub use laws::{asks_stay, lines_are_told_in_order};
+pub use laws::{
+    a_line_begins, a_line_stays_under_way, a_reply_comes, asks_stay, lines_are_told_in_order,
+    what_is_asked_fits, what_is_told_is_due,
+};

@@ -1,6 +1,6 @@
 -- Stories that go on from others, and what their events tell.
-use Rattle.std.proofs.Common.{◌≡◌, ◌≤◌, ℕ, ◌+◌, Bool, true, false, ◌||◌, List, [], ◌∷◌, ◌++◌, length, Option, None, Some, refl, sym, ap, ◌∙◌, subst, append_assoc, append-nil, length-append, arith}
-use Rattle.std.proofs.lemmas.List.Elements.{filter_map-append}
+use Rattle.std.proofs.Common.{◌≡◌, ◌⊎◌, ⊎_elim, inl, inr, ◌≤◌, Contains, ℕ, ◌+◌, Bool, true, false, ◌||◌, List, [], ◌∷◌, ◌++◌, length, Option, None, Some, refl, sym, ap, ◌∙◌, subst, append_assoc, append-nil, length-append, arith}
+use Rattle.std.proofs.lemmas.List.Elements.{Contains-append_left, Contains-push, filter_map-append}
 use Rattle.std.proofs.lemmas.List.Folds.{list_any-append}
 use Rattle.std.specs.List.{cons_option}
 use Rattle.oz_core.specs.declared.event.Event.{Event}
@@ -25,6 +25,28 @@ module _ {E : Type 0} where
   pub no_longer : (l seen more : List E) → l ≡ seen ++ more → length l ≡ length seen → l ≡ seen
   no_longer l seen [] is same = is ∙ append-nil seen
   no_longer l seen (e ∷ more) is same = absurd (omega (arith, same, ap length is, length-append seen (e ∷ more)))
+
+-- an entry behind a front of a list is among what came since an earlier front
+pub among_since : {E : Type 0} (story since front : List E) (e : E) → BeginsWith front since → BeginsWith story (front ++ e ∷ [])
+    → (begins : BeginsWith story since) × Contains begins.0 e
+among_since story since front e begins later = (
+  ((begins.0 ++ e ∷ []) ++ later.0,
+  later.1 ∙ (ap (λ l. (l ++ e ∷ []) ++ later.0) begins.1
+  ∙ (ap (λ l. l ++ later.0) (append_assoc since begins.0 (e ∷ [])) ∙ append_assoc since (begins.0 ++ e ∷ []) later.0))),
+  Contains-append_left (begins.0 ++ e ∷ []) later.0 e (Contains-push begins.0 e),
+)
+
+-- of two fronts of a list one begins with the other
+pub either_way : {E : Type 0} (a b c d : List E) → a ++ b ≡ c ++ d → BeginsWith a c ⊎ BeginsWith c a
+either_way a b [] d e = inl (a, refl)
+either_way [] b (y ∷ c) d e = inr (y ∷ c, refl)
+either_way (x ∷ a) b (y ∷ c) d e =
+    let heads : x ≡ y = cc in
+    let tails : a ++ b ≡ c ++ d = cc in
+    ⊎_elim
+    (λ (first : BeginsWith a c). inl (first.0, let same = first.1 in cc))
+    (λ (then : BeginsWith c a). inr (then.0, let same = then.1 in cc))
+    (either_way a b c d tails)
 
 -- ---- what events tell
 
@@ -90,6 +112,10 @@ module _ (Follow : List Event → Event → Type 0) where
   pub follow_before : (story seen : List Event) → BeginsWith story seen → AllFollow Follow [] story → AllFollow Follow [] seen
   follow_before story seen begins all =
       follow_front [] seen begins.0 (subst (λ (l : List Event). AllFollow Follow [] l) begins.1 all)
+
+  pub follow_first : (before : List Event) (event : Event) (rest : List Event) → AllFollow Follow before (event ∷ rest) → Follow before event
+  unfolding AllFollow
+  follow_first before event rest all = all.0
 
   -- what each event keeps that may follow behind what was seen
   abbrev pub Keeps : List Event → (List Event → Type 0) → Type 0

@@ -13,7 +13,7 @@ ghost use Rattle.oz_client.specs.Stories.{HasIt, IsLeftEverywhere, IsStepEverywh
 ghost use Rattle.oz_command.specs.declared.command.Command.{Command as AnyCommand};
 ghost use Rattle.oz_command.specs.declared.command.Command.TheVariants as commands;
 ghost use Rattle.oz_core.specs.declared.event.Event.{Event as AnyEvent};
-ghost use Rattle.oz_core.specs.declared.event.EventKind.TheVariants.{Ask};
+ghost use Rattle.oz_core.specs.declared.event.EventKind.TheVariants.{Ask, Told};
 ghost use Rattle.oz_core.specs.declared.limits.TheConstants.{SERVICE_CLIENT};
 ghost use Rattle.oz_core.specs.Asks.{asks_of, is_told, last_ask, pending};
 ghost use Rattle.oz_core.specs.Due.{IsDue};
@@ -33,7 +33,7 @@ ghost use Rattle.oz_steps.specs.Grants.{has_fate_written};
 ghost use Rattle.oz_steps.specs.Lines.{IsLabel, commit_of_label};
 ghost use Rattle.oz_turn.specs.Told.{BeginsWith};
 ghost use Rattle.oz_underway.specs.GoingOn.{FromHereOn};
-ghost use Rattle.oz_underway.specs.UnderWay.{IsUnderWay, LabelStays, WhileAsked, times_asked};
+ghost use Rattle.oz_underway.specs.UnderWay.{IsLast, IsUnderWay, LabelStays, WhileAsked, times_asked};
 
 use oz_buffer::Opened;
 
@@ -89,15 +89,23 @@ pub fn a_reply_comes<O: Opened>()
         (progress_after progress (gots.Reply reply)) }
 {}
 
-/// What a line is to be told is due, as long as it asked no more.
+/// What a line is to be told is due, as long as it asked no more: it is what the script leads to.
 pub fn what_is_told_is_due<O: Opened>()
-    ensures { (seen : List AnyEvent) (line : AnyLine) (asked : ℕ) (command : AnyCommand)
-        (progress : AnyProgress) (got : AnyGot) (answer : AnyAnswer) →
+    ensures due { (seen : List AnyEvent) (line : AnyLine) (asked : ℕ) (command : AnyCommand) (progress : AnyProgress)
+        (got : AnyGot) (answer : AnyAnswer) →
         IsUnderWay O.coherent O.opening O.bytes O.script seen line asked command progress →
         IsStepEverywhere command progress got (steps.Tell answer) →
         WhileAsked O.coherent O.opening O.bytes O.script seen line asked (λ story.
         HasIt O.opening O.bytes O.script story line command progress got →
         IsDue O.opening O.bytes O.script story line answer) }
+    ensures fits { O.coherent → (seen : List AnyEvent) (line : AnyLine) (asked : ℕ) (command : AnyCommand)
+        (progress : AnyProgress) (got : AnyGot) (answer : AnyAnswer) (last : Option AnyId) →
+        IsUnderWay O.coherent O.opening O.bytes O.script seen line asked command progress →
+        IsStepEverywhere command progress got (steps.Tell answer) → IsLast last asked →
+        FromHereOn O.coherent O.opening O.bytes O.script seen (λ story.
+        last_ask line.client line.number story ≡ last →
+        HasIt O.opening O.bytes O.script story line command progress got →
+        EventFits O.opening O.bytes O.script story (Told line.client line.number answer)) }
 {}
 
 /// A script's line asks with the steps 1, 2 and so on: its last Ask says how often it asked. As long as that stays, all

@@ -9,3 +9,5 @@ pub mod Order
 pub mod Deciding
 pub mod UnderWay
 pub mod Labels
+pub mod TempAsks
+pub mod Commits

@@ -178,3 +178,11 @@ pub fn a_label_stays<O: Opened>()
         opening_line O.script line name ≡ None →
         IsLabel O.script story line (commands.KeyCommit name) label → ⊥ }
 {}
+
+/// Try.
+pub fn try_label<O: Opened>()
+    ensures { O.coherent → IsNumbered O.script → (since seen : List AnyEvent) (line : AnyLine) (command : AnyCommand) (label : Option AnyLabel) → line.client ≢ SERVICE_CLIENT →
+        HasStarted since line → BeginsWith seen since → AllFollow (Follows O.coherent O.opening O.bytes O.script) [] seen →
+        IsLabel O.script seen line command label →
+        LabelStays O.coherent O.opening O.bytes O.script since line command label }
+{}

@@ -6,6 +6,7 @@ pub mod Starting
 pub mod Replies
 pub mod Blocks
 pub mod Order
+pub mod Contents
 pub mod Deciding
 pub mod UnderWay
 pub mod Labels

@@ -16,7 +16,11 @@ ghost use Rattle.oz_core.specs.declared.event.Event.{Event as AnyEvent};
 ghost use Rattle.oz_core.specs.declared.event.EventKind.TheVariants.{Ask, Told};
 ghost use Rattle.oz_core.specs.declared.limits.TheConstants.{SERVICE_CLIENT};
 ghost use Rattle.oz_core.specs.Asks.{asks_of, is_told, last_ask, pending};
+ghost use Rattle.oz_core.specs.Contents.{HasContent};
 ghost use Rattle.oz_core.specs.Due.{IsDue};
+ghost use Rattle.oz_client.specs.Onward.{IsReading};
+ghost use Rattle.oz_fields.specs.declared.block.Piece.{Piece as AnyPiece};
+ghost use Rattle.oz_steps.specs.Requests.{request_by};
 ghost use Rattle.oz_core.specs.Fits.{EventFits, Fits};
 ghost use Rattle.oz_core.specs.Law.{AskIsEnabled};
 ghost use Rattle.oz_core.specs.Lines.{HasStarted};
@@ -37,9 +41,15 @@ ghost use Rattle.oz_underway.specs.UnderWay.{IsLast, IsUnderWay, LabelStays, Whi
 
 use oz_buffer::Opened;
 
-/// A script's line that has started and asked nothing is under way, with nothing that came back.
+/// A script's line that has started is under way, from its start on, with nothing that came back.
 pub fn a_line_begins<O: Opened>()
-    ensures { O.coherent → (seen : List AnyEvent) (line : AnyLine) (command : AnyCommand) (nodes : ℕ)
+    ensures started { O.coherent → IsNumbered O.script → (seen : List AnyEvent) (line : AnyLine)
+        (command : AnyCommand) (nodes : ℕ) (label : Option AnyLabel) →
+        Contains O.script.lines line → line.command ≡ command →
+        AllFollow (Follows O.coherent O.opening O.bytes O.script) [] seen → HasStarted seen line →
+        IsLabel O.script seen line command label →
+        IsUnderWay O.coherent O.opening O.bytes O.script seen line 0 command (nothing_yet nodes label) }
+    ensures unasked { O.coherent → (seen : List AnyEvent) (line : AnyLine) (command : AnyCommand) (nodes : ℕ)
         (label : Option AnyLabel) →
         Contains O.script.lines line → line.client ≢ SERVICE_CLIENT → line.command ≡ command →
         HasStarted seen line → asks_of line.client line.number seen ≡ [] →
@@ -50,13 +60,13 @@ pub fn a_line_begins<O: Opened>()
 /// Nothing is asked for a script's line before it starts, nor in what starts it: that a line was told.
 pub fn nothing_is_asked_before<O: Opened>()
     ensures start { O.coherent → IsNumbered O.script → (seen : List AnyEvent) (line : AnyLine) →
-        Contains O.script.lines line → line.client ≢ SERVICE_CLIENT →
-        AllFollow (Follows O.coherent O.opening O.bytes O.script) [] seen → (HasStarted seen line → ⊥) →
+        Contains O.script.lines line → AllFollow (Follows O.coherent O.opening O.bytes O.script) [] seen →
+        (HasStarted seen line → ⊥) →
         asks_of line.client line.number seen ≡ [] }
     ensures told { O.coherent → IsNumbered O.script → (seen : List AnyEvent) (line : AnyLine)
         (seat client number : ℕ) (answer : AnyAnswer) →
-        Contains O.script.lines line → line.client ≢ SERVICE_CLIENT →
-        AllFollow (Follows O.coherent O.opening O.bytes O.script) [] seen → (HasStarted seen line → ⊥) →
+        Contains O.script.lines line → AllFollow (Follows O.coherent O.opening O.bytes O.script) [] seen →
+        (HasStarted seen line → ⊥) →
         asks_of line.client line.number (seen ++ record { seat = seat; kind = Told client number answer } ∷ []) ≡ [] }
 {}
 
@@ -102,6 +112,18 @@ pub fn a_reply_comes<O: Opened>()
         (progress_after progress (gots.Reply reply)) }
 {}
 
+/// A piece of a key is read: what its block has, it has from then on.
+pub fn a_piece_is_read<O: Opened>()
+    ensures { O.coherent → IsNumbered O.script → (seen later : List AnyEvent) (line : AnyLine) (asked : ℕ)
+        (command : AnyCommand) (progress : AnyProgress) (piece : AnyPiece) (content : List ℕ) →
+        IsUnderWay O.coherent O.opening O.bytes O.script seen line asked command progress →
+        IsReading command progress piece →
+        BeginsWith later seen → AllFollow (Follows O.coherent O.opening O.bytes O.script) [] later →
+        HasContent O.opening O.bytes O.script later piece.block content →
+        IsUnderWay O.coherent O.opening O.bytes O.script later line asked command
+        (record progress { read = progress.read ++ content ∷ [] }) }
+{}
+
 /// What a line is to be told is due, as long as it asked no more: it is what the script leads to.
 pub fn what_is_told_is_due<O: Opened>()
     ensures due { (seen : List AnyEvent) (line : AnyLine) (asked : ℕ) (command : AnyCommand) (progress : AnyProgress)
@@ -128,7 +150,7 @@ pub fn what_is_told_is_due<O: Opened>()
 {}
 
 /// A script's line asks with the steps 1, 2 and so on: its last Ask says how often it asked. As long as that stays, all
-/// its Asks do; and they stay once the line is told.
+/// its Asks do; and they stay once the line is told, or has no next step.
 pub fn asks_stay<O: Opened>()
     ensures counted { O.coherent → (client line : ℕ) (story : List AnyEvent) (id : AnyId) → client ≢ SERVICE_CLIENT →
         AllFollow (Follows O.coherent O.opening O.bytes O.script) [] story → last_ask client line story ≡ Some id →
@@ -142,6 +164,11 @@ pub fn asks_stay<O: Opened>()
     ensures told { O.coherent → (client line : ℕ) (seen : List AnyEvent) → client ≢ SERVICE_CLIENT →
         is_told client line seen ≡ true → FromHereOn O.coherent O.opening O.bytes O.script seen (λ story.
         asks_of client line story ≡ asks_of client line seen) }
+    ensures idle { O.coherent → IsNumbered O.script → (seen : List AnyEvent) (line : AnyLine) (asked : ℕ)
+        (command : AnyCommand) (progress : AnyProgress) →
+        IsUnderWay O.coherent O.opening O.bytes O.script seen line asked command progress →
+        request_by command progress.label progress.came ≡ None →
+        FromHereOn O.coherent O.opening O.bytes O.script seen (λ story. times_asked story line ≡ asked) }
 {}
 
 /// Where each event follows, the whole story is that of the script: each client's lines were told in their order.
@@ -171,6 +198,11 @@ pub fn a_label_stays<O: Opened>()
         is_told opened.client opened.number seen ≡ true → is_open_at seen opened ≡ false →
         opening_line O.script line name ≡ Some opened →
         LabelStays O.coherent O.opening O.bytes O.script seen line (commands.KeyCommit name) None }
+    ensures started { O.coherent → IsNumbered O.script → (since seen : List AnyEvent) (line : AnyLine)
+        (command : AnyCommand) (label : Option AnyLabel) →
+        line.client ≢ SERVICE_CLIENT → HasStarted since line → BeginsWith seen since →
+        AllFollow (Follows O.coherent O.opening O.bytes O.script) [] seen → IsLabel O.script seen line command label →
+        LabelStays O.coherent O.opening O.bytes O.script since line command label }
     ensures none { (seen : List AnyEvent) (line : AnyLine) (command : AnyCommand) (label : Option AnyLabel) →
         ((name : List ℕ) → command ≢ commands.KeyCommit name) →
         LabelStays O.coherent O.opening O.bytes O.script seen line command label }
@@ -179,10 +211,3 @@ pub fn a_label_stays<O: Opened>()
         IsLabel O.script story line (commands.KeyCommit name) label → ⊥ }
 {}
 
-/// Try.
-pub fn try_label<O: Opened>()
-    ensures { O.coherent → IsNumbered O.script → (since seen : List AnyEvent) (line : AnyLine) (command : AnyCommand) (label : Option AnyLabel) → line.client ≢ SERVICE_CLIENT →
-        HasStarted since line → BeginsWith seen since → AllFollow (Follows O.coherent O.opening O.bytes O.script) [] seen →
-        IsLabel O.script seen line command label →
-        LabelStays O.coherent O.opening O.bytes O.script since line command label }
-{}

@@ -1,5 +1,6 @@
 -- What has started stays so, and nothing is asked before.
-use Rattle.std.proofs.Common.{◌≡◌, ◌≢◌, ◌⊎◌, ⊎_elim, inl, inr, ℕ, ◌-◌, Bool, true, false, cond, List, [], ◌∷◌, ◌++◌, Option, None, Some, Contains, refl, sym, ap, ◌∙◌, subst, append-nil}
+use Rattle.std.proofs.Common.{◌≡◌, ◌≢◌, ◌⊎◌, ⊎_elim, inl, inr, ℕ, ◌-◌, ◌≤◌, length, Bool, true, false, cond, List, [], ◌∷◌, ◌++◌, Option, None, Some, Contains, refl, sym, ap, ◌∙◌, subst, arith}
+use Rattle.std.proofs.lemmas.List.Elements.{All-contains}
 use Rattle.oz_lines.specs.declared.script.Line.{Line}
 use Rattle.oz_lines.specs.declared.script.Script.{Script}
 use Rattle.oz_lines.specs.Numbered.{IsNumbered}
@@ -30,6 +31,12 @@ started_still story seen line begins started = record {
   before_it = λ lt. told_still line.client (line.number - 1) story seen begins (started.before_it lt);
   after_it = after_still story seen begins line.after started.after_it;
 }
+
+-- no line of a script is the service job's
+pub not_service : (script : Script) → IsNumbered script → (line : Line) → Contains script.lines line → line.client ≢ SERVICE_CLIENT
+not_service script numbered line there is =
+    let known = All-contains (λ (l : Line). l.client ≤ length script.clients) script.lines line numbered.known there in
+    absurd (omega (arith, known, numbered.clients, is))
 
 -- a front at which the line had started, and had asked nothing
 pub record IsFreshAt (story : List Event) (line : Line) (front : List Event) : Type 0 where

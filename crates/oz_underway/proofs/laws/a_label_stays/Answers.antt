@@ -1,5 +1,6 @@
 use Rattle.std.proofs.Common.{◌∙◌, ap}
 use Rattle.oz_core.specs.Steps.{commit_step}
+use Rattle.oz_underway.specs.laws.Commits.{label_stays}
 use Rattle.oz_underway.specs.laws.Labels.{commit_stays, never_opened, no_label, open_still}
 use Rattle.oz_underway.proofs.laws.a_label_stays.Goals as goal
 
@@ -28,3 +29,8 @@ pub returns-clause-unopened : goal.returns-clause-unopened
 returns-clause-unopened g c story line name label none is =
     let O = g.O.Opened in
     never_opened O.script story line name label none is
+
+pub returns-clause-started : goal.returns-clause-started
+returns-clause-started g c coherent numbered since seen line command label other started begins all is =
+    let O = g.O.Opened in
+    label_stays O.coherent O.opening O.bytes O.script numbered line other since seen coherent all begins started command label is

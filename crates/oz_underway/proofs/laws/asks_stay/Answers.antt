@@ -1,5 +1,6 @@
 use Rattle.oz_underway.specs.laws.Asks.{last_id, none_last, same_asks}
 use Rattle.oz_underway.specs.laws.Told.{asks_stop}
+use Rattle.oz_underway.specs.laws.UnderWay.{idle_asks}
 use Rattle.oz_core.specs.Asks.{asks_of}
 use Rattle.oz_underway.proofs.laws.asks_stay.Goals as goal
 
@@ -20,3 +21,8 @@ pub returns-clause-told : goal.returns-clause-told
 returns-clause-told g c coherent client line seen other told story begins all =
     let O = g.O.Opened in
     asks_stop O.coherent O.opening O.bytes O.script client line story seen other coherent all begins told
+
+pub returns-clause-idle : goal.returns-clause-idle
+returns-clause-idle g c coherent numbered seen line asked command progress way idle story begins all =
+    let O = g.O.Opened in
+    idle_asks O.coherent O.opening O.bytes O.script numbered seen line asked command progress coherent way idle story begins all

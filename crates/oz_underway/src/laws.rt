@@ -24,9 +24,13 @@ ghost use Rattle.oz_steps.specs.Requests.{request_by};
 ghost use Rattle.oz_core.specs.Fits.{EventFits, Fits};
 ghost use Rattle.oz_core.specs.Law.{AskIsEnabled};
 ghost use Rattle.oz_core.specs.Lines.{HasStarted};
-ghost use Rattle.oz_core.specs.Steps.{commit_step, is_open_at, opening_line};
+ghost use Rattle.oz_core.specs.Steps.{commit_step, is_open_at, opening_line, was_told_ok};
 ghost use Rattle.oz_lines.specs.declared.script.Line.{Line as AnyLine};
 ghost use Rattle.oz_lines.specs.Numbered.{IsNumbered};
+ghost use Rattle.oz_model.specs.Answers.{Answers};
+ghost use Rattle.oz_namespace.specs.declared.namespace.Namespace.{Namespace as AnyNamespace};
+ghost use Rattle.oz_requests.specs.declared.request.Family.TheVariants.{Allocation};
+ghost use Rattle.oz_requests.specs.Families.{family_of};
 ghost use Rattle.oz_requests.specs.declared.answer.Answer.{Answer as AnyAnswer};
 ghost use Rattle.oz_requests.specs.declared.reply.Reply.{Reply as AnyReply};
 ghost use Rattle.oz_requests.specs.declared.request.AskId.{AskId as AnyId};
@@ -55,19 +59,6 @@ pub fn a_line_begins<O: Opened>()
         HasStarted seen line → asks_of line.client line.number seen ≡ [] →
         LabelStays O.coherent O.opening O.bytes O.script seen line command label →
         IsUnderWay O.coherent O.opening O.bytes O.script seen line 0 command (nothing_yet nodes label) }
-{}
-
-/// Nothing is asked for a script's line before it starts, nor in what starts it: that a line was told.
-pub fn nothing_is_asked_before<O: Opened>()
-    ensures start { O.coherent → IsNumbered O.script → (seen : List AnyEvent) (line : AnyLine) →
-        Contains O.script.lines line → AllFollow (Follows O.coherent O.opening O.bytes O.script) [] seen →
-        (HasStarted seen line → ⊥) →
-        asks_of line.client line.number seen ≡ [] }
-    ensures told { O.coherent → IsNumbered O.script → (seen : List AnyEvent) (line : AnyLine)
-        (seat client number : ℕ) (answer : AnyAnswer) →
-        Contains O.script.lines line → AllFollow (Follows O.coherent O.opening O.bytes O.script) [] seen →
-        (HasStarted seen line → ⊥) →
-        asks_of line.client line.number (seen ++ record { seat = seat; kind = Told client number answer } ∷ []) ≡ [] }
 {}
 
 /// A line that is under way is so in what is seen later.
@@ -124,6 +115,12 @@ pub fn a_piece_is_read<O: Opened>()
         (record progress { read = progress.read ++ content ∷ [] }) }
 {}
 
+/// Only who asked for a block is granted one.
+pub fn a_reply_grants_nothing()
+    ensures { (namespace : AnyNamespace) (request : AnyRequest) (reply : AnyReply) →
+        Answers namespace request reply → family_of request ≢ Allocation → granted_by reply ≡ None }
+{}
+
 /// What a line is to be told is due, as long as it asked no more: it is what the script leads to.
 pub fn what_is_told_is_due<O: Opened>()
     ensures due { (seen : List AnyEvent) (line : AnyLine) (asked : ℕ) (command : AnyCommand) (progress : AnyProgress)
@@ -178,9 +175,21 @@ pub fn lines_are_told_in_order<O: Opened>()
         Fits O.opening O.bytes O.script story }
 {}
 
+/// Behind what tells it, a line was told: it is open if it was told `OK`. It asked nothing by that.
+pub fn a_line_was_told()
+    ensures told { (story : List AnyEvent) (seat client number : ℕ) (answer : AnyAnswer) →
+        is_told client number (story ++ record { seat = seat; kind = Told client number answer } ∷ []) ≡ true }
+    ensures open { (story : List AnyEvent) (seat : ℕ) (line : AnyLine) (answer : AnyAnswer) →
+        is_open_at (story ++ record { seat = seat; kind = Told line.client line.number answer } ∷ []) line
+        ≡ was_told_ok (Some answer) }
+    ensures asks { (story : List AnyEvent) (seat client number other line : ℕ) (answer : AnyAnswer) →
+        asks_of client number (story ++ record { seat = seat; kind = Told other line answer } ∷ [])
+        ≡ asks_of client number story }
+{}
+
 /// What a label stands for stays once the line that opened it was told, which it is once. For a later line of the client
-/// that commits the label, it is what that line left, if it was told `OK`, and else nothing. A label that no line opened
-/// stands for nothing, not even for that it isn't open: no script that was read has a commit of one.
+/// that commits the label, it is what that line left, if it was told `OK`, and else nothing; so it stays from the later
+/// line's start on. A label that no line opened stands for nothing, not even for that it isn't open.
 pub fn a_label_stays<O: Opened>()
     ensures commit { O.coherent → (seen : List AnyEvent) (opened : AnyLine) (asked : ℕ) (command : AnyCommand)
         (progress : AnyProgress) (label : AnyLabel) →
@@ -203,11 +212,9 @@ pub fn a_label_stays<O: Opened>()
         line.client ≢ SERVICE_CLIENT → HasStarted since line → BeginsWith seen since →
         AllFollow (Follows O.coherent O.opening O.bytes O.script) [] seen → IsLabel O.script seen line command label →
         LabelStays O.coherent O.opening O.bytes O.script since line command label }
-    ensures none { (seen : List AnyEvent) (line : AnyLine) (command : AnyCommand) (label : Option AnyLabel) →
-        ((name : List ℕ) → command ≢ commands.KeyCommit name) →
-        LabelStays O.coherent O.opening O.bytes O.script seen line command label }
+    ensures none { (story : List AnyEvent) (line : AnyLine) (command : AnyCommand) (label : Option AnyLabel) →
+        ((name : List ℕ) → command ≢ commands.KeyCommit name) → IsLabel O.script story line command label }
     ensures unopened { (story : List AnyEvent) (line : AnyLine) (name : List ℕ) (label : Option AnyLabel) →
         opening_line O.script line name ≡ None →
         IsLabel O.script story line (commands.KeyCommit name) label → ⊥ }
 {}
-

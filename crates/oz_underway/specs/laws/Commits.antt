@@ -1,7 +1,7 @@
 -- What a line that opened a label wrote stays, once the line was told OK; so what the label stands for stays.
-use Rattle.std.proofs.Common.{◌≡◌, ◌≢◌, ◌⊎◌, ⊎_elim, inl, inr, ℕ, suc, ◌+◌, ◌-◌, ◌≤◌, ◌<◌, Bool, true, false, ◌||◌, ◌&&◌, ◌==◌, cond, List, [], ◌∷◌, ◌++◌, length, take, filter, Option, None, Some, is_some, Contains, refl, sym, ap, ◌∙◌, subst, arith}
+use Rattle.std.proofs.Common.{◌≡◌, ◌≢◌, ◌⊎◌, ⊎_elim, inl, inr, ℕ, suc, ◌-◌, ◌<◌, Bool, true, false, ◌||◌, ◌&&◌, ◌==◌, cond, List, [], ◌∷◌, ◌++◌, length, filter, Option, None, Some, is_some, Contains, refl, sym, ap, ◌∙◌, subst, arith}
 use Rattle.std.proofs.Math.Bool.{or-true}
-use Rattle.std.proofs.lemmas.Bool.{and_parts, cases_lt, eqb-true, false≢true, ltb-true}
+use Rattle.std.proofs.lemmas.Bool.{and_parts, eqb-true, false≢true, ltb-true}
 use Rattle.std.proofs.lemmas.List.Elements.{All-contains, All-contains_itself, All-filter, Contains-append_right, filter_passes}
 use Rattle.std.proofs.lemmas.Option.{none-some, same_Some}
 use Rattle.std.specs.List.{cons_option, fold, list_any, slice_get}
@@ -32,16 +32,16 @@ use Rattle.oz_core.specs.declared.event.EventKind.{EventKind}
 use Rattle.oz_core.specs.declared.event.EventKind.TheVariants.{Ask, Decide, Told, Wrote}
 use Rattle.oz_core.specs.declared.limits.TheConstants.{SERVICE_CLIENT}
 use Rattle.oz_core.specs.declared.opening.Opening.{Opening}
-use Rattle.oz_core.specs.Asks.{answer_to, answers_to, ask_id, asks_of, is_of_line, is_script, is_told, reply_to, replies_to}
+use Rattle.oz_core.specs.Asks.{answer_to, ask_id, asks_of, is_of_line, is_told, reply_to, replies_to}
 use Rattle.oz_core.specs.Contents.{OpeningBytes, WasGranted, wrote, written_for}
 use Rattle.oz_core.specs.Due.{IsDone, IsDue, LineIsDone}
-use Rattle.oz_core.specs.Fits.{AskFits, EventFits, ToldFits, WroteFits, told_lines}
+use Rattle.oz_core.specs.Fits.{AskFits, EventFits, ToldFits}
 use Rattle.oz_core.specs.Lines.{HasStarted}
 use Rattle.oz_core.specs.Steps.{Target, block_step, commit_if, commit_step, is_code, is_open_at, is_opened_as, next_step, opening_line, opens_before, pieces_from, pieces_needed, put_step, session_in, step_of, target, target_of, was_told_ok}
 use Rattle.oz_core.specs.Manager.{namespace_at}
 use Rattle.oz_core.specs.Stories.{last_in}
 use Rattle.oz_steps.specs.declared.label.Label.{Label}
-use Rattle.oz_steps.specs.Lines.{IsLabel, commit_of_label}
+use Rattle.oz_steps.specs.Lines.{IsLabel}
 use Rattle.oz_underway.specs.TempDecided.{IsDecidedAsAsked}
 use Rattle.oz_underway.specs.laws.TempAsks.{decided_as_asked, legal_of_follow}
 use Rattle.oz_buffer.specs.Buffer.{AllFollow, Follows}
@@ -52,7 +52,7 @@ use Rattle.oz_kept.specs.laws.Lines.{lines_apart}
 use Rattle.oz_turn.specs.Told.{BeginsWith}
 use Rattle.oz_underway.specs.UnderWay.{LabelStays}
 use Rattle.oz_underway.specs.laws.Asks.{asked_times, of_line, script_of_line}
-use Rattle.oz_underway.specs.laws.Going.{begins_itself, begins_push, begins_through, follow_before, follow_behind, follow_first, kept_always, kept_on, no_fewer, none_more, same_by_count, told_more}
+use Rattle.oz_underway.specs.laws.Going.{begins_itself, begins_push, follow_before, follow_behind, follow_first, kept_always, kept_on, no_fewer, none_more, same_by_count, told_more}
 use Rattle.oz_underway.specs.laws.Labels.{never_opened, none_told, open_still}
 use Rattle.oz_underway.specs.laws.Order.{has_number, in_order}
 use Rattle.oz_underway.specs.laws.Replies.{few_replies}
@@ -344,10 +344,12 @@ module _ (Coherent : Type 0) (opening : Opening) (bytes : OpeningBytes) (script 
     label_of_name name label None none is = absurd (never_opened script seen line name label none is)
     label_of_name name None (Some opened) its (first, is, shut) = λ story begins follow.
         let there = opening_is script line first name is in
-        let was_told = opening_told since first coherent (follow_before Follows_ story since begins follow) started there in
-        (first, is,
-        open_still Coherent opening bytes script first story since coherent follow begins was_told
-        ∙ (sym (open_still Coherent opening bytes script first seen since coherent all goes was_told) ∙ shut))
+        let was_told = opening_told since first coherent (follow_before Follows_ story since begins follow) started there in (
+          first,
+          is,
+          open_still Coherent opening bytes script first story since coherent follow begins was_told
+              ∙ (sym (open_still Coherent opening bytes script first seen since coherent all goes was_told) ∙ shut),
+        )
     label_of_name name (Some label) (Some opened) its is = λ story begins follow.
         ap (commit_step story) its
         ∙ (commit_then name opened its story follow begins

@@ -6,7 +6,6 @@ use Rattle.std.proofs.lemmas.List.{map-append}
 use Rattle.std.proofs.lemmas.List.Elements.{filter-append}
 use Rattle.std.proofs.lemmas.List.Sums.{sum_by-append}
 use Rattle.std.specs.List.{cons_option}
-use Rattle.std.specs.Prelude.{count_by}
 use Rattle.oz_requests.specs.declared.answer.Answer.{Answer}
 use Rattle.oz_lines.specs.declared.script.Line.{Line}
 use Rattle.oz_lines.specs.declared.script.Script.{Script}
@@ -16,7 +15,7 @@ use Rattle.oz_core.specs.declared.event.EventKind.{EventKind}
 use Rattle.oz_core.specs.declared.event.EventKind.TheVariants.{Told}
 use Rattle.oz_core.specs.declared.opening.Opening.{Opening}
 use Rattle.oz_core.specs.Asks.{answer_to, is_told}
-use Rattle.oz_core.specs.Contents.{OpeningBytes, IsLineOf}
+use Rattle.oz_core.specs.Contents.{OpeningBytes}
 use Rattle.oz_core.specs.Fits.{EventFits, Fits, FitsFrom, ToldFits, line_numbers, told_line, told_lines}
 use Rattle.oz_core.specs.Law.{KindIsEnabled}
 use Rattle.oz_buffer.specs.Buffer.{AllFollow, Follows}

@@ -1,5 +1,5 @@
 -- Lines that are under way.
-use Rattle.std.proofs.Common.{◌≡◌, ◌≢◌, ⊎_elim, ℕ, ◌+◌, ◌-◌, ◌≤◌, ◌<◌, Bool, true, false, cond, List, [], ◌∷◌, ◌++◌, length, take, Option, None, Some, Contains, refl, sym, ap, ◌∙◌, subst, length-append, append-nil, arith}
+use Rattle.std.proofs.Common.{◌≡◌, ◌≢◌, ⊎_elim, ℕ, ◌+◌, ◌≤◌, ◌<◌, Bool, true, false, cond, List, [], ◌∷◌, ◌++◌, length, take, Option, None, Some, Contains, refl, sym, ap, ◌∙◌, subst, length-append, append-nil, arith}
 use Rattle.std.proofs.lemmas.Bool.{cases_lt, false≢true}
 use Rattle.std.proofs.lemmas.Option.{none-some, same_Some}
 use Rattle.std.specs.List.{cons_option, filter_map, list_all}
@@ -22,7 +22,7 @@ use Rattle.oz_core.specs.Contents.{HasContent, OpeningBytes, written_for}
 use Rattle.oz_core.specs.Due.{AreContents, IsDue}
 use Rattle.oz_core.specs.Fits.{AskFits, EventFits}
 use Rattle.oz_core.specs.Law.{AskIsEnabled}
-use Rattle.oz_core.specs.Lines.{AfterIsTold, HasStarted}
+use Rattle.oz_core.specs.Lines.{HasStarted}
 use Rattle.oz_core.specs.Steps.{GrantedBlock, grant_to, granted_to, next_step}
 use Rattle.oz_steps.specs.declared.came.Granted.{Granted}
 use Rattle.oz_steps.specs.declared.label.Label.{Label}
@@ -44,13 +44,12 @@ use Rattle.oz_buffer.specs.laws.Courses.{pending-push}
 use Rattle.oz_kept.specs.laws.Granted.{one_ask_id}
 use Rattle.oz_kept.specs.laws.Lines.{lines_apart}
 use Rattle.oz_turn.specs.Told.{BeginsWith}
-use Rattle.oz_underway.specs.GoingOn.{FromHereOn}
 use Rattle.oz_underway.specs.UnderWay.{IsLast, IsUnderWay, LabelStays, times_asked}
 use Rattle.oz_underway.specs.laws.Asks.{asked_of_step, its_line, none_last, of_line, pending_was_asked, script_of_line, scripted, step_of_asked, step_of_last}
 use Rattle.oz_underway.specs.laws.Blocks.{attempts_written, none_granted, same_written, still_grants}
 use Rattle.oz_underway.specs.laws.Contents.{contents_more, content_still}
-use Rattle.oz_underway.specs.laws.Deciding.{IsDecidedSince, decided_since}
-use Rattle.oz_underway.specs.laws.Going.{among_since, begins_itself, begins_push, begins_through, count_more, follow_before, kept_on, no_fewer, none_more, told_longer}
+use Rattle.oz_underway.specs.laws.Deciding.{decided_since}
+use Rattle.oz_underway.specs.laws.Going.{among_since, begins_itself, begins_push, begins_through, follow_before, kept_on, no_fewer, none_more, told_longer}
 use Rattle.oz_underway.specs.laws.Replies.{few_replies, none_more_replied, one_more}
 use Rattle.oz_underway.specs.laws.Commits.{label_stays}
 use Rattle.oz_underway.specs.laws.Starting.{fresh_front, not_service, started_still}

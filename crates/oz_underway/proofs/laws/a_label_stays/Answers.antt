@@ -21,7 +21,7 @@ returns-clause-not_open g c coherent seen opened line name told shut its story b
     (opened, its, open_still O.coherent O.opening O.bytes O.script opened story seen coherent all begins told ∙ shut)
 
 pub returns-clause-none : goal.returns-clause-none
-returns-clause-none g c seen line command label other story begins all =
+returns-clause-none g c story line command label other =
     let O = g.O.Opened in
     no_label O.script story line command label other
 

@@ -4,7 +4,6 @@ ghost use Rattle.std.specs.Prelude.{◌≡◌, ◌<◌};
 use crate::asking::{Asked, block_of, request_of};
 use crate::deciding::decided;
 use crate::drawing::{Opened, drawn};
-use crate::standing::stand;
 use oz_cache::Cached;
 use oz_decision::Decision;
 use oz_epochs::Steps;
@@ -15,6 +14,7 @@ use oz_rows::Change;
 use oz_tables::Tables;
 use rand_core::utils::NextWord;
 use rand_pcg::Pcg32;
+use rows_shown::Shown;
 use std::alloc::Global;
 use std::marker::Brand;
 use std::process::Abort;
@@ -91,6 +91,14 @@ fn answer_alike(
     Ok(is_same(reply, &answered))
 }
 
+/// Whether the rows are those of the namespace, with each granted block once.
+fn rows_stand(alloc: Global, store: &Store) -> Result<bool, OutOfMemory> {
+    let mut shown = Shown::nothing(alloc);
+    let are_there = shown.add(alloc, &store.cached, &store.namespace)?;
+    let granted = u64::from(store.granted);
+    Ok(are_there && shown.is_all(alloc, &store.namespace, granted)?)
+}
+
 /// Decides a request over rows, answers it over a namespace, and compares. Tells whether it changed anything.
 fn try_one<R: Abort>(
     rt: &R,
@@ -112,15 +120,7 @@ fn try_one<R: Abort>(
         enter(alloc, &mut store.cached, changes)?;
     }
     note(store, asked, &reply)?;
-    assert!(rt;
-        stand(
-            alloc,
-            &store.cached,
-            &store.namespace,
-            u64::from(store.granted)
-        )?,
-        "other rows"
-    );
+    assert!(rt; rows_stand(alloc, store)?, "other rows");
     Ok(changed)
 }
 

@@ -9,5 +9,3 @@ mod deciding;
 mod drawing;
 #[cfg(test)]
 mod drawn;
-#[cfg(test)]
-mod standing;

@@ -119,6 +119,25 @@ pub fn asks<R: Ring, W: Wait>(
     }
 }
 
+/// The same, asked again where there was no memory, as often as a test that refuses one allocation needs it.
+pub fn asks_again<R: Ring, W: Wait>(
+    rt: &W,
+    alloc: Global,
+    turn: &Turn<Book>,
+    office: &Office<R>,
+    worker: &mut Worker<R>,
+    line: u16,
+    kind: Kind,
+    volume: u16,
+) -> Result<Said, Refusal>
+    requires turn { turn_id turn.now ≡ R.turn }
+{
+    match asks(rt, alloc, turn, office, worker, line, kind, volume) {
+        Err(Refusal::OutOfMemory) => asks(rt, alloc, turn, office, worker, line, kind, volume),
+        told => told,
+    }
+}
+
 /// Flushes once, and says whether the disk took it.
 pub fn flushes<R: Ring, W: Wait, G: Gate>(
     rt: &W,

@@ -4,7 +4,7 @@ ghost use Rattle.std.specs.Prelude.{◌≡◌, vec_len};
 ghost use Rattle.oz_turn.specs.Seat.{AreNewSeats};
 ghost use Rattle.oz_turn.specs.Turn.{turn_id};
 
-use crate::office::{Desk, asks, flush, opened, story};
+use crate::office::{Desk, asks_again, flush, opened, story};
 use crate::requests::{Kind, Said};
 use crate::store::{Book, Office, Worker, holds, made};
 use crate::stories::asks_in;
@@ -26,11 +26,11 @@ fn begin<R: Ring, W: Wait + Abort>(
 )
     requires turn { turn_id turn.now ≡ R.turn }
 {
-    let told = asks(rt, alloc, turn, office, worker, 1, Kind::CreateVolume, 1);
+    let told = asks_again(rt, alloc, turn, office, worker, 1, Kind::CreateVolume, 1);
     holds(rt, told == Ok(Said::Done), "a volume");
-    let told = asks(rt, alloc, turn, office, worker, 2, Kind::CreateBucket, 1);
+    let told = asks_again(rt, alloc, turn, office, worker, 2, Kind::CreateBucket, 1);
     holds(rt, told == Ok(Said::Done), "a bucket");
-    let told = asks(rt, alloc, turn, office, worker, 3, Kind::CreateKey, 1);
+    let told = asks_again(rt, alloc, turn, office, worker, 3, Kind::CreateKey, 1);
     holds(rt, told == Ok(Said::Session(1)), "a session");
 }
 
@@ -44,12 +44,12 @@ fn ask_again<R: Ring, W: Wait + Abort>(
 )
     requires turn { turn_id turn.now ≡ R.turn }
 {
-    let told = asks(rt, alloc, turn, office, worker, 1, Kind::CreateVolume, 1);
+    let told = asks_again(rt, alloc, turn, office, worker, 1, Kind::CreateVolume, 1);
     holds(rt, told == Err(Refusal::Early), "it was decided");
     let empty = Err(Refusal::PoolEmpty { stripe: 2 });
-    let told = asks(rt, alloc, turn, office, worker, 4, Kind::AllocateBlock, 1);
+    let told = asks_again(rt, alloc, turn, office, worker, 4, Kind::AllocateBlock, 1);
     holds(rt, told == empty, "no block");
-    let told = asks(rt, alloc, turn, office, worker, 4, Kind::AllocateBlock, 1);
+    let told = asks_again(rt, alloc, turn, office, worker, 4, Kind::AllocateBlock, 1);
     holds(rt, told == empty, "still none");
 }
 
@@ -65,9 +65,9 @@ fn halt<R: Ring, W: Wait + Abort>(
     requires turn { turn_id turn.now ≡ R.turn }
 {
     holds(rt, !flush(rt, turn, desk), "its disk fails");
-    let told = asks(rt, alloc, turn, office, worker, 5, Kind::InfoVolume, 1);
+    let told = asks_again(rt, alloc, turn, office, worker, 5, Kind::InfoVolume, 1);
     holds(rt, told == Err(Refusal::Stopped { count: 1 }), "halted");
-    let told = asks(rt, alloc, turn, office, worker, 5, Kind::InfoVolume, 1);
+    let told = asks_again(rt, alloc, turn, office, worker, 5, Kind::InfoVolume, 1);
     holds(rt, told == Err(Refusal::Stopped { count: 1 }), "for good");
 }
 

@@ -8,7 +8,7 @@ ghost use Rattle.oz_turn.specs.Turn.{turn_id};
 use crate::office::{Desk, asks, flush, opened, story};
 use crate::requests::{Kind, Said, request};
 use crate::store::{Book, Office, Worker, holds, made};
-use crate::stories::{asks_in, have_their_indexes, is_of_one_thread};
+use crate::stories::{asks_in, have_their_indexes, namespace_behind};
 use oz_names::Code;
 use oz_requests::{AskId, Request};
 use oz_turn::{Ring, Seat, Turn};
@@ -102,7 +102,11 @@ fn ask_and_settle<R: Ring, W: Wait + Abort>(
     let story = story(rt, alloc, turn, &mut worker)?;
     holds(rt, asks_in(&story) == 19, "each once");
     holds(rt, have_their_indexes(&story), "indexes");
-    holds(rt, is_of_one_thread(alloc, &story)?, "of one thread");
+    holds(
+        rt,
+        namespace_behind(alloc, &story)?.is_some(),
+        "of one thread",
+    );
     Ok(())
 }
 

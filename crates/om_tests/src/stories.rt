@@ -43,17 +43,17 @@ fn index_after(kind: &EventKind, last: Option<u64>) -> Option<u64> {
     }
 }
 
-/// Whether each Decide says what one thread replies, which goes through the decided requests in the order of the story,
-/// from an empty namespace on.
-pub fn is_of_one_thread(alloc: Global, story: &[Event]) -> Result<bool, OutOfMemory> {
+/// The namespace behind a story, in whose order one thread goes through the decided requests, from an empty namespace on;
+/// none where it doesn't reply what each Decide says.
+pub fn namespace_behind(alloc: Global, story: &[Event]) -> Result<Option<Namespace>, OutOfMemory> {
     let mut namespace = Namespace::new(alloc);
     for place in 0..story.len() {
         match after(alloc, namespace, story, place)? {
             Some(left) => namespace = left,
-            None => return Ok(false),
+            None => return Ok(None),
         }
     }
-    Ok(true)
+    Ok(Some(namespace))
 }
 
 /// What one thread leaves of a namespace at this place; none where it doesn't say the same.

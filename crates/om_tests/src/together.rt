@@ -1,27 +1,36 @@
 //! What four threads ask.
 
-ghost use Rattle.std.specs.Prelude.{◌≡◌, vec_len};
+ghost use Rattle.std.specs.Prelude.{◌≡◌, ◌<◌, vec_len};
 ghost use Rattle.oz_turn.specs.Seat.{AreNewSeats};
 ghost use Rattle.oz_turn.specs.Turn.{turn_id};
 
-use crate::office::{asks, opened, story};
+use crate::office::{Desk, asks, flush, opened, story};
 use crate::requests::Kind;
 use crate::store::{Book, Office, Worker, holds, made};
-use crate::stories::{asks_in, have_their_indexes, is_of_one_thread};
+use crate::stories::{asks_in, have_their_indexes, namespace_behind};
 use oz_core::Event;
+use oz_fields::OutOfMemory;
+use oz_legal::legal;
+use oz_loaded::load;
+use oz_model::Namespace;
 use oz_turn::{Ring, Seat, Turn};
+use rows_shown::Shown;
 use std::alloc::Global;
 use std::marker::Brand;
 use std::process::Abort;
 use std::sync::Wait;
 use std::test::Fail;
 use std::thread::{Threads, for_each_mut};
+use story_parts::opening_of;
 
 /// How many lines each worker has.
 const LINES: u16 = 1000;
 
 /// How many lines all have together.
 const ALL_LINES: usize = 4000;
+
+/// So many events of the story `legal` looks at.
+const FRONT: usize = 1000;
 
 /// From which line on sessions begin, behind which a bucket stays.
 const FIRST_SESSION: u16 = 900;
@@ -77,12 +86,90 @@ fn work_together<R: Ring + Send + Sync, W: Threads + Wait + Sync>(
     );
 }
 
-/// The story has all lines, and is that of one thread.
+/// Whether the namespace has what the newest rows of a stripe show.
+fn add_stripe<R: Ring, W: Wait>(
+    rt: &W,
+    alloc: Global,
+    office: &Office<R>,
+    stripe: u8,
+    namespace: &Namespace,
+    shown: &mut Shown,
+) -> Result<bool, OutOfMemory>
+    requires { stripe < 16 }
+{
+    let mut guard = office.stripes().lock(rt, stripe);
+    let resting = &mut *guard;
+    let Some(inside) = resting.take_out() else {
+        return Ok(false);
+    };
+    let is_there = shown.add(alloc, inside.cached(), namespace);
+    resting.put_back(inside);
+    is_there
+}
+
+/// Whether the newest rows of all stripes are those of the namespace.
+fn rows_are<R: Ring, W: Wait>(
+    rt: &W,
+    alloc: Global,
+    office: &Office<R>,
+    namespace: &Namespace,
+) -> Result<bool, OutOfMemory> {
+    let mut shown = Shown::nothing(alloc);
+    for stripe in 0..16u8 {
+        if !add_stripe(rt, alloc, office, stripe, namespace, &mut shown)? {
+            return Ok(false);
+        }
+    }
+    shown.is_all(alloc, namespace, 0)
+}
+
+/// Whether the rows that are loaded from the disk of a flusher are those of the namespace.
+fn loads_as<R: Ring>(alloc: Global, desk: Desk<R>, namespace: &Namespace) -> Result<bool, Fail> {
+    let Desk { flusher, .. } = desk;
+    let Ok((unseated, _flusher)) = load(alloc, flusher.into_journal().into_disk()) else {
+        return Err("a disk".into());
+    };
+    let (parts, _counted) = unseated.into_parts();
+    let mut shown = Shown::nothing(alloc);
+    for part in &parts {
+        if !shown.add(alloc, part, namespace)? {
+            return Ok(false);
+        }
+    }
+    Ok(shown.is_all(alloc, namespace, 0)?)
+}
+
+/// The story has all lines, and is legal as far as its front: the program that tells walks through all events before each.
 fn check_story(rt: &impl Abort, alloc: Global, told: &[Event]) -> Result<(), Fail> {
     holds(rt, asks_in(told) == ALL_LINES, "each once");
     holds(rt, told.len() == 2 * ALL_LINES, "each is decided");
     holds(rt, have_their_indexes(told), "indexes");
-    holds(rt, is_of_one_thread(alloc, told)?, "of one thread");
+    let opening = opening_of(alloc, "")?;
+    let Some(front) = told.get(..FRONT) else {
+        return Err("a front".into());
+    };
+    holds(rt, legal(alloc, &opening, front)?.is_none(), "legal");
+    Ok(())
+}
+
+/// The replies are those of one thread, and the rows those of its namespace: in the stripes, and on the disk once they are
+/// flushed.
+fn check_rows<R: Ring, W: Wait + Abort>(
+    rt: &W,
+    alloc: Global,
+    turn: &Turn<Book>,
+    office: &Office<R>,
+    mut desk: Desk<R>,
+    told: &[Event],
+) -> Result<(), Fail>
+    requires turn { turn_id turn.now ≡ R.turn }
+{
+    let Some(namespace) = namespace_behind(alloc, told)? else {
+        return Err("of one thread".into());
+    };
+    holds(rt, rows_are(rt, alloc, office, &namespace)?, "its rows");
+    holds(rt, flush(rt, turn, &mut desk), "flushed");
+    holds(rt, loads_as(alloc, desk, &namespace)?, "its disk");
     Ok(())
 }
 
@@ -96,13 +183,16 @@ fn ask_together<R: Ring + Send + Sync, W: Threads + Wait + Abort + Sync>(
     requires count { vec_len seats ≡ 40 }
     requires new { AreNewSeats R.turn seats.items }
 {
-    let (office, _desk, mut workers) = opened::<R>(alloc, seats, 0)?;
+    let (office, desk, mut workers) = opened::<R>(alloc, seats, 0)?;
     work_together(rt, alloc, turn, &office, workers.as_mut_slice());
     let Some(mut worker) = workers.pop() else {
         return Err("a worker".into());
     };
     let told = story(rt, alloc, turn, &mut worker)?;
-    check_story(rt, alloc, told.as_slice())
+    check_story(rt, alloc, told.as_slice())?;
+    check_rows(rt, alloc, turn, &office, desk, told.as_slice())?;
+    holds(rt, office.into_seats(rt).len() == 16, "all seats leave");
+    Ok(())
 }
 
 #[test]

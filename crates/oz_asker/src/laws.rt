@@ -1,6 +1,6 @@
 //! What a legal story has of Asks and Decides.
 
-ghost use Rattle.std.specs.Prelude.{◌≡◌, ◌<◌, ◌≤◌, ℕ, [], true, List, Some, slice_get};
+ghost use Rattle.std.specs.Prelude.{◌≡◌, ◌<◌, ◌≤◌, ℕ, [], true, List, Some, length, slice_get};
 ghost use Rattle.oz_asker.specs.Asked.{IsAskAt};
 ghost use Rattle.oz_asker.specs.Decided.{IsDecidedAsAsked};
 ghost use Rattle.oz_buffer.specs.Buffer.{AllFollow, Follows};
@@ -8,11 +8,12 @@ ghost use Rattle.oz_buffer.specs.Courses.{index_of};
 ghost use Rattle.oz_core.specs.declared.event.Event.{Event as AnyEvent};
 ghost use Rattle.oz_core.specs.declared.event.EventKind.TheVariants.{Decide};
 ghost use Rattle.oz_core.specs.declared.opening.Opening.{Opening as AnyOpening};
-ghost use Rattle.oz_core.specs.Asks.{is_script};
+ghost use Rattle.oz_core.specs.Asks.{is_script, pending};
 ghost use Rattle.oz_core.specs.Law.{IsLegal};
 ghost use Rattle.oz_requests.specs.declared.reply.Reply.{Reply as AnyReply};
 ghost use Rattle.oz_requests.specs.declared.request.AskId.{AskId as AnyId};
 ghost use Rattle.oz_requests.specs.declared.request.Request.{Request as AnyRequest};
+ghost use Rattle.oz_turn.specs.Told.{BeginsWith};
 
 use oz_buffer::Opened;
 
@@ -23,7 +24,8 @@ pub fn what_follows_is_legal<O: Opened>()
 {}
 
 /// In a legal story a script's id is decided as it asked: the request was pending, the stripe of its volume decided it,
-/// and the reply is that of one thread. It is decided once: its index is that of the one Decide.
+/// and the reply is that of one thread. It is decided once: its index is that of the one Decide, and where a beginning of
+/// the story has it undecided that stands behind this.
 pub fn what_was_decided()
     ensures as_asked { (opening : AnyOpening) (story : List AnyEvent) (id : AnyId) (request : AnyRequest)
         (asked place seat index : ℕ) (reply : AnyReply) (batch : List ℕ) →
@@ -35,6 +37,11 @@ pub fn what_was_decided()
         IsLegal opening story → is_script id ≡ true →
         slice_get story place ≡ Some (record { seat = seat; kind = Decide id index reply batch }) →
         index_of id story ≡ Some index }
+    ensures beyond { (opening : AnyOpening) (before story : List AnyEvent) (id : AnyId) (request : AnyRequest)
+        (place seat index : ℕ) (reply : AnyReply) (batch : List ℕ) →
+        IsLegal opening before → is_script id ≡ true → BeginsWith story before → pending id before ≡ Some request →
+        slice_get story place ≡ Some (record { seat = seat; kind = Decide id index reply batch }) →
+        length before ≤ place }
 {}
 
 /// In a legal story no Decide has a greater index than a later one: where one is stable, so is all that was decided

@@ -1,5 +1,5 @@
 -- What stands in a story stands in each that begins with it; and how the asker's seat is refused.
-use Rattle.std.proofs.Common.{◌≡◌, ℕ, zero, suc, List, [], ◌∷◌, ◌++◌, Some, Result, Ok, Err, refl, ap, ◌∙◌}
+use Rattle.std.proofs.Common.{◌≡◌, ◌≤◌, ℕ, zero, suc, List, [], ◌∷◌, ◌++◌, length, length-append, Some, Result, Ok, Err, refl, ap, ◌∙◌, arith}
 use Rattle.std.proofs.lemmas.Option.{none-some}
 use Rattle.std.specs.Prelude.{slice_get}
 use Rattle.oz_asker.specs.Asked.{IsAskAt}
@@ -22,6 +22,9 @@ there_still (y ∷ l) more (suc k) x is = there_still l more k x is
 pub asked_still : (story seen : List Event) (place : ℕ) (id : AskId) (request : Request) → BeginsWith story seen → IsAskAt seen place id request → IsAskAt story place id request
 asked_still story seen place id request begins ask =
     (ask.0, ap (λ (l : List Event). slice_get l place) begins.1 ∙ there_still seen begins.0 place _ ask.1)
+
+pub longer : (story seen : List Event) → BeginsWith story seen → length seen ≤ length story
+longer story seen begins = omega (arith, ap length begins.1, length-append seen begins.0)
 
 err_of : Result Reply Refusal → Refusal
 err_of (Err refusal) = refusal

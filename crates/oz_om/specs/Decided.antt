@@ -1,5 +1,5 @@
 -- What comes of a request that was asked.
-use Rattle.std.specs.Prelude.{◌≡◌, ℕ, ◌+◌, ◌<◌, List, length, Some, slice_get, take}
+use Rattle.std.specs.Prelude.{◌≡◌, ℕ, ◌+◌, ◌<◌, ◌≤◌, List, length, Some, slice_get, take}
 use Rattle.oz_batches.specs.declared.batches.TheConstants.{LARGEST_BUFFER}
 use Rattle.oz_buffer.specs.Buffer.{buffer_of}
 use Rattle.oz_core.specs.declared.event.Event.{Event}
@@ -21,11 +21,12 @@ use Rattle.oz_requests.specs.declared.request.Request.{Request}
 use Rattle.oz_requests.specs.declared.request.Request.TheVariants.{AllocateBlock}
 use Rattle.oz_requests.specs.Names.{volume_in}
 
--- At one place of the story the stripe of the request's volume decided the id with this reply, which is that of one
--- thread to the request there.
-pub record IsDecided (opening : Opening) (story : List Event) (id : AskId) (request : Request) (reply : Reply)
+-- At one place of the story, behind all that was seen before, the stripe of the request's volume decided the id with this
+-- reply, which is that of one thread to the request there.
+pub record IsDecided (opening : Opening) (seen story : List Event) (id : AskId) (request : Request) (reply : Reply)
     : Type 0 where
   pub place : ℕ
+  pub behind : length seen ≤ place
   pub index : ℕ
   pub batch : List ℕ
   pub there : slice_get story place ≡ Some (record {

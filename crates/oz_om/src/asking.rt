@@ -67,9 +67,11 @@ impl<O: Opened, L: Loaded, R: Ring> Manager<Ledger<O>, O, L, R> {
         ensures goes_on { BeginsWith (seen_of seat.new) (seen_of seat.old) }
         ensures follow { AllFollow (Follows O.coherent O.opening O.bytes O.script) [] (seen_of seat.new) }
 
-        // At most one Ask is appended. What was decided the seat has seen, at its one place of the story.
+        // At most one Ask is appended. What was decided the seat has seen, at its one place of the story, behind all that
+        // it had seen before.
         ensures own { MayAdd by id request (mine_of seat.old) (mine_of seat.new) }
-        ensures ok { O.coherent → IfOk result (λ reply. IsDecided O.opening (seen_of seat.new) id request reply) }
+        ensures ok { O.coherent → IfOk result (λ reply. IsDecided O.opening (seen_of seat.old) (seen_of seat.new)
+            id request reply) }
         ensures seen { IfOk result (λ reply. IsSome (index_of id (seen_of seat.new))) }
 
         // When each refusal comes, and what stands then.

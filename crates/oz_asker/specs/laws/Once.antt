@@ -1,6 +1,6 @@
 -- A script's id is decided once.
-use Rattle.std.proofs.Common.{◌≡◌, ◌⊎◌, ⊎_elim, inl, inr, ℕ, zero, suc, Bool, true, false, ◌||◌, List, [], ◌∷◌, ◌++◌, None, Some, cond, refl, sym, ◌∙◌, ap, subst}
-use Rattle.std.proofs.lemmas.Bool.{false≢true}
+use Rattle.std.proofs.Common.{◌≡◌, ◌⊎◌, ⊎_elim, inl, inr, ℕ, zero, suc, ◌<◌, ◌≤◌, length, arith, Bool, true, false, ◌||◌, List, [], ◌∷◌, ◌++◌, None, Some, cond, refl, sym, ◌∙◌, ap, subst}
+use Rattle.std.proofs.lemmas.Bool.{cases_lt, false≢true}
 use Rattle.std.proofs.lemmas.Option.{none-some}
 use Rattle.std.specs.List.{slice_get}
 use Rattle.oz_core.specs.declared.event.Event.{Event}
@@ -38,6 +38,11 @@ before_or_last [] last x zero is = inr cc
 before_or_last [] last x (suc place) is = absurd cc
 before_or_last (y ∷ l) last x zero is = inl is
 before_or_last (y ∷ l) last x (suc place) is = before_or_last l last x place is
+
+in_front : {A : Type 0} (l more : List A) (place : ℕ) (x : A) → place < length l → slice_get (l ++ more) place ≡ Some x → slice_get l place ≡ Some x
+in_front [] more place x lt is = absurd (omega (arith, lt))
+in_front (y ∷ l) more zero x lt is = is
+in_front (y ∷ l) more (suc place) x lt is = in_front l more place x (omega (arith, lt)) is
 
 was_asked : (id : AskId) (request : Request) (story : List Event) → pending id story ≡ Some request → is_asked id story ≡ true
 was_asked id request story e =
@@ -118,3 +123,12 @@ module _ (opening : Opening) (id : AskId) (of_script : is_script id ≡ true) wh
   pub index_of_decided : (story : List Event) → IsLegal opening story → (place seat index : ℕ) (reply : Reply) (batch : List ℕ)
       → slice_get story place ≡ Some (record { seat = seat; kind = Decide id index reply batch }) → index_of id story ≡ Some index
   index_of_decided story legal place seat index reply batch is = (all_done story legal place seat index reply batch is).index_is
+
+  -- what is pending behind a story isn't decided in it
+  pub decided_beyond : (before more : List Event) → IsLegal opening before → (request : Request) → pending id before ≡ Some request
+      → (place seat index : ℕ) (reply : Reply) (batch : List ℕ) → slice_get (before ++ more) place ≡ Some (record { seat = seat; kind = Decide id index reply batch })
+      → length before ≤ place
+  decided_beyond before more legal request waits place seat index reply batch is = ⊎_elim
+      (λ lt. absurd (none-some request (sym (all_done before legal place seat index reply batch (in_front before more place (decide seat index reply batch) lt is)).none_left ∙ waits)))
+      (λ le. le)
+      (cases_lt place (length before))

@@ -75,6 +75,7 @@ note-requires-clause-follows g c =
     let enabled : O.coherent → AskIsEnabled O.opening story c.args.by c.args.id c.args.request =
     λ coherent. may_enable O.opening story c.args.by c.args.id c.args.request c.requires.asker c.requires.of_client (c.in_default-make_room.ensures.may coherent) in
     record {
+      of_seat = tt;
       enabled = λ coherent. subst (λ (l : List Event). AskIsEnabled O.opening l c.args.by c.args.id c.args.request) same (enabled coherent);
       fits = λ coherent. subst (λ (l : List Event). EventFits O.opening O.bytes O.script l (Ask c.args.id c.args.request)) same
           (c.requires.fits coherent story took.begins c.all_follow.ensures (enabled coherent));

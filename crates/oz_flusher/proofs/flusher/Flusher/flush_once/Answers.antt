@@ -37,6 +37,7 @@ note-requires-clause-follows g c story all same =
     let rose = c.in_default-append_to.ensures.appended.settled.cause.failed in
     let count = c.faults-count.ensures in
     record {
+      of_seat = refl;
       enabled = λ coherent. halt_enabled O.coherent O.opening O.bytes O.script coherent story all (mine_of c.args.seat.now) c.in-Some.index c.faults-count.result (same ∙ swapped.given) (c.requires.idle.quiet coherent).settled (omega (arith, rose, count));
       fits = λ coherent. tt;
     }
@@ -74,6 +75,7 @@ note-requires-2-clause-follows g c story all same =
     let adds = appends_of g.D.Disk.told g.D.Disk.clock g.D.Disk.image g.D.Disk.faults _ _ c.self.view_is _ _ _ c.in-Ok.ensures.appended in
     let is = c.in-Ok.ensures.moment ∙ adds.settled.moments in
     record {
+      of_seat = refl;
       enabled = λ coherent. (let quiet = c.requires.idle.quiet coherent in flushed_enabled O.coherent O.opening O.bytes O.script coherent story all (mine_of c.args.seat.now) c.in-Some.index c.in-Ok.moment (same ∙ swapped.given) quiet.settled (c.in-Some.ensures.rises coherent) (later_than _ _ _ is quiet.by_now));
       fits = λ coherent. tt;
     }

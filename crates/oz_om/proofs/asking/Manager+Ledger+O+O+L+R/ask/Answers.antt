@@ -1,4 +1,4 @@
-use Rattle.std.proofs.Common.{◌≡◌, ℕ, Err, Some, sym, ap, ◌∙◌, subst}
+use Rattle.std.proofs.Common.{◌≡◌, ℕ, Err, Some, sym, ap, ◌∙◌, subst, arith}
 use Rattle.std.specs.Prelude.{slice_get}
 use Rattle.oz_asker.specs.declared.fault.AskFault.{AskFault}
 use Rattle.oz_core.specs.declared.event.EventKind.TheVariants.{Decide}
@@ -6,7 +6,7 @@ use Rattle.oz_turn.specs.Seat.{seen_of}
 use Rattle.oz_om.specs.declared.refusal.Refusal.{Refusal}
 use Rattle.oz_om.specs.declared.refusal.Refusal.TheVariants as refusals
 use Rattle.oz_om.specs.Refusals.{AskStands}
-use Rattle.oz_om.proofs.Answered.{asked_still, fault_stands, one_err}
+use Rattle.oz_om.proofs.Answered.{asked_still, fault_stands, longer, one_err}
 use Rattle.oz_om.proofs.asking.Manager+Ledger+O+O+L+R.ask.Goals as goal
 
 pub returns-in-Err-clause-stopped : goal.returns-in-Err-clause-stopped
@@ -27,8 +27,15 @@ returns-clause-ok g c = λ coherent.
     let asked = asked_still story (seen_of c.put_ask.new.seat) c.in-Ok.place c.args.id c.args.request c.see.ensures.goes_on (c.in-Ok.ensures.ok coherent) in
     let found = c.what_was_decided.ensures.as_asked g.O.Opened.opening story c.args.id c.args.request c.in-Ok.place c.last_of.result decided.0 decided.1 c.in_ok-length.reply decided.2
     legal c.requires.script asked decided.3 in
+    let before = seen_of c.put_ask.new.seat in
     record {
       place = c.last_of.result;
+      behind = omega (
+        arith,
+        longer before (seen_of c.args.seat.now) c.put_ask.ensures.goes_on,
+        c.what_was_decided.ensures.beyond g.O.Opened.opening before story c.args.id c.args.request c.last_of.result decided.0 decided.1 c.in_ok-length.reply decided.2
+            (c.what_follows_is_legal.ensures before coherent c.put_ask.ensures.follow) c.requires.script c.see.ensures.goes_on (c.in-Ok.ensures.undecided coherent) decided.3,
+      );
       index = decided.1;
       batch = decided.2;
       there = subst (λ (n : ℕ). slice_get story c.last_of.result ≡ Some (record { seat = n; kind = Decide c.args.id decided.1 c.in_ok-length.reply decided.2 })) found.of_stripe decided.3;

@@ -1,4 +1,4 @@
-//! Whether rows are those of a namespace, and have each granted block once.
+//! Rows beside a namespace.
 
 use oz_cache::Cached;
 use oz_fields::{Block, Name, OutOfMemory, Piece, TryClone};
@@ -44,7 +44,7 @@ fn add_behind(
 }
 
 /// The keys of all rows of the kinds that these tests make, but for the stripe 0.
-pub fn keys_there(alloc: Global, cached: &Cached) -> Result<Vec<RowKey>, OutOfMemory> {
+fn keys_there(alloc: Global, cached: &Cached) -> Result<Vec<RowKey>, OutOfMemory> {
     let mut keys = Vec::new(alloc);
     for least in least_keys(alloc)? {
         add_behind(alloc, &mut keys, cached, least)?;
@@ -173,25 +173,51 @@ fn is_each_once(locals: &[u64], count: u64) -> bool {
             .all(|(local, number)| *local == number)
 }
 
-/// Whether the rows are those of the namespace, and so many granted blocks stand in them, each once.
-pub fn stand(
-    alloc: Global,
-    cached: &Cached,
-    namespace: &Namespace,
-    granted: u64,
-) -> Result<bool, OutOfMemory> {
-    let mut shown: usize = 0;
-    let mut locals = Vec::new(alloc);
-    for key in keys_there(alloc, cached)? {
-        let Some(row) = cached.get(&key) else {
-            return Ok(false);
-        };
-        if !is_shown(namespace, &key, row) {
-            return Ok(false);
+/// The rows that were looked at.
+#[derive(Drop)]
+pub struct Shown {
+    rows: usize,
+    locals: Vec<u64>,
+}
+
+impl Shown {
+    pub fn nothing(alloc: Global) -> Shown {
+        Shown {
+            rows: 0,
+            locals: Vec::new(alloc),
         }
-        add_blocks(&mut locals, row)?;
-        shown = shown.saturating_add(usize::from(!matches!(row, Row::Deleted { .. })));
     }
-    locals.as_mut_slice().sort(alloc)?;
-    Ok(shown == count_shown(namespace) && is_each_once(locals.as_slice(), granted))
+
+    /// Looks at the newest rows of a cache, and says whether the namespace has what each of them shows.
+    pub fn add(
+        &mut self,
+        alloc: Global,
+        cached: &Cached,
+        namespace: &Namespace,
+    ) -> Result<bool, OutOfMemory> {
+        for key in keys_there(alloc, cached)? {
+            let Some(row) = cached.get(&key) else {
+                return Ok(false);
+            };
+            if !is_shown(namespace, &key, row) {
+                return Ok(false);
+            }
+            add_blocks(&mut self.locals, row)?;
+            let shows = usize::from(!matches!(row, Row::Deleted { .. }));
+            self.rows = self.rows.saturating_add(shows);
+        }
+        Ok(true)
+    }
+
+    /// Whether these rows show all that the namespace has, and so many granted blocks stand in them, each once.
+    pub fn is_all(
+        mut self,
+        alloc: Global,
+        namespace: &Namespace,
+        granted: u64,
+    ) -> Result<bool, OutOfMemory> {
+        self.locals.as_mut_slice().sort(alloc)?;
+        let each_once = is_each_once(self.locals.as_slice(), granted);
+        Ok(each_once && self.rows == count_shown(namespace))
+    }
 }

@@ -1,0 +1,5 @@
+pub mod Own
+pub mod Telling
+pub mod Longer
+pub mod Last
+pub mod Kept

@@ -1,0 +1,19 @@
+//! A line is told its answer, under the turn, where that may be; and what stands of a line then: whether it may start, and
+//! whether all that was decided for it is stable.
+#![tactic(auto)]
+
+mod laws;
+mod manager;
+mod settlement;
+mod starting;
+mod telling;
+mod untold;
+
+pub use laws::{
+    what_is_told_of_the_manager_is_due, what_keeps_a_line_untold, what_started_stays,
+    what_was_told_stays,
+};
+pub use settlement::{Settlement, settle_line};
+pub use starting::has_started;
+pub use telling::tell;
+pub use untold::Untold;

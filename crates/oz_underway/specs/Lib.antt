@@ -1,5 +1,3 @@
 pub mod GoingOn
 pub mod UnderWay
-pub mod TempDecided
-pub mod TempAsked
 pub mod laws

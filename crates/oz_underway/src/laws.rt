@@ -1,44 +1,45 @@
 //! What stays of a line that is under way.
 
-ghost use Rattle.std.specs.Prelude.{◌≡◌, ◌≢◌, ◌+◌, ◌++◌, ◌∷◌, ℕ, [], List, Option, true, false, None, Some, length, Contains};
+ghost use Rattle.std.specs.Prelude.{◌≡◌, ◌≢◌, ◌+◌, ◌==◌, ◌++◌, ◌∷◌, ℕ, [], List, Option, true, false, None, Some};
+ghost use Rattle.std.specs.Prelude.{length, if◌then◌else◌, Contains};
 ghost use Rattle.std.specs.List.{list_all};
-ghost use Rattle.oz_underway.specs.TempDecided.{IsDecideAt};
+ghost use Rattle.oz_asker.specs.Decided.{IsDecideAt};
 ghost use Rattle.oz_buffer.specs.Buffer.{AllFollow, Follows};
 ghost use Rattle.oz_client.specs.declared.progress.Progress.{Progress as AnyProgress};
-ghost use Rattle.oz_client.specs.declared.step.Got.{Got as AnyGot};
 ghost use Rattle.oz_client.specs.declared.step.Got.TheVariants as gots;
+ghost use Rattle.oz_client.specs.declared.step.Got.{Got as AnyGot};
 ghost use Rattle.oz_client.specs.declared.step.Step.TheVariants as steps;
 ghost use Rattle.oz_client.specs.LineState.{nothing_yet, progress_after};
+ghost use Rattle.oz_client.specs.Onward.{IsReading};
 ghost use Rattle.oz_client.specs.Stories.{HasIt, IsLeftEverywhere, IsStepEverywhere};
-ghost use Rattle.oz_command.specs.declared.command.Command.{Command as AnyCommand};
 ghost use Rattle.oz_command.specs.declared.command.Command.TheVariants as commands;
+ghost use Rattle.oz_command.specs.declared.command.Command.{Command as AnyCommand};
 ghost use Rattle.oz_core.specs.declared.event.Event.{Event as AnyEvent};
 ghost use Rattle.oz_core.specs.declared.event.EventKind.TheVariants.{Ask, Told};
 ghost use Rattle.oz_core.specs.declared.limits.TheConstants.{SERVICE_CLIENT};
 ghost use Rattle.oz_core.specs.Asks.{asks_of, is_told, last_ask, pending};
 ghost use Rattle.oz_core.specs.Contents.{HasContent};
 ghost use Rattle.oz_core.specs.Due.{IsDue};
-ghost use Rattle.oz_client.specs.Onward.{IsReading};
-ghost use Rattle.oz_fields.specs.declared.block.Piece.{Piece as AnyPiece};
-ghost use Rattle.oz_steps.specs.Requests.{request_by};
 ghost use Rattle.oz_core.specs.Fits.{EventFits, Fits};
 ghost use Rattle.oz_core.specs.Law.{AskIsEnabled};
 ghost use Rattle.oz_core.specs.Lines.{HasStarted};
 ghost use Rattle.oz_core.specs.Steps.{commit_step, is_open_at, opening_line, was_told_ok};
+ghost use Rattle.oz_fields.specs.declared.block.Piece.{Piece as AnyPiece};
 ghost use Rattle.oz_lines.specs.declared.script.Line.{Line as AnyLine};
 ghost use Rattle.oz_lines.specs.Numbered.{IsNumbered};
 ghost use Rattle.oz_model.specs.Answers.{Answers};
 ghost use Rattle.oz_namespace.specs.declared.namespace.Namespace.{Namespace as AnyNamespace};
-ghost use Rattle.oz_requests.specs.declared.request.Family.TheVariants.{Allocation};
-ghost use Rattle.oz_requests.specs.Families.{family_of};
 ghost use Rattle.oz_requests.specs.declared.answer.Answer.{Answer as AnyAnswer};
 ghost use Rattle.oz_requests.specs.declared.reply.Reply.{Reply as AnyReply};
 ghost use Rattle.oz_requests.specs.declared.request.AskId.{AskId as AnyId};
+ghost use Rattle.oz_requests.specs.declared.request.Family.TheVariants.{Allocation};
 ghost use Rattle.oz_requests.specs.declared.request.Request.{Request as AnyRequest};
+ghost use Rattle.oz_requests.specs.Families.{family_of};
 ghost use Rattle.oz_steps.specs.declared.label.Label.{Label as AnyLabel};
 ghost use Rattle.oz_steps.specs.Came.{granted_by};
 ghost use Rattle.oz_steps.specs.Grants.{has_fate_written};
 ghost use Rattle.oz_steps.specs.Lines.{IsLabel, commit_of_label};
+ghost use Rattle.oz_steps.specs.Requests.{request_by};
 ghost use Rattle.oz_turn.specs.Told.{BeginsWith};
 ghost use Rattle.oz_underway.specs.GoingOn.{FromHereOn};
 ghost use Rattle.oz_underway.specs.UnderWay.{IsLast, IsUnderWay, LabelStays, WhileAsked, times_asked};
@@ -69,7 +70,8 @@ pub fn a_line_stays_under_way<O: Opened>()
         IsUnderWay O.coherent O.opening O.bytes O.script later line asked command progress }
 {}
 
-/// What a line asks next is its line's next step, where the law lets it ask; and of that id nothing else is ever pending.
+/// What is asked next for a line is its next step, where the law lets it ask; and of that id nothing else is ever
+/// pending.
 pub fn what_is_asked_fits<O: Opened>()
     ensures fits { O.coherent → (seen : List AnyEvent) (line : AnyLine) (asked seat : ℕ) (command : AnyCommand)
         (progress : AnyProgress) (got : AnyGot) (request : AnyRequest) (id : AnyId) →
@@ -149,9 +151,15 @@ pub fn what_is_told_is_due<O: Opened>()
 /// A script's line asks with the steps 1, 2 and so on: its last Ask says how often it asked. As long as that stays, all
 /// its Asks do; and they stay once the line is told, or has no next step.
 pub fn asks_stay<O: Opened>()
-    ensures counted { O.coherent → (client line : ℕ) (story : List AnyEvent) (id : AnyId) → client ≢ SERVICE_CLIENT →
-        AllFollow (Follows O.coherent O.opening O.bytes O.script) [] story → last_ask client line story ≡ Some id →
+    ensures counted { O.coherent → (client line : ℕ) (story : List AnyEvent) (id : AnyId) →
+        client ≢ SERVICE_CLIENT → AllFollow (Follows O.coherent O.opening O.bytes O.script) [] story →
+        last_ask client line story ≡ Some id →
         id ≡ record { client = client; line = line; step = length (asks_of client line story) } }
+    ensures times { O.coherent → (client line asked : ℕ) (story : List AnyEvent) (last : Option AnyId) →
+        client ≢ SERVICE_CLIENT → AllFollow (Follows O.coherent O.opening O.bytes O.script) [] story →
+        IsLast last asked → last_ask client line story ≡ last → length (asks_of client line story) ≡ asked }
+    ensures last { (client line asked : ℕ) →
+        IsLast (if asked == 0 then None else Some (record { client = client; line = line; step = asked })) asked }
     ensures none { (client line : ℕ) (story : List AnyEvent) → last_ask client line story ≡ None →
         asks_of client line story ≡ [] }
     ensures same { O.coherent → (client line : ℕ) (seen : List AnyEvent) → client ≢ SERVICE_CLIENT →

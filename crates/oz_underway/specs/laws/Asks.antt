@@ -48,10 +48,6 @@ script_of_line client line id other is =
 pub id_of_line : (id other : AskId) → is_id id other ≡ true → is_of_line id.client id.line other ≡ true
 id_of_line id other is = (and_parts (is_of_line id.client id.line other) (other.step == id.step) is).0
 
-pub same_id : (id : AskId) → is_id id id ≡ true
-same_id id =
-    and_from (is_of_line id.client id.line id) (id.step == id.step) (its_line id.client id.line id refl refl) (eq-eqb id.step id.step refl)
-
 or_true : (b : Bool) → (b || true) ≡ true
 or_true true = refl
 or_true false = refl

@@ -42,8 +42,8 @@ use Rattle.oz_core.specs.Manager.{namespace_at}
 use Rattle.oz_core.specs.Stories.{last_in}
 use Rattle.oz_steps.specs.declared.label.Label.{Label}
 use Rattle.oz_steps.specs.Lines.{IsLabel}
-use Rattle.oz_underway.specs.TempDecided.{IsDecidedAsAsked}
-use Rattle.oz_underway.specs.laws.TempAsks.{decided_as_asked, legal_of_follow}
+use Rattle.oz_asker.specs.Decided.{IsDecidedAsAsked}
+use Rattle.oz_asker.specs.laws.Asks.{decided_as_asked, legal_of_follow}
 use Rattle.oz_buffer.specs.Buffer.{AllFollow, Follows}
 use Rattle.oz_buffer.specs.laws.Courses.{is_told-push}
 use Rattle.oz_buffer.specs.laws.Following.{follow-push}

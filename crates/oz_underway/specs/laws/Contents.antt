@@ -18,11 +18,11 @@ use Rattle.oz_core.specs.Asks.{asks, is_asked, is_id, is_script}
 use Rattle.oz_core.specs.Contents.{HasContent, OpeningBytes, WasGranted}
 use Rattle.oz_core.specs.Due.{AreContents}
 use Rattle.oz_core.specs.Law.{KindIsEnabled}
+use Rattle.oz_asker.specs.laws.Asks.{same_id}
 use Rattle.oz_buffer.specs.Buffer.{AllFollow, Follows}
 use Rattle.oz_buffer.specs.laws.Courses.{asked-push}
 use Rattle.oz_kept.specs.laws.Granted.{one_ask_id}
 use Rattle.oz_turn.specs.Told.{BeginsWith}
-use Rattle.oz_underway.specs.laws.Asks.{same_id}
 use Rattle.oz_underway.specs.laws.Going.{happened_still, kept_on}
 use Rattle.oz_underway.specs.laws.Starting.{not_service}
 

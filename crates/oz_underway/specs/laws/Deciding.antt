@@ -10,7 +10,7 @@ use Rattle.oz_core.specs.declared.opening.Opening.{Opening}
 use Rattle.oz_core.specs.Asks.{ask_id, asks_of}
 use Rattle.oz_core.specs.Contents.{OpeningBytes}
 use Rattle.oz_core.specs.Law.{DecideIsEnabled}
-use Rattle.oz_underway.specs.TempDecided.{IsDecideAt}
+use Rattle.oz_asker.specs.Decided.{IsDecideAt}
 use Rattle.oz_buffer.specs.Buffer.{AllFollow, Follows}
 use Rattle.oz_kept.specs.laws.Deleted.{split_at}
 use Rattle.oz_turn.specs.Told.{BeginsWith}

@@ -15,13 +15,14 @@ use Rattle.oz_core.specs.declared.opening.Opening.{Opening}
 use Rattle.oz_core.specs.Asks.{is_of_line, is_id, pending, pending_after, ask_id, last_ask, reply_to, replies_to}
 use Rattle.oz_core.specs.Contents.{OpeningBytes}
 use Rattle.oz_core.specs.Law.{KindIsEnabled}
+use Rattle.oz_asker.specs.laws.Asks.{same_id}
 use Rattle.oz_buffer.specs.Buffer.{AllFollow, Follows}
 use Rattle.oz_buffer.specs.laws.Courses.{pending-push}
 use Rattle.oz_buffer.specs.laws.Lines.{last_or_decided}
 use Rattle.oz_kept.specs.laws.Deleted.{first_or_later}
 use Rattle.oz_kept.specs.laws.Granted.{told_among}
 use Rattle.oz_turn.specs.Told.{BeginsWith}
-use Rattle.oz_underway.specs.laws.Asks.{asked_times, id_of_line, its_line, of_line, same_id, script_of_line}
+use Rattle.oz_underway.specs.laws.Asks.{asked_times, id_of_line, its_line, of_line, script_of_line}
 use Rattle.oz_underway.specs.laws.Going.{count_more, kept_always, told_longer}
 
 -- No more is replied than was asked, and less while something is undecided.

@@ -38,18 +38,19 @@ use Rattle.oz_client.specs.declared.step.Step.TheVariants as steps
 use Rattle.oz_client.specs.LineState.{nothing_yet, pieces_in, progress_after}
 use Rattle.oz_client.specs.Onward.{IsReading}
 use Rattle.oz_client.specs.Stories.{HasIt, IsAt, IsStepEverywhere}
-use Rattle.oz_underway.specs.TempDecided.{IsDecideAt}
+use Rattle.oz_asker.specs.Decided.{IsDecideAt}
 use Rattle.oz_buffer.specs.Buffer.{AllFollow, Follows}
 use Rattle.oz_buffer.specs.laws.Courses.{pending-push}
 use Rattle.oz_kept.specs.laws.Granted.{one_ask_id}
 use Rattle.oz_kept.specs.laws.Lines.{lines_apart}
 use Rattle.oz_turn.specs.Told.{BeginsWith}
 use Rattle.oz_underway.specs.UnderWay.{IsLast, IsUnderWay, LabelStays, times_asked}
-use Rattle.oz_underway.specs.laws.Asks.{asked_of_step, its_line, none_last, of_line, pending_was_asked, script_of_line, scripted, step_of_asked, step_of_last}
+use Rattle.oz_underway.specs.laws.Asks.{asked_of_step, its_line, of_line, pending_was_asked, script_of_line, scripted, step_of_asked}
 use Rattle.oz_underway.specs.laws.Blocks.{attempts_written, none_granted, same_written, still_grants}
 use Rattle.oz_underway.specs.laws.Contents.{contents_more, content_still}
 use Rattle.oz_underway.specs.laws.Deciding.{decided_since}
 use Rattle.oz_underway.specs.laws.Going.{among_since, begins_itself, begins_push, begins_through, follow_before, kept_on, no_fewer, none_more, told_longer}
+use Rattle.oz_underway.specs.laws.Lasting.{times_of_last}
 use Rattle.oz_underway.specs.laws.Replies.{few_replies, none_more_replied, one_more}
 use Rattle.oz_underway.specs.laws.Commits.{label_stays}
 use Rattle.oz_underway.specs.laws.Starting.{fresh_front, not_service, started_still}
@@ -354,12 +355,6 @@ module _ (Coherent : Type 0) (opening : Opening) (bytes : OpeningBytes) (script 
   told_is_due seen line asked command progress got answer way step story begins all so has_it =
       step opening bytes script story line (way.has story (begins_through story seen way.since begins way.goes_on) all so) has_it
 
-  times_of_last : (line : Line) (story : List Event) → line.client ≢ SERVICE_CLIENT → Coherent → AllFollow Follow [] story → (last : Option AskId) (asked : ℕ)
-      → IsLast last asked → last_ask line.client line.number story ≡ last → times_asked story line ≡ asked
-  times_of_last line story other coherent all None asked none is = ap length (none_last (asks_of line.client line.number story) is) ∙ sym none
-  times_of_last line story other coherent all (Some id) asked step is =
-      sym (step_of_last Coherent opening bytes script line.client line.number other story coherent all id is) ∙ step
-
   -- what is due is what the script leads to
   pub due_fits : (seen : List Event) (line : Line) (asked : ℕ) (command : Command) (progress : Progress) (answer : Answer)
       → UnderWay seen line asked command progress → (story : List Event) → BeginsWith story seen → IsDue opening bytes script story line answer
@@ -379,4 +374,4 @@ module _ (Coherent : Type 0) (opening : Opening) (bytes : OpeningBytes) (script 
   told_fits seen line asked command progress got answer last coherent way step of_last story begins all is has_it =
       due_fits seen line asked command progress answer way story begins
       (told_is_due seen line asked command progress got answer way step story begins all
-      (times_of_last line story way.of_client coherent all last asked of_last is) has_it)
+      (times_of_last Coherent opening bytes script line.client line.number asked story way.of_client coherent all last of_last is) has_it)

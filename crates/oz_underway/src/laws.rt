@@ -195,9 +195,9 @@ pub fn a_line_was_told()
         ≡ asks_of client number story }
 {}
 
-/// What a label stands for stays once the line that opened it was told, which it is once. For a later line of the client
-/// that commits the label, it is what that line left, if it was told `OK`, and else nothing; so it stays from the later
-/// line's start on. A label that no line opened stands for nothing, not even for that it isn't open.
+/// What a label stands for stays once the line that opened it was told, which it is once. For a later line that commits
+/// the label it is what that line left, if it was told `OK`, and else nothing; so it stays from the later line's start
+/// on. A label that no line opened stands for nothing, not even for that it isn't open.
 pub fn a_label_stays<O: Opened>()
     ensures commit { O.coherent → (seen : List AnyEvent) (opened : AnyLine) (asked : ℕ) (command : AnyCommand)
         (progress : AnyProgress) (label : AnyLabel) →

@@ -211,6 +211,10 @@ pub fn a_label_stays<O: Opened>()
         IsLeftEverywhere command progress label → times_asked seen opened ≡ asked → is_open_at seen opened ≡ true →
         opening_line O.script line name ≡ Some opened →
         LabelStays O.coherent O.opening O.bytes O.script seen line (commands.KeyCommit name) (Some label) }
+    ensures open { O.coherent → (seen : List AnyEvent) (opened : AnyLine) →
+        is_told opened.client opened.number seen ≡ true →
+        FromHereOn O.coherent O.opening O.bytes O.script seen (λ story.
+        is_open_at story opened ≡ is_open_at seen opened) }
     ensures not_open { O.coherent → (seen : List AnyEvent) (opened line : AnyLine) (name : List ℕ) →
         is_told opened.client opened.number seen ≡ true → is_open_at seen opened ≡ false →
         opening_line O.script line name ≡ Some opened →

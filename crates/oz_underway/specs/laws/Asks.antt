@@ -1,6 +1,6 @@
 -- How often a line asked: its Asks have the steps 1, 2 and so on.
-use Rattle.std.proofs.Common.{◌≡◌, ◌≢◌, ◌⊎◌, ⊎_elim, inl, inr, ℕ, ◌+◌, ◌≤◌, ◌<◌, Bool, true, false, ◌||◌, ◌==◌, not, cond, List, [], ◌∷◌, length, Option, None, Some, eq-eqb, refl, sym, ap, ◌∙◌, arith}
-use Rattle.std.proofs.Math.Bool.{or-false}
+use Rattle.std.proofs.Common.{◌≡◌, ◌≢◌, ⊎_elim, ℕ, ◌+◌, ◌≤◌, ◌<◌, Bool, true, false, ◌||◌, ◌==◌, not, cond, List, [], ◌∷◌, length, Option, None, Some, eq-eqb, refl, sym, ap, ◌∙◌, arith}
+use Rattle.std.proofs.Math.Bool.{or-false, or-true}
 use Rattle.std.proofs.lemmas.Bool.{cases_lt, eqb-true, ne_eqb, and_parts, and_from, false≢true}
 use Rattle.std.proofs.lemmas.Option.{none-some, same_Some}
 use Rattle.std.specs.List.{cons_option, fold}
@@ -48,14 +48,6 @@ script_of_line client line id other is =
 pub id_of_line : (id other : AskId) → is_id id other ≡ true → is_of_line id.client id.line other ≡ true
 id_of_line id other is = (and_parts (is_of_line id.client id.line other) (other.step == id.step) is).0
 
-or_true : (b : Bool) → (b || true) ≡ true
-or_true true = refl
-or_true false = refl
-
-or_of : (a b : Bool) → (a || b) ≡ true → (a ≡ true) ⊎ (b ≡ true)
-or_of true b is = inl refl
-or_of false b is = inr is
-
 -- ---- what is pending was asked
 
 was_asked : (id : AskId) (asked : Bool) (before : Option Request) (kind : EventKind) (request : Request)
@@ -63,7 +55,7 @@ was_asked : (id : AskId) (asked : Bool) (before : Option Request) (kind : EventK
 was_asked id asked before (Ask other made) request was is = by (is_id id other) is
   where
     by : (t : Bool) → cond t (Some made) before ≡ Some request → (asked || t) ≡ true
-    by true is = or_true asked
+    by true is = or-true asked
     by false is = ap (λ (b : Bool). b || false) (was request is)
 was_asked id asked before (Decide other index reply batch) request was is = by (is_id id other) is
   where
@@ -147,7 +139,7 @@ module _ (Coherent : Type 0) (opening : Opening) (bytes : OpeningBytes) (script 
           let one : length (cons_option (ask_id id.client id.line (Ask other request)) []) ≡ 1 = ap (λ (t : Bool). length (cons_option (cond t (Some other) None) [])) line in
           let same : other.step ≡ id.step = omega (arith, turn, one, above, le) in
           ap (λ (b : Bool). is_asked id front || b) (and_from (is_of_line id.client id.line other) (other.step == id.step) line (eq-eqb other.step id.step same))
-          ∙ or_true (is_asked id front))
+          ∙ or-true (is_asked id front))
           asked_before
           (cases_lt (asked_times id.client id.line front) id.step)
       by false apart =

@@ -317,11 +317,11 @@ opening_is script line opened name is =
 
 module _ (Coherent : Type 0) (opening : Opening) (bytes : OpeningBytes) (script : Script) (numbered : IsNumbered script) (line : Line)
     (other : line.client ≢ SERVICE_CLIENT) where
-  abbrev Follows_ : List Event → Event → Type 0
-  Follows_ = Follows Coherent opening bytes script
+  abbrev MayFollow : List Event → Event → Type 0
+  MayFollow = Follows Coherent opening bytes script
 
   -- a line that has started comes behind the line that opened its label, which was told
-  opening_told : (story : List Event) (opened : Line) → Coherent → AllFollow Follows_ [] story → HasStarted story line → IsOpening script line opened
+  opening_told : (story : List Event) (opened : Line) → Coherent → AllFollow MayFollow [] story → HasStarted story line → IsOpening script line opened
       → is_told opened.client opened.number story ≡ true
   opening_told story opened coherent all started is =
       let order = in_order Coherent opening bytes script numbered line.client story coherent all in
@@ -331,12 +331,12 @@ module _ (Coherent : Type 0) (opening : Opening) (bytes : OpeningBytes) (script 
       subst (λ (c : ℕ). is_told c opened.number story ≡ true) (sym is.of_client)
       (order.each opened.number has.some (omega (arith, few, is.earlier)))
 
-  module _ (since seen : List Event) (coherent : Coherent) (all : AllFollow Follows_ [] seen) (goes : BeginsWith seen since) (started : HasStarted since line) where
+  module _ (since seen : List Event) (coherent : Coherent) (all : AllFollow MayFollow [] seen) (goes : BeginsWith seen since) (started : HasStarted since line) where
     commit_then : (name : List ℕ) (opened : Line) → opening_line script line name ≡ Some opened
-        → (story : List Event) → AllFollow Follows_ [] story → BeginsWith story since → commit_step story (Some opened) ≡ commit_step since (Some opened)
+        → (story : List Event) → AllFollow MayFollow [] story → BeginsWith story since → commit_step story (Some opened) ≡ commit_step since (Some opened)
     commit_then name opened is story follow begins =
         let its = opening_is script line opened name is in
-        let was_told = opening_told since opened coherent (follow_before Follows_ story since begins follow) started its in
+        let was_told = opening_told since opened coherent (follow_before MayFollow story since begins follow) started its in
         commit_same Coherent opening bytes script numbered opened its.there (λ service. other (sym its.of_client ∙ service)) its.opens story since coherent follow begins was_told
 
     label_of_name : (name : List ℕ) (label : Option Label) (o : Option Line) → opening_line script line name ≡ o → IsLabel script seen line (commands.KeyCommit name) label
@@ -344,7 +344,7 @@ module _ (Coherent : Type 0) (opening : Opening) (bytes : OpeningBytes) (script 
     label_of_name name label None none is = absurd (never_opened script seen line name label none is)
     label_of_name name None (Some opened) its (first, is, shut) = λ story begins follow.
         let there = opening_is script line first name is in
-        let was_told = opening_told since first coherent (follow_before Follows_ story since begins follow) started there in (
+        let was_told = opening_told since first coherent (follow_before MayFollow story since begins follow) started there in (
           first,
           is,
           open_still Coherent opening bytes script first story since coherent follow begins was_told

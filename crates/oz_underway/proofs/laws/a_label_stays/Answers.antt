@@ -15,6 +15,11 @@ returns-clause-ok g c coherent seen opened line asked command progress label nam
     ap (commit_step story) its
     ∙ commit_stays O.coherent O.opening O.bytes O.script seen opened asked command progress label coherent way left so is story begins all
 
+pub returns-clause-open : goal.returns-clause-open
+returns-clause-open g c coherent seen opened told story begins all =
+    let O = g.O.Opened in
+    open_still O.coherent O.opening O.bytes O.script opened story seen coherent all begins told
+
 pub returns-clause-not_open : goal.returns-clause-not_open
 returns-clause-not_open g c coherent seen opened line name told shut its story begins all =
     let O = g.O.Opened in

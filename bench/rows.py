@@ -30,9 +30,11 @@ FOLDER = sys.argv[2] if len(sys.argv) > 2 else "/dev/shm"
 SIZES = [1_024, 10_240, 102_400, 409_600]
 IN_BUCKET = 4_096
 LINES = 4_000
+# so many buckets in each of so many volumes
 BUCKETS = 1_000
+VOLUMES = 4
 COPIES = 32
-EXPIRES = 1_000
+EXPIRES = 16_000
 
 
 def text(word):
@@ -117,6 +119,12 @@ def least_of(program, runs):
     return {name: min(seconds) for name, seconds in seen.items()}
 
 
+def bucket_lines(volume):
+    """The lines that make a volume and its buckets."""
+    buckets = b"".join(b"a bucket create /new%d/bk%d\n" % (volume, number) for number in range(BUCKETS))
+    return b"a volume create /new%d\n" % volume + buckets
+
+
 def tell(name, *words):
     print(name, *words[:-1], "%.2f" % words[-1], flush=True)
 
@@ -127,7 +135,7 @@ def main():
         subprocess.run([os.path.join(TOP, "ozone"), "--version"], stdout=subprocess.DEVNULL, check=True)
         program = os.path.join(TOP, "crates/oz_main/out/oz_main")
     volumes = b"".join(b"a volume create /new%d\n" % number for number in range(LINES))
-    made = b"a volume create /new\n" + b"".join(b"a bucket create /new/bk%d\n" % number for number in range(BUCKETS))
+    made = b"".join(bucket_lines(number) for number in range(VOLUMES))
     for keys in SIZES:
         in_order = disk_of(keys, False).bytes()
         runs = {
@@ -148,7 +156,7 @@ def main():
             tell("load", keys, order, (least[order] - least["empty"]) / keys * 1e6)
         loaded = least["in order"]
         tell("volume", keys, (least["volumes"] - loaded) / LINES * 1e6)
-        tell("bucket", keys, (least["buckets"] - loaded) / BUCKETS * 1e6)
+        tell("bucket", keys, (least["buckets"] - loaded) / (VOLUMES * BUCKETS) * 1e6)
         for place in places:
             tell("copy", keys, place, (least[place] - loaded) / COPIES * 1e6)
         tell("expire", keys, (least["expire"] - loaded) / EXPIRES * 1e6)

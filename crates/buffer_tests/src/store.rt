@@ -1,7 +1,8 @@
 //! A ledger, a turn of it, and events.
 
 ghost use Rattle.std.specs.Prelude.{◌≡◌, ◌≤◌, ◌<◌, ◌+◌, vec_len, IfOk, IfSome, OnSome, OnOk};
-ghost use Rattle.oz_buffer.specs.Buffer.{IsDecide, IsNote, batch_in};
+ghost use Rattle.oz_buffer.specs.Buffer.{IsDecide, IsNote, IsOfItsSeat, batch_in};
+ghost use Rattle.oz_buffer.specs.Openings.{no_opening};
 ghost use Rattle.oz_turn.specs.Seat.{IsReady, AreReady};
 ghost use Rattle.oz_turn.specs.Turn.{turn_id, seats_of};
 
@@ -51,6 +52,7 @@ pub fn first_id(client: u16) -> AskId {
 pub fn ask_of(alloc: Global, seat: u16, client: u16) -> Result<Event, AllocError>
     ensures seat { IfOk result (λ event. event.seat ≡ seat) }
     ensures kind { IfOk result (λ event. IsNote event.kind) }
+    ensures of_seat { IfOk result (λ event. IsOfItsSeat no_opening event.seat event.kind) }
 {
     let name = format!(in alloc; "vol{client}")?;
     let volume = Name::copy(alloc, name.as_bytes())?;
@@ -67,6 +69,7 @@ pub fn ask_of(alloc: Global, seat: u16, client: u16) -> Result<Event, AllocError
 pub fn told_of(seat: u16, client: u16) -> Event
     ensures seat { result.seat ≡ seat }
     ensures kind { IsNote result.kind }
+    ensures of_seat { IsOfItsSeat no_opening result.seat result.kind }
 {
     Event {
         seat,
@@ -82,6 +85,7 @@ pub fn told_of(seat: u16, client: u16) -> Event
 pub fn halt_of(count: u64) -> Event
     ensures seat { result.seat ≡ 0 }
     ensures kind { IsNote result.kind }
+    ensures of_seat { IsOfItsSeat no_opening result.seat result.kind }
 {
     Event {
         seat: 0,

@@ -1,0 +1,3 @@
+pub mod GoingOn
+pub mod UnderWay
+pub mod laws

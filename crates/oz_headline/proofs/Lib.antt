@@ -1,0 +1,4 @@
+pub mod History
+pub mod Moments
+pub mod Counts
+pub mod Halts

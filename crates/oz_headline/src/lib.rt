@@ -1,0 +1,11 @@
+//! The headline of a run over threads: what it promises of the one story that it prints, and that a story which the
+//! turn told keeps it.
+#![tactic(auto)]
+
+mod disks;
+mod laws;
+mod status;
+
+pub use disks::DiskName;
+pub use laws::{all_are_told_by_count, one_history_says_the_rest};
+pub use status::Status;

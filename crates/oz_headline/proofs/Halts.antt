@@ -1,5 +1,5 @@
 -- Only the manager halted, where no other node gave an event.
-use Rattle.std.proofs.Common.{◌≡◌, ◌≢◌, ℕ, ◌+◌, ◌≤◌, ◌<◌, Bool, true, false, ◌==◌, ◌||◌, cond, List, [], ◌∷◌, ◌++◌, length, Option, None, Some, eq-eqb, refl, sym, ap, ◌∙◌, subst, arith}
+use Rattle.std.proofs.Common.{◌≡◌, ◌≢◌, ℕ, ◌≤◌, ◌<◌, Bool, true, false, ◌==◌, cond, List, [], ◌∷◌, length, Option, None, Some, eq-eqb, refl, sym, ap, ◌∙◌, subst, arith}
 use Rattle.std.proofs.Math.Bool.{or-false}
 use Rattle.std.proofs.lemmas.Bool.{eqb-true, false≢true}
 use Rattle.std.specs.List.{AllByRecursion}
@@ -21,8 +21,9 @@ use Rattle.oz_nodes.specs.declared.nodes.TheConstants.{MOST_NODES}
 use Rattle.oz_turn.specs.Told.{own_entries}
 use Rattle.oz_world.specs.Disk.{Seen}
 use Rattle.oz_world.specs.Faults.{Rose}
-use Rattle.oz_headline.specs.Disks.{manager_disk, has_stopped, faults_after}
-use Rattle.oz_headline.specs.Halts.{HaltIsNamed, HaltsAreNamed, OthersAreSilent}
+use Rattle.oz_headline.specs.Disks.{manager_disk}
+use Rattle.oz_headline.specs.declared.status.Status.TheVariants.{Done, Disk}
+use Rattle.oz_headline.specs.Halts.{HaltIsNamed, HaltsAreNamed, OthersAreSilent, StatusNamesHalts}
 
 abbrev own : ℕ → List Event → List Event
 own seat story = own_entries (λ (event : Event). event.seat) seat story
@@ -121,3 +122,15 @@ pub silent_by_seats : (opening : Opening) (story : List Event) → length openin
 silent_by_seats opening story few none Manager seat apart its = absurd (apart refl)
 silent_by_seats opening story few none Scm seat apart its = none seat (omega (arith, its)) (omega (arith, its))
 silent_by_seats opening story few none (Datanode dn) seat apart its = none seat (omega (arith, its.its)) (omega (arith, its.its, its.there, few))
+
+-- ---- what the status says of it
+
+pub status_names : (story : List Event) (faults first : ℕ) (stopped : Bool) (before after : Seen) → HaltsAreNamed (manager_disk faults first stopped before after ∷ []) story
+    → StatusNamesHalts (if stopped then Disk else Done) story
+status_names story faults first true before after halts = (Manager, λ none. absurd (cc (sym (halts Manager).halt ∙ none)))
+status_names story faults first false before after halts = each
+  where
+    each : (node : Node) → halt_of node story ≡ None
+    each Manager = (halts Manager).halt
+    each Scm = (halts Scm).halt
+    each (Datanode dn) = (halts (Datanode dn)).halt

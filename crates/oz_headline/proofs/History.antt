@@ -1,5 +1,5 @@
 -- What a history says of each event at its place.
-use Rattle.std.proofs.Common.{◌≡◌, ◌≢◌, ℕ, ◌≤◌, ◌<◌, Bool, true, List, [], ◌∷◌, ◌++◌, Option, None, Some, is_some, refl, sym, ap, ◌∙◌, subst, append-nil}
+use Rattle.std.proofs.Common.{◌≡◌, ◌≢◌, ℕ, true, List, [], ◌∷◌, ◌++◌, Option, None, Some, is_some, sym, ap, ◌∙◌, subst, append-nil}
 use Rattle.std.proofs.lemmas.Bool.{false≢true}
 use Rattle.oz_command.specs.declared.command.Command.{Command}
 use Rattle.oz_command.specs.declared.command.Command.TheVariants as commands
@@ -9,12 +9,12 @@ use Rattle.oz_core.specs.declared.event.EventKind.{EventKind}
 use Rattle.oz_core.specs.declared.event.EventKind.TheVariants.{Ask, Decide, Told}
 use Rattle.oz_core.specs.declared.event.Node.TheVariants.{Manager}
 use Rattle.oz_core.specs.declared.opening.Opening.{Opening}
-use Rattle.oz_core.specs.Asks.{is_asked, pending, line_index}
+use Rattle.oz_core.specs.Asks.{is_asked, pending}
 use Rattle.oz_core.specs.Contents.{OpeningBytes}
 use Rattle.oz_core.specs.Due.{IsDue, ManagerHadStopped}
-use Rattle.oz_core.specs.Fits.{EventFits, Fits, FitsFrom, ToldFits}
+use Rattle.oz_core.specs.Fits.{EventFits, Fits, FitsFrom}
 use Rattle.oz_core.specs.Law.{IsLegal, IsEnabled, IsInTime, KindIsEnabled}
-use Rattle.oz_core.specs.Manager.{durable_index, halt_of}
+use Rattle.oz_core.specs.Manager.{halt_of}
 use Rattle.oz_lines.specs.declared.script.Line.{Line}
 use Rattle.oz_lines.specs.declared.script.Script.{Script}
 use Rattle.oz_requests.specs.declared.answer.Answer.{Answer}
@@ -26,7 +26,7 @@ use Rattle.oz_asker.specs.laws.Halts.{late_means_halted}
 use Rattle.oz_kept.specs.laws.Deleted.{found_at}
 use Rattle.oz_kept.specs.laws.Granted.{one_ask_id, pending_asked}
 use Rattle.oz_kept.specs.laws.Places.{legal_behind, legal_first, moved_over}
-use Rattle.oz_headline.specs.History.{AllAreInTurn, AnswerHolds, IsInTurn, IsOneThreads, LineIsStable, RepliesAreOneThreads, ToldHolds, ToldIsStable}
+use Rattle.oz_headline.specs.History.{AllAreInTurn, AnswerHolds, IsInTurn, IsOneThreads, RepliesAreOneThreads, ToldHolds, ToldIsStable}
 
 -- ---- each event at its place
 

@@ -1,11 +1,13 @@
 -- Which nodes halted, and why.
-use Rattle.std.specs.Prelude.{◌≡◌, ◌≢◌, ℕ, true, List, [], Option, None, Some, if◌then◌else◌}
+use Rattle.std.specs.Prelude.{◌≡◌, ◌≢◌, ℕ, true, List, [], None, Some, if◌then◌else◌}
 use Rattle.oz_core.specs.declared.event.Event.{Event}
 use Rattle.oz_core.specs.declared.event.Node.{Node}
 use Rattle.oz_core.specs.declared.event.Node.TheVariants.{Manager}
 use Rattle.oz_core.specs.declared.opening.Opening.{Opening}
 use Rattle.oz_core.specs.Manager.{halt_of}
 use Rattle.oz_core.specs.Seats.{IsNodeSeat}
+use Rattle.oz_headline.specs.declared.status.Status.{Status}
+use Rattle.oz_headline.specs.declared.status.Status.TheVariants.{Done, Disk}
 use Rattle.oz_headline.specs.Disks.{RunDisk, has_stopped, faults_loaded, faults_after}
 use Rattle.oz_turn.specs.Told.{own_entries}
 use Rattle.oz_world.specs.Faults.{Rose}
@@ -19,6 +21,12 @@ pub record HaltIsNamed (disks : List RunDisk) (story : List Event) (node : Node)
 -- So it is of each node: one that has no disk here has no Halt.
 abbrev pub HaltsAreNamed : List RunDisk → List Event → Type 0
 HaltsAreNamed disks story = (node : Node) → HaltIsNamed disks story node
+
+-- With Done no node has halted, and with Disk one has.
+abbrev pub StatusNamesHalts : Status → List Event → Type 0
+StatusNamesHalts Done story = (node : Node) → halt_of node story ≡ None
+StatusNamesHalts Disk story = (node : Node) × (halt_of node story ≢ None)
+StatusNamesHalts _ story = Unit {0}
 
 -- no node but the manager gave an event
 abbrev pub OthersAreSilent : Opening → List Event → Type 0

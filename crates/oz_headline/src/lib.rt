@@ -1,11 +1,12 @@
-//! The headline of a run over threads: what it promises of the one story that it prints, and that a story which the
-//! turn told keeps it.
+//! The headline of a run over threads: what it promises of the one story that it prints, and that a story which the turn told keeps it.
 #![tactic(auto)]
 
+mod counts;
 mod disks;
 mod laws;
 mod status;
 
+pub use counts::each_is_told_as_many;
 pub use disks::DiskName;
 pub use laws::{all_are_told_by_count, one_history_says_the_rest};
 pub use status::Status;

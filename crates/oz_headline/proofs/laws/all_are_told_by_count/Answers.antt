@@ -1,4 +1,4 @@
-use Rattle.oz_headline.proofs.Counts.{all_told, others}
+use Rattle.oz_headline.proofs.Counting.{all_told, others}
 use Rattle.oz_headline.proofs.laws.all_are_told_by_count.Goals as goal
 
 pub returns-clause-all : goal.returns-clause-all

@@ -29,9 +29,6 @@ const LINES: u16 = 1000;
 /// How many lines all have together.
 const ALL_LINES: usize = 4000;
 
-/// So many events of the story `legal` looks at.
-const FRONT: usize = 1000;
-
 /// From which line on sessions begin, behind which a bucket stays.
 const FIRST_SESSION: u16 = 900;
 
@@ -139,16 +136,13 @@ fn loads_as<R: Ring>(alloc: Global, desk: Desk<R>, namespace: &Namespace) -> Res
     Ok(shown.is_all(alloc, namespace, 0)?)
 }
 
-/// The story has all lines, and is legal as far as its front: the program that tells walks through all events before each.
+/// The story has all lines, and is legal.
 fn check_story(rt: &impl Abort, alloc: Global, told: &[Event]) -> Result<(), Fail> {
     holds(rt, asks_in(told) == ALL_LINES, "each once");
     holds(rt, told.len() == 2 * ALL_LINES, "each is decided");
     holds(rt, have_their_indexes(told), "indexes");
     let opening = opening_of(alloc, "")?;
-    let Some(front) = told.get(..FRONT) else {
-        return Err("a front".into());
-    };
-    holds(rt, legal(alloc, &opening, front)?.is_none(), "legal");
+    holds(rt, legal(alloc, &opening, told)?.is_none(), "legal");
     Ok(())
 }
 

@@ -51,7 +51,7 @@ use Rattle.oz_kept.specs.laws.Deleted.{found_at}
 use Rattle.oz_kept.specs.laws.Lines.{lines_apart}
 use Rattle.oz_turn.specs.Told.{BeginsWith}
 use Rattle.oz_underway.specs.UnderWay.{LabelStays}
-use Rattle.oz_underway.specs.laws.Asks.{asked_times, of_line, script_of_line}
+use Rattle.oz_underway.specs.laws.Asks.{asks_count, of_line, script_of_line}
 use Rattle.oz_underway.specs.laws.Going.{begins_itself, begins_push, follow_before, follow_behind, follow_first, kept_always, kept_on, no_fewer, none_more, same_by_count, told_more}
 use Rattle.oz_underway.specs.laws.Labels.{never_opened, none_told, open_still}
 use Rattle.oz_underway.specs.laws.Order.{has_number, in_order}
@@ -154,7 +154,7 @@ module _ (Coherent : Type 0) (opening : Opening) (bytes : OpeningBytes) (script 
   -- all was decided, and all written
   record IsClosed (story : List Event) : Type 0 where
     was_told : is_told opened.client opened.number story ≡ true
-    decided : length (replies_to opened.client opened.number story) ≡ asked_times opened.client opened.number story
+    decided : length (replies_to opened.client opened.number story) ≡ asks_count opened.client opened.number story
     whole : length (written story) ≡ pieces_needed opened.command
 
   no_write : (front : List Event) (kind : EventKind) → Coherent → AllFollow Follow [] front → EventFits opening bytes script front kind

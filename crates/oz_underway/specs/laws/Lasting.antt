@@ -10,12 +10,12 @@ use Rattle.oz_core.specs.Asks.{asks_of, last_ask}
 use Rattle.oz_core.specs.Contents.{OpeningBytes}
 use Rattle.oz_buffer.specs.Buffer.{AllFollow, Follows}
 use Rattle.oz_underway.specs.UnderWay.{IsLast}
-use Rattle.oz_underway.specs.laws.Asks.{asked_times, none_last, step_of_last}
+use Rattle.oz_underway.specs.laws.Asks.{asks_count, none_last, step_of_last}
 
 module _ (Coherent : Type 0) (opening : Opening) (bytes : OpeningBytes) (script : Script) where
   pub times_of_last : (client line asked : ℕ) (story : List Event) → client ≢ SERVICE_CLIENT → Coherent
       → AllFollow (Follows Coherent opening bytes script) [] story → (last : Option AskId)
-      → IsLast last asked → last_ask client line story ≡ last → asked_times client line story ≡ asked
+      → IsLast last asked → last_ask client line story ≡ last → asks_count client line story ≡ asked
   times_of_last client line asked story other coherent all None none is = ap length (none_last (asks_of client line story) is) ∙ sym none
   times_of_last client line asked story other coherent all (Some id) step is =
       sym (step_of_last Coherent opening bytes script client line other story coherent all id is) ∙ step

@@ -22,22 +22,22 @@ use Rattle.oz_buffer.specs.laws.Lines.{last_or_decided}
 use Rattle.oz_kept.specs.laws.Deleted.{first_or_later}
 use Rattle.oz_kept.specs.laws.Granted.{told_among}
 use Rattle.oz_turn.specs.Told.{BeginsWith}
-use Rattle.oz_underway.specs.laws.Asks.{asked_times, id_of_line, its_line, of_line, script_of_line}
+use Rattle.oz_underway.specs.laws.Asks.{asks_count, id_of_line, its_line, of_line, script_of_line}
 use Rattle.oz_underway.specs.laws.Going.{count_more, kept_always, told_longer}
 
 -- No more is replied than was asked, and less while something is undecided.
 record AreFew (client line : ℕ) (story : List Event) : Type 0 where
-  few : length (replies_to client line story) ≤ asked_times client line story
+  few : length (replies_to client line story) ≤ asks_count client line story
   fewer : (id : AskId) → is_of_line client line id ≡ true → (request : Request) → pending id story ≡ Some request
-      → length (replies_to client line story) + 1 ≤ asked_times client line story
+      → length (replies_to client line story) + 1 ≤ asks_count client line story
 
 -- what an event adds
 record AreFewBehind (client line : ℕ) (front : List Event) (kind : EventKind) : Type 0 where
   few : length (replies_to client line front) + length (cons_option (reply_to client line kind) [])
-      ≤ asked_times client line front + length (cons_option (ask_id client line kind) [])
+      ≤ asks_count client line front + length (cons_option (ask_id client line kind) [])
   fewer : (id : AskId) → is_of_line client line id ≡ true → (request : Request) → pending_after id (pending id front) kind ≡ Some request
       → length (replies_to client line front) + length (cons_option (reply_to client line kind) []) + 1
-      ≤ asked_times client line front + length (cons_option (ask_id client line kind) [])
+      ≤ asks_count client line front + length (cons_option (ask_id client line kind) [])
 
 module _ (opening : Opening) (client line : ℕ) (front : List Event) (seat : ℕ) (was : AreFew client line front)
     (one : (id other : AskId) → is_of_line client line id ≡ true → is_of_line client line other ≡ true → (request made : Request)
@@ -123,7 +123,7 @@ module _ (Coherent : Type 0) (opening : Opening) (bytes : OpeningBytes) (script 
       (record { few = omega arith; fewer = λ id of request is. absurd (none-some request is) })
 
   pub few_replies : (client line : ℕ) (story : List Event) → client ≢ SERVICE_CLIENT → Coherent → AllFollow Follow [] story
-      → length (replies_to client line story) ≤ asked_times client line story
+      → length (replies_to client line story) ≤ asks_count client line story
   few_replies client line story other coherent all = (are_few client line story other coherent all).few
 
 -- ---- one reply more

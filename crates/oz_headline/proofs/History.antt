@@ -26,7 +26,7 @@ use Rattle.oz_asker.specs.laws.Halts.{late_means_halted}
 use Rattle.oz_kept.specs.laws.Deleted.{found_at}
 use Rattle.oz_kept.specs.laws.Granted.{one_ask_id, pending_asked}
 use Rattle.oz_kept.specs.laws.Places.{legal_behind, legal_first, moved_over}
-use Rattle.oz_headline.specs.History.{AllAreInTurn, AnswerHolds, IsInTurn, IsOneThreads, RepliesAreOneThreads, ToldHolds, ToldIsStable}
+use Rattle.oz_headline.specs.History.{AllAreInTurn, AnswerHolds, IsInTurn, ReplyIsOneThreads, RepliesAreOneThreads, ToldHolds, ToldIsStable}
 
 -- ---- each event at its place
 
@@ -54,7 +54,7 @@ fits_there opening bytes script story before behind event parts fits =
 
 -- ---- replies
 
-one_thread : (opening : Opening) (before : List Event) (seat : ℕ) (kind : EventKind) → KindIsEnabled opening before seat kind → IsOneThreads opening before kind
+one_thread : (opening : Opening) (before : List Event) (seat : ℕ) (kind : EventKind) → KindIsEnabled opening before seat kind → ReplyIsOneThreads opening before kind
 one_thread opening before seat (Decide id index reply batch) may = (may.request, may.undecided, may.one_thread)
 one_thread opening before seat kind may = tt
 

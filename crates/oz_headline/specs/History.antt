@@ -18,13 +18,13 @@ use Rattle.oz_headline.specs.Places.{AtEachPlace}
 -- ---- replies
 
 -- what a Decide replies is what one thread answers at its place, to what its id had asked last
-abbrev pub IsOneThreads : Opening → List Event → EventKind → Type 0
-IsOneThreads opening before (Decide id index reply batch) =
+abbrev pub ReplyIsOneThreads : Opening → List Event → EventKind → Type 0
+ReplyIsOneThreads opening before (Decide id index reply batch) =
     (request : Request) × (pending id before ≡ Some request) × Answers (namespace_of opening before) request reply
-IsOneThreads opening before _ = Unit {0}
+ReplyIsOneThreads opening before _ = Unit {0}
 
 abbrev pub RepliesAreOneThreads : Opening → List Event → Type 0
-RepliesAreOneThreads opening story = AtEachPlace (IsOneThreads opening) story
+RepliesAreOneThreads opening story = AtEachPlace (ReplyIsOneThreads opening) story
 
 -- ---- asks
 

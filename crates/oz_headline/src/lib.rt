@@ -1,4 +1,4 @@
-//! The headline of a run over threads: what it promises of the one story that it prints, and that a story which the turn told keeps it.
+//! The headline of a run over threads, and that a story which the turn told keeps it.
 #![tactic(auto)]
 
 mod counts;

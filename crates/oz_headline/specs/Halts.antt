@@ -12,8 +12,8 @@ use Rattle.oz_headline.specs.Disks.{RunDisk, has_stopped, faults_loaded, faults_
 use Rattle.oz_turn.specs.Told.{own_entries}
 use Rattle.oz_world.specs.Faults.{Rose}
 
--- A node has a Halt exactly where a write of one of its disks failed. The Halt has the count of faults at the end, which
--- rose since the disks were loaded.
+-- A node has a Halt exactly where a write of one of its disks failed. The Halt has the count of faults at the end,
+-- which rose since the disks were loaded.
 pub record HaltIsNamed (disks : List RunDisk) (story : List Event) (node : Node) : Type 0 where
   pub halt : halt_of node story ≡ (if has_stopped node disks then Some (faults_after node disks) else None)
   pub rose : has_stopped node disks ≡ true → Rose (faults_loaded node disks) (faults_after node disks)

@@ -16,9 +16,9 @@ abbrev pub IsFlushedOn : List Event → DiskName → ℕ → Type 0
 IsFlushedOn story Manager clock = AllAreBy clock story
 IsFlushedOn story _ clock = Unit {0}
 
--- The story is one history: it follows the law and is that of the script. Each reply is the one-thread namespace's at its
--- place, each line asks after all that it waits for, and what was acknowledged is stable. What is flushed was so by the
--- end.
+-- The story is one history: it follows the law and is that of the script. Each reply is the one-thread namespace's at
+-- its place, each line asks after all that it waits for, and what was acknowledged is stable. What is flushed was so by
+-- the end.
 pub record Headline (opening : Opening) (bytes : OpeningBytes) (script : Script) (disks : List RunDisk)
     (story : List Event) : Type 0 where
   pub one_history : IsLegal opening story × Fits opening bytes script story

@@ -43,8 +43,8 @@ AllAreInTurn opening script story = AtEachPlace (IsInTurn opening script) story
 abbrev pub LineIsStable : Opening → List Event → ℕ → ℕ → Type 0
 LineIsStable opening before client line = line_index client line before ≤ durable_index opening before
 
--- The answer says so: all that was decided for the line is stable. Or the manager has halted, with some of it not stable,
--- or before the line asked last. That there is no memory says nothing of it.
+-- What an answer says of that: it is stable. But UNACKNOWLEDGED says that it isn't, and OUT_OF_MEMORY says nothing. By
+-- UNACKNOWLEDGED and MANAGER_STOPPED the manager has halted.
 abbrev pub AnswerHolds : Opening → List Event → ℕ → ℕ → Answer → Type 0
 AnswerHolds opening before client line told.Unacknowledged =
     (halt_of Manager before ≢ None) × (durable_index opening before < line_index client line before)

@@ -12,8 +12,8 @@ ghost use Rattle.oz_headline.specs.History.{AllAreBy, AllAreInTurn, RepliesAreOn
 ghost use Rattle.oz_lines.specs.declared.script.Script.{Script as AnyScript};
 ghost use Rattle.oz_lines.specs.Numbered.{IsNumbered};
 
-/// A story that is one history says the rest of the headline: each reply is one thread's at its place, each line asks in
-/// its turn, what was acknowledged is stable, and nothing is flushed later than the last that is.
+/// A story that is one history says the rest of the headline: each reply is one thread's at its place, each line asks
+/// in its turn, what was acknowledged is stable, and nothing is flushed later than the last that is.
 pub fn one_history_says_the_rest()
     ensures replies { (opening : AnyOpening) (story : List AnyEvent) → IsLegal opening story →
         RepliesAreOneThreads opening story }

@@ -3,10 +3,12 @@
 
 mod counts;
 mod disks;
+mod ended;
 mod laws;
 mod status;
 
 pub use counts::each_is_told_as_many;
 pub use disks::DiskName;
+pub use ended::{halts_are_named, the_story_keeps_the_headline};
 pub use laws::{all_are_told_by_count, one_history_says_the_rest};
 pub use status::Status;

@@ -1,5 +1,5 @@
 -- Only the manager halted, where no other node gave an event.
-use Rattle.std.proofs.Common.{◌≡◌, ◌≢◌, ℕ, ◌≤◌, ◌<◌, Bool, true, false, ◌==◌, cond, List, [], ◌∷◌, length, Option, None, Some, eq-eqb, refl, sym, ap, ◌∙◌, subst, arith}
+use Rattle.std.proofs.Common.{◌≡◌, ◌≢◌, ℕ, suc, ◌≤◌, ◌<◌, Bool, true, false, ◌==◌, ◌&&◌, ◌||◌, cond, List, [], ◌∷◌, length, All, Option, None, Some, eq-eqb, refl, sym, ap, ◌∙◌, subst, arith}
 use Rattle.std.proofs.Math.Bool.{or-false}
 use Rattle.std.proofs.lemmas.Bool.{eqb-true, false≢true}
 use Rattle.std.specs.List.{AllByRecursion}
@@ -21,7 +21,9 @@ use Rattle.oz_nodes.specs.declared.nodes.TheConstants.{MOST_NODES}
 use Rattle.oz_turn.specs.Told.{own_entries}
 use Rattle.oz_world.specs.Disk.{Seen}
 use Rattle.oz_world.specs.Faults.{Rose}
-use Rattle.oz_headline.specs.Disks.{manager_disk}
+use Rattle.oz_headline.specs.declared.disks.DiskName.{DiskName}
+use Rattle.oz_headline.specs.declared.disks.DiskName.TheVariants as names
+use Rattle.oz_headline.specs.Disks.{RunDisk, faults_after, has_stopped, is_of, manager_disk, of_node, together, untouched_disk, untouched_disks}
 use Rattle.oz_headline.specs.declared.status.Status.TheVariants.{Done, Disk}
 use Rattle.oz_headline.specs.Halts.{HaltIsNamed, HaltsAreNamed, OthersAreSilent, StatusNamesHalts}
 
@@ -95,25 +97,89 @@ managers_own opening (event ∷ story) first all = by (event.seat == flusher_sea
         ap (λ (o : Option (Option ℕ)). last_told (halt_count Manager) (newer o first) story) none
         ∙ (rest first ∙ ap (last_told (halt_count Manager) first) (sym (own_test flusher_seat event story false apart)))
 
+-- ---- the disks that aren't touched
+
+module _ {D : Type 0} (see : D → Seen) where
+  none_stopped : (node : Node) (others : List (DiskName × D)) → has_stopped node (untouched_disks see others) ≡ false
+  none_stopped node [] = refl
+  none_stopped node (other ∷ others) = by (is_of node other.0) (none_stopped node others)
+    where
+      by : (t : Bool) → has_stopped node (untouched_disks see others) ≡ false → ((t && false) || has_stopped node (untouched_disks see others)) ≡ false
+      by true rest = rest
+      by false rest = rest
+
+  pub not_managers : (name : DiskName) → name ≢ names.Manager → is_of Manager name ≡ false
+  not_managers names.Manager apart = absurd (apart refl)
+  not_managers names.Scm apart = refl
+  not_managers (names.Meta dn) apart = refl
+  not_managers (names.Slots dn) apart = refl
+
+  none_managers : (count : RunDisk → ℕ) (others : List (DiskName × D)) → All (λ (other : DiskName × D). other.0 ≢ names.Manager) others → of_node count Manager (untouched_disks see others) ≡ []
+  none_managers count [] apart = refl
+  none_managers count (other ∷ others) apart =
+      ap (λ (t : Bool). cond t (count (untouched_disk other.0 (see other.1)) ∷ of_node count Manager (untouched_disks see others)) (of_node count Manager (untouched_disks see others)))
+      (not_managers other.0 (apart 0 other (omega arith)))
+      ∙ none_managers count others (λ k d lt. apart (suc k) d (omega (arith, lt)))
+
 -- ---- each node's
 
-module _ (opening : Opening) (story mine : List Event) (faults first : ℕ) (stopped : Bool) (before after : Seen) (all : AreOfTheirSeats opening story) (silent : OthersAreSilent opening story)
-    (flushers : own flusher_seat story ≡ mine) (halt : halt_of Manager mine ≡ (if stopped then Some after.faults else None)) (rose : stopped ≡ true → Rose faults after.faults) where
-  other : (node : Node) → node ≢ Manager → halt_of node story ≡ None
-  other node apart = none_halted opening node story None all (λ seat its. silent node seat apart its)
+module _ (opening : Opening) (story mine : List Event) {D : Type 0} (see : D → Seen) (others : List (DiskName × D)) (faults first : ℕ) (stopped : Bool) (before after : Seen) where
+  abbrev all_disks : List RunDisk
+  all_disks = manager_disk faults first stopped before after ∷ untouched_disks see others
 
-  named : (node : Node) → HaltIsNamed (manager_disk faults first stopped before after ∷ []) story node
-  named Manager = record {
-    halt = managers_own opening story None all
-        ∙ (ap (halt_of Manager) flushers
-        ∙ (halt ∙ ap (λ (t : Bool). cond t (Some after.faults) None) (sym (or-false stopped))));
-    rose = λ is. rose (sym (or-false stopped) ∙ is);
-  }
-  named Scm = record { halt = other Scm (λ same. absurd cc); rose = λ is. absurd (false≢true is) }
-  named (Datanode dn) = record { halt = other (Datanode dn) (λ same. absurd cc); rose = λ is. absurd (false≢true is) }
+  managers_stopped : has_stopped Manager all_disks ≡ stopped
+  managers_stopped = ap (λ (t : Bool). stopped || t) (none_stopped see Manager others) ∙ or-false stopped
 
-  pub halts_named : HaltsAreNamed (manager_disk faults first stopped before after ∷ []) story
-  halts_named node = named node
+  managers_count : (count : RunDisk → ℕ) → All (λ (other : DiskName × D). other.0 ≢ names.Manager) others
+      → together (of_node count Manager all_disks) ≡ count (manager_disk faults first stopped before after)
+  managers_count count apart = ap (λ (l : List ℕ). together (count (manager_disk faults first stopped before after) ∷ l)) (none_managers see count others apart)
+
+  others_stopped : (node : Node) → node ≢ Manager → has_stopped node all_disks ≡ false
+  others_stopped Manager apart = absurd (apart refl)
+  others_stopped Scm apart = none_stopped see Scm others
+  others_stopped (Datanode dn) apart = none_stopped see (Datanode dn) others
+
+  pub halts_named : AreOfTheirSeats opening story → OthersAreSilent opening story → All (λ (other : DiskName × D). other.0 ≢ names.Manager) others
+      → own flusher_seat story ≡ mine → halt_of Manager mine ≡ (if stopped then Some after.faults else None) → (stopped ≡ true → Rose faults after.faults) → HaltsAreNamed all_disks story
+  halts_named all silent apart flushers halt rose = named
+    where
+      other : (node : Node) → node ≢ Manager → HaltIsNamed all_disks story node
+      other node away = record {
+        halt = none_halted opening node story None all (λ seat its. silent node seat away its)
+            ∙ ap (λ (t : Bool). cond t (Some (faults_after node all_disks)) None) (sym (others_stopped node away));
+        rose = λ is. absurd (false≢true (sym (others_stopped node away) ∙ is));
+      }
+
+      named : (node : Node) → HaltIsNamed all_disks story node
+      named Manager = record {
+        halt = managers_own opening story None all
+            ∙ (ap (halt_of Manager) flushers
+            ∙ (halt
+            ∙ (ap (λ (t : Bool). cond t (Some after.faults) None) (sym managers_stopped)
+            ∙ ap (λ (n : ℕ). cond (has_stopped Manager all_disks) (Some n) None) (sym (managers_count (λ (disk : RunDisk). disk.after.faults) apart)))));
+        rose = λ is.
+            subst (λ (n : ℕ). Rose n (faults_after Manager all_disks)) (sym (managers_count (λ (disk : RunDisk). disk.faults) apart))
+            (subst (Rose faults) (sym (managers_count (λ (disk : RunDisk). disk.after.faults) apart)) (rose (sym managers_stopped ∙ is)));
+      }
+      named Scm = other Scm (λ same. absurd cc)
+      named (Datanode dn) = other (Datanode dn) (λ same. absurd cc)
+
+  -- ---- what the status says of it
+
+  pub status_names : HaltsAreNamed all_disks story → StatusNamesHalts (if stopped then Disk else Done) story
+  status_names halts = by stopped managers_stopped
+    where
+      halt_is : (node : Node) (t : Bool) → has_stopped node all_disks ≡ t → halt_of node story ≡ cond t (Some (faults_after node all_disks)) None
+      halt_is node t is = (halts node).halt ∙ ap (λ (t : Bool). cond t (Some (faults_after node all_disks)) None) is
+
+      each : has_stopped Manager all_disks ≡ false → (node : Node) → halt_of node story ≡ None
+      each is Manager = halt_is Manager false is
+      each is Scm = halt_is Scm false (others_stopped Scm (λ same. absurd cc))
+      each is (Datanode dn) = halt_is (Datanode dn) false (others_stopped (Datanode dn) (λ same. absurd cc))
+
+      by : (t : Bool) → has_stopped Manager all_disks ≡ t → StatusNamesHalts (if t then Disk else Done) story
+      by true is = (Manager, λ none. absurd (cc (sym (halt_is Manager true is) ∙ none)))
+      by false is = each is
 
 -- ---- who is silent
 
@@ -122,15 +188,3 @@ pub silent_by_seats : (opening : Opening) (story : List Event) → length openin
 silent_by_seats opening story few none Manager seat apart its = absurd (apart refl)
 silent_by_seats opening story few none Scm seat apart its = none seat (omega (arith, its)) (omega (arith, its))
 silent_by_seats opening story few none (Datanode dn) seat apart its = none seat (omega (arith, its.its)) (omega (arith, its.its, its.there, few))
-
--- ---- what the status says of it
-
-pub status_names : (story : List Event) (faults first : ℕ) (stopped : Bool) (before after : Seen) → HaltsAreNamed (manager_disk faults first stopped before after ∷ []) story
-    → StatusNamesHalts (if stopped then Disk else Done) story
-status_names story faults first true before after halts = (Manager, λ none. absurd (cc (sym (halts Manager).halt ∙ none)))
-status_names story faults first false before after halts = each
-  where
-    each : (node : Node) → halt_of node story ≡ None
-    each Manager = (halts Manager).halt
-    each Scm = (halts Scm).halt
-    each (Datanode dn) = (halts (Datanode dn)).halt

@@ -63,3 +63,18 @@ manager_disk faults first stopped before after = record {
   stopped = stopped;
   after = after;
 }
+
+-- disks that the run doesn't touch, each with its name
+abbrev pub untouched_disk : DiskName → Seen → RunDisk
+untouched_disk name disk = record {
+  name = name;
+  before = disk;
+  faults = disk.faults;
+  first = disk.clock;
+  stopped = false;
+  after = disk;
+}
+
+abbrev pub untouched_disks : {D : Type 0} → (D → Seen) → List (DiskName × D) → List RunDisk
+untouched_disks see [] = []
+untouched_disks see (disk ∷ disks) = untouched_disk disk.0 (see disk.1) ∷ untouched_disks see disks

@@ -1,0 +1,5 @@
+pub mod History
+pub mod Moments
+pub mod Counting
+pub mod Halts
+pub mod Story

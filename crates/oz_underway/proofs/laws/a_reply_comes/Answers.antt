@@ -1,0 +1,11 @@
+use Rattle.std.proofs.Common.{subst}
+use Rattle.oz_requests.specs.declared.request.AskId.{AskId}
+use Rattle.oz_underway.specs.TempDecided.{IsDecideAt}
+use Rattle.oz_underway.specs.laws.UnderWay.{reply_comes}
+use Rattle.oz_underway.proofs.laws.a_reply_comes.Goals as goal
+
+pub returns : goal.returns
+returns g c coherent seen later line asked place command progress reply id way idle unread written no_grant begins all is decided =
+    let O = g.O.Opened in
+    reply_comes O.coherent O.opening O.bytes O.script seen later line asked command progress reply coherent way idle unread written no_grant all begins place
+    (subst (λ (i : AskId). IsDecideAt later place i reply) is decided)

@@ -1,0 +1,4 @@
+pub mod GoingOn
+pub mod UnderWay
+pub mod TempDecided
+pub mod laws

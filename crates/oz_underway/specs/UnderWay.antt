@@ -1,0 +1,45 @@
+-- What who works for a line knows of it.
+use Rattle.std.specs.Prelude.{◌≡◌, ◌≢◌, ℕ, List, length, Option, Contains}
+use Rattle.oz_command.specs.declared.command.Command.{Command}
+use Rattle.oz_lines.specs.declared.script.Line.{Line}
+use Rattle.oz_lines.specs.declared.script.Script.{Script}
+use Rattle.oz_core.specs.declared.event.Event.{Event}
+use Rattle.oz_core.specs.declared.limits.TheConstants.{SERVICE_CLIENT}
+use Rattle.oz_core.specs.declared.opening.Opening.{Opening}
+use Rattle.oz_core.specs.Asks.{asks_of}
+use Rattle.oz_core.specs.Contents.{OpeningBytes}
+use Rattle.oz_core.specs.Lines.{HasStarted}
+use Rattle.oz_turn.specs.Told.{BeginsWith}
+use Rattle.oz_steps.specs.declared.label.Label.{Label}
+use Rattle.oz_steps.specs.Lines.{IsLabel}
+use Rattle.oz_client.specs.declared.progress.Progress.{Progress}
+use Rattle.oz_client.specs.Stories.{IsAt}
+use Rattle.oz_underway.specs.GoingOn.{FromHereOn}
+
+-- how often a line asked
+abbrev pub times_asked : List Event → Line → ℕ
+times_asked story line = length (asks_of line.client line.number story)
+
+module _ (Coherent : Type 0) (opening : Opening) (bytes : OpeningBytes) (script : Script) where
+  -- so it is from here on, as long as the line asked so often
+  abbrev pub WhileAsked : List Event → Line → ℕ → (List Event → Type 0) → Type 0
+  WhileAsked seen line asked Holds =
+      FromHereOn Coherent opening bytes script seen (λ story. times_asked story line ≡ asked → Holds story)
+
+  -- from here on the label that the line commits stands for this
+  abbrev pub LabelStays : List Event → Line → Command → Option Label → Type 0
+  LabelStays seen line command label =
+      FromHereOn Coherent opening bytes script seen (λ story. IsLabel script story line command label)
+
+  -- At a place of what was seen a script's line had started, and had asked so often. From there on, as long as it asks no
+  -- more, what a story has of the line is what came back to it.
+  pub record IsUnderWay (seen : List Event) (line : Line) (asked : ℕ) (command : Command) (progress : Progress)
+      : Type 0 where
+    pub there : Contains script.lines line
+    pub of_client : line.client ≢ SERVICE_CLIENT
+    pub since : List Event
+    pub goes_on : BeginsWith seen since
+    pub started : HasStarted since line
+    pub asked_so : times_asked since line ≡ asked
+    pub labelled : LabelStays since line command progress.label
+    pub has : WhileAsked since line asked (λ story. IsAt opening bytes script story line command progress)

@@ -1,0 +1,9 @@
+-- Laws with their proofs, which proofs cite, those of other crates too. A reader has nothing to believe here.
+pub mod Going
+pub mod Asks
+pub mod Told
+pub mod Replies
+pub mod Blocks
+pub mod Order
+pub mod Deciding
+pub mod UnderWay

@@ -1,0 +1,122 @@
+//! What stays of a line that is under way.
+
+ghost use Rattle.std.specs.Prelude.{◌≡◌, ◌≢◌, ◌+◌, ℕ, [], List, Option, true, None, Some, length, Contains};
+ghost use Rattle.std.specs.List.{list_all};
+ghost use Rattle.oz_underway.specs.TempDecided.{IsDecideAt};
+ghost use Rattle.oz_buffer.specs.Buffer.{AllFollow, Follows};
+ghost use Rattle.oz_client.specs.declared.progress.Progress.{Progress as AnyProgress};
+ghost use Rattle.oz_client.specs.declared.step.Got.{Got as AnyGot};
+ghost use Rattle.oz_client.specs.declared.step.Got.TheVariants as gots;
+ghost use Rattle.oz_client.specs.declared.step.Step.TheVariants as steps;
+ghost use Rattle.oz_client.specs.LineState.{nothing_yet, progress_after};
+ghost use Rattle.oz_client.specs.Stories.{HasIt, IsStepEverywhere};
+ghost use Rattle.oz_command.specs.declared.command.Command.{Command as AnyCommand};
+ghost use Rattle.oz_core.specs.declared.event.Event.{Event as AnyEvent};
+ghost use Rattle.oz_core.specs.declared.event.EventKind.TheVariants.{Ask};
+ghost use Rattle.oz_core.specs.declared.limits.TheConstants.{SERVICE_CLIENT};
+ghost use Rattle.oz_core.specs.Asks.{asks_of, is_told, last_ask, pending};
+ghost use Rattle.oz_core.specs.Due.{IsDue};
+ghost use Rattle.oz_core.specs.Fits.{EventFits, Fits};
+ghost use Rattle.oz_core.specs.Law.{AskIsEnabled};
+ghost use Rattle.oz_core.specs.Lines.{HasStarted};
+ghost use Rattle.oz_lines.specs.declared.script.Line.{Line as AnyLine};
+ghost use Rattle.oz_lines.specs.Numbered.{IsNumbered};
+ghost use Rattle.oz_requests.specs.declared.answer.Answer.{Answer as AnyAnswer};
+ghost use Rattle.oz_requests.specs.declared.reply.Reply.{Reply as AnyReply};
+ghost use Rattle.oz_requests.specs.declared.request.AskId.{AskId as AnyId};
+ghost use Rattle.oz_requests.specs.declared.request.Request.{Request as AnyRequest};
+ghost use Rattle.oz_steps.specs.declared.label.Label.{Label as AnyLabel};
+ghost use Rattle.oz_steps.specs.Came.{granted_by};
+ghost use Rattle.oz_steps.specs.Grants.{has_fate_written};
+ghost use Rattle.oz_turn.specs.Told.{BeginsWith};
+ghost use Rattle.oz_underway.specs.GoingOn.{FromHereOn};
+ghost use Rattle.oz_underway.specs.UnderWay.{IsUnderWay, LabelStays, WhileAsked, times_asked};
+
+use oz_buffer::Opened;
+
+/// A script's line that has started and asked nothing is under way, with nothing that came back.
+pub fn a_line_begins<O: Opened>()
+    ensures { O.coherent → (seen : List AnyEvent) (line : AnyLine) (command : AnyCommand) (nodes : ℕ)
+        (label : Option AnyLabel) →
+        Contains O.script.lines line → line.client ≢ SERVICE_CLIENT → line.command ≡ command →
+        HasStarted seen line → asks_of line.client line.number seen ≡ [] →
+        LabelStays O.coherent O.opening O.bytes O.script seen line command label →
+        IsUnderWay O.coherent O.opening O.bytes O.script seen line 0 command (nothing_yet nodes label) }
+{}
+
+/// A line that is under way is so in what is seen later.
+pub fn a_line_stays_under_way<O: Opened>()
+    ensures { (seen later : List AnyEvent) (line : AnyLine) (asked : ℕ) (command : AnyCommand)
+        (progress : AnyProgress) →
+        IsUnderWay O.coherent O.opening O.bytes O.script seen line asked command progress → BeginsWith later seen →
+        IsUnderWay O.coherent O.opening O.bytes O.script later line asked command progress }
+{}
+
+/// What a line asks next is its line's next step, where the law lets it ask; and of that id nothing else is ever pending.
+pub fn what_is_asked_fits<O: Opened>()
+    ensures fits { O.coherent → (seen : List AnyEvent) (line : AnyLine) (asked seat : ℕ) (command : AnyCommand)
+        (progress : AnyProgress) (got : AnyGot) (request : AnyRequest) (id : AnyId) →
+        IsUnderWay O.coherent O.opening O.bytes O.script seen line asked command progress →
+        IsStepEverywhere command progress got (steps.Ask request) →
+        ((story : List AnyEvent) → HasIt O.opening O.bytes O.script story line command progress got) →
+        id ≡ record { client = line.client; line = line.number; step = asked + 1 } →
+        FromHereOn O.coherent O.opening O.bytes O.script seen (λ story. AskIsEnabled O.opening story seat id request →
+        EventFits O.opening O.bytes O.script story (Ask id request)) }
+    ensures same { O.coherent → IsNumbered O.script → (seen : List AnyEvent) (line : AnyLine) (asked : ℕ)
+        (command : AnyCommand) (progress : AnyProgress) (got : AnyGot) (request : AnyRequest) (id : AnyId) →
+        IsUnderWay O.coherent O.opening O.bytes O.script seen line asked command progress →
+        IsStepEverywhere command progress got (steps.Ask request) →
+        ((story : List AnyEvent) → HasIt O.opening O.bytes O.script story line command progress got) →
+        id ≡ record { client = line.client; line = line.number; step = asked + 1 } →
+        FromHereOn O.coherent O.opening O.bytes O.script seen (λ story. (other : AnyRequest) →
+        pending id story ≡ Some other → other ≡ request) }
+{}
+
+/// What was decided of a line's next Ask has come back to it, where that grants no block and each block that the line
+/// was granted before is written.
+pub fn a_reply_comes<O: Opened>()
+    ensures { O.coherent → (seen later : List AnyEvent) (line : AnyLine) (asked place : ℕ) (command : AnyCommand)
+        (progress : AnyProgress) (reply : AnyReply) (id : AnyId) →
+        IsUnderWay O.coherent O.opening O.bytes O.script seen line asked command progress →
+        progress.came.writing ≡ None → progress.read ≡ [] →
+        list_all has_fate_written progress.came.attempts ≡ true → granted_by reply ≡ None →
+        BeginsWith later seen → AllFollow (Follows O.coherent O.opening O.bytes O.script) [] later →
+        id ≡ record { client = line.client; line = line.number; step = asked + 1 } → IsDecideAt later place id reply →
+        IsUnderWay O.coherent O.opening O.bytes O.script later line (asked + 1) command
+        (progress_after progress (gots.Reply reply)) }
+{}
+
+/// What a line is to be told is due, as long as it asked no more.
+pub fn what_is_told_is_due<O: Opened>()
+    ensures { (seen : List AnyEvent) (line : AnyLine) (asked : ℕ) (command : AnyCommand)
+        (progress : AnyProgress) (got : AnyGot) (answer : AnyAnswer) →
+        IsUnderWay O.coherent O.opening O.bytes O.script seen line asked command progress →
+        IsStepEverywhere command progress got (steps.Tell answer) →
+        WhileAsked O.coherent O.opening O.bytes O.script seen line asked (λ story.
+        HasIt O.opening O.bytes O.script story line command progress got →
+        IsDue O.opening O.bytes O.script story line answer) }
+{}
+
+/// A script's line asks with the steps 1, 2 and so on: its last Ask says how often it asked. As long as that stays, all
+/// its Asks do; and they stay once the line is told.
+pub fn asks_stay<O: Opened>()
+    ensures counted { O.coherent → (client line : ℕ) (story : List AnyEvent) (id : AnyId) → client ≢ SERVICE_CLIENT →
+        AllFollow (Follows O.coherent O.opening O.bytes O.script) [] story → last_ask client line story ≡ Some id →
+        id ≡ record { client = client; line = line; step = length (asks_of client line story) } }
+    ensures none { (client line : ℕ) (story : List AnyEvent) → last_ask client line story ≡ None →
+        asks_of client line story ≡ [] }
+    ensures same { O.coherent → (client line : ℕ) (seen : List AnyEvent) → client ≢ SERVICE_CLIENT →
+        FromHereOn O.coherent O.opening O.bytes O.script seen (λ story.
+        last_ask client line story ≡ last_ask client line seen →
+        asks_of client line story ≡ asks_of client line seen) }
+    ensures told { O.coherent → (client line : ℕ) (seen : List AnyEvent) → client ≢ SERVICE_CLIENT →
+        is_told client line seen ≡ true → FromHereOn O.coherent O.opening O.bytes O.script seen (λ story.
+        asks_of client line story ≡ asks_of client line seen) }
+{}
+
+/// Where each event follows, the whole story is that of the script: each client's lines were told in their order.
+pub fn lines_are_told_in_order<O: Opened>()
+    ensures { O.coherent → IsNumbered O.script → (story : List AnyEvent) →
+        AllFollow (Follows O.coherent O.opening O.bytes O.script) [] story →
+        Fits O.opening O.bytes O.script story }
+{}

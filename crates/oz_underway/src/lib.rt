@@ -1,0 +1,9 @@
+//! Laws of a line that is under way: what a story has of it stays as it is while the line asks nothing more.
+#![tactic(auto)]
+
+mod laws;
+
+pub use laws::{
+    a_line_begins, a_line_stays_under_way, a_reply_comes, asks_stay, lines_are_told_in_order,
+    what_is_asked_fits, what_is_told_is_due,
+};

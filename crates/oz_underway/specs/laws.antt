@@ -7,3 +7,4 @@ pub mod Blocks
 pub mod Order
 pub mod Deciding
 pub mod UnderWay
+pub mod Labels

@@ -2,6 +2,7 @@
 pub mod Going
 pub mod Asks
 pub mod Told
+pub mod Starting
 pub mod Replies
 pub mod Blocks
 pub mod Order

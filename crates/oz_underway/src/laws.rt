@@ -1,6 +1,6 @@
 //! What stays of a line that is under way.
 
-ghost use Rattle.std.specs.Prelude.{◌≡◌, ◌≢◌, ◌+◌, ℕ, [], List, Option, true, false, None, Some, length, Contains};
+ghost use Rattle.std.specs.Prelude.{◌≡◌, ◌≢◌, ◌+◌, ◌++◌, ◌∷◌, ℕ, [], List, Option, true, false, None, Some, length, Contains};
 ghost use Rattle.std.specs.List.{list_all};
 ghost use Rattle.oz_underway.specs.TempDecided.{IsDecideAt};
 ghost use Rattle.oz_buffer.specs.Buffer.{AllFollow, Follows};
@@ -45,6 +45,19 @@ pub fn a_line_begins<O: Opened>()
         HasStarted seen line → asks_of line.client line.number seen ≡ [] →
         LabelStays O.coherent O.opening O.bytes O.script seen line command label →
         IsUnderWay O.coherent O.opening O.bytes O.script seen line 0 command (nothing_yet nodes label) }
+{}
+
+/// Nothing is asked for a script's line before it starts, nor in what starts it: that a line was told.
+pub fn nothing_is_asked_before<O: Opened>()
+    ensures start { O.coherent → IsNumbered O.script → (seen : List AnyEvent) (line : AnyLine) →
+        Contains O.script.lines line → line.client ≢ SERVICE_CLIENT →
+        AllFollow (Follows O.coherent O.opening O.bytes O.script) [] seen → (HasStarted seen line → ⊥) →
+        asks_of line.client line.number seen ≡ [] }
+    ensures told { O.coherent → IsNumbered O.script → (seen : List AnyEvent) (line : AnyLine)
+        (seat client number : ℕ) (answer : AnyAnswer) →
+        Contains O.script.lines line → line.client ≢ SERVICE_CLIENT →
+        AllFollow (Follows O.coherent O.opening O.bytes O.script) [] seen → (HasStarted seen line → ⊥) →
+        asks_of line.client line.number (seen ++ record { seat = seat; kind = Told client number answer } ∷ []) ≡ [] }
 {}
 
 /// A line that is under way is so in what is seen later.
@@ -105,6 +118,12 @@ pub fn what_is_told_is_due<O: Opened>()
         FromHereOn O.coherent O.opening O.bytes O.script seen (λ story.
         last_ask line.client line.number story ≡ last →
         HasIt O.opening O.bytes O.script story line command progress got →
+        EventFits O.opening O.bytes O.script story (Told line.client line.number answer)) }
+    ensures given { (seen : List AnyEvent) (line : AnyLine) (asked : ℕ) (command : AnyCommand)
+        (progress : AnyProgress) (answer : AnyAnswer) →
+        IsUnderWay O.coherent O.opening O.bytes O.script seen line asked command progress →
+        FromHereOn O.coherent O.opening O.bytes O.script seen (λ story.
+        IsDue O.opening O.bytes O.script story line answer →
         EventFits O.opening O.bytes O.script story (Told line.client line.number answer)) }
 {}
 

@@ -25,23 +25,11 @@ use Rattle.oz_telling.specs.Tells.{HadStopped, MayTell, told_event}
 use Rattle.oz_telling.specs.laws.Told.{told_now}
 use Rattle.oz_turn.specs.Told.{BeginsWith}
 use Rattle.oz_underway.specs.laws.Going.{told_more}
-use Rattle.oz_underway.specs.laws.Labels.{open_still}
+use Rattle.oz_underway.specs.laws.Labels.{open_as_told, open_still}
 use Rattle.oz_underway.specs.laws.Starting.{started_still}
-use Rattle.oz_at_work.specs.AtWork.{IsAtWork, IsLabelOf, IsNextFit, IsStarted, MayBeTold, WorkView, id_of, last_of}
+use Rattle.oz_at_work.specs.AtWork.{IsAtWork, IsLabelOf, IsStarted, MayBeTold, WorkView, id_of, last_of}
 use Rattle.oz_at_work.specs.inner.Replied.{IsOfEnd}
 use Rattle.oz_at_work.proofs.Staying.{begun_still}
-
--- what was told last decides whether a label is open
-told_last : (story : List Event) (seat : ℕ) (line : Line) (answer : Answer)
-    → is_open_at (story ++ told_event seat line.client line.number answer ∷ []) line ≡ was_told_ok (Some answer)
-told_last story seat line answer =
-    let its : (line.client == line.client && line.number == line.number) ≡ true =
-    and_from (line.client == line.client) (line.number == line.number) (eq-eqb line.client line.client refl) (eq-eqb line.number line.number refl) in
-    let parts : answers_to line.client line.number (story ++ told_event seat line.client line.number answer ∷ []) ≡ answers_to line.client line.number story ++ answer ∷ [] =
-    told_more (answer_to line.client line.number) story (told_event seat line.client line.number answer)
-    ∙ ap (λ (b : Bool). answers_to line.client line.number story ++ cons_option (cond b (Some answer) None) []) its in
-    ap (λ (told : List Answer). was_told_ok (last_in told)) parts
-    ∙ ap was_told_ok (fold_push (λ (before : Option Answer) (x : Answer). Some x) None (answers_to line.client line.number story) answer)
 
 -- nothing is left where the label isn't open
 pub label_none : (story : List Event) (line : Line) (command : Command) → is_open_at story line ≡ false → IsLabelOf story line command None
@@ -81,7 +69,7 @@ module _ (Coherent : Type 0) (opening : Opening) (bytes : OpeningBytes) (script 
   told_stays story before seat line answer coherent all begins =
       open_still Coherent opening bytes script line story (before ++ told_event seat line.client line.number answer ∷ []) coherent all begins
       (told_now before seat line.client line.number answer)
-      ∙ told_last before seat line answer
+      ∙ open_as_told before seat line answer
 
   end_fits : (seen : List Event) (line : Line) (asked : ℕ) (answer : Answer) → Coherent → IsStarted script seen line → IsOfEnd asked answer
       → MayBeTold Coherent opening bytes script seen line (last_of line asked) answer None
@@ -96,23 +84,17 @@ module _ (Coherent : Type 0) (opening : Opening) (bytes : OpeningBytes) (script 
         label_none story line line.command (told_stays story before seat line answer coherent all behind ∙ end_not_ok asked answer of_end);
   }
 
-  pub end_works : (seen : List Event) (work : WorkView) (answer : Answer) → Coherent → IsStarted script seen work.line → work.state.command ≡ work.line.command
-      → IsOfEnd work.asked answer → work.is_cut ≡ true → work.next ≡ steps.Tell answer → IsAtWork Coherent opening bytes script seen work
-  end_works seen work answer coherent begun does of_end cut is = record {
-    begun = begun;
-    does = does;
-    next = subst (IsNextFit Coherent opening bytes script seen work) (sym is)
-        (subst (λ (t : Bool). MayBeTold Coherent opening bytes script seen work.line (last_of work.line work.asked) answer (cond t None work.state.left)) (sym cut)
-        (end_fits seen work.line work.asked answer coherent begun of_end));
-  }
-
   -- whatever comes next, a line may be told such an answer
-  pub cut_works : (later seen : List Event) (work : WorkView) (asked : ℕ) (answer : Answer) → Coherent → BeginsWith later seen
+  cut_works : (later seen : List Event) (work : WorkView) (asked : ℕ) (answer : Answer) → Coherent → BeginsWith later seen
       → IsOfEnd asked answer → IsAtWork Coherent opening bytes script seen work
       → IsAtWork Coherent opening bytes script later (record work { asked = asked; next = steps.Tell answer; is_cut = true })
   cut_works later seen work asked answer coherent begins of_end at_work =
-      end_works later (record work { asked = asked; next = steps.Tell answer; is_cut = true }) answer coherent
-      (begun_still script later seen work.line begins at_work.begun) at_work.does of_end refl refl
+      let begun = begun_still script later seen work.line begins at_work.begun in
+      record {
+        begun = begun;
+        does = at_work.does;
+        next = end_fits later work.line asked answer coherent begun of_end;
+      }
 
   pub cut_so : (later seen : List Event) (work new : WorkView) (asked : ℕ) (answer : Answer) → Coherent → BeginsWith later seen → IsOfEnd asked answer
       → new ≡ record work { asked = asked; next = steps.Tell answer; is_cut = true }

@@ -28,12 +28,6 @@ begun_still script later seen line begins begun = record {
   started = started_still later seen line begins begun.started;
 }
 
--- a script's line is not the service job's
-pub of_client : (script : Script) (seen : List Event) (line : Line) → IsStarted script seen line → line.client ≢ SERVICE_CLIENT
-of_client script seen line begun is =
-    let known : line.client ≤ length script.clients = All-contains (λ (l : Line). l.client ≤ length script.clients) script.lines line begun.numbered.known begun.there in
-    omega (arith, known, begun.numbered.clients, is)
-
 module _ (Coherent : Type 0) (opening : Opening) (bytes : OpeningBytes) (script : Script) (later seen : List Event) (begins : BeginsWith later seen) where
   pub here_still : (Holds : List Event → Type 0) → FromHereOn Coherent opening bytes script seen Holds → FromHereOn Coherent opening bytes script later Holds
   here_still Holds from story goes all = from story (begins_through story later seen goes begins) all

@@ -41,15 +41,15 @@ use Rattle.oz_steps.specs.Requests.{command_by, put_by, request_by}
 use Rattle.oz_telling.specs.Tells.{MayTell, told_event}
 use Rattle.oz_turn.specs.Told.{BeginsWith}
 use Rattle.oz_underway.specs.UnderWay.{IsLast, IsUnderWay, times_asked}
-use Rattle.oz_underway.specs.laws.Asks.{none_last, step_of_last}
-use Rattle.oz_underway.specs.laws.Going.{begins_through, follow_before, none_more}
+use Rattle.oz_underway.specs.laws.Going.{begins_itself, begins_through, follow_before, none_more}
+use Rattle.oz_underway.specs.laws.Lasting.{last_of_times, times_of_last}
 use Rattle.oz_underway.specs.laws.Told.{asks_stop}
-use Rattle.oz_underway.specs.laws.UnderWay.{ask_fits, begins, pending_is_request, reply_comes, told_fits}
+use Rattle.oz_underway.specs.laws.UnderWay.{ask_fits, begins_started, pending_is_request, reply_comes, told_fits}
 use Rattle.oz_telling.specs.laws.Told.{told_now}
 use Rattle.oz_at_work.specs.AtWork.{HasRepliesAlone, IsAtWork, IsLabelOf, IsNextFit, IsStarted, MayAsk, MayBegin, MayBeTold, WorkView, id_of, last_of}
 use Rattle.oz_at_work.specs.inner.Replied.{IsAsking, WasReplied}
 use Rattle.oz_at_work.proofs.Cutting.{told_stays}
-use Rattle.oz_at_work.proofs.Staying.{begun_still, of_client}
+use Rattle.oz_at_work.proofs.Staying.{begun_still}
 
 -- ---- what came back
 
@@ -155,22 +155,9 @@ module _ (opening : Opening) (script : Script) (story : List Event) (line : Line
 
 -- ---- what comes next
 
-is_last : (line : Line) (asked : ℕ) → IsLast (last_of line asked) asked
-is_last line asked = by (asked == 0) refl
-  where
-    by : (t : Bool) → (asked == 0) ≡ t → IsLast (cond t None (Some (id_of line asked))) asked
-    by true is = eqb-true asked 0 is
-    by false is = refl
-
 module _ (Coherent : Type 0) (opening : Opening) (bytes : OpeningBytes) (script : Script) where
   abbrev Follow : List Event → Event → Type 0
   Follow = Follows Coherent opening bytes script
-
-  times_of : (line : Line) (story : List Event) → line.client ≢ SERVICE_CLIENT → Coherent → AllFollow Follow [] story → (last : Option AskId) (asked : ℕ)
-      → IsLast last asked → last_ask line.client line.number story ≡ last → times_asked story line ≡ asked
-  times_of line story other coherent all None asked none is = ap length (none_last (asks_of line.client line.number story) is) ∙ sym none
-  times_of line story other coherent all (Some id) asked step is =
-      sym (step_of_last Coherent opening bytes script line.client line.number other story coherent all id is) ∙ step
 
   module _ (seen : List Event) (line : Line) (asked : ℕ) (progress : Progress) (got : Got) (coherent : Coherent) (begun : IsStarted script seen line) (plain : IsPlain got)
       (way : IsUnderWay Coherent opening bytes script seen line asked line.command progress) where
@@ -184,7 +171,8 @@ module _ (Coherent : Type 0) (opening : Opening) (bytes : OpeningBytes) (script 
         let event : Event = told_event seat line.client line.number answer in
         let told_all = follow_before Follow story (before ++ event ∷ []) behind all in
         let before_all = follow_before Follow (before ++ event ∷ []) before (event ∷ [], refl) told_all in
-        let so : times_asked before line ≡ asked = times_of line before way.of_client coherent before_all (last_of line asked) asked (is_last line asked) may.asked in
+        let so : times_asked before line ≡ asked = times_of_last Coherent opening bytes script line.client line.number asked before way.of_client coherent before_all (last_of line asked)
+        (last_of_times line.client line.number asked) may.asked in
         let stop = asks_stop Coherent opening bytes script line.client line.number story (before ++ event ∷ []) way.of_client coherent all behind
         (told_now before seat line.client line.number answer) in
         let none = none_more (ask_id line.client line.number) before event (asks_of line.client line.number before) refl refl in
@@ -208,7 +196,7 @@ module _ (Coherent : Type 0) (opening : Opening) (bytes : OpeningBytes) (script 
     next_fits state (steps.Tell answer) same left alone next everywhere =
         subst (MayBeTold Coherent opening bytes script seen line (last_of line asked) answer) (sym left) (record {
           fits = λ story goes all may. told_fits Coherent opening bytes script seen line asked line.command progress got answer (last_of line asked) coherent way everywhere
-              (is_last line asked) story goes all may.asked (has_plain opening bytes script line line.command progress got plain story);
+              (last_of_times line.client line.number asked) story goes all may.asked (has_plain opening bytes script line line.command progress got plain story);
           leaves = step_leaves answer next (λ other. (alone other).no_code);
         })
     next_fits state step same left alone next everywhere = tt
@@ -216,13 +204,13 @@ module _ (Coherent : Type 0) (opening : Opening) (bytes : OpeningBytes) (script 
   -- ---- a line begins
 
   begin_works : (seen : List Event) (line : Line) (nodes : ℕ) (label : Option Label) (step : Step) → Coherent → MayBegin Coherent opening bytes script seen line label
-      → last_ask line.client line.number seen ≡ None
+      → AllFollow Follow [] seen
       → IsNext line.command (nothing_yet nodes label) gots.Start step → IsStepEverywhere line.command (nothing_yet nodes label) gots.Start step
       → IsAtWork Coherent opening bytes script seen
       (record { line = line; state = state_after (state_before line.command nodes label) gots.Start step; asked = 0; next = step; is_cut = false })
-  begin_works seen line nodes label step coherent may none next everywhere =
-      let way = begins Coherent opening bytes script seen line line.command nodes label coherent may.begun.there (of_client script seen line may.begun) may.begun.started refl
-      (none_last (asks_of line.client line.number seen) none) may.labelled in
+  begin_works seen line nodes label step coherent may all next everywhere =
+      let way = begins_started Coherent opening bytes script may.begun.numbered seen line line.command nodes label coherent may.begun.there all may.begun.started refl
+      (may.labelled seen (begins_itself seen) all) in
       record {
         begun = may.begun;
         does = refl;
@@ -232,16 +220,16 @@ module _ (Coherent : Type 0) (opening : Opening) (bytes : OpeningBytes) (script 
       }
 
   pub begin_so : (seen : List Event) (line : Line) (nodes : ℕ) (label : Option Label) (before after : LineState) (step : Step) → Coherent
-      → MayBegin Coherent opening bytes script seen line label → last_ask line.client line.number seen ≡ None
+      → MayBegin Coherent opening bytes script seen line label → AllFollow Follow [] seen
       → before ≡ state_before line.command nodes label → after ≡ state_after before gots.Start step
       → IsNext before.command after.progress gots.Start step → IsStepEverywhere before.command after.progress gots.Start step
       → IsAtWork Coherent opening bytes script seen (record { line = line; state = after; asked = 0; next = step; is_cut = false })
-  begin_so seen line nodes label before after step coherent may none is_before is_after next everywhere =
+  begin_so seen line nodes label before after step coherent may all is_before is_after next everywhere =
       let first : after ≡ state_after (state_before line.command nodes label) gots.Start step = is_after ∙ ap (λ (s : LineState). state_after s gots.Start step) is_before in
       let command : before.command ≡ line.command = ap (λ (s : LineState). s.command) is_before in
       let progress : after.progress ≡ nothing_yet nodes label = ap (λ (s : LineState). s.progress) first in
       subst (λ (s : LineState). IsAtWork Coherent opening bytes script seen (record { line = line; state = s; asked = 0; next = step; is_cut = false })) (sym first)
-      (begin_works seen line nodes label step coherent may none
+      (begin_works seen line nodes label step coherent may all
       (subst (λ (p : Progress). IsNext line.command p gots.Start step) progress (subst (λ (c : Command). IsNext c after.progress gots.Start step) command next))
       (subst (λ (p : Progress). IsStepEverywhere line.command p gots.Start step) progress
       (subst (λ (c : Command). IsStepEverywhere c after.progress gots.Start step) command everywhere)))

@@ -62,8 +62,8 @@ impl<'s> LineAtWork<'s> {
         }
     }
 
-    /// A copy of what it asks next, with its id. There is none where there is no memory, where the line has asked too often,
-    /// or where the manager doesn't decide such yet.
+    /// A copy of what it asks next, with its id. There is none where there is no memory, where the line has asked too
+    /// often, or where the manager doesn't decide such yet.
     fn next_ask(&self, alloc: Global) -> Option<(AskId, Request)>
         ensures id { IfSome result (λ asks. asks.0 ≡ id_of self.now.line (self.now.asked + 1)) }
         ensures script { IfSome result (λ asks. is_script asks.0 ≡ true) }

@@ -81,8 +81,8 @@ impl<'s> LineAtWork<'s> {
         }
     }
 
-    /// Waits until the manager's buffer has room for its Ask of this number, which stands undecided. Where the manager has
-    /// halted there never will be.
+    /// Waits until the manager's buffer has room for its Ask of this number, which stands undecided. Where the manager
+    /// has halted there never will be: then it is told next that there is no memory.
     fn wait_for_room<O: Opened, W: Wait>(
         &mut self,
         rt: &W,
@@ -100,7 +100,7 @@ impl<'s> LineAtWork<'s> {
         ensures works { O.coherent → IsAtWork O.coherent O.opening O.bytes O.script (seen_of seat.new) self.new }
         ensures unended { result ≢ Did.Ended }
     {
-        // (asked for a line of no Ask, the settlement says whether the manager has halted by now)
+        // Of no Ask the settlement says whether the manager has halted by now, and not when the line asked last.
         match settle_line(rt, turn, seat, by, self.line.client, self.line.number, None) {
             Settlement::Stopped { .. } | Settlement::Unacknowledged { .. } => {
                 self.cut(step, Answer::OutOfMemory);

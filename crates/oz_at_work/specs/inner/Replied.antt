@@ -1,4 +1,4 @@
--- For private calls: what is known of a line that was replied to, and of one that is told something else than its steps say.
+-- For private calls: a line that was replied to, and one that is told something else than its steps say.
 use Rattle.std.specs.Prelude.{◌≢◌, ℕ, ◌+◌, List, []}
 use Rattle.oz_asker.specs.Decided.{IsDecideAt}
 use Rattle.oz_buffer.specs.Buffer.{AllFollow, Follows}

@@ -46,7 +46,7 @@ use Rattle.oz_underway.specs.laws.Lasting.{last_of_times, times_of_last}
 use Rattle.oz_underway.specs.laws.Told.{asks_stop}
 use Rattle.oz_underway.specs.laws.UnderWay.{ask_fits, begins_started, pending_is_request, reply_comes, told_fits}
 use Rattle.oz_telling.specs.laws.Told.{told_now}
-use Rattle.oz_at_work.specs.AtWork.{HasRepliesAlone, IsAtWork, IsLabelOf, IsNextFit, IsStarted, MayAsk, MayBegin, MayBeTold, WorkView, id_of, last_of}
+use Rattle.oz_at_work.specs.AtWork.{HasRepliesAlone, IsAtWork, IsLabelOf, IsNextFit, IsStarted, IsNextAsk, MayBegin, MayBeTold, WorkView, id_of, last_of}
 use Rattle.oz_at_work.specs.inner.Replied.{IsAsking, WasReplied}
 use Rattle.oz_at_work.proofs.Cutting.{told_stays}
 use Rattle.oz_at_work.proofs.Staying.{begun_still}
@@ -185,7 +185,7 @@ module _ (Coherent : Type 0) (opening : Opening) (bytes : OpeningBytes) (script 
         → (IsNoCode step → HasRepliesAlone progress) → IsNext line.command progress got step → IsStepEverywhere line.command progress got step
         → IsNextFit Coherent opening bytes script seen (record { line = line; state = state; asked = asked; next = step; is_cut = false }) step
     next_fits state (steps.Ask request) same left alone next everywhere =
-        subst (λ (p : Progress). MayAsk Coherent opening bytes script seen line asked request p) (sym same) (record {
+        subst (λ (p : Progress). IsNextAsk Coherent opening bytes script seen line asked request p) (sym same) (record {
           under_way = way;
           alone = alone tt;
           fits = λ story goes all seat enabled. ask_fits Coherent opening bytes script seen line asked line.command progress got request coherent way everywhere
@@ -237,7 +237,7 @@ module _ (Coherent : Type 0) (opening : Opening) (bytes : OpeningBytes) (script 
   -- ---- a reply comes
 
   asked_so : (seen : List Event) (work : WorkView) (step : Step) → IsAsking step → IsNextFit Coherent opening bytes script seen work step
-      → (request : Request) × MayAsk Coherent opening bytes script seen work.line work.asked request work.state.progress
+      → (request : Request) × IsNextAsk Coherent opening bytes script seen work.line work.asked request work.state.progress
   asked_so seen work (steps.Ask request) asks fit = (request, fit)
   asked_so seen work step asks fit = absurd asks
 

@@ -76,7 +76,7 @@ module _ (Coherent : Type 0) (opening : Opening) (bytes : OpeningBytes) (script 
     pub labelled : LabelStays Coherent opening bytes script seen line line.command label
 
   -- From here on the request is the line's next wherever the law lets it ask, and nothing else is asked by its id.
-  pub record MayAsk (line : Line) (asked : ℕ) (request : Request) (progress : Progress) : Type 0 where
+  pub record IsNextAsk (line : Line) (asked : ℕ) (request : Request) (progress : Progress) : Type 0 where
     pub under_way : IsUnderWay Coherent opening bytes script seen line asked line.command progress
     pub alone : HasRepliesAlone progress
     pub fits : FromHereOn Coherent opening bytes script seen (λ story. (seat : ℕ)
@@ -95,9 +95,9 @@ module _ (Coherent : Type 0) (opening : Opening) (bytes : OpeningBytes) (script 
         → BeginsWith story (before ++ told_event seat line.client line.number answer ∷ [])
         → IsLabelOf story line line.command left)
 
-  -- what comes next may come
+  -- What comes next may come, if it asks or ends the line. Of other steps nothing is said.
   abbrev pub IsNextFit : WorkView → Step → Type 0
-  IsNextFit work (steps.Ask request) = MayAsk work.line work.asked request work.state.progress
+  IsNextFit work (steps.Ask request) = IsNextAsk work.line work.asked request work.state.progress
   IsNextFit work (steps.Tell answer) = MayBeTold work.line (last_of work.line work.asked) answer (left_of work)
   IsNextFit work step = Unit {0}
 

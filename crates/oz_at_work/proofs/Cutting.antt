@@ -1,5 +1,5 @@
 -- A line that is told something else than its steps say.
-use Rattle.std.proofs.Common.{◌≡◌, ◌≢◌, ℕ, true, false, List, [], ◌∷◌, ◌++◌, Option, None, Some, refl, sym, ap, ◌∙◌, subst, eq-eqb, cond, ◌&&◌, ◌==◌, Bool, is_some}
+use Rattle.std.proofs.Common.{◌≡◌, ◌≢◌, inr, ℕ, true, false, List, [], ◌∷◌, ◌++◌, Option, None, Some, refl, sym, ap, ◌∙◌, subst, eq-eqb, cond, ◌&&◌, ◌==◌, Bool, is_some}
 use Rattle.std.proofs.lemmas.Bool.{and_from, eqb-true, false≢true}
 use Rattle.std.proofs.lemmas.List.Sums.{fold_push}
 use Rattle.std.specs.List.{cons_option}
@@ -27,7 +27,7 @@ use Rattle.oz_turn.specs.Told.{BeginsWith}
 use Rattle.oz_underway.specs.laws.Going.{told_more}
 use Rattle.oz_underway.specs.laws.Labels.{open_as_told, open_still}
 use Rattle.oz_underway.specs.laws.Starting.{started_still}
-use Rattle.oz_at_work.specs.AtWork.{IsAtWork, IsLabelOf, IsStarted, MayBeTold, WorkView, id_of, last_of}
+use Rattle.oz_at_work.specs.AtWork.{HasGoneOn, IsAtWork, IsLabelOf, IsStarted, IsTelling, MayBeTold, WorkView, id_of, last_of}
 use Rattle.oz_at_work.specs.inner.Replied.{IsOfEnd}
 use Rattle.oz_at_work.proofs.Staying.{begun_still}
 
@@ -35,6 +35,10 @@ use Rattle.oz_at_work.proofs.Staying.{begun_still}
 pub label_none : (story : List Event) (line : Line) (command : Command) → is_open_at story line ≡ false → IsLabelOf story line command None
 label_none story line (commands.KeyOpen name volume bucket key payload) shut = shut
 label_none story line command shut = tt
+
+-- who is cut has gone on
+pub cut_goes_on : (work new : WorkView) (asked : ℕ) (answer : Answer) → new ≡ record work { asked = asked; next = steps.Tell answer; is_cut = true } → HasGoneOn work new
+cut_goes_on work new asked answer is = inr (subst (λ (w : WorkView). IsTelling w.next) (sym is) tt)
 
 end_not_ok : (asked : ℕ) (answer : Answer) → IsOfEnd asked answer → was_told_ok (Some answer) ≡ false
 end_not_ok asked (answers.Ok values) of_end = absurd of_end

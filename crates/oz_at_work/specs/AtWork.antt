@@ -1,6 +1,6 @@
 -- A line that a worker works for, what it may do next, and what it leaves.
-use Rattle.std.specs.Prelude.{◌≡◌, ℕ, ◌+◌, ◌==◌, Bool, true, false, List, [], ◌∷◌, ◌++◌, None, Option, Some, Contains}
-use Rattle.std.specs.Prelude.{if◌then◌else◌}
+use Rattle.std.specs.Prelude.{◌≡◌, ◌⊎◌, ℕ, ◌+◌, ◌==◌, Bool, true, false, List, [], ◌∷◌, ◌++◌, None, Option, Some}
+use Rattle.std.specs.Prelude.{if◌then◌else◌, Contains}
 use Rattle.std.specs.List.{list_any}
 use Rattle.oz_client.specs.declared.progress.Progress.{Progress}
 use Rattle.oz_client.specs.declared.step.Step.{Step}
@@ -48,6 +48,15 @@ last_of line asked = if asked == 0 then None else Some (id_of line asked)
 -- what a line leaves in the label that it opens: what its steps say, where it is told what they say
 abbrev pub left_of : WorkView → Option Label
 left_of work = if work.is_cut then None else work.state.left
+
+-- the step ends the line
+abbrev pub IsTelling : Step → Type 0
+IsTelling (steps.Tell answer) = Unit {0}
+IsTelling _ = ⊥
+
+-- it has asked once more, or is told something next
+abbrev pub HasGoneOn : WorkView → WorkView → Type 0
+HasGoneOn before after = (after.asked ≡ before.asked + 1) ⊎ IsTelling after.next
 
 -- The label that a line opened stands for this; for nothing where the line was told something else than OK.
 abbrev pub IsLabelOf : List Event → Line → Command → Option Label → Type 0

@@ -1,7 +1,7 @@
 //! How a line asks the manager.
 
 ghost use Rattle.std.specs.Prelude.{◌≡◌, ◌≢◌, ◌<◌, ◌≤◌, ◌+◌, ℕ, true, false, IfSome, List, None};
-ghost use Rattle.oz_at_work.specs.AtWork.{IsAtWork, id_of};
+ghost use Rattle.oz_at_work.specs.AtWork.{HasGoneOn, IsAtWork, id_of};
 ghost use Rattle.oz_at_work.specs.inner.Replied.{IsAsking, WasReplied};
 ghost use Rattle.oz_client.specs.declared.step.Step.TheVariants as steps;
 ghost use Rattle.oz_core.specs.declared.event.Event.{Event as AnyEvent};
@@ -47,6 +47,7 @@ impl<'s> LineAtWork<'s> {
         ensures goes_on { BeginsWith (seen_of seat.new) (seen_of seat.old) }
         ensures line { self.new.line ≡ self.old.line }
         ensures works { O.coherent → IsAtWork O.coherent O.opening O.bytes O.script (seen_of seat.new) self.new }
+        ensures went_on { result ≡ Did.WentOn → HasGoneOn self.old self.new }
         ensures unended { result ≢ Did.Ended }
     {
         let Some((id, request)) = self.next_ask(alloc) else {
@@ -88,6 +89,7 @@ impl<'s> LineAtWork<'s> {
         requires step { step ≡ self.old.asked + 1 }
         requires asks { IsAsking self.old.next }
         ensures line { self.new.line ≡ self.old.line }
+        ensures went_on { HasGoneOn self.old self.new }
         ensures works { O.coherent → (before later : List AnyEvent) →
             IsAtWork O.coherent O.opening O.bytes O.script before self.old →
             WasReplied O.coherent O.opening O.bytes O.script later before self.old reply →

@@ -1,8 +1,7 @@
 //! How a line goes on, and is told its answer.
 
 ghost use Rattle.std.specs.Prelude.{◌≡◌, ◌≢◌, ◌<◌};
-ghost use Rattle.oz_at_work.specs.AtWork.{HasLeft, IsAtWork, left_of};
-ghost use Rattle.oz_at_work.specs.inner.Replied.{IsTelling};
+ghost use Rattle.oz_at_work.specs.AtWork.{HasGoneOn, HasLeft, IsAtWork, IsTelling, left_of};
 ghost use Rattle.oz_core.specs.Seats.{IsLineSeat};
 ghost use Rattle.oz_turn.specs.Seat.{IsReady, room_of, seen_of};
 ghost use Rattle.oz_turn.specs.Told.{BeginsWith};
@@ -42,6 +41,7 @@ impl<'s> LineAtWork<'s> {
         ensures goes_on { BeginsWith (seen_of seat.new) (seen_of seat.old) }
         ensures line { self.new.line ≡ self.old.line }
         ensures works { O.coherent → IsAtWork O.coherent O.opening O.bytes O.script (seen_of seat.new) self.new }
+        ensures went_on { result ≡ Did.WentOn → HasGoneOn self.old self.new }
         ensures ended { result ≡ Did.Ended → O.coherent →
             HasLeft O.coherent O.opening O.bytes O.script (seen_of seat.new) self.new.line (left_of self.new) }
     {
@@ -74,6 +74,7 @@ impl<'s> LineAtWork<'s> {
         ensures goes_on { BeginsWith (seen_of seat.new) (seen_of seat.old) }
         ensures line { self.new.line ≡ self.old.line }
         ensures works { O.coherent → IsAtWork O.coherent O.opening O.bytes O.script (seen_of seat.new) self.new }
+        ensures went_on { result ≡ Did.WentOn → HasGoneOn self.old self.new }
         ensures ended { result ≡ Did.Ended → O.coherent →
             HasLeft O.coherent O.opening O.bytes O.script (seen_of seat.new) self.new.line (left_of self.new) }
     {
@@ -108,6 +109,7 @@ impl<'s> LineAtWork<'s> {
         ensures goes_on { BeginsWith (seen_of seat.new) (seen_of seat.old) }
         ensures line { self.new.line ≡ self.old.line }
         ensures works { O.coherent → IsAtWork O.coherent O.opening O.bytes O.script (seen_of seat.new) self.new }
+        ensures went_on { result ≡ Did.WentOn → HasGoneOn self.old self.new }
         ensures unended { result ≢ Did.Ended }
     {
         match (cause, self.asked.checked_add(1)) {

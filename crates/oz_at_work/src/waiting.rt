@@ -1,7 +1,7 @@
 //! How a line waits, and why it stops waiting.
 
 ghost use Rattle.std.specs.Prelude.{◌≡◌, ◌≢◌, ◌≤◌};
-ghost use Rattle.oz_at_work.specs.AtWork.{IsAtWork};
+ghost use Rattle.oz_at_work.specs.AtWork.{HasGoneOn, IsAtWork};
 ghost use Rattle.oz_turn.specs.Seat.{IsReady, room_of, seen_of};
 ghost use Rattle.oz_turn.specs.Told.{BeginsWith};
 ghost use Rattle.oz_turn.specs.Turn.{turn_id};
@@ -34,6 +34,7 @@ impl<'s> LineAtWork<'s> {
         ensures goes_on { BeginsWith (seen_of seat.new) (seen_of seat.old) }
         ensures line { self.new.line ≡ self.old.line }
         ensures works { O.coherent → IsAtWork O.coherent O.opening O.bytes O.script (seen_of seat.new) self.new }
+        ensures went_on { result ≡ Did.WentOn → HasGoneOn self.old self.new }
         ensures unended { result ≢ Did.Ended }
     {
         match refusal {
@@ -69,6 +70,7 @@ impl<'s> LineAtWork<'s> {
         ensures goes_on { BeginsWith (seen_of seat.new) (seen_of seat.old) }
         ensures line { self.new.line ≡ self.old.line }
         ensures works { O.coherent → IsAtWork O.coherent O.opening O.bytes O.script (seen_of seat.new) self.new }
+        ensures went_on { result ≡ Did.WentOn → HasGoneOn self.old self.new }
         ensures unended { result ≢ Did.Ended }
     {
         let (client, line, last) = (self.line.client, self.line.number, self.last());
@@ -98,6 +100,7 @@ impl<'s> LineAtWork<'s> {
         ensures goes_on { BeginsWith (seen_of seat.new) (seen_of seat.old) }
         ensures line { self.new.line ≡ self.old.line }
         ensures works { O.coherent → IsAtWork O.coherent O.opening O.bytes O.script (seen_of seat.new) self.new }
+        ensures went_on { result ≡ Did.WentOn → HasGoneOn self.old self.new }
         ensures unended { result ≢ Did.Ended }
     {
         // Of no Ask the settlement says whether the manager has halted by now, and not when the line asked last.

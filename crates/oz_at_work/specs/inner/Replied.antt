@@ -22,14 +22,10 @@ pub record WasReplied (Coherent : Type 0) (opening : Opening) (bytes : OpeningBy
   pub place : ℕ
   pub decided : IsDecideAt later place (id_of work.line (work.asked + 1)) reply
 
--- the step is an ask; it ends the line
+-- the step is an ask
 abbrev pub IsAsking : Step → Type 0
 IsAsking (steps.Ask request) = Unit {0}
 IsAsking _ = ⊥
-
-abbrev pub IsTelling : Step → Type 0
-IsTelling (steps.Tell answer) = Unit {0}
-IsTelling _ = ⊥
 
 -- An answer that needs nothing of a line but how often it has asked.
 abbrev pub IsOfEnd : ℕ → Answer → Type 0

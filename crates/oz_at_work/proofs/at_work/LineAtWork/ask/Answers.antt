@@ -5,7 +5,7 @@ use Rattle.oz_requests.specs.declared.request.AskId.{AskId}
 use Rattle.oz_turn.specs.Seat.{seen_of}
 use Rattle.oz_underway.specs.laws.Going.{begins_itself}
 use Rattle.oz_at_work.specs.inner.Replied.{WasReplied}
-use Rattle.oz_at_work.proofs.Cutting.{cut_so}
+use Rattle.oz_at_work.proofs.Cutting.{cut_goes_on, cut_so}
 use Rattle.oz_at_work.proofs.Staying.{work_still}
 use Rattle.oz_at_work.proofs.at_work.LineAtWork.ask.Goals as goal
 
@@ -34,3 +34,6 @@ returns-in-Ok-clause-works g c coherent =
       decided = subst (λ (i : AskId). IsDecideAt later so.place i c.in-Ok.reply) c.in-Some.ensures.id (_, so.index, so.batch, so.there);
     } in
     c.reply.ensures.works coherent before later (c.requires.works coherent) was
+
+pub returns-in_default-clause-went_on : goal.returns-in_default-clause-went_on
+returns-in_default-clause-went_on g c went = cut_goes_on c.args.self.now c.cut-in_default.new.self _ _ c.cut-in_default.ensures

@@ -8,7 +8,7 @@ use Rattle.oz_client.specs.Stories.{IsStepEverywhere}
 use Rattle.oz_requests.specs.declared.answer.Answer.TheVariants as answers
 use Rattle.oz_at_work.specs.AtWork.{IsAtWork, WorkView}
 use Rattle.oz_at_work.specs.inner.Replied.{IsAsking, WasReplied}
-use Rattle.oz_at_work.proofs.Cutting.{cut_so}
+use Rattle.oz_at_work.proofs.Cutting.{cut_goes_on, cut_so}
 use Rattle.oz_at_work.proofs.Stepping.{reply_works}
 use Rattle.oz_at_work.proofs.at_work.LineAtWork.reply.Goals as goal
 
@@ -50,3 +50,6 @@ returns-in-Err-clause-works g c coherent before later at_work was =
     ∙ ap (λ (s : LineState). record work { state = s; asked = c.args.step; next = steps.Tell answers.OutOfMemory; is_cut = true }) c.in-Err.ensures.err in
     cut_so O.coherent O.opening O.bytes O.script later before work c.cut-in-Err.new.self c.args.step answers.OutOfMemory coherent was.goes_on tt cut
     (subst (IsAtWork O.coherent O.opening O.bytes O.script before) (sym is) at_work)
+
+pub returns-then-grants-clause-went_on : goal.returns-then-grants-clause-went_on
+returns-then-grants-clause-went_on g c = cut_goes_on c.args.self.now c.cut.new.self _ _ c.cut.ensures

@@ -1,7 +1,7 @@
 use Rattle.std.proofs.Common.{refl}
 use Rattle.oz_requests.specs.declared.answer.Answer.TheVariants as answers
 use Rattle.oz_turn.specs.Seat.{seen_of}
-use Rattle.oz_at_work.proofs.Cutting.{cut_so}
+use Rattle.oz_at_work.proofs.Cutting.{cut_goes_on, cut_so}
 use Rattle.oz_at_work.proofs.Staying.{work_still}
 use Rattle.oz_at_work.proofs.at_work.LineAtWork.wait.Goals as goal
 
@@ -21,5 +21,9 @@ returns-in-Stable g c =
       line = refl;
       works = λ coherent. work_still O.coherent O.opening O.bytes O.script (seen_of c.settle_line.new.seat) (seen_of c.args.seat.now)
           c.settle_line.ensures.goes_on c.args.self.now (c.requires.works coherent);
+      went_on = λ wrong. absurd cc;
       unended = λ wrong. cc;
     }
+
+pub returns-in-Unacknowledged-clause-went_on : goal.returns-in-Unacknowledged-clause-went_on
+returns-in-Unacknowledged-clause-went_on g c went = cut_goes_on c.args.self.now c.cut-in-Unacknowledged.new.self _ _ c.cut-in-Unacknowledged.ensures

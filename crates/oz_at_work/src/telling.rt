@@ -92,8 +92,8 @@ impl<'s> LineAtWork<'s> {
         }
     }
 
-    /// What keeps the line from being told: what isn't stable is waited for, and where it asked once more than is known,
-    /// as it may where memory ran out, it is told that there is none.
+    /// What keeps the line from being told: what isn't stable is waited for, and where it asked once more than is
+    /// known, as it may where memory ran out, it is told that there is none.
     fn put_off<O: Opened, W: Wait>(
         &mut self,
         rt: &W,

@@ -1,8 +1,6 @@
 -- A line that is told something else than its steps say.
-use Rattle.std.proofs.Common.{◌≡◌, ◌≢◌, inr, ℕ, true, false, List, [], ◌∷◌, ◌++◌, Option, None, Some, refl, sym, ap, ◌∙◌, subst, eq-eqb, cond, ◌&&◌, ◌==◌, Bool, is_some}
-use Rattle.std.proofs.lemmas.Bool.{and_from, eqb-true, false≢true}
-use Rattle.std.proofs.lemmas.List.Sums.{fold_push}
-use Rattle.std.specs.List.{cons_option}
+use Rattle.std.proofs.Common.{◌≡◌, ◌≢◌, inr, ℕ, true, false, List, [], ◌∷◌, ◌++◌, None, Some, refl, sym, ap, ◌∙◌, subst, cond, ◌==◌, Bool, is_some}
+use Rattle.std.proofs.lemmas.Bool.{eqb-true, false≢true}
 use Rattle.oz_asker.specs.laws.Halts.{late_means_halted}
 use Rattle.oz_buffer.specs.Buffer.{AllFollow, Follows}
 use Rattle.oz_client.specs.declared.step.Step.TheVariants as steps
@@ -11,12 +9,11 @@ use Rattle.oz_command.specs.declared.command.Command.{Command}
 use Rattle.oz_command.specs.declared.command.Command.TheVariants as commands
 use Rattle.oz_core.specs.declared.event.Event.{Event}
 use Rattle.oz_core.specs.declared.opening.Opening.{Opening}
-use Rattle.oz_core.specs.Asks.{answer_to, answers_to, last_ask}
+use Rattle.oz_core.specs.Asks.{last_ask}
 use Rattle.oz_core.specs.Contents.{OpeningBytes}
 use Rattle.oz_core.specs.Due.{IsDue, ManagerHadStopped}
 use Rattle.oz_core.specs.Manager.{asked_late}
 use Rattle.oz_core.specs.Steps.{is_open_at, was_told_ok}
-use Rattle.oz_core.specs.Stories.{last_in}
 use Rattle.oz_lines.specs.declared.script.Line.{Line}
 use Rattle.oz_lines.specs.declared.script.Script.{Script}
 use Rattle.oz_requests.specs.declared.answer.Answer.{Answer}
@@ -24,7 +21,6 @@ use Rattle.oz_requests.specs.declared.answer.Answer.TheVariants as answers
 use Rattle.oz_telling.specs.Tells.{HadStopped, MayTell, told_event}
 use Rattle.oz_telling.specs.laws.Told.{told_now}
 use Rattle.oz_turn.specs.Told.{BeginsWith}
-use Rattle.oz_underway.specs.laws.Going.{told_more}
 use Rattle.oz_underway.specs.laws.Labels.{open_as_told, open_still}
 use Rattle.oz_underway.specs.laws.Starting.{started_still}
 use Rattle.oz_at_work.specs.AtWork.{HasGoneOn, IsAtWork, IsLabelOf, IsStarted, IsTelling, MayBeTold, WorkView, id_of, last_of}

@@ -1,7 +1,6 @@
 -- What comes next by the steps of a line may come.
-use Rattle.std.proofs.Common.{◌≡◌, ◌≢◌, ℕ, ◌+◌, Bool, true, false, ◌||◌, ◌==◌, cond, List, [], ◌∷◌, ◌++◌, length, Option, None, Some, refl, sym, ap, ◌∙◌, subst}
+use Rattle.std.proofs.Common.{◌≡◌, ℕ, ◌+◌, Bool, true, false, ◌||◌, cond, List, [], ◌∷◌, ◌++◌, length, Option, None, Some, refl, sym, ap, ◌∙◌, subst}
 use Rattle.std.proofs.lemmas.List.Folds.{list_any-append}
-use Rattle.std.proofs.lemmas.Bool.{eqb-true}
 use Rattle.std.proofs.lemmas.Option.{none-some}
 use Rattle.std.specs.List.{list_any, list_all}
 use Rattle.oz_buffer.specs.Buffer.{AllFollow, Follows}
@@ -16,9 +15,8 @@ use Rattle.oz_client.specs.Stories.{HasIt, IsLeftEverywhere, IsStepEverywhere}
 use Rattle.oz_command.specs.declared.command.Command.{Command}
 use Rattle.oz_command.specs.declared.command.Command.TheVariants as commands
 use Rattle.oz_core.specs.declared.event.Event.{Event}
-use Rattle.oz_core.specs.declared.limits.TheConstants.{SERVICE_CLIENT}
 use Rattle.oz_core.specs.declared.opening.Opening.{Opening}
-use Rattle.oz_core.specs.Asks.{ask_id, asks_of, last_ask, replies_to}
+use Rattle.oz_core.specs.Asks.{ask_id, asks_of, replies_to}
 use Rattle.oz_core.specs.Contents.{OpeningBytes, written_for}
 use Rattle.oz_core.specs.Steps.{Target, commit_if, commit_step, is_code, is_open_at, pieces_from, session_in, target, target_of, was_told_ok}
 use Rattle.oz_fields.specs.declared.block.Piece.{Piece}
@@ -27,7 +25,6 @@ use Rattle.oz_lines.specs.declared.script.Script.{Script}
 use Rattle.oz_requests.specs.declared.answer.Answer.{Answer}
 use Rattle.oz_requests.specs.declared.answer.Answer.TheVariants as answers
 use Rattle.oz_requests.specs.declared.answer.Values.{Values}
-use Rattle.oz_requests.specs.declared.request.AskId.{AskId}
 use Rattle.oz_requests.specs.declared.request.Request.{Request}
 use Rattle.oz_requests.specs.declared.request.Request.TheVariants as requests
 use Rattle.oz_requests.specs.declared.reply.Reply.{Reply}
@@ -40,13 +37,13 @@ use Rattle.oz_steps.specs.Lines.{IsOf, commit_of_label}
 use Rattle.oz_steps.specs.Requests.{command_by, put_by, request_by}
 use Rattle.oz_telling.specs.Tells.{MayTell, told_event}
 use Rattle.oz_turn.specs.Told.{BeginsWith}
-use Rattle.oz_underway.specs.UnderWay.{IsLast, IsUnderWay, times_asked}
+use Rattle.oz_underway.specs.UnderWay.{IsUnderWay, times_asked}
 use Rattle.oz_underway.specs.laws.Going.{begins_itself, begins_through, follow_before, none_more}
 use Rattle.oz_underway.specs.laws.Lasting.{last_of_times, times_of_last}
 use Rattle.oz_underway.specs.laws.Told.{asks_stop}
 use Rattle.oz_underway.specs.laws.UnderWay.{ask_fits, begins_started, pending_is_request, reply_comes, told_fits}
 use Rattle.oz_telling.specs.laws.Told.{told_now}
-use Rattle.oz_at_work.specs.AtWork.{HasRepliesAlone, IsAtWork, IsLabelOf, IsNextFit, IsStarted, IsNextAsk, MayBegin, MayBeTold, WorkView, id_of, last_of}
+use Rattle.oz_at_work.specs.AtWork.{HasRepliesAlone, IsAtWork, IsLabelOf, IsNextFit, IsStarted, IsNextAsk, MayBegin, MayBeTold, WorkView, last_of}
 use Rattle.oz_at_work.specs.inner.Replied.{IsAsking, WasReplied}
 use Rattle.oz_at_work.proofs.Cutting.{told_stays}
 use Rattle.oz_at_work.proofs.Staying.{begun_still}

@@ -2,3 +2,4 @@
 pub mod Sound
 pub mod Stand
 pub mod Apart
+pub mod Longer

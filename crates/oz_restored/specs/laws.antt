@@ -3,3 +3,4 @@ pub mod Sound
 pub mod Stand
 pub mod Apart
 pub mod Longer
+pub mod Union

@@ -4,3 +4,4 @@ pub mod Stand
 pub mod Apart
 pub mod Longer
 pub mod Union
+pub mod Whole

@@ -1,3 +1,4 @@
 pub mod Keeps
 pub mod Together
+pub mod Opens
 pub mod laws

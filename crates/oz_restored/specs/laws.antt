@@ -5,3 +5,4 @@ pub mod Apart
 pub mod Longer
 pub mod Union
 pub mod Whole
+pub mod Leads

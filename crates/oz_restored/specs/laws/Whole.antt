@@ -197,10 +197,12 @@ module _ (opening : Opening) (loaded : Rows) where
   last_place before rows (event ∷ story) last stood =
       subst (λ (l : List Event). StandTogether opening loaded l last) (moved_over before story event) (last_place (before ++ event ∷ []) stood.1.0 story last stood.1.2)
 
+  -- and the two parts of a story
   pub front_stood : (front before : List Event) (rows : Rows) (more : List Event) (last : Rows) → AllStoodFrom opening loaded before rows (front ++ more) last
-      → (middle : Rows) × AllStoodFrom opening loaded before rows front middle
+      → (middle : Rows) × AllStoodFrom opening loaded before rows front middle × AllStoodFrom opening loaded (before ++ front) middle more last
   unfolding AllStoodFrom
-  front_stood [] before rows more last stood = (rows, (first_place before rows more last stood, refl))
+  front_stood [] before rows more last stood =
+      (rows, (first_place before rows more last stood, refl), subst (λ (l : List Event). AllStoodFrom opening loaded l rows more last) (sym (append-nil before)) stood)
   front_stood (event ∷ front) before rows more last stood =
       let rest = front_stood front (before ++ event ∷ []) stood.1.0 more last stood.1.2 in
-      (rest.0, (stood.0, (stood.1.0, stood.1.1, rest.1)))
+      (rest.0, (stood.0, (stood.1.0, stood.1.1, rest.1)), subst (λ (l : List Event). AllStoodFrom opening loaded l rest.0 more last) (moved_over before front event) rest.2)

@@ -6,3 +6,4 @@ pub mod Longer
 pub mod Union
 pub mod Whole
 pub mod Leads
+pub mod Bodies

@@ -7,3 +7,4 @@ pub mod Union
 pub mod Whole
 pub mod Leads
 pub mod Bodies
+pub mod Images

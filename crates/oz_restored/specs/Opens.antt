@@ -1,5 +1,5 @@
 -- What the bodies that a story took stand for, and what is decided behind them.
-use Rattle.std.specs.Prelude.{◌≡◌, ℕ, ◌≤◌, List, [], ◌++◌, Option, None, Contains}
+use Rattle.std.specs.Prelude.{◌≡◌, ℕ, ◌≤◌, List, [], ◌++◌, None, Contains}
 use Rattle.std.specs.List.{AllByRecursion}
 use Rattle.oz_buffer.specs.Buffer.{buffer_of}
 use Rattle.oz_core.specs.declared.event.Event.{Event}
@@ -35,12 +35,14 @@ pub record StandUpTo (opening : Opening) (story : List Event) (bodies : List (Li
   pub builds : Builds bodies all most
   pub stand : Stand IsSoundButRenames (row_of all) (kept_up_to opening most story)
 
--- Bytes that a stop at a moment leaves are such a journal. No Decide has a greater index, and nothing that was stable by
--- then has.
+-- Bytes that a stop at a moment leaves are such a journal. Its index is neither below that of the opening nor below any
+-- that was stable by then, and none of a Decide is above the last.
 pub record OpensUpTo (opening : Opening) (story : List Event) (moment : ℕ) (left : List ℕ) : Type 0 where
   pub bodies : List (List ℕ)
   pub journal : IsJournal left bodies
   pub most : ℕ
   pub stand : StandUpTo opening story bodies most
+  pub opened : opening.last_index ≤ most
+  pub stable : (seat index at : ℕ) → Contains story (record { seat = seat; kind = Flushed index at })
+      → at ≤ moment → index ≤ most
   pub decided : most ≤ last_index opening story
-  pub stable : (seat index at : ℕ) → Contains story (record { seat = seat; kind = Flushed index at }) → at ≤ moment → index ≤ most

@@ -8,3 +8,4 @@ pub mod Whole
 pub mod Leads
 pub mod Bodies
 pub mod Images
+pub mod Stable

@@ -3,4 +3,6 @@
 
 mod laws;
 
-pub use laws::stripes_stand_together;
+pub use laws::{
+    a_prefix_builds, a_stop_leaves_a_prefix, decided_batches_lead_on, stripes_stand_together,
+};

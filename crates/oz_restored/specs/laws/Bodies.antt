@@ -1,7 +1,7 @@
 -- The bodies that a story took so far make the rows behind its last Swap.
-use Rattle.std.proofs.Common.{◌≡◌, ℕ, ◌<◌, ◌≤◌, List, [], ◌∷◌, ◌++◌, Option, None, Some, append-nil, append_assoc, arith, refl, sym, ◌∙◌, ap, subst}
+use Rattle.std.proofs.Common.{◌≡◌, ℕ, ◌<◌, ◌≤◌, List, [], ◌∷◌, ◌++◌, None, append-nil, append_assoc, arith, refl, sym, ◌∙◌, ap, subst}
 use Rattle.oz_batches.specs.Body.{body_bytes}
-use Rattle.oz_buffer.specs.Buffer.{buffer_after, buffer_of}
+use Rattle.oz_buffer.specs.Buffer.{buffer_of}
 use Rattle.oz_buffer.specs.laws.Following.{buffer-push, told-push, untold-push}
 use Rattle.oz_core.specs.declared.event.Event.{Event}
 use Rattle.oz_core.specs.declared.event.EventKind.{EventKind}
@@ -90,7 +90,7 @@ module _ (opening : Opening) (loaded : Rows) (bodies : List (List ℕ)) where
   quiet_next : (before : List Event) (event : Event) (now next : Rows) → taken_index event.kind ≡ None → Makes now event.kind next → Built before now → Built (before ++ event ∷ []) next
   quiet_next before event now next none makes built =
       let no_body : bodies_of (before ++ event ∷ []) ≡ bodies_of before =
-          bodies_next before event ∙ ap (λ (l : List (List ℕ)). bodies_of before ++ l) (none_taken before event.kind none) ∙ append-nil (bodies_of before) in
+      bodies_next before event ∙ ap (λ (l : List (List ℕ)). bodies_of before ++ l) (none_taken before event.kind none) ∙ append-nil (bodies_of before) in
       record {
         taken = built.taken;
         leads = subst (λ (buffer : List ℕ). LeadsOn built.taken buffer next) (sym (buffer-push before event)) (one_more built.taken (buffer_of before) now next event.kind none built.leads makes);
@@ -106,10 +106,10 @@ module _ (opening : Opening) (loaded : Rows) (bodies : List (List ℕ)) where
   swap_next : (before : List Event) (seat index : ℕ) (now next : Rows) → swapped_index opening before < index → index < END_OF_INDEXES → next ≡ now → Built before now → Built (before ++ swap seat index ∷ []) next
   swap_next before seat index now next rises few same built =
       let of_rows : IsBatchOf (row_of built.all) (buffer_of before) built.leads.changes =
-          subst (λ (r : Rows). IsBatchOf r (buffer_of before) built.leads.changes) (sym (same_rows built.all built.taken built.are)) built.leads.batch_of in
+      subst (λ (r : Rows). IsBatchOf r (buffer_of before) built.leads.changes) (sym (same_rows built.all built.taken built.are)) built.leads.batch_of in
       let made = body_follows (bodies ++ bodies_of before) built.all (swapped_index opening before) index (buffer_of before) built.leads.changes built.builds (omega (arith, rises), few) rises of_rows in
       let one_body : (bodies ++ bodies_of before) ++ body_bytes index (buffer_of before) ∷ [] ≡ bodies ++ bodies_of (before ++ swap seat index ∷ []) =
-          append_assoc bodies (bodies_of before) (body_bytes index (buffer_of before) ∷ []) ∙ ap (λ (l : List (List ℕ)). bodies ++ l) (sym (bodies_next before (swap seat index))) in
+      append_assoc bodies (bodies_of before) (body_bytes index (buffer_of before) ∷ []) ∙ ap (λ (l : List (List ℕ)). bodies ++ l) (sym (bodies_next before (swap seat index))) in
       record {
         taken = next;
         leads = subst (λ (buffer : List ℕ). LeadsOn next buffer next) (sym (buffer-push before (swap seat index))) (leads_none next);

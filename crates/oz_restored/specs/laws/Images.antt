@@ -1,11 +1,11 @@
 -- The bodies that a story took stand for the namespace after the Decides up to an index, and so does what a stop leaves.
-use Rattle.std.proofs.Common.{◌≡◌, ⊎_elim, ℕ, zero, suc, ◌<◌, ◌≤◌, List, [], ◌∷◌, ◌++◌, take, drop, Option, Some, Contains, append-nil, append_assoc, arith, refl, sym, ◌∙◌, ap, subst}
+use Rattle.std.proofs.Common.{◌≡◌, ⊎_elim, ℕ, zero, suc, ◌<◌, ◌≤◌, List, [], ◌∷◌, ◌++◌, take, drop, Some, Contains, append_assoc, arith, sym, ◌∙◌, ap, subst}
 use Rattle.std.proofs.lemmas.List.{take-append-drop}
 use Rattle.std.proofs.lemmas.List.Elements.{Contains-append_cases}
 use Rattle.std.specs.List.{AllByRecursion}
 use Rattle.std.specs.Prelude.{slice_get}
 use Rattle.oz_buffer.specs.Buffer.{buffer_of}
-use Rattle.oz_buffer.specs.laws.Following.{told-push, untold-push}
+use Rattle.oz_buffer.specs.laws.Following.{told-push}
 use Rattle.oz_core.specs.declared.event.Event.{Event}
 use Rattle.oz_core.specs.declared.event.EventKind.{EventKind}
 use Rattle.oz_core.specs.declared.event.EventKind.TheVariants.{Decide, Flushed}
@@ -14,7 +14,7 @@ use Rattle.oz_core.specs.Law.{FlushedIsEnabled, IsLegal, IsLegalFrom, KindIsEnab
 use Rattle.oz_core.specs.Manager.{decided_index, kept_up_to, last_index, namespace_of, swapped_index}
 use Rattle.oz_core.specs.Stories.{newer}
 use Rattle.oz_decision.specs.Meets.{Stand}
-use Rattle.oz_effects.specs.Batches.{ComesTo, IsBatchOf}
+use Rattle.oz_effects.specs.Batches.{ComesTo}
 use Rattle.oz_effects.specs.Build.{AllAreBased, Builds}
 use Rattle.oz_effects.specs.Effects.{Leads}
 use Rattle.oz_effects.specs.laws.Steps.{bodies_based}
@@ -104,12 +104,12 @@ module _ (opening : Opening) (loaded : Rows) where
         let again = subst (λ (l : List Event). AllStoodFrom opening loaded place halves.0 l last) (sym (take-append-drop kept.size rest)) halves.2 in
         let further = front_stood opening loaded (take kept.size rest) place halves.0 (drop kept.size rest) last again in
         let low : last_index opening (place ++ take kept.size rest) ≤ last_index opening place =
-            let within = kept.index (omega (arith, index)) in omega (arith, within, index) in
+        let within = kept.index (omega (arith, index)) in omega (arith, within, index) in
         let legal_front = legal_to opening place (take kept.size rest) (drop kept.size rest) (subst (IsLegalFrom opening place) (sym (take-append-drop kept.size rest)) behind) in
         let still = rest_stays built.all based (take kept.size rest) place halves.0 further.0 are legal_front low further.1 in
         let stands = last_place opening loaded place halves.0 (take kept.size rest) further.0 further.1 in
         let namespace : kept_up_to opening most story ≡ namespace_of opening (place ++ take kept.size rest) =
-            ap (kept_up_to opening most) parts ∙ front_behind opening most place rest behind (omega (arith, index)) legal_place in
+        ap (kept_up_to opening most) parts ∙ front_behind opening most place rest behind (omega (arith, index)) legal_place in
         record {
           all = built.all;
           builds = built.builds;
@@ -151,7 +151,7 @@ module _ (opening : Opening) (loaded : Rows) where
     flushed_taken events legal seat index at among =
         let place = among.0 in
         let enabled : FlushedIsEnabled opening (take place events) seat index at =
-            enabled_at opening events legal place (record { seat = seat; kind = Flushed index at }) (found_at events (record { seat = seat; kind = Flushed index at }) among) in
+        enabled_at opening events legal place (record { seat = seat; kind = Flushed index at }) (found_at events (record { seat = seat; kind = Flushed index at }) among) in
         let rises = swapped_rises opening (drop place events) (take place events) (legal_parts opening events place legal) in
         let whole : swapped_index opening (take place events ++ drop place events) ≡ swapped_index opening events = ap (swapped_index opening) (take-append-drop place events) in
         omega (arith, enabled.swapped, rises, whole)
@@ -168,6 +168,7 @@ module _ (opening : Opening) (loaded : Rows) where
           journal = prefix.journal;
           most = swapped_index opening prefix.front;
           stand = front_opens prefix.front prefix.behind prefix.parts;
+          opened = swapped_rises opening prefix.front [] legal_front;
           decided = omega (arith, within, rises, whole);
           stable = λ seat index at among early. ⊎_elim
               (λ here. flushed_taken prefix.front legal_front seat index at here)

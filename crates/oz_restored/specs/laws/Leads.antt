@@ -124,8 +124,8 @@ module _ (opening : Opening) where
       let split = last_split story legal in
       let halves = front_stood opening loaded split.front [] loaded split.more last (subst (λ (l : List Event). AllStood opening loaded l last) split.parts stood) in
       let same : buffer_of story ≡ buffer_of split.more =
-          ap buffer_of split.parts ∙ fold-append (λ buffer (event : Event). buffer_after buffer event.kind) [] split.front split.more
-          ∙ ap (λ (buffer : List ℕ). fold (λ buffer (event : Event). buffer_after buffer event.kind) buffer split.more) split.all_taken in
+      ap buffer_of split.parts ∙ fold-append (λ buffer (event : Event). buffer_after buffer event.kind) [] split.front split.more
+      ∙ ap (λ (buffer : List ℕ). fold (λ buffer (event : Event). buffer_after buffer event.kind) buffer split.more) split.all_taken in
       record {
         front = split.front;
         more = split.more;

@@ -1,6 +1,6 @@
 -- A stripe's rows that stood in a beginning of a story stood in all of it, where its seat gave nothing behind that.
-use Rattle.std.proofs.Common.{◌≡◌, ◌≢◌, ◌==◌, ℕ, Bool, true, false, cond, List, [], ◌∷◌, ◌++◌, append-nil, append_assoc, length, length-append, arith, refl, sym, ap, ◌∙◌, subst}
-use Rattle.std.proofs.lemmas.Bool.{eq-eqb, eqb-true}
+use Rattle.std.proofs.Common.{◌≡◌, ◌≢◌, ◌==◌, ℕ, Bool, true, false, cond, List, [], ◌∷◌, ◌++◌, append-nil, length, length-append, arith, refl, sym, ap, ◌∙◌, subst}
+use Rattle.std.proofs.lemmas.Bool.{eq-eqb}
 use Rattle.std.proofs.lemmas.List.Elements.{filter-append}
 use Rattle.oz_core.specs.declared.event.Event.{Event}
 use Rattle.oz_core.specs.declared.opening.Opening.{Opening}
@@ -20,7 +20,7 @@ use Rattle.oz_striped.specs.Shares.{share_of}
 use Rattle.oz_striped.specs.laws.Shares.{one_share, share_is_there}
 use Rattle.oz_striped.specs.laws.Stories.{share_of_seen}
 use Rattle.oz_stripes.specs.Stripes.{only}
-use Rattle.oz_restored.specs.Keeps.{HasStood, HasStoodFrom, StandAt, StepsTo}
+use Rattle.oz_restored.specs.Keeps.{HasStood, HasStoodFrom, StandAt}
 use Rattle.oz_restored.specs.Together.{HasRun}
 
 none_more : {E : Type 0} (l more : List E) → l ++ more ≡ l → more ≡ []
@@ -58,8 +58,8 @@ module _ (opening : Opening) (loaded : Rows) (stripe : ℕ) where
   stands_still before event rows legal same at =
       let next = before ++ event ∷ [] in
       let share = one_share stripe (namespace_of opening next) (share_of stripe (namespace_of opening before)) (share_of stripe (namespace_of opening next))
-          (share_of_seen stripe opening next before (event ∷ []) (share_of stripe (namespace_of opening before)) legal refl same (share_is_there stripe (namespace_of opening before)))
-          (share_is_there stripe (namespace_of opening next)) in
+      (share_of_seen stripe opening next before (event ∷ []) (share_of stripe (namespace_of opening before)) legal refl same (share_is_there stripe (namespace_of opening before)))
+      (share_is_there stripe (namespace_of opening next)) in
       record {
         stand = subst (λ (n : Namespace). Stand IsSoundButRenames rows n) share at.stand;
         old = subst (λ (l : List Block). AreOld (only stripe loaded) l rows) (ap (all_told granted_block) (sym same)) at.old;
@@ -100,9 +100,15 @@ module _ (opening : Opening) (loaded : Rows) (stripe : ℕ) where
   unfolding HasStoodFrom
   joined before rows [] middle more last one two =
       subst (λ (r : Rows). HasStoodFrom opening loaded stripe before r more last) one.1 (subst (λ (l : List Event). HasStoodFrom opening loaded stripe l middle more last) (append-nil before) two)
-  joined before rows (event ∷ seen) middle more last one two =
-      (one.0, (one.1.0, one.1.1, joined (before ++ event ∷ []) one.1.0 seen middle more last one.1.2
-          (subst (λ (l : List Event). HasStoodFrom opening loaded stripe l middle more last) (sym (moved_over before seen event)) two)))
+  joined before rows (event ∷ seen) middle more last one two = (
+    one.0,
+    (
+      one.1.0,
+      one.1.1,
+      joined (before ++ event ∷ []) one.1.0 seen middle more last one.1.2
+          (subst (λ (l : List Event). HasStoodFrom opening loaded stripe l middle more last) (sym (moved_over before seen event)) two),
+    ),
+  )
 
   pub stood_all : (story : List Event) (rows : Rows) → IsLegal opening story → HasRun opening loaded story stripe rows → HasStood opening loaded stripe story rows
   unfolding ours
@@ -110,7 +116,7 @@ module _ (opening : Opening) (loaded : Rows) (stripe : ℕ) where
       let more = run.begins.0 in
       let parts = run.begins.1 in
       let none = none_more (mine (stripe_seat stripe) run.seen) (mine (stripe_seat stripe) more)
-          (sym (filter-append (λ (e : Event). e.seat == stripe_seat stripe) run.seen more) ∙ ap (mine (stripe_seat stripe)) (sym parts) ∙ run.given) in
+      (sym (filter-append (λ (e : Event). e.seat == stripe_seat stripe) run.seen more) ∙ ap (mine (stripe_seat stripe)) (sym parts) ∙ run.given) in
       subst (λ (l : List Event). HasStood opening loaded stripe l rows) (sym parts)
       (joined [] (only stripe loaded) run.seen rows more rows run.stood
       (stood_still more run.seen rows (subst (IsLegal opening) parts legal) none (stood_last [] (only stripe loaded) run.seen rows run.stood)))

@@ -1,5 +1,5 @@
 -- The rows of all stripes together stand for the namespace, and a batch of one stripe is one of them.
-use Rattle.std.proofs.Common.{◌≡◌, ℕ, ◌<◌, ◌≤◌, Bool, true, false, List, [], ◌∷◌, ◌++◌, map, Option, None, Some, IsSome, cond, refl, sym, ◌∙◌, ap, subst}
+use Rattle.std.proofs.Common.{◌≡◌, ℕ, ◌<◌, ◌≤◌, Bool, true, false, List, [], ◌∷◌, map, None, IsSome, cond, refl, sym, ◌∙◌, ap, subst}
 use mathlib.Core.Bool.{false≢true}
 use Rattle.std.proofs.lemmas.Bool.{eq-eqb, eqb-true, le-ltb, lt-ltb, ltb-true}
 use Rattle.std.specs.Prelude.{nat_lt, ◌||◌}
@@ -23,7 +23,6 @@ use Rattle.oz_rows.specs.declared.row.Row.{Row}
 use Rattle.oz_rows.specs.declared.row.Row.TheVariants as values
 use Rattle.oz_rows.specs.declared.operation.Change.{Change}
 use Rattle.oz_rows.specs.declared.operation.Operation.{Operation}
-use Rattle.oz_rows.specs.declared.operation.Operation.TheVariants.{DropOpen}
 use Rattle.oz_rows.specs.RowMaps.{AreRows, Rows, is_block, row_of}
 use Rattle.oz_sound.specs.Sound.{IsSoundButRenames, StandsIn, blocks_of}
 use Rattle.oz_sound.specs.StandsFor.{StandsFor}

@@ -1,5 +1,5 @@
 -- The rows of all stripes together stood at each place of a story.
-use Rattle.std.proofs.Common.{◌≡◌, ◌≢◌, ◌==◌, ⊎_elim, ℕ, ◌<◌, ◌≤◌, Bool, true, false, List, [], ◌∷◌, ◌++◌, Option, None, Some, IsSome, cond, append-nil, arith, refl, sym, ◌∙◌, ap, subst}
+use Rattle.std.proofs.Common.{◌≡◌, ◌≢◌, ◌==◌, ⊎_elim, ℕ, ◌<◌, ◌≤◌, Bool, true, false, List, [], ◌∷◌, ◌++◌, Option, None, Some, cond, append-nil, arith, refl, sym, ◌∙◌, ap, subst}
 use mathlib.Core.Bool.{false≢true}
 use Rattle.std.proofs.lemmas.Bool.{cases_lt, eq-eqb, eqb-true}
 use Rattle.oz_core.specs.declared.event.Event.{Event}
@@ -172,8 +172,8 @@ module _ (opening : Opening) (bytes : OpeningBytes) (loaded : Rows) (store : IsS
           together next,
           makes rows next own before legal_before stand event.seat event.kind enabled (λ stripe few. (on stripe).steps few),
           all_from story (before ++ event ∷ []) next last
-          (λ stripe few key outside. steps_own stripe (rows stripe) event (next stripe) ((on stripe).steps few) key outside (own stripe few key outside))
-          (subst (IsLegal opening) (sym (moved_over before story event)) legal) (λ stripe few. (on stripe).stood few),
+              (λ stripe few key outside. steps_own stripe (rows stripe) event (next stripe) ((on stripe).steps few) key outside (own stripe few key outside))
+              (subst (IsLegal opening) (sym (moved_over before story event)) legal) (λ stripe few. (on stripe).stood few),
         ),
       )
 

@@ -6,6 +6,7 @@ pub mod Tellable
 pub mod Empty
 pub mod Picking
 pub mod Roomier
+pub mod Stood
 pub mod Told
 pub mod Longer
 pub mod Rests

@@ -1,6 +1,7 @@
 -- After a Decide each block in a stripe's rows was loaded, or a Decide of the stripe handed it out.
-use Rattle.std.proofs.Common.{◌≡◌, ◌<◌, ◌⊎◌, ⊎_elim, inl, inr, length, arith, ℕ, zero, suc, Bool, true, ◌==◌, List, [], ◌∷◌, ◌++◌, Option, Some, cond, refl, sym, ap, ◌∙◌, subst, eq-eqb}
+use Rattle.std.proofs.Common.{◌≡◌, ◌<◌, ◌⊎◌, ⊎_elim, inl, inr, length, arith, ℕ, zero, suc, Bool, true, false, ◌==◌, List, [], ◌∷◌, ◌++◌, Option, None, Some, cond, refl, sym, ap, ◌∙◌, subst, eq-eqb}
 use mathlib.Core.Bool.{false≢true}
+use Rattle.std.proofs.lemmas.Option.{none-some}
 use Rattle.std.proofs.lemmas.List.Elements.{filter_map-append, filter-append}
 use Rattle.std.specs.Prelude.{Contains, slice_index_or}
 use Rattle.std.specs.List.{cons_option, list_any}
@@ -25,6 +26,7 @@ use Rattle.oz_rows.specs.RowMaps.{Rows, after_changes, is_block}
 use Rattle.oz_sound.specs.Kept.{HasHome, KeepsBlocks}
 use Rattle.oz_sound.specs.Sound.{IsHome, StandsIn, blocks_of}
 use Rattle.oz_store.specs.Store.{IsInARow}
+use Rattle.oz_stripes.specs.Stripes.{is_own, only}
 use Rattle.oz_om.proofs.Recorded.{Spares, is_snapshot_key, spared}
 
 -- a row with blocks is that of a key, of an open key, of a deleted key or of a snapshot's key
@@ -39,6 +41,20 @@ home (keys.SnapshotKey volume bucket number key) row block fits has = inr refl
 home (keys.Renamed volume bucket owner local) (rows.Renamed name) block fits has = absurd (false≢true has)
 home (keys.Stripe stripe) (rows.Stripe number) block fits has = absurd (false≢true has)
 home key row block fits has = absurd fits
+
+pub only_of : (stripe : ℕ) (all : Rows) (key : RowKey) (row : Row) → only stripe all key ≡ Some row → all key ≡ Some row
+only_of stripe all key row is = by (is_own stripe key) is
+  where
+    by : (t : Bool) → cond t (all key) None ≡ Some row → all key ≡ Some row
+    by true e = e
+    by false e = absurd (none-some row e)
+
+-- what is old by the stripe's own loaded rows is so by all of them
+pub old_whole : (stripe : ℕ) (loaded : Rows) (handed : List Block) (now : Rows) → AreOld (only stripe loaded) handed now → AreOld loaded handed now
+old_whole stripe loaded handed now old block key it = ⊎_elim
+    (λ was. inl (was.0, record { row = was.1.row; there = only_of stripe loaded was.0 was.1.row was.1.there; has = was.1.has }))
+    inr
+    (old block key it)
 
 contains_left : {A : Type 0} (a b : List A) (x : A) → Contains a x → Contains (a ++ b) x
 contains_left [] b x among = let less = among.1 in absurd (omega arith)

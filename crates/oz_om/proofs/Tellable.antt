@@ -13,7 +13,7 @@ use Rattle.oz_core.specs.Scm.{IsOfGrant}
 use Rattle.oz_core.specs.Manager.{last_index, namespace_of}
 use Rattle.oz_core.specs.Seats.{stripe_seat}
 use Rattle.oz_deciding.specs.Premises.{GrantsNew}
-use Rattle.oz_deciding.specs.Records.{AreRecorded}
+use Rattle.oz_deciding.specs.Records.{AreRecorded, IsBatchOfStripe}
 use Rattle.oz_decision.specs.declared.decision.Decision.{Decision}
 use Rattle.oz_decision.specs.Meets.{Meets, Stand, MayGo}
 use Rattle.oz_fields.specs.declared.block.Block.{Block}
@@ -53,7 +53,8 @@ use Rattle.oz_om.specs.Held.{IsHeld, IsMade, IsOpenAsk, IsPickFor, IsPicked, IsT
 use Rattle.oz_om.specs.Keeps.{AreListed, StandAt}
 use Rattle.oz_om.specs.Opens.{Opens}
 use Rattle.oz_om.proofs.Legal.{legal_of}
-use Rattle.oz_om.proofs.Old.{contains_at, handed_with, old_after}
+use Rattle.oz_om.proofs.Old.{contains_at, handed_with, old_after, old_whole}
+use Rattle.oz_stripes.specs.Stripes.{only}
 use Rattle.oz_om.proofs.Recorded.{recorded_spares}
 
 -- what a pool has is free
@@ -127,7 +128,7 @@ module _ {T : Type 0} (Coherent Agrees : Type 0) (opening : Opening) (bytes : Op
     pub grants_new : (request : Request) (pick : Option (Block × ℕ)) → IsPickFor Agrees s request pick → GrantsNew (newest s.cache) request pick
     grants_new (AllocateBlock volume bucket key session exclude) None picked = tt
     grants_new (AllocateBlock volume bucket key session exclude) (Some (block, pipeline)) picked =
-        λ twin of_key stands same. free_new opening story legal s.number pipeline block (free_of exclude block pipeline picked) loaded (newest s.cache) store.rows at.old twin of_key stands same
+        λ twin of_key stands same. free_new opening story legal s.number pipeline block (free_of exclude block pipeline picked) loaded (newest s.cache) store.rows (old_whole s.number loaded (handed_out s.number story) (newest s.cache) at.old) twin of_key stands same
     grants_new request pick picked = tt
 
     granted : (request : Request) (reply : Reply) (pick : Option (Block × ℕ)) → IsPickFor Agrees s request pick
@@ -200,9 +201,9 @@ module _ {T : Type 0} (Coherent Agrees : Type 0) (opening : Opening) (bytes : Op
       pub stands : StandAt opening loaded s.number (story ++ event ∷ []) (after_changes decision.changes rows)
       stands = record {
         stand = subst (λ (n : Namespace). Stand IsSoundButRenames (after_changes decision.changes rows) n) share_now meets.leads;
-        old = subst (λ (l : List Block). AreOld loaded l (after_changes decision.changes rows))
+        old = subst (λ (l : List Block). AreOld (only s.number loaded) l (after_changes decision.changes rows))
             (sym (handed_with s.number story id index decision.reply decision.bytes))
-            (old_after loaded rows (handed_out s.number story) (at coherent).old decision.changes meets.leads.fit
+            (old_after (only s.number loaded) rows (handed_out s.number story) (at coherent).old decision.changes meets.leads.fit
             (recorded_spares rows held.keeps.listed.all held.keeps.listed.are made.request decision.reply decision.changes made.made.exact)
             decision.reply (MayGo rows made.request) meets.blocks);
       }
@@ -216,5 +217,7 @@ module _ {T : Type 0} (Coherent Agrees : Type 0) (opening : Opening) (bytes : Op
           fit = safe.fit;
           listed = listed_after rows decision.changes held.keeps.listed;
           enabled = enabled;
+          of_stripe = λ coherent. subst (λ (n : ℕ). IsBatchOfStripe n rows decision.bytes decision.changes) (its coherent)
+              (made.made.own_batch (part coherent) (at coherent).stand);
           stands = stands;
         }

@@ -19,6 +19,7 @@ use Rattle.oz_rows.specs.RowMaps.{Rows, after_changes}
 use Rattle.oz_turn.specs.Told.{KeepsOtherRooms}
 use Rattle.oz_om.specs.Held.{IsHeld, IsTellable, IsTold}
 use Rattle.oz_om.specs.Keeps.{KeepsRows}
+use Rattle.oz_om.proofs.Stood.{stood_more}
 
 -- a value that keeps the rooms of another for all other seats keeps those that were taken
 pub rooms_kept : {T : Type 0} (room : T → ℕ → ℕ) (number : ℕ) (taken : Option T) (before after : T) → KeepsOtherRooms room number taken before
@@ -53,5 +54,8 @@ module _ {T : Type 0} (Coherent : Type 0) (opening : Opening) (bytes : OpeningBy
           listed = tellable.listed;
           unasked = filter_map-append (λ (event : Event). asked_in event.kind) old.mine (decide ∷ []) ∙ ap (λ (l : List _). l ++ []) held.keeps.unasked;
           stands = tellable.stands;
+          stood = λ coherent. stood_more opening loaded old.number story (newest old.cache) (after_changes changes (newest old.cache)) decide (held.keeps.stood coherent)
+              (record { own = λ is. record { changes = changes; of_stripe = tellable.of_stripe coherent; leads = refl }; others = λ not. absurd (not refl) })
+              (tellable.stands coherent);
         }))));
   }

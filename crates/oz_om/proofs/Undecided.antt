@@ -19,6 +19,8 @@ use Rattle.oz_striped.specs.laws.Shares.{share_is_there}
 use Rattle.oz_stripes.specs.Stripes.{is_own, only}
 use Rattle.oz_tables.specs.Tables.{TableView}
 use Rattle.oz_om.specs.Keeps.{StandAt}
+use Rattle.oz_om.proofs.Old.{only_of}
+use Rattle.oz_om.proofs.Stood.{stood_first}
 use Rattle.oz_om.specs.Opens.{Opens}
 use Rattle.oz_om.specs.Seated.{ArePartsOf, IsPartOf, ArePlaced}
 
@@ -27,13 +29,6 @@ SoundLaw = (stripe : ℕ) (all : Rows) → IsSound all → IsSound (only stripe 
 
 abbrev pub StandLaw : Type 0
 StandLaw = (stripe : ℕ) (all : Rows) (namespace part : Namespace) → StandsFor all namespace → IsOfStripe stripe namespace part → StandsFor (only stripe all) part
-
-only_of : (stripe : ℕ) (all : Rows) (key : RowKey) (row : Row) → only stripe all key ≡ Some row → all key ≡ Some row
-only_of stripe all key row is = by (is_own stripe key) is
-  where
-    by : (t : Bool) → cond t (all key) None ≡ Some row → all key ≡ Some row
-    by true e = e
-    by false e = absurd (none-some row e)
 
 but_renames : (all : Rows) → IsSound all → IsSoundButRenames all
 but_renames all sound = record { blocks = sound.blocks; names = sound.names; numbers = sound.numbers; counts = sound.counts }
@@ -57,7 +52,7 @@ module _ (Coherent Agrees : Type 0) (opening : Opening) (bytes : OpeningBytes) (
           stands = stand_law stripe loaded opening.namespace (share_of stripe opening.namespace) store.stands (share_is_there stripe opening.namespace);
           sound = but_renames (only stripe loaded) (sound_law stripe loaded store.sound);
         });
-        old = λ block key it. inl (key, record { row = it.row; there = only_of stripe loaded key it.row it.there; has = it.has });
+        old = λ block key it. inl (key, it);
       }
 
   pub keeps_part : (stripe : ℕ) (cache : CacheView) (tables : TableView) → IsPartOf loaded last stripe cache → tables ≡ cache.durable → KeysRise tables.rows
@@ -68,6 +63,7 @@ module _ (Coherent Agrees : Type 0) (opening : Opening) (bytes : OpeningBytes) (
     listed = record { all = cache.durable.rows; are = record { in_order = subst (λ (t : TableView). KeysRise t.rows) its rise; rows_are = λ key. sym (newest_is key) } };
     unasked = refl;
     stands = λ coherent. subst (StandAt opening loaded stripe []) (sym same) (stand_only stripe coherent);
+    stood = λ coherent. stood_first opening loaded stripe (newest cache) same (stand_only stripe coherent);
   })
     where
       newest_is : (key : RowKey) → newest cache key ≡ row_of cache.durable.rows key

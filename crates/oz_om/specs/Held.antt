@@ -14,6 +14,7 @@ use Rattle.oz_core.specs.Law.{DecideIsEnabled}
 use Rattle.oz_core.specs.Manager.{asked_late, block_of_reply}
 use Rattle.oz_core.specs.Seats.{stripe_seat}
 use Rattle.oz_deciding.specs.Promises.{IsDecision}
+use Rattle.oz_deciding.specs.Records.{IsBatchOfStripe}
 use Rattle.oz_decision.specs.declared.decision.Decision.{Decision}
 use Rattle.oz_decision.specs.Meets.{AreInGrammar}
 use Rattle.oz_effects.specs.Batches.{IsBatchOf}
@@ -69,6 +70,7 @@ pub record IsTellable (Coherent : Type 0) (opening : Opening) (loaded : Rows) (s
   pub fit : AreInGrammar (after_changes changes rows)
   pub listed : AreListed (after_changes changes rows)
   pub enabled : Coherent → DecideIsEnabled opening story (stripe_seat stripe) id index reply batch
+  pub of_stripe : Coherent → IsBatchOfStripe stripe rows batch changes
   pub stands : Coherent → StandAt opening loaded stripe
       (story ++ record { seat = stripe_seat stripe; kind = Decide id index reply batch } ∷ [])
       (after_changes changes rows)

@@ -2,13 +2,16 @@
 use Rattle.std.specs.Prelude.{◌≡◌, ℕ, List, [], length, map, Some, slice_get}
 use Rattle.oz_cache.specs.Cache.{CacheView}
 use Rattle.oz_core.specs.declared.event.Event.{Event}
+use Rattle.oz_core.specs.declared.opening.Opening.{Opening}
 use Rattle.oz_core.specs.Seats.{stripe_seat}
+use Rattle.oz_core.specs.Stories.{mine}
 use Rattle.oz_loaded.specs.Parts.{AreParts}
 use Rattle.oz_locks.specs.Stripe.{IsAtRest, StripeView}
 use Rattle.oz_names.specs.declared.limits.TheConstants.{STRIPES}
 use Rattle.oz_rows.specs.declared.entry.RowEntry.{RowEntry}
 use Rattle.oz_rows.specs.declared.key.RowKey.{RowKey}
 use Rattle.oz_rows.specs.RowMaps.{Rows, row_of}
+use Rattle.oz_om.specs.Keeps.{HasStood}
 use Rattle.oz_stripes.specs.Stripes.{only}
 use Rattle.oz_turn.specs.declared.seat.Seat.{Seat}
 use Rattle.oz_turn.specs.declared.told.Told.{Ghosts}
@@ -49,6 +52,16 @@ module _ {T : Type 0} {told : Ghosts T Event} where
 
   abbrev pub IsReadyStripeSeat : TurnId → ℕ → Seat T Event told → Type 0
   IsReadyStripeSeat turn stripe s = IsReady turn (stripe_seat stripe) s
+
+  -- what was kept of the stripe while its seat gave and saw what it did
+  abbrev pub WasKept : (ℕ → List Event → List Event → Rows → Type 0) → ℕ → Seat T Event told → Type 0
+  WasKept Keeps stripe s = (rows : Rows) × Keeps stripe (mine_of s) (seen_of s) rows
+
+  -- What the seat gave are its events in what it has seen, and the stripe's rows stood at each place of that.
+  pub record HasStoodIn (opening : Opening) (loaded : Rows) (stripe : ℕ) (s : Seat T Event told) : Type 0 where
+    pub own : mine (stripe_seat stripe) (seen_of s) ≡ mine_of s
+    pub rows : Rows
+    pub stood : HasStood opening loaded stripe (seen_of s) rows
 
   -- the seats of the stripes in order: new ones, unused ones, and some that don't hold the value
   abbrev pub AreNewStripeSeats : TurnId → List (Seat T Event told) → Type 0

@@ -5,6 +5,7 @@ ghost use Rattle.oz_locks.specs.Stripe.{AreInOrder};
 ghost use Rattle.oz_names.specs.declared.limits.TheConstants.{STRIPES};
 ghost use Rattle.oz_om.specs.Opens.{Opens};
 ghost use Rattle.oz_om.specs.Seated.{AreNewStripeSeats, ArePlaced, AreReadyStripeSeats, AreUnusedStripeSeats};
+ghost use Rattle.oz_om.specs.Seated.{HasStoodIn, WasKept};
 ghost use Rattle.oz_om.specs.Seated.{ArePartsOf, IsNewStripeSeat, IsPartOf, IsReadyStripeSeat, IsUndecided};
 ghost use Rattle.oz_om.specs.Seated.{IsUnused, caches_of};
 
@@ -124,6 +125,7 @@ fn seats_below<T: Told<Entry = Event>, L: Loaded, R: Ring>(
     requires room { count ≤ vec_capacity seats.old }
     ensures count { length seats.new.items ≡ count }
     ensures ready { ArePlaced (IsReadyStripeSeat R.turn) seats.new.items }
+    ensures kept { ArePlaced (WasKept L.keeps) seats.new.items }
     ensures room { vec_capacity seats.new ≡ vec_capacity seats.old }
 {
     if count == 0 {
@@ -171,8 +173,10 @@ impl<O: Opened, L: Loaded, R: Ring> Manager<Ledger<O>, O, L, R> {
 
     /// The seats of the stripes, in order, in the list that they came in. It takes no memory.
     pub fn into_seats<W: Wait>(self, rt: &W) -> Vec<Seat<Ledger<O>>>
-        ensures { AreReadyStripeSeats R.turn result.items }
+        ensures ready { AreReadyStripeSeats R.turn result.items }
+        ensures stood { O.coherent → ArePlaced (HasStoodIn O.opening L.rows) result.items }
     {
+        self.opens();
         let Manager {
             stripes,
             seats,

@@ -28,7 +28,7 @@ none_more l [] same = refl
 none_more l (x ∷ more) same = absurd (omega (arith, ap length same, length-append l (x ∷ more)))
 
 module _ (opening : Opening) (loaded : Rows) (stripe : ℕ) where
-  ours : List Event → List Event
+  abbrev ours : List Event → List Event
   ours story = mine (stripe_seat stripe) story
 
   record Elsewhere (event : Event) (rest : List Event) : Type 0 where
@@ -37,7 +37,6 @@ module _ (opening : Opening) (loaded : Rows) (stripe : ℕ) where
     alone : ours (event ∷ []) ≡ []
 
   none_first : (event : Event) (rest : List Event) → ours (event ∷ rest) ≡ [] → Elsewhere event rest
-  unfolding ours
   none_first event rest none = by_test (event.seat == stripe_seat stripe) refl
     where
       kept : (t : Bool) → (event.seat == stripe_seat stripe) ≡ t → cond t (event ∷ mine (stripe_seat stripe) rest) (mine (stripe_seat stripe) rest) ≡ []
@@ -54,7 +53,6 @@ module _ (opening : Opening) (loaded : Rows) (stripe : ℕ) where
   -- an event of another seat
   stands_still : (before : List Event) (event : Event) (rows : Rows) → IsLegal opening (before ++ event ∷ []) → ours (before ++ event ∷ []) ≡ ours before
       → StandAt opening loaded stripe before rows → StandAt opening loaded stripe (before ++ event ∷ []) rows
-  unfolding ours
   stands_still before event rows legal same at =
       let next = before ++ event ∷ [] in
       let share = one_share stripe (namespace_of opening next) (share_of stripe (namespace_of opening before)) (share_of stripe (namespace_of opening next))
@@ -66,7 +64,6 @@ module _ (opening : Opening) (loaded : Rows) (stripe : ℕ) where
       }
 
   same_ours : (before : List Event) (event : Event) → ours (event ∷ []) ≡ [] → ours (before ++ event ∷ []) ≡ ours before
-  unfolding ours
   same_ours before event alone =
       filter-append (λ (e : Event). e.seat == stripe_seat stripe) before (event ∷ []) ∙ ap (λ (l : List Event). mine (stripe_seat stripe) before ++ l) alone
       ∙ append-nil (mine (stripe_seat stripe) before)
@@ -111,7 +108,6 @@ module _ (opening : Opening) (loaded : Rows) (stripe : ℕ) where
   )
 
   pub stood_all : (story : List Event) (rows : Rows) → IsLegal opening story → HasRun opening loaded story stripe rows → HasStood opening loaded stripe story rows
-  unfolding ours
   stood_all story rows legal run =
       let more = run.begins.0 in
       let parts = run.begins.1 in

@@ -70,27 +70,23 @@ module _ (all : Rows) (few : (key : RowKey) → IsSome (all key) → stripe_of_k
   here block key it = stands_of all (stripe_of_key key) block key refl it
 
   module _ (volume : List ℕ) where
-    own : Rows
+    abbrev own : Rows
     own = only (stripe_of volume) all
 
     sound : IsSoundButRenames own
-    unfolding own
     sound = parts (stripe_of volume) (one_of_sixteen volume)
 
     module _ (bucket : List ℕ) where
       live_of : (number : ℕ) → IsLive all volume bucket number → IsLive own volume bucket number
-      unfolding own
       live_of number live = (live.0, live.1, own_row all (stripe_of volume) (keys.Snapshot volume bucket number) refl ∙ live.2)
 
       has_of : (number : ℕ) (block : Block) (name : List ℕ) → SnapshotHas all volume bucket number block name → SnapshotHas own volume bucket number block name
-      unfolding own
       has_of number block name it = record {
         live = live_of number it.live;
         stands = stands_of all (stripe_of volume) block (keys.SnapshotKey volume bucket number name) refl it.stands;
       }
 
       has_from : (number : ℕ) (block : Block) (name : List ℕ) → SnapshotHas own volume bucket number block name → SnapshotHas all volume bucket number block name
-      unfolding own
       has_from number block name it = record {
         live = (it.live.0, it.live.1, sym (own_row all (stripe_of volume) (keys.Snapshot volume bucket number) refl) ∙ it.live.2);
         stands = stands_from all (stripe_of volume) block (keys.SnapshotKey volume bucket number name) it.stands;
@@ -102,25 +98,20 @@ module _ (all : Rows) (few : (key : RowKey) → IsSome (all key) → stripe_of_k
           (found.0, has_from number other found.0 found.1)
 
       kept_block : (name : List ℕ) (number : ℕ) (block : Block) → SnapshotHas all volume bucket number block name → (key : RowKey) × IsKeeper key × StandsIn all block key
-      unfolding own
       kept_block name number block it =
           let (key, keeper, stands) = sound.blocks.kept volume bucket name number block (has_of number block name it) in
           (key, keeper, stands_from all (stripe_of volume) block key stands)
 
       in_own : (block : Block) (key : RowKey) → stripe_of_key key ≡ stripe_of volume → StandsIn all block key → StandsIn own block key
-      unfolding own
       in_own block key its it = stands_of all (stripe_of volume) block key its it
 
       some_own : (key : RowKey) → stripe_of_key key ≡ stripe_of volume → IsSome (all key) → IsSome (own key)
-      unfolding own
       some_own key its has = some_of all (stripe_of volume) key its has
 
       from_some : (key : RowKey) → IsSome (own key) → IsSome (all key)
-      unfolding own
       from_some key has = some_from all (stripe_of volume) key has
 
       row_own : (key : RowKey) (row : Row) → stripe_of_key key ≡ stripe_of volume → all key ≡ Some row → own key ≡ Some row
-      unfolding own
       row_own key row its is = own_row all (stripe_of volume) key its ∙ is
 
       using : (use_of : List ℕ × Option ℕ) → IsUsing all volume bucket use_of → IsUsing own volume bucket use_of
@@ -128,7 +119,6 @@ module _ (all : Rows) (few : (key : RowKey) → IsSome (all key) → stripe_of_k
       using (key, Some number) has = some_own (keys.Open volume bucket key number) refl has
 
     drawn_own : drawn_in (own (keys.Stripe (stripe_of volume))) ≡ drawn_in (all (keys.Stripe (stripe_of volume)))
-    unfolding own
     drawn_own = ap drawn_in (own_row all (stripe_of volume) (keys.Stripe (stripe_of volume)) refl)
 
   blocks : BlocksAreSound all

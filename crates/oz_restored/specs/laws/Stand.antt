@@ -39,25 +39,22 @@ at_each f stripe few =
 
 module _ (all : Rows) (namespace : Namespace) (many : HasAllStripes namespace) (parts : (stripe : ℕ) → stripe < STRIPES → StandsFor (only stripe all) (share_of stripe namespace)) where
   module _ (volume : List ℕ) where
-    part : Namespace
+    abbrev part : Namespace
     part = share_of (stripe_of volume) namespace
 
-    own : Rows
+    abbrev own : Rows
     own = only (stripe_of volume) all
 
     stand : StandsFor own part
-    unfolding own part
     stand = parts (stripe_of volume) (one_of_sixteen volume)
 
     same_buckets : buckets_of part volume ≡ buckets_of namespace volume
-    unfolding part
     same_buckets = its_buckets (stripe_of volume) namespace (share_of (stripe_of volume) namespace) (share_is_there (stripe_of volume) namespace) volume (eq-eqb (stripe_of volume) (stripe_of volume) refl)
 
     same_bucket : (bucket : List ℕ) → bucket_of part volume bucket ≡ bucket_of namespace volume bucket
     same_bucket bucket = ap (λ (o : Option (ByName Bucket)). option_and_then (λ (buckets : ByName Bucket). get buckets bucket) o) same_buckets
 
     same_row : (key : RowKey) → stripe_of_key key ≡ stripe_of volume → own key ≡ all key
-    unfolding own
     same_row key its = own_row all (stripe_of volume) key its
 
     session_stands : (bucket : List ℕ) (number : ℕ) (session : Session) → SessionStands own part volume bucket number session → SessionStands all namespace volume bucket number session
@@ -89,11 +86,10 @@ module _ (all : Rows) (namespace : Namespace) (many : HasAllStripes namespace) (
       each = snapshots_stand_in bucket it.numbers (snapshots_of part volume bucket) it.each;
     })
 
-  drawn : ℕ → ℕ
+  abbrev drawn : ℕ → ℕ
   drawn stripe = drawn_in (all (keys.Stripe stripe))
 
   one_drawn : (stripe : ℕ) → stripe < 16 → get_or namespace.stripes stripe 0 ≡ drawn stripe
-  unfolding drawn
   one_drawn stripe few =
       sym (same_drawn stripe namespace (share_of stripe namespace) (share_is_there stripe namespace) few)
       ∙ ap (λ (l : List ℕ). get_or l stripe 0) (parts stripe few).stripes
@@ -101,7 +97,6 @@ module _ (all : Rows) (namespace : Namespace) (many : HasAllStripes namespace) (
       ∙ ap drawn_in (own_row all stripe (keys.Stripe stripe) refl)
 
   pub parts_stand : StandsFor all namespace
-  unfolding drawn
   parts_stand = record {
     volumes = λ volume. ap is_some (sym (same_buckets volume)) ∙ (stand volume).volumes volume ∙ ap is_some (same_row volume (keys.Volume volume) refl);
     buckets = λ volume bucket. ap is_some (sym (same_bucket volume bucket)) ∙ (stand volume).buckets volume bucket ∙ ap is_some (same_row volume (keys.Bucket volume bucket) refl);

@@ -85,17 +85,15 @@ module _ (rows : ℕ → Rows) (own : (stripe : ℕ) → stripe < STRIPES → (k
 
   module _ (opening : Opening) (bytes : OpeningBytes) (loaded : Rows) (store : IsStore loaded opening bytes) (fit : AreInGrammar loaded) (story : List Event) (legal : IsLegal opening story)
       (stand : (stripe : ℕ) → stripe < STRIPES → StandAt opening loaded stripe story (rows stripe)) where
-    all : Rows
+    abbrev all : Rows
     all = together rows
 
     in_its : (block : Block) (key : RowKey) → StandsIn all block key → StandsIn (rows (stripe_of_key key)) block key
-    unfolding all
     in_its block key it =
         let few = is_of_few rows key (subst IsSome (sym it.there) refl) in
         record { row = it.row; there = sym (one_of_few rows key few) ∙ it.there; has = it.has }
 
     apart : (block twin : Block) (key other : RowKey) → StandsIn all block key → StandsIn all twin other → block.local ≡ twin.local → stripe_of_key key ≡ stripe_of_key other
-    unfolding all
     apart block twin key other one two same =
         let few = is_of_few rows key (subst IsSome (sym one.there) refl) in
         let also = is_of_few rows other (subst IsSome (sym two.there) refl) in
@@ -103,25 +101,20 @@ module _ (rows : ℕ → Rows) (own : (stripe : ℕ) → stripe < STRIPES → (k
         (stand (stripe_of_key key) few).old (stand (stripe_of_key other) also).old block twin key other (in_its block key one) (in_its twin other two) same
 
     all_fit : AreInGrammar all
-    unfolding all
     all_fit key row is =
         let few = is_of_few rows key (subst IsSome (sym is) refl) in
         (stand (stripe_of_key key) few).stand.fit key row (sym (one_of_few rows key few) ∙ is)
 
     sound_part : (stripe : ℕ) → stripe < STRIPES → IsSoundButRenames (only stripe all)
-    unfolding all
     sound_part stripe few = subst IsSoundButRenames (sym (only_is stripe few)) (stand stripe few).stand.sound
 
     stand_part : (stripe : ℕ) → stripe < STRIPES → StandsFor (only stripe all) (share_of stripe (namespace_of opening story))
-    unfolding all
     stand_part stripe few = subst (λ (r : Rows). StandsFor r (share_of stripe (namespace_of opening story))) (sym (only_is stripe few)) (stand stripe few).stand.stands
 
     few_rows : (key : RowKey) → IsSome (all key) → stripe_of_key key < STRIPES
-    unfolding all
     few_rows key has = is_of_few rows key has
 
     pub union_stands : StandTogether opening loaded story (together rows)
-    unfolding all
     union_stands = record {
       whole = record {
         fit = all_fit;
@@ -166,7 +159,6 @@ module _ (rows : ℕ → Rows) (own : (stripe : ℕ) → stripe < STRIPES → (k
 
     pub union_batch : (stripe : ℕ) → stripe < STRIPES → (batch : List ℕ) (changes : List Change) (of : IsBatchOfStripe stripe (rows stripe) batch changes) → DropsFirst of.batch.items
         → IsBatchOf (together rows) batch changes
-    unfolding all
     union_batch stripe few batch changes of first =
         let it : IsBatch stripe (only stripe all) batch changes = subst (λ (r : Rows). IsBatch stripe r batch changes) (sym (only_is stripe few)) (record { of = of; first = first }) in
         of_all stripe batch changes it.of it.first

@@ -9,3 +9,4 @@ pub mod Leads
 pub mod Bodies
 pub mod Images
 pub mod Stable
+pub mod Limit

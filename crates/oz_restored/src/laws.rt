@@ -22,7 +22,8 @@ ghost use Rattle.oz_restored.specs.Opens.{IsSinceSwap, NoneTakes, OpensUpTo, Sta
 ghost use Rattle.oz_restored.specs.Together.{AllStood, HasRun, LeadsOn, StandTogether, together};
 
 /// The rows of the sixteen stripes, each as its seat left them, are together rows of the whole store. These stood at each
-/// place of the story, beginning with those that were loaded; and so they did in each beginning of it.
+/// place of the story, beginning with those that were loaded; and so they did in each beginning of it. No index that was
+/// taken passes the limit.
 pub fn stripes_stand_together()
     ensures all { (opening : AnyOpening) (bytes : OpeningBytes) (loaded : AnyRows) (story : List AnyEvent)
         (rows : ℕ → AnyRows) →
@@ -32,6 +33,10 @@ pub fn stripes_stand_together()
     ensures places { (opening : AnyOpening) (loaded : AnyRows) (story front : List AnyEvent) (last : AnyRows) →
         AllStood opening loaded story last → BeginsWith story front →
         (now : AnyRows) × AllStood opening loaded front now × StandTogether opening loaded front now }
+    ensures limit { (opening : AnyOpening) (loaded : AnyRows) (story : List AnyEvent) (rows : ℕ → AnyRows) →
+        opening.last_index < END_OF_INDEXES → IsLegal opening story →
+        ((stripe : ℕ) → stripe < STRIPES → HasRun opening loaded story stripe (rows stripe)) →
+        swapped_index opening story < END_OF_INDEXES }
 {}
 
 /// While nothing is taken, what is decided leads on from the rows at a place to those at a later one, as one batch. So it
@@ -45,7 +50,7 @@ pub fn decided_batches_lead_on()
 {}
 
 /// The bodies that were loaded, and behind them those that a beginning of the story took, stand for the namespace of the
-/// whole story up to the index of the last one. An index that was taken is one that a body may have.
+/// whole story up to the index of the last one.
 pub fn a_prefix_builds()
     ensures { (opening : AnyOpening) (bodies : List (List ℕ)) (all : List AnyEntry) (story front : List AnyEvent)
         (last : AnyRows) →

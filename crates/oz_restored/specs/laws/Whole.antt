@@ -101,9 +101,9 @@ module _ (opening : Opening) (bytes : OpeningBytes) (loaded : Rows) (store : IsS
 
   module _ (rows next : ℕ → Rows) (own : AreOwn rows) (before : List Event) (legal : IsLegal opening before)
       (stand : (stripe : ℕ) → stripe < STRIPES → StandAt opening loaded stripe before (rows stripe)) where
-    written : (stripe : ℕ) → stripe < STRIPES → (batch : List ℕ) → IsWrittenBy stripe (rows stripe) batch (next stripe)
+    written : (stripe : ℕ) → stripe < STRIPES → (index : ℕ) (batch : List ℕ) → IsWrittenBy stripe (rows stripe) index batch (next stripe)
         → ((other : ℕ) → other < STRIPES → other ≢ stripe → next other ≡ rows other) → LeadsOn (together rows) batch (together next)
-    written stripe few batch it others = record {
+    written stripe few index batch it others = record {
       changes = it.changes;
       batch_of = union_batch rows own opening bytes loaded store fit before legal stand stripe few batch it.changes it.of_stripe it.drops_first;
       leads = λ i key. each key (is_own stripe key) refl i;
@@ -130,7 +130,7 @@ module _ (opening : Opening) (bytes : OpeningBytes) (loaded : Rows) (store : IsS
     makes seat (Decide id index reply batch) enabled steps =
         let stripe = stripe_of (volume_in enabled.request) in
         let few = one_of_sixteen (volume_in enabled.request) in
-        written stripe few batch ((steps stripe few).own enabled.of_stripe)
+        written stripe few index batch ((steps stripe few).own enabled.of_stripe)
         (λ other among apart. (steps other among).others (λ same. apart (let is : other ≡ stripe = omega (arith, same, enabled.of_stripe) in is)))
     makes seat kind enabled steps = same_together rows next
         (λ stripe few. by_seat seat (stripe_seat stripe) (λ same. (steps stripe few).own same) (λ apart. (steps stripe few).others apart))

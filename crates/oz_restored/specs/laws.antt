@@ -9,4 +9,3 @@ pub mod Leads
 pub mod Bodies
 pub mod Images
 pub mod Stable
-pub mod Limit

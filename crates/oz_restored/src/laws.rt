@@ -14,16 +14,14 @@ ghost use Rattle.oz_flusher.specs.Taken.{bodies_of};
 ghost use Rattle.oz_names.specs.declared.limits.TheConstants.{STRIPES};
 ghost use Rattle.oz_reopened.specs.Left.{MayBeLast};
 ghost use Rattle.oz_rows.specs.declared.entry.RowEntry.{RowEntry as AnyEntry};
-ghost use Rattle.oz_rows.specs.declared.operation.TheConstants.{END_OF_INDEXES};
 ghost use Rattle.oz_rows.specs.RowMaps.{Rows as AnyRows, row_of};
 ghost use Rattle.oz_store.specs.Store.{IsStore};
 ghost use Rattle.oz_turn.specs.Told.{BeginsWith};
 ghost use Rattle.oz_restored.specs.Opens.{IsSinceSwap, NoneTakes, OpensUpTo, StandUpTo};
 ghost use Rattle.oz_restored.specs.Together.{AllStood, HasRun, LeadsOn, StandTogether, together};
 
-/// The rows of the sixteen stripes, each as its seat left them, are together rows of the whole store. These stood at each
-/// place of the story, beginning with those that were loaded; and so they did in each beginning of it. No index that was
-/// taken passes the limit.
+/// The rows of the sixteen stripes, each as its seat left them, are together rows of the whole store. These stood at
+/// each place of the story, beginning with those that were loaded; and so they did in each beginning of it.
 pub fn stripes_stand_together()
     ensures all { (opening : AnyOpening) (bytes : OpeningBytes) (loaded : AnyRows) (story : List AnyEvent)
         (rows : ℕ → AnyRows) →
@@ -33,14 +31,10 @@ pub fn stripes_stand_together()
     ensures places { (opening : AnyOpening) (loaded : AnyRows) (story front : List AnyEvent) (last : AnyRows) →
         AllStood opening loaded story last → BeginsWith story front →
         (now : AnyRows) × AllStood opening loaded front now × StandTogether opening loaded front now }
-    ensures limit { (opening : AnyOpening) (loaded : AnyRows) (story : List AnyEvent) (rows : ℕ → AnyRows) →
-        opening.last_index < END_OF_INDEXES → IsLegal opening story →
-        ((stripe : ℕ) → stripe < STRIPES → HasRun opening loaded story stripe (rows stripe)) →
-        swapped_index opening story < END_OF_INDEXES }
 {}
 
-/// While nothing is taken, what is decided leads on from the rows at a place to those at a later one, as one batch. So it
-/// does from the last Swap of a legal story to its end.
+/// While nothing is taken, what is decided leads on from the rows at a place to those at a later one, as one batch. So
+/// it does from the last Swap of a legal story to its end.
 pub fn decided_batches_lead_on()
     ensures between { (opening : AnyOpening) (loaded : AnyRows) (front more : List AnyEvent) (last : AnyRows) →
         AllStood opening loaded (front ++ more) last → NoneTakes more →
@@ -49,23 +43,23 @@ pub fn decided_batches_lead_on()
         IsLegal opening story → AllStood opening loaded story last → IsSinceSwap opening loaded story last }
 {}
 
-/// The bodies that were loaded, and behind them those that a beginning of the story took, stand for the namespace of the
-/// whole story up to the index of the last one.
+/// The bodies that were loaded, and behind them those that a beginning of the story took, stand for the namespace of
+/// the whole story up to the index of the last one.
 pub fn a_prefix_builds()
     ensures { (opening : AnyOpening) (bodies : List (List ℕ)) (all : List AnyEntry) (story front : List AnyEvent)
         (last : AnyRows) →
-        Builds bodies all opening.last_index → IsLegal opening story → swapped_index opening story < END_OF_INDEXES →
-        AllStood opening (row_of all) story last → BeginsWith story front →
+        Builds bodies all opening.last_index → IsLegal opening story → AllStood opening (row_of all) story last →
+        BeginsWith story front →
         StandUpTo opening story (bodies ++ bodies_of front) (swapped_index opening front) }
 {}
 
-/// What a stop leaves of the journal does so too, up to an index that is at least each one that was stable by then. Where
-/// all that is stable was so by then, no index that is stable is above it.
+/// What a stop leaves of the journal does so too, up to an index that is at least each one that was stable by then.
+/// Where all that is stable was so by then, no index that is stable is above it.
 pub fn a_stop_leaves_a_prefix()
     ensures opens { (opening : AnyOpening) (bodies : List (List ℕ)) (all : List AnyEntry) (story : List AnyEvent)
         (last : AnyRows) (moment : ℕ) (left : List ℕ) →
-        Builds bodies all opening.last_index → IsLegal opening story → swapped_index opening story < END_OF_INDEXES →
-        AllStood opening (row_of all) story last → IsPrefix bodies story moment left →
+        Builds bodies all opening.last_index → IsLegal opening story → AllStood opening (row_of all) story last →
+        IsPrefix bodies story moment left →
         OpensUpTo opening story moment left }
     ensures within { (opening : AnyOpening) (story : List AnyEvent) (moment : ℕ) (left : List ℕ)
         (it : OpensUpTo opening story moment left) → IfSome (flushed_moment story) (λ at. at ≤ moment) →

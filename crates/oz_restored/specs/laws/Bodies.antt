@@ -1,14 +1,14 @@
 -- The bodies that a story took so far make the rows behind its last Swap.
-use Rattle.std.proofs.Common.{◌≡◌, ℕ, ◌<◌, ◌≤◌, List, [], ◌∷◌, ◌++◌, None, append-nil, append_assoc, arith, refl, sym, ◌∙◌, ap, subst}
+use Rattle.std.proofs.Common.{◌≡◌, ◌≢◌, ℕ, ◌<◌, ◌≤◌, List, [], ◌∷◌, ◌++◌, None, append-nil, append_assoc, arith, refl, sym, ◌∙◌, ap, subst}
 use Rattle.oz_batches.specs.Body.{body_bytes}
 use Rattle.oz_buffer.specs.Buffer.{buffer_of}
 use Rattle.oz_buffer.specs.laws.Following.{buffer-push, told-push, untold-push}
 use Rattle.oz_core.specs.declared.event.Event.{Event}
 use Rattle.oz_core.specs.declared.event.EventKind.{EventKind}
-use Rattle.oz_core.specs.declared.event.EventKind.TheVariants.{Swap}
+use Rattle.oz_core.specs.declared.event.EventKind.TheVariants.{Decide, Swap}
 use Rattle.oz_core.specs.declared.opening.Opening.{Opening}
 use Rattle.oz_core.specs.Law.{IsLegalFrom, KindIsEnabled}
-use Rattle.oz_core.specs.Manager.{swapped_index, taken_index}
+use Rattle.oz_core.specs.Manager.{decided_index, last_index, swapped_index, taken_index}
 use Rattle.oz_core.specs.Stories.{newer}
 use Rattle.oz_effects.specs.Batches.{IsBatchOf}
 use Rattle.oz_effects.specs.Build.{Builds, BuildsFrom, no_head}
@@ -76,6 +76,11 @@ rise_from before last [] all head builds rise = subst KeysRise (sym builds.0) ri
 rise_from before last (first ∷ bodies) all head builds rise =
     rise_from builds.1 (head_in builds.0) bodies all head builds.3 (leads_rise before builds.0.items builds.1 builds.2.leads rise)
 
+limit_from : (before : List RowEntry) (last : Head) (bodies : List (List ℕ)) (all : List RowEntry) (head : Head) → BuildsFrom before last bodies all head → last.index < END_OF_INDEXES → head.index < END_OF_INDEXES
+unfolding BuildsFrom
+limit_from before last [] all head builds few = subst (λ (h : Head). h.index < END_OF_INDEXES) (sym builds.1) few
+limit_from before last (first ∷ bodies) all head builds few = limit_from builds.1 (head_in builds.0) bodies all head builds.3 builds.2.body_is.0.1.1
+
 pub same_rows : (all : List RowEntry) (rows : Rows) → AreRows all rows → row_of all ≡ rows
 same_rows all rows are = λ i key. are.rows_are key i
 
@@ -124,29 +129,42 @@ module _ (opening : Opening) (loaded : Rows) (bodies : List (List ℕ)) where
       }
 
   kind_next : (before : List Event) (seat : ℕ) (kind : EventKind) (now next : Rows) → KindIsEnabled opening before seat kind
-      → swapped_index opening (before ++ record { seat = seat; kind = kind } ∷ []) < END_OF_INDEXES → Makes now kind next → Built before now → Built (before ++ record { seat = seat; kind = kind } ∷ []) next
+      → last_index opening before < END_OF_INDEXES → Makes now kind next → Built before now → Built (before ++ record { seat = seat; kind = kind } ∷ []) next
   kind_next before seat (Swap index) now next enabled few makes built =
-      swap_next before seat index now next enabled.some (subst (λ (n : ℕ). n < END_OF_INDEXES) (told-push taken_index opening.last_index before (swap seat index)) few) makes built
+      swap_next before seat index now next enabled.some (omega (arith, enabled.all_decided, few)) makes built
   kind_next before seat kind now next enabled few makes built = quiet_next before (record { seat = seat; kind = kind }) now next refl makes built
 
-  rest_built : (rest before : List Event) (now last : Rows) → IsLegalFrom opening before rest → swapped_index opening (before ++ rest) < END_OF_INDEXES → Built before now
+  -- no index passes the limit
+  within_limit : (last index : ℕ) (batch : List ℕ) → last < END_OF_INDEXES → (batch ≡ [] → index ≡ last) → (batch ≢ [] → index < END_OF_INDEXES) → index < END_OF_INDEXES
+  within_limit last index [] few stays limit = omega (arith, few, stays refl)
+  within_limit last index (byte ∷ batch) few stays limit = limit (λ none. absurd cc)
+
+  kind_few : (before : List Event) (seat : ℕ) (kind : EventKind) (now next : Rows) → KindIsEnabled opening before seat kind → last_index opening before < END_OF_INDEXES → Makes now kind next
+      → newer (decided_index kind) (last_index opening before) < END_OF_INDEXES
+  kind_few before seat (Decide id index reply batch) now next enabled few makes = within_limit (last_index opening before) index batch few enabled.recorded.0 makes.1
+  kind_few before seat kind now next enabled few makes = few
+
+  rest_built : (rest before : List Event) (now last : Rows) → IsLegalFrom opening before rest → last_index opening before < END_OF_INDEXES → Built before now
       → AllStoodFrom opening loaded before now rest last → Built (before ++ rest) last
   unfolding AllStoodFrom
   rest_built [] before now last legal few built stood = subst (λ (l : List Event). Built l last) (sym (append-nil before)) (subst (Built before) (sym stood.1) built)
   rest_built (event ∷ rest) before now last legal few built stood =
-      let behind = legal_rest opening before event rest legal in
-      let few_now : swapped_index opening ((before ++ event ∷ []) ++ rest) < END_OF_INDEXES = subst (λ (l : List Event). swapped_index opening l < END_OF_INDEXES) (sym (moved_over before rest event)) few in
-      let rises = swapped_rises opening rest (before ++ event ∷ []) behind in
-      let next = kind_next before event.seat event.kind now stood.1.0 (legal_first opening before event rest legal) (omega (arith, few_now, rises)) stood.1.1 built in
-      subst (λ (l : List Event). Built l last) (moved_over before rest event) (rest_built rest (before ++ event ∷ []) stood.1.0 last behind few_now next stood.1.2)
+      let enabled = legal_first opening before event rest legal in
+      let few_next = kind_few before event.seat event.kind now stood.1.0 enabled few stood.1.1 in
+      let pushed = told-push decided_index opening.last_index before event in
+      let next = kind_next before event.seat event.kind now stood.1.0 enabled few stood.1.1 built in
+      subst (λ (l : List Event). Built l last) (moved_over before rest event)
+      (rest_built rest (before ++ event ∷ []) stood.1.0 last (legal_rest opening before event rest legal) (omega (arith, few_next, pushed)) next stood.1.2)
 
   pub story_built : (all : List RowEntry) (story : List Event) (last : Rows) → Builds bodies all opening.last_index → row_of all ≡ loaded → IsLegalFrom opening [] story
-      → swapped_index opening story < END_OF_INDEXES → AllStood opening loaded story last → Built story last
+      → AllStood opening loaded story last → Built story last
   unfolding bodies_from
-  story_built all story last builds same legal few stood = rest_built story [] loaded last legal few (record {
-    taken = loaded;
-    leads = leads_none loaded;
-    all = all;
-    builds = subst (λ (l : List (List ℕ)). Builds l all opening.last_index) (sym (append-nil bodies)) builds;
-    are = record { in_order = rise_from [] no_head bodies all builds.0 builds.1 tt; rows_are = λ key. ap (λ (r : Rows). r key) same };
-  }) stood
+  story_built all story last builds same legal stood =
+      let few = limit_from [] no_head bodies all builds.0 builds.1 (omega arith) in
+      rest_built story [] loaded last legal (omega (arith, few, builds.2)) (record {
+        taken = loaded;
+        leads = leads_none loaded;
+        all = all;
+        builds = subst (λ (l : List (List ℕ)). Builds l all opening.last_index) (sym (append-nil bodies)) builds;
+        are = record { in_order = rise_from [] no_head bodies all builds.0 builds.1 tt; rows_are = λ key. ap (λ (r : Rows). r key) same };
+      }) stood

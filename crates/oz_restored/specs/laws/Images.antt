@@ -26,7 +26,6 @@ use Rattle.oz_kept.specs.laws.Places.{legal_behind, legal_first, legal_rest, mov
 use Rattle.oz_namespace.specs.declared.namespace.Namespace.{Namespace}
 use Rattle.oz_rows.specs.declared.entry.RowEntry.{RowEntry}
 use Rattle.oz_rows.specs.declared.operation.Operation.{Operation}
-use Rattle.oz_rows.specs.declared.operation.TheConstants.{END_OF_INDEXES}
 use Rattle.oz_rows.specs.RowMaps.{AreRows, Rows, row_after, row_of}
 use Rattle.oz_rows.specs.laws.Batches.{same_batch}
 use Rattle.oz_sound.specs.Sound.{IsSoundButRenames}
@@ -64,7 +63,7 @@ module _ (opening : Opening) (loaded : Rows) where
         → newer (decided_index kind) (last_index opening before) ≤ last_index opening before → Makes now kind next → next ≡ now
     kind_stays before seat (Decide id index reply batch) now next are enabled low makes =
         let rises = index_rises opening before seat id index reply batch enabled in
-        none_leads all now next batch are based (enabled.recorded.1 (let same : index ≡ last_index opening before = omega (arith, rises, low) in same)) makes
+        none_leads all now next batch are based (enabled.recorded.1 (let same : index ≡ last_index opening before = omega (arith, rises, low) in same)) makes.0
     kind_stays before seat kind now next are enabled low makes = makes
 
     rest_stays : (rest before : List Event) (now last : Rows) → AreRows all now → IsLegalFrom opening before rest → last_index opening (before ++ rest) ≤ last_index opening before
@@ -85,17 +84,15 @@ module _ (opening : Opening) (loaded : Rows) where
   -- ---- rows of bodies, and the namespace
 
   module _ (bodies : List (List ℕ)) (all : List RowEntry) (builds : Builds bodies all opening.last_index) (same : row_of all ≡ loaded)
-      (story : List Event) (legal : IsLegal opening story) (few : swapped_index opening story < END_OF_INDEXES) (last : Rows) (stood : AllStood opening loaded story last) where
+      (story : List Event) (legal : IsLegal opening story) (last : Rows) (stood : AllStood opening loaded story last) where
     -- at a place behind a Swap
     at_swap : (place rest : List Event) → story ≡ place ++ rest → buffer_of place ≡ [] → swapped_index opening place ≡ last_index opening place → StandUpTo opening story (bodies ++ bodies_of place) (swapped_index opening place)
     at_swap place rest parts taken index =
         let legal_all : IsLegal opening (place ++ rest) = subst (IsLegal opening) parts legal in
         let legal_place = legal_to opening [] place rest legal_all in
         let behind = legal_behind opening [] place rest legal_all in
-        let rises = swapped_rises opening rest place behind in
-        let few_all : swapped_index opening (place ++ rest) < END_OF_INDEXES = subst (λ (l : List Event). swapped_index opening l < END_OF_INDEXES) parts few in
         let halves = front_stood opening loaded place [] loaded rest last (subst (λ (l : List Event). AllStood opening loaded l last) parts stood) in
-        let built = story_built opening loaded bodies all place halves.0 builds same legal_place (omega (arith, rises, few_all)) halves.1 in
+        let built = story_built opening loaded bodies all place halves.0 builds same legal_place halves.1 in
         let based = bodies_based (bodies ++ bodies_of place) built.all (swapped_index opening place) built.builds in
         let is_taken = none_leads built.all built.taken halves.0 (buffer_of place) built.are based taken built.leads in
         let are : AreRows built.all halves.0 = subst (λ (r : Rows). AreRows built.all r) (sym is_taken) built.are in

@@ -42,7 +42,7 @@ leads_both rows middle next batch later one two = record {
 
 -- one event more, which takes nothing
 pub one_more : (first : Rows) (buffer : List ℕ) (now next : Rows) (kind : EventKind) → taken_index kind ≡ None → LeadsOn first buffer now → Makes now kind next → LeadsOn first (buffer_after buffer kind) next
-one_more first buffer now next (Decide id index reply batch) none leads makes = leads_both first now next buffer batch leads makes
+one_more first buffer now next (Decide id index reply batch) none leads makes = leads_both first now next buffer batch leads makes.0
 one_more first buffer now next (Swap index) none leads makes = absurd cc
 one_more first buffer now next kind none leads makes = subst (λ (r : Rows). LeadsOn first buffer r) (sym makes) leads
 

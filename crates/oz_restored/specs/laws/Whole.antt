@@ -130,8 +130,10 @@ module _ (opening : Opening) (bytes : OpeningBytes) (loaded : Rows) (store : IsS
     makes seat (Decide id index reply batch) enabled steps =
         let stripe = stripe_of (volume_in enabled.request) in
         let few = one_of_sixteen (volume_in enabled.request) in
-        written stripe few index batch ((steps stripe few).own enabled.of_stripe)
-        (λ other among apart. (steps other among).others (λ same. apart (let is : other ≡ stripe = omega (arith, same, enabled.of_stripe) in is)))
+        let it = (steps stripe few).own enabled.of_stripe in (
+          written stripe few index batch it (λ other among apart. (steps other among).others (λ same. apart (let is : other ≡ stripe = omega (arith, same, enabled.of_stripe) in is))),
+          it.limit,
+        )
     makes seat kind enabled steps = same_together rows next
         (λ stripe few. by_seat seat (stripe_seat stripe) (λ same. (steps stripe few).own same) (λ apart. (steps stripe few).others apart))
 

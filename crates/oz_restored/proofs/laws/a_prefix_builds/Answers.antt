@@ -4,5 +4,5 @@ use Rattle.oz_restored.specs.laws.Images.{front_opens}
 use Rattle.oz_restored.proofs.laws.a_prefix_builds.Goals as goal
 
 pub returns : goal.returns
-returns c = λ opening bodies all story front last builds legal few stood begins.
-    front_opens opening (row_of all) bodies all builds refl story legal few last stood front begins.0 begins.1
+returns c = λ opening bodies all story front last builds legal stood begins.
+    front_opens opening (row_of all) bodies all builds refl story legal last stood front begins.0 begins.1

@@ -1,7 +1,6 @@
 use Rattle.std.proofs.Common.{List, [], subst}
 use Rattle.oz_core.specs.declared.event.Event.{Event}
 use Rattle.oz_restored.specs.Together.{AllStood}
-use Rattle.oz_restored.specs.laws.Limit.{all_few}
 use Rattle.oz_restored.specs.laws.Whole.{all_stood, front_stood, last_place}
 use Rattle.oz_restored.proofs.laws.stripes_stand_together.Goals as goal
 
@@ -12,6 +11,3 @@ pub returns-clause-places : goal.returns-clause-places
 returns-clause-places c = λ opening loaded story front last stood begins.
     let halves = front_stood opening loaded front [] loaded begins.0 last (subst (λ (l : List Event). AllStood opening loaded l last) begins.1 stood) in
     (halves.0, halves.1, last_place opening loaded [] loaded front halves.0 halves.1)
-
-pub returns-clause-limit : goal.returns-clause-limit
-returns-clause-limit c = λ opening loaded story rows first legal run. all_few opening loaded story rows first legal run

@@ -1,4 +1,3 @@
-pub mod Keeps
 pub mod Together
 pub mod Opens
 pub mod laws

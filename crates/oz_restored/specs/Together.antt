@@ -16,7 +16,7 @@ use Rattle.oz_rows.specs.RowMaps.{Rows, after_changes}
 use Rattle.oz_sound.specs.Sound.{IsSoundButRenames}
 use Rattle.oz_stripes.specs.Stripes.{only, stripe_of_key}
 use Rattle.oz_turn.specs.Told.{BeginsWith}
-use Rattle.oz_restored.specs.Keeps.{HasStood, StandAt}
+use Rattle.oz_om.specs.Keeps.{HasStood, StandAt}
 
 -- A stripe's rows stood at each place of a beginning of the story, up to these, and the rest has no event of its seat.
 pub record HasRun (opening : Opening) (loaded : Rows) (story : List Event) (stripe : ℕ) (rows : Rows) : Type 0 where

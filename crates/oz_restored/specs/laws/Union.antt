@@ -9,7 +9,7 @@ use Rattle.oz_core.specs.declared.opening.Opening.{Opening}
 use Rattle.oz_core.specs.Contents.{OpeningBytes}
 use Rattle.oz_core.specs.Law.{IsLegal}
 use Rattle.oz_core.specs.Manager.{namespace_of}
-use Rattle.oz_deciding.specs.Records.{IsBatchOfStripe}
+use Rattle.oz_deciding.specs.Records.{DropsFirst, IsBatchOfStripe}
 use Rattle.oz_decision.specs.Meets.{AreInGrammar}
 use Rattle.oz_effects.specs.Batches.{IsBatchOf}
 use Rattle.oz_effects.specs.Effects.{Leads, has_block}
@@ -33,7 +33,7 @@ use Rattle.oz_stripes.specs.laws.Leading.{batch_of_all}
 use Rattle.oz_striped.specs.Shares.{share_of}
 use Rattle.oz_striped.specs.laws.Rows.{standing_has_all}
 use Rattle.oz_striped.specs.laws.Stories.{story_has_all}
-use Rattle.oz_restored.specs.Keeps.{DropsFirst, StandAt}
+use Rattle.oz_om.specs.Keeps.{StandAt}
 use Rattle.oz_restored.specs.Together.{StandTogether, together}
 use Rattle.oz_restored.specs.laws.Apart.{stripes_apart}
 use Rattle.oz_restored.specs.laws.Sound.{its_own, parts_are_sound, stands_from}
@@ -150,15 +150,8 @@ module _ (rows : ℕ → Rows) (own : (stripe : ℕ) → stripe < STRIPES → (k
         let same : between ≡ before = subst (λ (l : List Operation). Leads before l between) none leads in
         subst (λ (l : List RowEntry). IsApart (is_own stripe) (row_of l) all volume bucket) (sym same) (keys_apart stripe before are volume bucket)
 
-    of_all : (stripe : ℕ) (batch : List ℕ) (changes : List Change) (of : IsBatchOfStripe stripe (only stripe all) batch changes) → DropsFirst of.batch.items → IsBatchOf all batch changes
-    of_all stripe batch changes of first = batch_of_all stripe all batch changes of.batch of.operations_own of.changes_own (items_apart stripe of.batch.items first)
+    of_all : (stripe : ℕ) (batch : List ℕ) (changes : List Change) → IsBatchOfStripe stripe (only stripe all) batch changes → IsBatchOf all batch changes
+    of_all stripe batch changes it = batch_of_all stripe all batch changes it.batch it.operations_own it.changes_own (items_apart stripe it.batch.items it.drops_first)
 
-    record IsBatch (stripe : ℕ) (now : Rows) (batch : List ℕ) (changes : List Change) : Type 0 where
-      of : IsBatchOfStripe stripe now batch changes
-      first : DropsFirst of.batch.items
-
-    pub union_batch : (stripe : ℕ) → stripe < STRIPES → (batch : List ℕ) (changes : List Change) (of : IsBatchOfStripe stripe (rows stripe) batch changes) → DropsFirst of.batch.items
-        → IsBatchOf (together rows) batch changes
-    union_batch stripe few batch changes of first =
-        let it : IsBatch stripe (only stripe all) batch changes = subst (λ (r : Rows). IsBatch stripe r batch changes) (sym (only_is stripe few)) (record { of = of; first = first }) in
-        of_all stripe batch changes it.of it.first
+    pub union_batch : (stripe : ℕ) → stripe < STRIPES → (batch : List ℕ) (changes : List Change) → IsBatchOfStripe stripe (rows stripe) batch changes → IsBatchOf (together rows) batch changes
+    union_batch stripe few batch changes it = of_all stripe batch changes (subst (λ (r : Rows). IsBatchOfStripe stripe r batch changes) (sym (only_is stripe few)) it)

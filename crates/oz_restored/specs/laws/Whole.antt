@@ -25,7 +25,7 @@ use Rattle.oz_rows.specs.laws.Same.{same_is_one}
 use Rattle.oz_store.specs.Store.{IsStore}
 use Rattle.oz_stripes.specs.Stripes.{ChangeOnly, is_own, only, stripe_of_key}
 use Rattle.oz_striped.specs.laws.Shares.{one_of_sixteen}
-use Rattle.oz_restored.specs.Keeps.{HasStoodFrom, IsMadeBy, IsWrittenBy, StandAt, StepsTo}
+use Rattle.oz_om.specs.Keeps.{HasStoodFrom, IsMadeBy, IsWrittenBy, StandAt, StepsTo}
 use Rattle.oz_restored.specs.Together.{AllStood, AllStoodFrom, HasRun, LeadsOn, Makes, StandTogether, together}
 use Rattle.oz_restored.specs.laws.Longer.{stood_all, stood_first}
 use Rattle.oz_restored.specs.laws.Sound.{own_row}
@@ -105,7 +105,7 @@ module _ (opening : Opening) (bytes : OpeningBytes) (loaded : Rows) (store : IsS
         → ((other : ℕ) → other < STRIPES → other ≢ stripe → next other ≡ rows other) → LeadsOn (together rows) batch (together next)
     written stripe few index batch it others = record {
       changes = it.changes;
-      batch_of = union_batch rows own opening bytes loaded store fit before legal stand stripe few batch it.changes it.of_stripe it.drops_first;
+      batch_of = union_batch rows own opening bytes loaded store fit before legal stand stripe few batch it.changes it.of_stripe;
       leads = λ i key. each key (is_own stripe key) refl i;
     }
       where

@@ -1,9 +1,8 @@
 -- The bodies that a story took stand for the namespace after the Decides up to an index, and so does what a stop leaves.
-use Rattle.std.proofs.Common.{◌≡◌, ⊎_elim, ℕ, zero, suc, ◌<◌, ◌≤◌, List, [], ◌∷◌, ◌++◌, take, drop, Some, Contains, append_assoc, arith, sym, ◌∙◌, ap, subst}
+use Rattle.std.proofs.Common.{◌≡◌, ⊎_elim, ℕ, ◌≤◌, List, [], ◌∷◌, ◌++◌, take, drop, Contains, append_assoc, arith, sym, ◌∙◌, ap, subst}
 use Rattle.std.proofs.lemmas.List.{take-append-drop}
 use Rattle.std.proofs.lemmas.List.Elements.{Contains-append_cases}
 use Rattle.std.specs.List.{AllByRecursion}
-use Rattle.std.specs.Prelude.{slice_get}
 use Rattle.oz_buffer.specs.Buffer.{buffer_of}
 use Rattle.oz_buffer.specs.laws.Following.{told-push}
 use Rattle.oz_core.specs.declared.event.Event.{Event}
@@ -20,8 +19,9 @@ use Rattle.oz_effects.specs.Effects.{Leads}
 use Rattle.oz_effects.specs.laws.Steps.{bodies_based}
 use Rattle.oz_flusher.specs.Stops.{IsLater, IsPrefix}
 use Rattle.oz_flusher.specs.Taken.{bodies_of}
-use Rattle.oz_kept.specs.laws.Deleted.{enabled_at, found_at, legal_parts, legal_to}
+use Rattle.oz_kept.specs.laws.Deleted.{enabled_at, first_or_later, found_at, legal_parts, legal_to}
 use Rattle.oz_kept.specs.laws.Kept.{front, front_behind, index_rises, indexes_rise}
+use Rattle.oz_kept.specs.laws.Reached.{in_none}
 use Rattle.oz_kept.specs.laws.Places.{legal_behind, legal_first, legal_rest, moved_over}
 use Rattle.oz_namespace.specs.declared.namespace.Namespace.{Namespace}
 use Rattle.oz_rows.specs.declared.entry.RowEntry.{RowEntry}
@@ -55,6 +55,10 @@ none_leads all now next batch are based empty leads = leads.leads ∙ (λ i key.
     each key =
         ap (row_after leads.changes key) (sym (are.rows_are key)) ∙ sym (comes.rows_are key)
         ∙ ap (λ (l : List RowEntry). row_of l key) (stays_listed all leads.batch_of.items comes.after none comes.leads) ∙ are.rows_are key
+
+each_of : {A : Type 0} (P : A → Type 0) (l : List A) (x : A) → AllByRecursion P l → Contains l x → P x
+each_of P [] x all there = absurd (in_none x there)
+each_of P (y ∷ l) x all there = ⊎_elim (λ same. subst P same all.0) (λ later. each_of P l x all.1 later) (first_or_later y x l there)
 
 module _ (opening : Opening) (loaded : Rows) where
   -- rows stay as they are while the index does
@@ -127,23 +131,6 @@ module _ (opening : Opening) (loaded : Rows) where
 
     -- ---- what a stop leaves
 
-    none_later : (moment seat index at : ℕ) (events : List Event) → AllByRecursion (λ (event : Event). IsLater moment event.kind) events
-        → Contains events (record { seat = seat; kind = Flushed index at }) → moment < at
-    none_later moment seat index at events later among =
-        let is = found_at events (record { seat = seat; kind = Flushed index at }) among in
-        each events later among.0 is
-      where
-        one : (event : Event) → IsLater moment event.kind → Some event ≡ Some (record { seat = seat; kind = Flushed index at }) → moment < at
-        one event is same = subst (λ (kind : EventKind). IsLater moment kind) (let e : event.kind ≡ Flushed index at = kind_of event same in e) is
-          where
-            kind_of : (event : Event) → Some event ≡ Some (record { seat = seat; kind = Flushed index at }) → event.kind ≡ Flushed index at
-            kind_of event same = cc
-
-        each : (events : List Event) → AllByRecursion (λ (event : Event). IsLater moment event.kind) events → (place : ℕ) → slice_get events place ≡ Some (record { seat = seat; kind = Flushed index at }) → moment < at
-        each [] later place is = absurd cc
-        each (event ∷ events) later zero is = one event later.0 is
-        each (event ∷ events) later (suc place) is = each events later.1 place is
-
     flushed_taken : (events : List Event) → IsLegal opening events → (seat index at : ℕ) → Contains events (record { seat = seat; kind = Flushed index at }) → index ≤ swapped_index opening events
     flushed_taken events legal seat index at among =
         let place = among.0 in
@@ -169,7 +156,7 @@ module _ (opening : Opening) (loaded : Rows) where
           decided = omega (arith, within, rises, whole);
           stable = λ seat index at among early. ⊎_elim
               (λ here. flushed_taken prefix.front legal_front seat index at here)
-              (λ there. absurd (omega (arith, early, none_later moment seat index at prefix.behind prefix.later there)))
+              (λ there. absurd (omega (arith, early, each_of (λ (event : Event). IsLater moment event.kind) prefix.behind (record { seat = seat; kind = Flushed index at }) prefix.later there)))
               (Contains-append_cases prefix.front prefix.behind (record { seat = seat; kind = Flushed index at })
               (subst (λ (l : List Event). Contains l (record { seat = seat; kind = Flushed index at })) prefix.parts among));
         }

@@ -1,5 +1,5 @@
 -- What is stable at the end of a story is what its last Flushed said, or what the opening has.
-use Rattle.std.proofs.Common.{◌≡◌, ◌⊎◌, ⊎_elim, inl, inr, ℕ, suc, ◌≤◌, List, [], ◌∷◌, fold, Option, None, Some, IfSome, Contains, arith, refl, subst}
+use Rattle.std.proofs.Common.{ℕ, suc, ◌≤◌, List, [], ◌∷◌, fold, Option, None, Some, IfSome, Contains, arith, refl}
 use Rattle.oz_core.specs.declared.event.Event.{Event}
 use Rattle.oz_core.specs.declared.event.EventKind.{EventKind}
 use Rattle.oz_core.specs.declared.event.EventKind.TheVariants.{Flushed}
@@ -13,61 +13,29 @@ use Rattle.oz_restored.specs.Opens.{OpensUpTo}
 abbrev moment_after : Option ℕ → List Event → Option ℕ
 moment_after before story = fold (λ before x. Some x) before (all_told stable_moment story)
 
--- nothing is flushed
-record IsUnflushed (index : ℕ) (moment : Option ℕ) (story : List Event) : Type 0 where
-  same_index : last_told stable_index index story ≡ index
-  same_moment : moment_after moment story ≡ moment
+module _ (most moment : ℕ) where
+  abbrev Kept : List Event → Type 0
+  Kept story = (seat index at : ℕ) → Contains story (record { seat = seat; kind = Flushed index at }) → at ≤ moment → index ≤ most
 
-record IsFlushed (index : ℕ) (moment : Option ℕ) (story : List Event) : Type 0 where
-  seat : ℕ
-  last : ℕ
-  at : ℕ
-  there : Contains story (record { seat = seat; kind = Flushed last at })
-  its_index : last_told stable_index index story ≡ last
-  its_moment : moment_after moment story ≡ Some at
+  abbrev IsWithin : List Event → Type 0
+  IsWithin story = (index : ℕ) (before : Option ℕ) → Kept story → (IfSome before (λ at. at ≤ moment) → index ≤ most)
+      → IfSome (moment_after before story) (λ at. at ≤ moment) → last_told stable_index index story ≤ most
 
-later : (index : ℕ) (moment : Option ℕ) (first : Event) (story : List Event) (seat last at : ℕ) → Contains story (record { seat = seat; kind = Flushed last at })
-    → Contains (first ∷ story) (record { seat = seat; kind = Flushed last at })
-later index moment first story seat last at there = (suc there.0, omega (arith, there.1), there.2)
+  later : (event : Event) (story : List Event) → Kept (event ∷ story) → Kept story
+  later event story kept seat index at there = kept seat index at (suc there.0, omega (arith, there.1), there.2)
 
-flushed_or_not : (story : List Event) (index : ℕ) (moment : Option ℕ) → IsUnflushed index moment story ⊎ IsFlushed index moment story
-flushed_or_not [] index moment = inl (record { same_index = refl; same_moment = refl })
-flushed_or_not (event ∷ story) index moment = by event.seat event.kind (flushed_or_not story)
-  where
-    by : (seat : ℕ) (kind : EventKind) → ((index : ℕ) (moment : Option ℕ) → IsUnflushed index moment story ⊎ IsFlushed index moment story)
-        → IsUnflushed index moment (record { seat = seat; kind = kind } ∷ story) ⊎ IsFlushed index moment (record { seat = seat; kind = kind } ∷ story)
-    by seat (Flushed last at) rest = ⊎_elim
-        (λ (none : IsUnflushed last (Some at) story). inr (record { seat = seat; last = last; at = at; there = (0, omega arith, refl); its_index = none.same_index; its_moment = none.same_moment }))
-        (λ (some : IsFlushed last (Some at) story). inr (record {
-          seat = some.seat;
-          last = some.last;
-          at = some.at;
-          there = later last (Some at) (record { seat = seat; kind = Flushed last at }) story some.seat some.last some.at some.there;
-          its_index = some.its_index;
-          its_moment = some.its_moment;
-        }))
-        (rest last (Some at))
-    by seat kind rest = ⊎_elim
-        (λ (none : IsUnflushed index moment story). inl (record { same_index = none.same_index; same_moment = none.same_moment }))
-        (λ (some : IsFlushed index moment story). inr (record {
-          seat = some.seat;
-          last = some.last;
-          at = some.at;
-          there = later index moment (record { seat = seat; kind = kind }) story some.seat some.last some.at some.there;
-          its_index = some.its_index;
-          its_moment = some.its_moment;
-        }))
-        (rest index moment)
+  one_more : (seat : ℕ) (kind : EventKind) (story : List Event) → IsWithin story → IsWithin (record { seat = seat; kind = kind } ∷ story)
+  one_more seat (Flushed last at) story rest index before kept fits early =
+      rest last (Some at) (later (record { seat = seat; kind = Flushed last at }) story kept) (λ by_then. kept seat last at (0, omega arith, refl) by_then) early
+  one_more seat kind story rest index before kept fits early = rest index before (later (record { seat = seat; kind = kind }) story kept) fits early
+
+  all_within : (story : List Event) → IsWithin story
+  all_within [] = λ index before kept fits early. fits early
+  all_within (event ∷ story) = one_more event.seat event.kind story (all_within story)
 
 pub within_stable : (opening : Opening) (story : List Event) (moment : ℕ) (left : List ℕ) (it : OpensUpTo opening story moment left) → IfSome (flushed_moment story) (λ at. at ≤ moment)
     → MayBeLast opening story it.most
 within_stable opening story moment left it early = record {
-  stable = ⊎_elim
-      (λ none. omega (arith, none.same_index, it.opened))
-      (λ (some : IsFlushed opening.last_index None story).
-      let by_then : some.at ≤ moment = subst (λ (o : Option ℕ). IfSome o (λ at. at ≤ moment)) some.its_moment early in
-      let below = it.stable some.seat some.last some.at some.there by_then in
-      omega (arith, some.its_index, below))
-      (flushed_or_not story opening.last_index None);
+  stable = all_within it.most moment story opening.last_index None it.stable (λ none. it.opened) early;
   decided = it.decided;
 }

@@ -1,24 +1,30 @@
 //! What the rows of all stripes are together, and what the bodies that were taken of them stand for.
 
-ghost use Rattle.std.specs.Prelude.{◌++◌, ◌<◌, ◌≤◌, ℕ, List, IfSome};
+ghost use Rattle.std.specs.Prelude.{◌≡◌, ◌++◌, ◌<◌, ◌≤◌, ℕ, List, IfSome};
 ghost use Rattle.oz_buffer.specs.Buffer.{buffer_of};
 ghost use Rattle.oz_core.specs.declared.event.Event.{Event as AnyEvent};
 ghost use Rattle.oz_core.specs.declared.opening.Opening.{Opening as AnyOpening};
 ghost use Rattle.oz_core.specs.Contents.{OpeningBytes};
 ghost use Rattle.oz_core.specs.Law.{IsLegal};
-ghost use Rattle.oz_core.specs.Manager.{flushed_moment, swapped_index};
+ghost use Rattle.oz_core.specs.Manager.{flushed_moment, kept_up_to, swapped_index};
 ghost use Rattle.oz_decision.specs.Meets.{AreInGrammar};
 ghost use Rattle.oz_effects.specs.Build.{Builds};
 ghost use Rattle.oz_flusher.specs.Stops.{IsPrefix};
 ghost use Rattle.oz_flusher.specs.Taken.{bodies_of};
+ghost use Rattle.oz_journal.specs.Grammar.{IsJournal};
+ghost use Rattle.oz_namespace.specs.declared.namespace.Namespace.{Namespace as AnyNamespace};
 ghost use Rattle.oz_names.specs.declared.limits.TheConstants.{STRIPES};
 ghost use Rattle.oz_reopened.specs.Left.{MayBeLast};
 ghost use Rattle.oz_rows.specs.declared.entry.RowEntry.{RowEntry as AnyEntry};
 ghost use Rattle.oz_rows.specs.RowMaps.{Rows as AnyRows, row_of};
+ghost use Rattle.oz_sound.specs.StandsFor.{StandsFor};
 ghost use Rattle.oz_store.specs.Store.{IsStore};
 ghost use Rattle.oz_turn.specs.Told.{BeginsWith};
 ghost use Rattle.oz_restored.specs.Opens.{IsSinceSwap, NoneTakes, OpensUpTo, StandUpTo};
 ghost use Rattle.oz_restored.specs.Together.{AllStood, HasRun, LeadsOn, StandTogether, together};
+
+use oz_build::bodies_make_one_thing;
+use oz_journal::bytes_stand_for_one_thing;
 
 /// The rows of the sixteen stripes, each as its seat left them, are together rows of the whole store. These stood at
 /// each place of the story, beginning with those that were loaded; and so they did in each beginning of it.
@@ -54,7 +60,8 @@ pub fn a_prefix_builds()
 {}
 
 /// What a stop leaves of the journal does so too, up to an index that is at least each one that was stable by then.
-/// Where all that is stable was so by then, no index that is stable is above it.
+/// Where all that is stable was so by then, no index that is stable is above it. Whoever loads it gets that namespace,
+/// and that index.
 pub fn a_stop_leaves_a_prefix()
     ensures opens { (opening : AnyOpening) (bodies : List (List ℕ)) (all : List AnyEntry) (story : List AnyEvent)
         (last : AnyRows) (moment : ℕ) (left : List ℕ) →
@@ -64,4 +71,12 @@ pub fn a_stop_leaves_a_prefix()
     ensures within { (opening : AnyOpening) (story : List AnyEvent) (moment : ℕ) (left : List ℕ)
         (it : OpensUpTo opening story moment left) → IfSome (flushed_moment story) (λ at. at ≤ moment) →
         MayBeLast opening story it.most }
-{}
+    ensures loads { (opening : AnyOpening) (story : List AnyEvent) (moment : ℕ) (left : List ℕ)
+        (it : OpensUpTo opening story moment left) (bodies : List (List ℕ)) (all : List AnyEntry) (last : ℕ)
+        (namespace : AnyNamespace) →
+        IsJournal left bodies → Builds bodies all last → StandsFor (row_of all) namespace →
+        (namespace ≡ kept_up_to opening it.most story) × (last ≡ it.most) }
+{
+    bytes_stand_for_one_thing();
+    bodies_make_one_thing();
+}

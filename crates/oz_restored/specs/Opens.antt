@@ -35,8 +35,8 @@ pub record StandUpTo (opening : Opening) (story : List Event) (bodies : List (Li
   pub builds : Builds bodies all most
   pub stand : Stand IsSoundButRenames (row_of all) (kept_up_to opening most story)
 
--- Bytes that a stop at a moment leaves are such a journal. Its index isn't below that of the opening, nor below any that
--- was stable by then; and it isn't above the last that was decided.
+-- Bytes that a stop at a moment leaves are such a journal. Its index isn't below that of the opening, nor below any
+-- that was stable by then; and it isn't above the last that was decided.
 pub record OpensUpTo (opening : Opening) (story : List Event) (moment : ℕ) (left : List ℕ) : Type 0 where
   pub bodies : List (List ℕ)
   pub journal : IsJournal left bodies

@@ -1,5 +1,5 @@
 -- What is kept of a stripe once its decision is told.
-use Rattle.std.proofs.Common.{◌≡◌, ◌≢◌, ◌==◌, ℕ, Bool, cond, eq-eqb, List, [], ◌∷◌, ◌++◌, Option, None, Some, refl, sym, ap, ◌∙◌, subst}
+use Rattle.std.proofs.Common.{◌≡◌, ◌≢◌, ◌==◌, ℕ, ◌<◌, Bool, cond, eq-eqb, List, [], ◌∷◌, ◌++◌, Option, None, Some, refl, sym, ap, ◌∙◌, subst}
 use Rattle.std.proofs.lemmas.List.Elements.{filter_map-append, filter-append}
 use Rattle.oz_buffer.specs.Buffer.{AllFollow, Follows}
 use Rattle.oz_cache.specs.Cache.{newest}
@@ -15,6 +15,7 @@ use Rattle.oz_locks.specs.Stripe.{StripeView}
 use Rattle.oz_requests.specs.declared.reply.Reply.{Reply}
 use Rattle.oz_requests.specs.declared.request.AskId.{AskId}
 use Rattle.oz_rows.specs.declared.operation.Change.{Change}
+use Rattle.oz_rows.specs.declared.operation.TheConstants.{END_OF_INDEXES}
 use Rattle.oz_rows.specs.RowMaps.{Rows, after_changes}
 use Rattle.oz_turn.specs.Told.{KeepsOtherRooms}
 use Rattle.oz_om.specs.Held.{IsHeld, IsTellable, IsTold}
@@ -34,10 +35,11 @@ module _ {T : Type 0} (Coherent : Type 0) (opening : Opening) (bytes : OpeningBy
 
   pub told_of : IsHeld Coherent opening bytes script loaded old story
       → IsTellable Coherent opening loaded old.number (newest old.cache) story id reply batch changes index
+      → (batch ≢ [] → index < END_OF_INDEXES)
       → new.number ≡ old.number → new.seen ≡ story ++ decide ∷ [] → new.mine ≡ old.mine ++ decide ∷ []
       → newest new.cache ≡ after_changes changes (newest old.cache) → AllFollow (Follows Coherent opening bytes script) [] (story ++ decide ∷ [])
       → IsTold Coherent opening bytes script loaded old new
-  told_of held tellable number seen given rows follow = record {
+  told_of held tellable limit number seen given rows follow = record {
     number = number;
     event = decide;
     story = seen ∙ ap (λ (l : List Event). l ++ decide ∷ []) (sym held.seen);
@@ -55,7 +57,7 @@ module _ {T : Type 0} (Coherent : Type 0) (opening : Opening) (bytes : OpeningBy
           unasked = filter_map-append (λ (event : Event). asked_in event.kind) old.mine (decide ∷ []) ∙ ap (λ (l : List _). l ++ []) held.keeps.unasked;
           stands = tellable.stands;
           stood = λ coherent. stood_more opening loaded old.number story (newest old.cache) (after_changes changes (newest old.cache)) decide (held.keeps.stood coherent)
-              (record { own = λ is. record { changes = changes; of_stripe = tellable.of_stripe coherent; leads = refl }; others = λ not. absurd (not refl) })
+              (record { own = λ is. record { changes = changes; of_stripe = tellable.of_stripe coherent; limit = limit; leads = refl }; others = λ not. absurd (not refl) })
               (tellable.stands coherent);
         }))));
   }

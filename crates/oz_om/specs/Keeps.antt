@@ -1,5 +1,5 @@
 -- What is kept of a stripe that nobody works on: its rows stand for what the namespace has of it.
-use Rattle.std.specs.Prelude.{◌≡◌, ◌≢◌, ℕ, List, [], ◌∷◌, ◌++◌}
+use Rattle.std.specs.Prelude.{◌≡◌, ◌≢◌, ℕ, ◌<◌, List, [], ◌∷◌, ◌++◌}
 use Rattle.oz_core.specs.declared.event.Event.{Event}
 use Rattle.oz_core.specs.declared.event.EventKind.{EventKind}
 use Rattle.oz_core.specs.declared.event.EventKind.TheVariants.{Decide}
@@ -13,6 +13,7 @@ use Rattle.oz_granted.specs.Granted.{AreOld, handed_out}
 use Rattle.oz_locks.specs.Purges.{asked_by}
 use Rattle.oz_rows.specs.declared.entry.RowEntry.{RowEntry}
 use Rattle.oz_rows.specs.declared.operation.Change.{Change}
+use Rattle.oz_rows.specs.declared.operation.TheConstants.{END_OF_INDEXES}
 use Rattle.oz_rows.specs.RowMaps.{AreRows, Rows, after_changes}
 use Rattle.oz_sound.specs.Sound.{IsSoundButRenames}
 use Rattle.oz_striped.specs.Shares.{share_of}
@@ -24,15 +25,16 @@ pub record StandAt (opening : Opening) (loaded : Rows) (stripe : ℕ) (seen : Li
   pub stand : Stand IsSoundButRenames rows (share_of stripe (namespace_of opening seen))
   pub old : AreOld (only stripe loaded) (handed_out stripe seen) rows
 
--- What an event makes of a stripe's rows: a Decide of the stripe's seat what its batch makes, which is of the stripe alone;
--- any other event nothing.
-pub record IsWrittenBy (stripe : ℕ) (rows : Rows) (batch : List ℕ) (next : Rows) : Type 0 where
+-- What an event makes of a stripe's rows: a Decide of the stripe's seat what its batch makes, which is of the stripe
+-- alone, at an index that a body may have; any other event nothing.
+pub record IsWrittenBy (stripe : ℕ) (rows : Rows) (index : ℕ) (batch : List ℕ) (next : Rows) : Type 0 where
   pub changes : List Change
   pub of_stripe : IsBatchOfStripe stripe rows batch changes
+  pub limit : batch ≢ [] → index < END_OF_INDEXES
   pub leads : next ≡ after_changes changes rows
 
 abbrev pub IsMadeBy : ℕ → Rows → EventKind → Rows → Type 0
-IsMadeBy stripe rows (Decide id index reply batch) next = IsWrittenBy stripe rows batch next
+IsMadeBy stripe rows (Decide id index reply batch) next = IsWrittenBy stripe rows index batch next
 IsMadeBy stripe rows kind next = next ≡ rows
 
 pub record StepsTo (stripe : ℕ) (rows : Rows) (event : Event) (next : Rows) : Type 0 where

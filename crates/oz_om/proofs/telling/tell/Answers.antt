@@ -49,7 +49,7 @@ returns-clause-told g c =
     let behind : c.decide.new.ledger.story ≡ old.seen ++ event ∷ [] = story_is ∙ ap (λ (l : List Event). l ++ event ∷ []) (sym c.requires.held.seen) in
     let follow = subst (AllFollow (Follows g.O.Opened.coherent g.O.Opened.opening g.O.Opened.bytes g.O.Opened.script) []) story_is c.all_follow.ensures in
     let told = told_of g.O.Opened.coherent g.O.Opened.opening g.O.Opened.bytes g.O.Opened.script g.L.Loaded.rows old new c.args.ledger.story
-    c.args.id draft.index draft.reply draft.batch draft.changes c.requires.held c.requires.draft.tellable in
+    c.args.id draft.index draft.reply draft.batch draft.changes c.requires.held c.requires.draft.tellable (λ some. (c.requires.draft.above some).limit) in
     elim c.if-is_empty.branch [
       | then-is_empty w ↦
           let whole = w.stripe-is ∙ w.note-length.ensures.same in

@@ -1,6 +1,7 @@
 -- What who works for a line knows of it.
-use Rattle.std.specs.Prelude.{◌≡◌, ◌≢◌, ℕ, List, length, Option, Contains}
+use Rattle.std.specs.Prelude.{◌≡◌, ◌≢◌, ℕ, List, length, Option, None, Some, Contains}
 use Rattle.oz_command.specs.declared.command.Command.{Command}
+use Rattle.oz_requests.specs.declared.request.AskId.{AskId}
 use Rattle.oz_lines.specs.declared.script.Line.{Line}
 use Rattle.oz_lines.specs.declared.script.Script.{Script}
 use Rattle.oz_core.specs.declared.event.Event.{Event}
@@ -19,6 +20,11 @@ use Rattle.oz_underway.specs.GoingOn.{FromHereOn}
 -- how often a line asked
 abbrev pub times_asked : List Event → Line → ℕ
 times_asked story line = length (asks_of line.client line.number story)
+
+-- who asked so often asked this last, with the step of that number
+abbrev pub IsLast : Option AskId → ℕ → Type 0
+IsLast None asked = asked ≡ 0
+IsLast (Some id) asked = id.step ≡ asked
 
 module _ (Coherent : Type 0) (opening : Opening) (bytes : OpeningBytes) (script : Script) where
   -- so it is from here on, as long as the line asked so often

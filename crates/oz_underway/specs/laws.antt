@@ -2,8 +2,10 @@
 pub mod Going
 pub mod Asks
 pub mod Told
+pub mod Starting
 pub mod Replies
 pub mod Blocks
 pub mod Order
 pub mod Deciding
 pub mod UnderWay
+pub mod Labels

@@ -1,6 +1,6 @@
 //! What stays of a line that is under way.
 
-ghost use Rattle.std.specs.Prelude.{◌≡◌, ◌≢◌, ◌+◌, ℕ, [], List, Option, true, None, Some, length, Contains};
+ghost use Rattle.std.specs.Prelude.{◌≡◌, ◌≢◌, ◌+◌, ◌++◌, ◌∷◌, ℕ, [], List, Option, true, false, None, Some, length, Contains};
 ghost use Rattle.std.specs.List.{list_all};
 ghost use Rattle.oz_underway.specs.TempDecided.{IsDecideAt};
 ghost use Rattle.oz_buffer.specs.Buffer.{AllFollow, Follows};
@@ -9,16 +9,18 @@ ghost use Rattle.oz_client.specs.declared.step.Got.{Got as AnyGot};
 ghost use Rattle.oz_client.specs.declared.step.Got.TheVariants as gots;
 ghost use Rattle.oz_client.specs.declared.step.Step.TheVariants as steps;
 ghost use Rattle.oz_client.specs.LineState.{nothing_yet, progress_after};
-ghost use Rattle.oz_client.specs.Stories.{HasIt, IsStepEverywhere};
+ghost use Rattle.oz_client.specs.Stories.{HasIt, IsLeftEverywhere, IsStepEverywhere};
 ghost use Rattle.oz_command.specs.declared.command.Command.{Command as AnyCommand};
+ghost use Rattle.oz_command.specs.declared.command.Command.TheVariants as commands;
 ghost use Rattle.oz_core.specs.declared.event.Event.{Event as AnyEvent};
-ghost use Rattle.oz_core.specs.declared.event.EventKind.TheVariants.{Ask};
+ghost use Rattle.oz_core.specs.declared.event.EventKind.TheVariants.{Ask, Told};
 ghost use Rattle.oz_core.specs.declared.limits.TheConstants.{SERVICE_CLIENT};
 ghost use Rattle.oz_core.specs.Asks.{asks_of, is_told, last_ask, pending};
 ghost use Rattle.oz_core.specs.Due.{IsDue};
 ghost use Rattle.oz_core.specs.Fits.{EventFits, Fits};
 ghost use Rattle.oz_core.specs.Law.{AskIsEnabled};
 ghost use Rattle.oz_core.specs.Lines.{HasStarted};
+ghost use Rattle.oz_core.specs.Steps.{commit_step, is_open_at, opening_line};
 ghost use Rattle.oz_lines.specs.declared.script.Line.{Line as AnyLine};
 ghost use Rattle.oz_lines.specs.Numbered.{IsNumbered};
 ghost use Rattle.oz_requests.specs.declared.answer.Answer.{Answer as AnyAnswer};
@@ -28,9 +30,10 @@ ghost use Rattle.oz_requests.specs.declared.request.Request.{Request as AnyReque
 ghost use Rattle.oz_steps.specs.declared.label.Label.{Label as AnyLabel};
 ghost use Rattle.oz_steps.specs.Came.{granted_by};
 ghost use Rattle.oz_steps.specs.Grants.{has_fate_written};
+ghost use Rattle.oz_steps.specs.Lines.{IsLabel, commit_of_label};
 ghost use Rattle.oz_turn.specs.Told.{BeginsWith};
 ghost use Rattle.oz_underway.specs.GoingOn.{FromHereOn};
-ghost use Rattle.oz_underway.specs.UnderWay.{IsUnderWay, LabelStays, WhileAsked, times_asked};
+ghost use Rattle.oz_underway.specs.UnderWay.{IsLast, IsUnderWay, LabelStays, WhileAsked, times_asked};
 
 use oz_buffer::Opened;
 
@@ -42,6 +45,19 @@ pub fn a_line_begins<O: Opened>()
         HasStarted seen line → asks_of line.client line.number seen ≡ [] →
         LabelStays O.coherent O.opening O.bytes O.script seen line command label →
         IsUnderWay O.coherent O.opening O.bytes O.script seen line 0 command (nothing_yet nodes label) }
+{}
+
+/// Nothing is asked for a script's line before it starts, nor in what starts it: that a line was told.
+pub fn nothing_is_asked_before<O: Opened>()
+    ensures start { O.coherent → IsNumbered O.script → (seen : List AnyEvent) (line : AnyLine) →
+        Contains O.script.lines line → line.client ≢ SERVICE_CLIENT →
+        AllFollow (Follows O.coherent O.opening O.bytes O.script) [] seen → (HasStarted seen line → ⊥) →
+        asks_of line.client line.number seen ≡ [] }
+    ensures told { O.coherent → IsNumbered O.script → (seen : List AnyEvent) (line : AnyLine)
+        (seat client number : ℕ) (answer : AnyAnswer) →
+        Contains O.script.lines line → line.client ≢ SERVICE_CLIENT →
+        AllFollow (Follows O.coherent O.opening O.bytes O.script) [] seen → (HasStarted seen line → ⊥) →
+        asks_of line.client line.number (seen ++ record { seat = seat; kind = Told client number answer } ∷ []) ≡ [] }
 {}
 
 /// A line that is under way is so in what is seen later.
@@ -86,15 +102,29 @@ pub fn a_reply_comes<O: Opened>()
         (progress_after progress (gots.Reply reply)) }
 {}
 
-/// What a line is to be told is due, as long as it asked no more.
+/// What a line is to be told is due, as long as it asked no more: it is what the script leads to.
 pub fn what_is_told_is_due<O: Opened>()
-    ensures { (seen : List AnyEvent) (line : AnyLine) (asked : ℕ) (command : AnyCommand)
-        (progress : AnyProgress) (got : AnyGot) (answer : AnyAnswer) →
+    ensures due { (seen : List AnyEvent) (line : AnyLine) (asked : ℕ) (command : AnyCommand) (progress : AnyProgress)
+        (got : AnyGot) (answer : AnyAnswer) →
         IsUnderWay O.coherent O.opening O.bytes O.script seen line asked command progress →
         IsStepEverywhere command progress got (steps.Tell answer) →
         WhileAsked O.coherent O.opening O.bytes O.script seen line asked (λ story.
         HasIt O.opening O.bytes O.script story line command progress got →
         IsDue O.opening O.bytes O.script story line answer) }
+    ensures fits { O.coherent → (seen : List AnyEvent) (line : AnyLine) (asked : ℕ) (command : AnyCommand)
+        (progress : AnyProgress) (got : AnyGot) (answer : AnyAnswer) (last : Option AnyId) →
+        IsUnderWay O.coherent O.opening O.bytes O.script seen line asked command progress →
+        IsStepEverywhere command progress got (steps.Tell answer) → IsLast last asked →
+        FromHereOn O.coherent O.opening O.bytes O.script seen (λ story.
+        last_ask line.client line.number story ≡ last →
+        HasIt O.opening O.bytes O.script story line command progress got →
+        EventFits O.opening O.bytes O.script story (Told line.client line.number answer)) }
+    ensures given { (seen : List AnyEvent) (line : AnyLine) (asked : ℕ) (command : AnyCommand)
+        (progress : AnyProgress) (answer : AnyAnswer) →
+        IsUnderWay O.coherent O.opening O.bytes O.script seen line asked command progress →
+        FromHereOn O.coherent O.opening O.bytes O.script seen (λ story.
+        IsDue O.opening O.bytes O.script story line answer →
+        EventFits O.opening O.bytes O.script story (Told line.client line.number answer)) }
 {}
 
 /// A script's line asks with the steps 1, 2 and so on: its last Ask says how often it asked. As long as that stays, all
@@ -119,4 +149,32 @@ pub fn lines_are_told_in_order<O: Opened>()
     ensures { O.coherent → IsNumbered O.script → (story : List AnyEvent) →
         AllFollow (Follows O.coherent O.opening O.bytes O.script) [] story →
         Fits O.opening O.bytes O.script story }
+{}
+
+/// What a label stands for stays once the line that opened it was told, which it is once. For a later line of the client
+/// that commits the label, it is what that line left, if it was told `OK`, and else nothing. A label that no line opened
+/// stands for nothing, not even for that it isn't open: no script that was read has a commit of one.
+pub fn a_label_stays<O: Opened>()
+    ensures commit { O.coherent → (seen : List AnyEvent) (opened : AnyLine) (asked : ℕ) (command : AnyCommand)
+        (progress : AnyProgress) (label : AnyLabel) →
+        IsUnderWay O.coherent O.opening O.bytes O.script seen opened asked command progress →
+        IsLeftEverywhere command progress label → times_asked seen opened ≡ asked → is_open_at seen opened ≡ true →
+        FromHereOn O.coherent O.opening O.bytes O.script seen (λ story.
+        commit_step story (Some opened) ≡ Some (commit_of_label label)) }
+    ensures ok { O.coherent → (seen : List AnyEvent) (opened line : AnyLine) (asked : ℕ) (command : AnyCommand)
+        (progress : AnyProgress) (label : AnyLabel) (name : List ℕ) →
+        IsUnderWay O.coherent O.opening O.bytes O.script seen opened asked command progress →
+        IsLeftEverywhere command progress label → times_asked seen opened ≡ asked → is_open_at seen opened ≡ true →
+        opening_line O.script line name ≡ Some opened →
+        LabelStays O.coherent O.opening O.bytes O.script seen line (commands.KeyCommit name) (Some label) }
+    ensures not_open { O.coherent → (seen : List AnyEvent) (opened line : AnyLine) (name : List ℕ) →
+        is_told opened.client opened.number seen ≡ true → is_open_at seen opened ≡ false →
+        opening_line O.script line name ≡ Some opened →
+        LabelStays O.coherent O.opening O.bytes O.script seen line (commands.KeyCommit name) None }
+    ensures none { (seen : List AnyEvent) (line : AnyLine) (command : AnyCommand) (label : Option AnyLabel) →
+        ((name : List ℕ) → command ≢ commands.KeyCommit name) →
+        LabelStays O.coherent O.opening O.bytes O.script seen line command label }
+    ensures unopened { (story : List AnyEvent) (line : AnyLine) (name : List ℕ) (label : Option AnyLabel) →
+        opening_line O.script line name ≡ None →
+        IsLabel O.script story line (commands.KeyCommit name) label → ⊥ }
 {}

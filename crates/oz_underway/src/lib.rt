@@ -4,6 +4,6 @@
 mod laws;
 
 pub use laws::{
-    a_line_begins, a_line_stays_under_way, a_reply_comes, asks_stay, lines_are_told_in_order,
+    a_label_stays, a_line_begins, a_line_stays_under_way, a_reply_comes, asks_stay, lines_are_told_in_order, nothing_is_asked_before,
     what_is_asked_fits, what_is_told_is_due,
 };

@@ -13,10 +13,10 @@ use Rattle.oz_requests.specs.declared.request.Request.{Request}
 use Rattle.oz_requests.specs.declared.reply.Reply.{Reply}
 use Rattle.oz_core.specs.declared.event.Event.{Event}
 use Rattle.oz_core.specs.declared.event.EventKind.{EventKind}
-use Rattle.oz_core.specs.declared.event.EventKind.TheVariants.{Ask, Decide}
+use Rattle.oz_core.specs.declared.event.EventKind.TheVariants.{Ask, Decide, Told}
 use Rattle.oz_core.specs.declared.limits.TheConstants.{SERVICE_CLIENT}
 use Rattle.oz_core.specs.declared.opening.Opening.{Opening}
-use Rattle.oz_core.specs.Asks.{ask_id, asks_of, is_asked, is_id, is_script, pending, pending_after, reply_to, replies_to}
+use Rattle.oz_core.specs.Asks.{ask_id, asks_of, is_asked, is_id, is_script, last_ask, pending, pending_after, reply_to, replies_to}
 use Rattle.oz_core.specs.Contents.{OpeningBytes, written_for}
 use Rattle.oz_core.specs.Due.{AreContents, IsDue}
 use Rattle.oz_core.specs.Fits.{AskFits, EventFits}
@@ -40,25 +40,13 @@ use Rattle.oz_kept.specs.laws.Granted.{one_ask_id}
 use Rattle.oz_kept.specs.laws.Lines.{lines_apart}
 use Rattle.oz_turn.specs.Told.{BeginsWith}
 use Rattle.oz_underway.specs.GoingOn.{FromHereOn}
-use Rattle.oz_underway.specs.UnderWay.{IsUnderWay, LabelStays, WhileAsked, times_asked}
-use Rattle.oz_underway.specs.laws.Asks.{asked_of_step, its_line, pending_was_asked, scripted, step_of_asked}
+use Rattle.oz_underway.specs.UnderWay.{IsLast, IsUnderWay, LabelStays, times_asked}
+use Rattle.oz_underway.specs.laws.Asks.{asked_of_step, its_line, none_last, pending_was_asked, scripted, step_of_asked, step_of_last}
 use Rattle.oz_underway.specs.laws.Blocks.{attempts_written, none_granted, same_written, still_grants}
 use Rattle.oz_underway.specs.laws.Deciding.{IsDecidedSince, decided_since}
 use Rattle.oz_underway.specs.laws.Going.{among_since, begins_itself, begins_push, begins_through, count_more, follow_before, kept_on, no_fewer, told_longer}
 use Rattle.oz_underway.specs.laws.Replies.{few_replies, none_more_replied, one_more}
-use Rattle.oz_underway.specs.laws.Told.{told_still}
-
--- ---- what has started stays so
-
-after_still : (story seen : List Event) → BeginsWith story seen → (after : Option (ℕ × ℕ)) → AfterIsTold seen after → AfterIsTold story after
-after_still story seen begins None told = tt
-after_still story seen begins (Some named) told = told_still named.0 named.1 story seen begins told
-
-pub started_still : (story seen : List Event) (line : Line) → BeginsWith story seen → HasStarted seen line → HasStarted story line
-started_still story seen line begins started = record {
-  before_it = λ lt. told_still line.client (line.number - 1) story seen begins (started.before_it lt);
-  after_it = after_still story seen begins line.after started.after_it;
-}
+use Rattle.oz_underway.specs.laws.Starting.{started_still}
 
 abbrev next_id : Line → ℕ → AskId
 next_id line asked = record { client = line.client; line = line.number; step = asked + 1 }
@@ -294,3 +282,30 @@ module _ (Coherent : Type 0) (opening : Opening) (bytes : OpeningBytes) (script 
       → HasIt opening bytes script story line command progress got → IsDue opening bytes script story line answer
   told_is_due seen line asked command progress got answer way step story begins all so has_it =
       step opening bytes script story line (way.has story (begins_through story seen way.since begins way.goes_on) all so) has_it
+
+  times_of_last : (line : Line) (story : List Event) → line.client ≢ SERVICE_CLIENT → Coherent → AllFollow Follow [] story → (last : Option AskId) (asked : ℕ)
+      → IsLast last asked → last_ask line.client line.number story ≡ last → times_asked story line ≡ asked
+  times_of_last line story other coherent all None asked none is = ap length (none_last (asks_of line.client line.number story) is) ∙ sym none
+  times_of_last line story other coherent all (Some id) asked step is =
+      sym (step_of_last Coherent opening bytes script line.client line.number other story coherent all id is) ∙ step
+
+  -- what is due is what the script leads to
+  pub due_fits : (seen : List Event) (line : Line) (asked : ℕ) (command : Command) (progress : Progress) (answer : Answer)
+      → UnderWay seen line asked command progress → (story : List Event) → BeginsWith story seen → IsDue opening bytes script story line answer
+      → EventFits opening bytes script story (Told line.client line.number answer)
+  due_fits seen line asked command progress answer way story begins due = record {
+    line = line;
+    its = record { there = way.there; of_client = refl; of_number = refl };
+    started = started_still story way.since line (begins_through story seen way.since begins way.goes_on) way.started;
+    due = due;
+  }
+
+  pub told_fits : (seen : List Event) (line : Line) (asked : ℕ) (command : Command) (progress : Progress) (got : Got) (answer : Answer) (last : Option AskId) → Coherent
+      → UnderWay seen line asked command progress → IsStepEverywhere command progress got (steps.Tell answer) → IsLast last asked
+      → (story : List Event) → BeginsWith story seen → AllFollow Follow [] story → last_ask line.client line.number story ≡ last
+      → HasIt opening bytes script story line command progress got
+      → EventFits opening bytes script story (Told line.client line.number answer)
+  told_fits seen line asked command progress got answer last coherent way step of_last story begins all is has_it =
+      due_fits seen line asked command progress answer way story begins
+      (told_is_due seen line asked command progress got answer way step story begins all
+      (times_of_last line story way.of_client coherent all last asked of_last is) has_it)

@@ -1,0 +1,30 @@
+use Rattle.std.proofs.Common.{◌∙◌, ap}
+use Rattle.oz_core.specs.Steps.{commit_step}
+use Rattle.oz_underway.specs.laws.Labels.{commit_stays, never_opened, no_label, open_still}
+use Rattle.oz_underway.proofs.laws.a_label_stays.Goals as goal
+
+pub returns-clause-commit : goal.returns-clause-commit
+returns-clause-commit g c coherent seen opened asked command progress label way left so is story begins all =
+    let O = g.O.Opened in
+    commit_stays O.coherent O.opening O.bytes O.script seen opened asked command progress label coherent way left so is story begins all
+
+pub returns-clause-ok : goal.returns-clause-ok
+returns-clause-ok g c coherent seen opened line asked command progress label name way left so is its story begins all =
+    let O = g.O.Opened in
+    ap (commit_step story) its
+    ∙ commit_stays O.coherent O.opening O.bytes O.script seen opened asked command progress label coherent way left so is story begins all
+
+pub returns-clause-not_open : goal.returns-clause-not_open
+returns-clause-not_open g c coherent seen opened line name told shut its story begins all =
+    let O = g.O.Opened in
+    (opened, its, open_still O.coherent O.opening O.bytes O.script opened story seen coherent all begins told ∙ shut)
+
+pub returns-clause-none : goal.returns-clause-none
+returns-clause-none g c seen line command label other story begins all =
+    let O = g.O.Opened in
+    no_label O.script story line command label other
+
+pub returns-clause-unopened : goal.returns-clause-unopened
+returns-clause-unopened g c story line name label none is =
+    let O = g.O.Opened in
+    never_opened O.script story line name label none is

@@ -102,7 +102,11 @@ fn ask_and_settle<R: Ring, W: Wait + Abort>(
     let story = story(rt, alloc, turn, &mut worker)?;
     holds(rt, asks_in(&story) == 19, "each once");
     holds(rt, have_their_indexes(&story), "indexes");
-    holds(rt, namespace_behind(alloc, &story)?.is_some(), "of one thread");
+    holds(
+        rt,
+        namespace_behind(alloc, &story)?.is_some(),
+        "of one thread",
+    );
     Ok(())
 }
 

@@ -124,11 +124,7 @@ fn rows_are<R: Ring, W: Wait>(
 }
 
 /// Whether the rows that are loaded from the disk of a flusher are those of the namespace.
-fn loads_as<R: Ring>(
-    alloc: Global,
-    desk: Desk<R>,
-    namespace: &Namespace,
-) -> Result<bool, Fail> {
+fn loads_as<R: Ring>(alloc: Global, desk: Desk<R>, namespace: &Namespace) -> Result<bool, Fail> {
     let Desk { flusher, .. } = desk;
     let Ok((unseated, _flusher)) = load(alloc, flusher.into_journal().into_disk()) else {
         return Err("a disk".into());

@@ -1,13 +1,19 @@
-//! What stays of the lines that were told.
+//! What stays of the lines that were told, and what the tests of telling come to.
 
-ghost use Rattle.std.specs.Prelude.{◌≡◌, ◌≢◌, ℕ, [], ◌∷◌, ◌++◌, true, List, Option};
+ghost use Rattle.std.specs.Prelude.{◌≡◌, ℕ, [], ◌∷◌, ◌++◌, true, List, Option, None, Some};
+ghost use Rattle.oz_command.specs.declared.command.AdminCommand.TheVariants as admin;
+ghost use Rattle.oz_command.specs.declared.command.Command.TheVariants as commands;
 ghost use Rattle.oz_core.specs.declared.event.Event.{Event as AnyEvent};
 ghost use Rattle.oz_core.specs.declared.event.EventKind.TheVariants as events;
 ghost use Rattle.oz_core.specs.declared.opening.Opening.{Opening as AnyOpening};
 ghost use Rattle.oz_core.specs.Asks.{is_told};
+ghost use Rattle.oz_core.specs.Contents.{OpeningBytes};
+ghost use Rattle.oz_core.specs.Due.{IsDue};
 ghost use Rattle.oz_core.specs.Lines.{HasStarted};
 ghost use Rattle.oz_lines.specs.declared.script.Line.{Line as AnyLine};
+ghost use Rattle.oz_lines.specs.declared.script.Script.{Script as AnyScript};
 ghost use Rattle.oz_requests.specs.declared.answer.Answer.{Answer as AnyAnswer};
+ghost use Rattle.oz_requests.specs.declared.answer.Answer.TheVariants as answers;
 ghost use Rattle.oz_requests.specs.declared.request.AskId.{AskId as AnyId};
 ghost use Rattle.oz_telling.specs.declared.untold.Untold.{Untold as AnyCause};
 ghost use Rattle.oz_telling.specs.declared.untold.Untold.TheVariants as causes;
@@ -33,4 +39,21 @@ pub fn what_keeps_a_line_untold()
     ensures { (opening : AnyOpening) (story : List AnyEvent) (client line : ℕ) (last : Option AnyId)
         (answer : AnyAnswer) (cause : AnyCause) → MayTell opening story client line last answer →
         KeepsUntold opening story client line last answer cause → cause ≡ causes.OutOfMemory }
+{}
+
+/// What a line is told of the manager's end is due. That the manager had stopped is due of a line that asked nothing
+/// where it drains.
+pub fn what_is_told_of_the_manager_is_due()
+    ensures unacknowledged { (opening : AnyOpening) (bytes : OpeningBytes) (script : AnyScript) (story : List AnyEvent)
+        (line : AnyLine) (last : Option AnyId) →
+        MayTell opening story line.client line.number last answers.Unacknowledged →
+        IsDue opening bytes script story line answers.Unacknowledged }
+    ensures stopped { (opening : AnyOpening) (bytes : OpeningBytes) (script : AnyScript) (story : List AnyEvent)
+        (line : AnyLine) (id : AnyId) →
+        MayTell opening story line.client line.number (Some id) answers.ManagerStopped →
+        IsDue opening bytes script story line answers.ManagerStopped }
+    ensures drain { (opening : AnyOpening) (bytes : OpeningBytes) (script : AnyScript) (story : List AnyEvent)
+        (line : AnyLine) → line.command ≡ commands.Admin admin.Drain →
+        MayTell opening story line.client line.number None answers.ManagerStopped →
+        IsDue opening bytes script story line answers.ManagerStopped }
 {}

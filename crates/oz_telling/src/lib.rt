@@ -9,7 +9,10 @@ mod starting;
 mod telling;
 mod untold;
 
-pub use laws::{what_keeps_a_line_untold, what_started_stays, what_was_told_stays};
+pub use laws::{
+    what_is_told_of_the_manager_is_due, what_keeps_a_line_untold, what_started_stays,
+    what_was_told_stays,
+};
 pub use settlement::{Settlement, settle_line};
 pub use starting::has_started;
 pub use telling::tell;

@@ -1,4 +1,3 @@
 pub mod GoingOn
 pub mod UnderWay
-pub mod TempDecided
 pub mod laws

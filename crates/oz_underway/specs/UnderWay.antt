@@ -37,8 +37,8 @@ module _ (Coherent : Type 0) (opening : Opening) (bytes : OpeningBytes) (script 
   LabelStays seen line command label =
       FromHereOn Coherent opening bytes script seen (λ story. IsLabel script story line command label)
 
-  -- At a place of what was seen a script's line had started, and had asked so often. From there on, as long as it asks no
-  -- more, what a story has of the line is what came back to it.
+  -- At a place of what was seen a script's line had started, and had asked so often. From there on, as long as it asks
+  -- no more, what a story has of the line is what came back to it.
   pub record IsUnderWay (seen : List Event) (line : Line) (asked : ℕ) (command : Command) (progress : Progress)
       : Type 0 where
     pub there : Contains script.lines line

@@ -1,63 +1,65 @@
 //! What stays of a line that is under way.
 
-ghost use Rattle.std.specs.Prelude.{◌≡◌, ◌≢◌, ◌+◌, ◌++◌, ◌∷◌, ℕ, [], List, Option, true, false, None, Some, length, Contains};
+ghost use Rattle.std.specs.Prelude.{◌≡◌, ◌≢◌, ◌+◌, ◌==◌, ◌++◌, ◌∷◌, ℕ, [], List, Option, true, false, None, Some};
+ghost use Rattle.std.specs.Prelude.{length, if◌then◌else◌, Contains};
 ghost use Rattle.std.specs.List.{list_all};
-ghost use Rattle.oz_underway.specs.TempDecided.{IsDecideAt};
+ghost use Rattle.oz_asker.specs.Decided.{IsDecideAt};
 ghost use Rattle.oz_buffer.specs.Buffer.{AllFollow, Follows};
 ghost use Rattle.oz_client.specs.declared.progress.Progress.{Progress as AnyProgress};
-ghost use Rattle.oz_client.specs.declared.step.Got.{Got as AnyGot};
 ghost use Rattle.oz_client.specs.declared.step.Got.TheVariants as gots;
+ghost use Rattle.oz_client.specs.declared.step.Got.{Got as AnyGot};
 ghost use Rattle.oz_client.specs.declared.step.Step.TheVariants as steps;
 ghost use Rattle.oz_client.specs.LineState.{nothing_yet, progress_after};
+ghost use Rattle.oz_client.specs.Onward.{IsReading};
 ghost use Rattle.oz_client.specs.Stories.{HasIt, IsLeftEverywhere, IsStepEverywhere};
-ghost use Rattle.oz_command.specs.declared.command.Command.{Command as AnyCommand};
 ghost use Rattle.oz_command.specs.declared.command.Command.TheVariants as commands;
+ghost use Rattle.oz_command.specs.declared.command.Command.{Command as AnyCommand};
 ghost use Rattle.oz_core.specs.declared.event.Event.{Event as AnyEvent};
 ghost use Rattle.oz_core.specs.declared.event.EventKind.TheVariants.{Ask, Told};
 ghost use Rattle.oz_core.specs.declared.limits.TheConstants.{SERVICE_CLIENT};
 ghost use Rattle.oz_core.specs.Asks.{asks_of, is_told, last_ask, pending};
+ghost use Rattle.oz_core.specs.Contents.{HasContent};
 ghost use Rattle.oz_core.specs.Due.{IsDue};
 ghost use Rattle.oz_core.specs.Fits.{EventFits, Fits};
 ghost use Rattle.oz_core.specs.Law.{AskIsEnabled};
 ghost use Rattle.oz_core.specs.Lines.{HasStarted};
-ghost use Rattle.oz_core.specs.Steps.{commit_step, is_open_at, opening_line};
+ghost use Rattle.oz_core.specs.Steps.{commit_step, is_open_at, opening_line, was_told_ok};
+ghost use Rattle.oz_fields.specs.declared.block.Piece.{Piece as AnyPiece};
 ghost use Rattle.oz_lines.specs.declared.script.Line.{Line as AnyLine};
 ghost use Rattle.oz_lines.specs.Numbered.{IsNumbered};
+ghost use Rattle.oz_model.specs.Answers.{Answers};
+ghost use Rattle.oz_namespace.specs.declared.namespace.Namespace.{Namespace as AnyNamespace};
 ghost use Rattle.oz_requests.specs.declared.answer.Answer.{Answer as AnyAnswer};
 ghost use Rattle.oz_requests.specs.declared.reply.Reply.{Reply as AnyReply};
 ghost use Rattle.oz_requests.specs.declared.request.AskId.{AskId as AnyId};
+ghost use Rattle.oz_requests.specs.declared.request.Family.TheVariants.{Allocation};
 ghost use Rattle.oz_requests.specs.declared.request.Request.{Request as AnyRequest};
+ghost use Rattle.oz_requests.specs.Families.{family_of};
 ghost use Rattle.oz_steps.specs.declared.label.Label.{Label as AnyLabel};
 ghost use Rattle.oz_steps.specs.Came.{granted_by};
 ghost use Rattle.oz_steps.specs.Grants.{has_fate_written};
 ghost use Rattle.oz_steps.specs.Lines.{IsLabel, commit_of_label};
+ghost use Rattle.oz_steps.specs.Requests.{request_by};
 ghost use Rattle.oz_turn.specs.Told.{BeginsWith};
 ghost use Rattle.oz_underway.specs.GoingOn.{FromHereOn};
 ghost use Rattle.oz_underway.specs.UnderWay.{IsLast, IsUnderWay, LabelStays, WhileAsked, times_asked};
 
 use oz_buffer::Opened;
 
-/// A script's line that has started and asked nothing is under way, with nothing that came back.
+/// A script's line that has started is under way, from its start on, with nothing that came back.
 pub fn a_line_begins<O: Opened>()
-    ensures { O.coherent → (seen : List AnyEvent) (line : AnyLine) (command : AnyCommand) (nodes : ℕ)
+    ensures started { O.coherent → IsNumbered O.script → (seen : List AnyEvent) (line : AnyLine)
+        (command : AnyCommand) (nodes : ℕ) (label : Option AnyLabel) →
+        Contains O.script.lines line → line.command ≡ command →
+        AllFollow (Follows O.coherent O.opening O.bytes O.script) [] seen → HasStarted seen line →
+        IsLabel O.script seen line command label →
+        IsUnderWay O.coherent O.opening O.bytes O.script seen line 0 command (nothing_yet nodes label) }
+    ensures unasked { O.coherent → (seen : List AnyEvent) (line : AnyLine) (command : AnyCommand) (nodes : ℕ)
         (label : Option AnyLabel) →
         Contains O.script.lines line → line.client ≢ SERVICE_CLIENT → line.command ≡ command →
         HasStarted seen line → asks_of line.client line.number seen ≡ [] →
         LabelStays O.coherent O.opening O.bytes O.script seen line command label →
         IsUnderWay O.coherent O.opening O.bytes O.script seen line 0 command (nothing_yet nodes label) }
-{}
-
-/// Nothing is asked for a script's line before it starts, nor in what starts it: that a line was told.
-pub fn nothing_is_asked_before<O: Opened>()
-    ensures start { O.coherent → IsNumbered O.script → (seen : List AnyEvent) (line : AnyLine) →
-        Contains O.script.lines line → line.client ≢ SERVICE_CLIENT →
-        AllFollow (Follows O.coherent O.opening O.bytes O.script) [] seen → (HasStarted seen line → ⊥) →
-        asks_of line.client line.number seen ≡ [] }
-    ensures told { O.coherent → IsNumbered O.script → (seen : List AnyEvent) (line : AnyLine)
-        (seat client number : ℕ) (answer : AnyAnswer) →
-        Contains O.script.lines line → line.client ≢ SERVICE_CLIENT →
-        AllFollow (Follows O.coherent O.opening O.bytes O.script) [] seen → (HasStarted seen line → ⊥) →
-        asks_of line.client line.number (seen ++ record { seat = seat; kind = Told client number answer } ∷ []) ≡ [] }
 {}
 
 /// A line that is under way is so in what is seen later.
@@ -68,7 +70,8 @@ pub fn a_line_stays_under_way<O: Opened>()
         IsUnderWay O.coherent O.opening O.bytes O.script later line asked command progress }
 {}
 
-/// What a line asks next is its line's next step, where the law lets it ask; and of that id nothing else is ever pending.
+/// What is asked next for a line is its next step, where the law lets it ask; and of that id nothing else is ever
+/// pending.
 pub fn what_is_asked_fits<O: Opened>()
     ensures fits { O.coherent → (seen : List AnyEvent) (line : AnyLine) (asked seat : ℕ) (command : AnyCommand)
         (progress : AnyProgress) (got : AnyGot) (request : AnyRequest) (id : AnyId) →
@@ -102,6 +105,24 @@ pub fn a_reply_comes<O: Opened>()
         (progress_after progress (gots.Reply reply)) }
 {}
 
+/// A piece of a key is read: what its block has, it has from then on.
+pub fn a_piece_is_read<O: Opened>()
+    ensures { O.coherent → IsNumbered O.script → (seen later : List AnyEvent) (line : AnyLine) (asked : ℕ)
+        (command : AnyCommand) (progress : AnyProgress) (piece : AnyPiece) (content : List ℕ) →
+        IsUnderWay O.coherent O.opening O.bytes O.script seen line asked command progress →
+        IsReading command progress piece →
+        BeginsWith later seen → AllFollow (Follows O.coherent O.opening O.bytes O.script) [] later →
+        HasContent O.opening O.bytes O.script later piece.block content →
+        IsUnderWay O.coherent O.opening O.bytes O.script later line asked command
+        (record progress { read = progress.read ++ content ∷ [] }) }
+{}
+
+/// Only who asked for a block is granted one.
+pub fn a_reply_grants_nothing()
+    ensures { (namespace : AnyNamespace) (request : AnyRequest) (reply : AnyReply) →
+        Answers namespace request reply → family_of request ≢ Allocation → granted_by reply ≡ None }
+{}
+
 /// What a line is to be told is due, as long as it asked no more: it is what the script leads to.
 pub fn what_is_told_is_due<O: Opened>()
     ensures due { (seen : List AnyEvent) (line : AnyLine) (asked : ℕ) (command : AnyCommand) (progress : AnyProgress)
@@ -128,11 +149,17 @@ pub fn what_is_told_is_due<O: Opened>()
 {}
 
 /// A script's line asks with the steps 1, 2 and so on: its last Ask says how often it asked. As long as that stays, all
-/// its Asks do; and they stay once the line is told.
+/// its Asks do; and they stay once the line is told, or has no next step.
 pub fn asks_stay<O: Opened>()
-    ensures counted { O.coherent → (client line : ℕ) (story : List AnyEvent) (id : AnyId) → client ≢ SERVICE_CLIENT →
-        AllFollow (Follows O.coherent O.opening O.bytes O.script) [] story → last_ask client line story ≡ Some id →
+    ensures counted { O.coherent → (client line : ℕ) (story : List AnyEvent) (id : AnyId) →
+        client ≢ SERVICE_CLIENT → AllFollow (Follows O.coherent O.opening O.bytes O.script) [] story →
+        last_ask client line story ≡ Some id →
         id ≡ record { client = client; line = line; step = length (asks_of client line story) } }
+    ensures times { O.coherent → (client line asked : ℕ) (story : List AnyEvent) (last : Option AnyId) →
+        client ≢ SERVICE_CLIENT → AllFollow (Follows O.coherent O.opening O.bytes O.script) [] story →
+        IsLast last asked → last_ask client line story ≡ last → length (asks_of client line story) ≡ asked }
+    ensures last { (client line asked : ℕ) →
+        IsLast (if asked == 0 then None else Some (record { client = client; line = line; step = asked })) asked }
     ensures none { (client line : ℕ) (story : List AnyEvent) → last_ask client line story ≡ None →
         asks_of client line story ≡ [] }
     ensures same { O.coherent → (client line : ℕ) (seen : List AnyEvent) → client ≢ SERVICE_CLIENT →
@@ -142,6 +169,11 @@ pub fn asks_stay<O: Opened>()
     ensures told { O.coherent → (client line : ℕ) (seen : List AnyEvent) → client ≢ SERVICE_CLIENT →
         is_told client line seen ≡ true → FromHereOn O.coherent O.opening O.bytes O.script seen (λ story.
         asks_of client line story ≡ asks_of client line seen) }
+    ensures idle { O.coherent → IsNumbered O.script → (seen : List AnyEvent) (line : AnyLine) (asked : ℕ)
+        (command : AnyCommand) (progress : AnyProgress) →
+        IsUnderWay O.coherent O.opening O.bytes O.script seen line asked command progress →
+        request_by command progress.label progress.came ≡ None →
+        FromHereOn O.coherent O.opening O.bytes O.script seen (λ story. times_asked story line ≡ asked) }
 {}
 
 /// Where each event follows, the whole story is that of the script: each client's lines were told in their order.
@@ -151,9 +183,21 @@ pub fn lines_are_told_in_order<O: Opened>()
         Fits O.opening O.bytes O.script story }
 {}
 
-/// What a label stands for stays once the line that opened it was told, which it is once. For a later line of the client
-/// that commits the label, it is what that line left, if it was told `OK`, and else nothing. A label that no line opened
-/// stands for nothing, not even for that it isn't open: no script that was read has a commit of one.
+/// Behind what tells it, a line was told: it is open if it was told `OK`. It asked nothing by that.
+pub fn a_line_was_told()
+    ensures told { (story : List AnyEvent) (seat client number : ℕ) (answer : AnyAnswer) →
+        is_told client number (story ++ record { seat = seat; kind = Told client number answer } ∷ []) ≡ true }
+    ensures open { (story : List AnyEvent) (seat : ℕ) (line : AnyLine) (answer : AnyAnswer) →
+        is_open_at (story ++ record { seat = seat; kind = Told line.client line.number answer } ∷ []) line
+        ≡ was_told_ok (Some answer) }
+    ensures asks { (story : List AnyEvent) (seat client number other line : ℕ) (answer : AnyAnswer) →
+        asks_of client number (story ++ record { seat = seat; kind = Told other line answer } ∷ [])
+        ≡ asks_of client number story }
+{}
+
+/// What a label stands for stays once the line that opened it was told, which it is once. For a later line that commits
+/// the label it is what that line left, if it was told `OK`, and else nothing; so it stays from the later line's start
+/// on. A label that no line opened stands for nothing, not even for that it isn't open.
 pub fn a_label_stays<O: Opened>()
     ensures commit { O.coherent → (seen : List AnyEvent) (opened : AnyLine) (asked : ℕ) (command : AnyCommand)
         (progress : AnyProgress) (label : AnyLabel) →
@@ -167,13 +211,21 @@ pub fn a_label_stays<O: Opened>()
         IsLeftEverywhere command progress label → times_asked seen opened ≡ asked → is_open_at seen opened ≡ true →
         opening_line O.script line name ≡ Some opened →
         LabelStays O.coherent O.opening O.bytes O.script seen line (commands.KeyCommit name) (Some label) }
+    ensures open { O.coherent → (seen : List AnyEvent) (opened : AnyLine) →
+        is_told opened.client opened.number seen ≡ true →
+        FromHereOn O.coherent O.opening O.bytes O.script seen (λ story.
+        is_open_at story opened ≡ is_open_at seen opened) }
     ensures not_open { O.coherent → (seen : List AnyEvent) (opened line : AnyLine) (name : List ℕ) →
         is_told opened.client opened.number seen ≡ true → is_open_at seen opened ≡ false →
         opening_line O.script line name ≡ Some opened →
         LabelStays O.coherent O.opening O.bytes O.script seen line (commands.KeyCommit name) None }
-    ensures none { (seen : List AnyEvent) (line : AnyLine) (command : AnyCommand) (label : Option AnyLabel) →
-        ((name : List ℕ) → command ≢ commands.KeyCommit name) →
-        LabelStays O.coherent O.opening O.bytes O.script seen line command label }
+    ensures started { O.coherent → IsNumbered O.script → (since seen : List AnyEvent) (line : AnyLine)
+        (command : AnyCommand) (label : Option AnyLabel) →
+        line.client ≢ SERVICE_CLIENT → HasStarted since line → BeginsWith seen since →
+        AllFollow (Follows O.coherent O.opening O.bytes O.script) [] seen → IsLabel O.script seen line command label →
+        LabelStays O.coherent O.opening O.bytes O.script since line command label }
+    ensures none { (story : List AnyEvent) (line : AnyLine) (command : AnyCommand) (label : Option AnyLabel) →
+        ((name : List ℕ) → command ≢ commands.KeyCommit name) → IsLabel O.script story line command label }
     ensures unopened { (story : List AnyEvent) (line : AnyLine) (name : List ℕ) (label : Option AnyLabel) →
         opening_line O.script line name ≡ None →
         IsLabel O.script story line (commands.KeyCommit name) label → ⊥ }

@@ -1,5 +1,5 @@
 -- The blocks that a line was granted, and those that were written for it.
-use Rattle.std.proofs.Common.{◌≡◌, ◌≢◌, ⊎_elim, ℕ, ◌+◌, ◌≤◌, Bool, true, false, ◌||◌, ◌&&◌, ◌==◌, cond, List, [], ◌∷◌, ◌++◌, length, Option, None, Some, Contains, refl, sym, ap, ◌∙◌, subst, append-nil, arith}
+use Rattle.std.proofs.Common.{◌≡◌, ◌≢◌, ⊎_elim, ℕ, Bool, true, false, ◌||◌, cond, List, [], ◌∷◌, length, Option, None, Some, Contains, refl, sym, ap, ◌∙◌, subst, arith}
 use Rattle.std.proofs.lemmas.Bool.{and_parts, false≢true}
 use Rattle.std.proofs.lemmas.List.Elements.{Contains-append_right}
 use Rattle.std.proofs.lemmas.List.Folds.{list_any-append}
@@ -9,18 +9,27 @@ use Rattle.oz_lines.specs.declared.script.Script.{Script}
 use Rattle.oz_requests.specs.declared.request.AskId.{AskId}
 use Rattle.oz_requests.specs.declared.reply.Reply.{Reply}
 use Rattle.oz_requests.specs.declared.reply.Reply.TheVariants as replies
+use Rattle.oz_requests.specs.declared.request.Family.TheVariants.{Allocation}
+use Rattle.oz_requests.specs.declared.request.Request.{Request}
+use Rattle.oz_requests.specs.Families.{family_of}
+use Rattle.oz_requests.specs.Names.{volume_in}
+use Rattle.oz_namespace.specs.declared.namespace.Namespace.{Namespace}
+use Rattle.oz_model.specs.Answers.{Answers}
+use Rattle.oz_model.specs.Buckets.{granted_by as blocks_granted}
+use Rattle.oz_model.specs.Refusals.{refusal}
+use Rattle.oz_model.specs.Scope.{scope_of}
+use Rattle.oz_model.specs.laws.Grants.{grants_none}
 use Rattle.oz_core.specs.declared.event.Event.{Event}
 use Rattle.oz_core.specs.declared.event.EventKind.{EventKind}
 use Rattle.oz_core.specs.declared.event.EventKind.TheVariants.{Ask, Decide, Wrote}
 use Rattle.oz_core.specs.declared.opening.Opening.{Opening}
 use Rattle.oz_core.specs.Asks.{is_of_line, reply_to, replies_to}
 use Rattle.oz_core.specs.Contents.{OpeningBytes, WasGranted, wrote, written_for}
-use Rattle.oz_core.specs.Law.{KindIsEnabled, WroteIsEnabled, writes}
+use Rattle.oz_core.specs.Law.{KindIsEnabled, writes}
 use Rattle.oz_core.specs.Nodes.{is_block}
 use Rattle.oz_core.specs.Steps.{GrantedBlock, grant_in, grant_to, granted_to, is_written}
-use Rattle.oz_core.specs.Stories.{all_told, has_event}
+use Rattle.oz_core.specs.Stories.{has_event}
 use Rattle.oz_steps.specs.declared.came.Attempt.{Attempt}
-use Rattle.oz_steps.specs.declared.came.Granted.{Granted}
 use Rattle.oz_steps.specs.declared.fate.Fate.{Fate}
 use Rattle.oz_steps.specs.declared.fate.Fate.TheVariants as fates
 use Rattle.oz_steps.specs.Came.{granted_by}
@@ -29,13 +38,24 @@ use Rattle.oz_buffer.specs.Buffer.{AllFollow, Follows}
 use Rattle.oz_kept.specs.laws.Deleted.{first_or_later}
 use Rattle.oz_kept.specs.laws.Granted.{told_among}
 use Rattle.oz_turn.specs.Told.{BeginsWith}
-use Rattle.oz_underway.specs.laws.Going.{begins_push, count_more, happened_still, kept_on, no_fewer, none_more, same_by_count, told_longer, told_more}
+use Rattle.oz_underway.specs.laws.Going.{count_more, happened_still, kept_on, no_fewer, none_more, same_by_count, told_longer}
 
 -- ---- who is replied no grant is granted none
 
 no_grant : (id : AskId) (reply : Reply) → granted_by reply ≡ None → grant_in id reply ≡ None
 no_grant id (replies.Granted block pipeline) none = absurd cc
 no_grant id reply none = refl
+
+-- nor is who asked for no block
+pub nothing_granted : (namespace : Namespace) (request : Request) (reply : Reply) → family_of request ≢ Allocation → Answers namespace request reply
+    → granted_by reply ≡ None
+unfolding Answers
+nothing_granted namespace request reply other answers =
+    none_of reply (grants_none (refusal (scope_of namespace (volume_in request)) request) (scope_of namespace (volume_in request)) request reply other answers)
+  where
+    none_of : (reply : Reply) → blocks_granted reply ≡ [] → granted_by reply ≡ None
+    none_of (replies.Granted block pipeline) none = absurd cc
+    none_of reply none = refl
 
 first_none : {X : Type 0} (o : Option X) (xs : List X) → cons_option o xs ≡ [] → (o ≡ None) × (xs ≡ [])
 first_none None xs e = (refl, e)

@@ -1,5 +1,5 @@
 -- Where the last Ask of a line was decided.
-use Rattle.std.proofs.Common.{◌≡◌, ◌≢◌, ⊎_elim, ℕ, suc, ◌<◌, List, [], ◌∷◌, ◌++◌, length, take, drop, None, Some, refl, sym, ap, ◌∙◌, subst, append_assoc, arith}
+use Rattle.std.proofs.Common.{◌≡◌, ◌≢◌, ⊎_elim, ℕ, suc, ◌<◌, List, [], ◌∷◌, ◌++◌, length, take, drop, refl, sym, ap, ◌∙◌, subst, append_assoc, arith}
 use Rattle.oz_lines.specs.declared.script.Script.{Script}
 use Rattle.oz_requests.specs.declared.request.AskId.{AskId}
 use Rattle.oz_requests.specs.declared.reply.Reply.{Reply}
@@ -10,11 +10,11 @@ use Rattle.oz_core.specs.declared.opening.Opening.{Opening}
 use Rattle.oz_core.specs.Asks.{ask_id, asks_of}
 use Rattle.oz_core.specs.Contents.{OpeningBytes}
 use Rattle.oz_core.specs.Law.{DecideIsEnabled}
-use Rattle.oz_underway.specs.TempDecided.{IsDecideAt}
+use Rattle.oz_asker.specs.Decided.{IsDecideAt}
 use Rattle.oz_buffer.specs.Buffer.{AllFollow, Follows}
 use Rattle.oz_kept.specs.laws.Deleted.{split_at}
 use Rattle.oz_turn.specs.Told.{BeginsWith}
-use Rattle.oz_underway.specs.laws.Asks.{asked_times, its_line, step_of_last}
+use Rattle.oz_underway.specs.laws.Asks.{asks_count, its_line, step_of_last}
 use Rattle.oz_underway.specs.laws.Going.{either_way, follow_first, follow_front, follow_behind, no_fewer, none_more}
 use Rattle.oz_underway.specs.laws.Replies.{pending_is_last}
 
@@ -26,12 +26,12 @@ pub record IsDecidedSince (later since : List Event) (id : AskId) (reply : Reply
   pub batch : List ℕ
   pub behind : BeginsWith front since
   pub goes_on : BeginsWith later (front ++ record { seat = seat; kind = Decide id index reply batch } ∷ [])
-  pub asked_so : asked_times id.client id.line (front ++ record { seat = seat; kind = Decide id index reply batch } ∷ []) ≡ id.step
+  pub asked_so : asks_count id.client id.line (front ++ record { seat = seat; kind = Decide id index reply batch } ∷ []) ≡ id.step
 
 module _ (Coherent : Type 0) (opening : Opening) (bytes : OpeningBytes) (script : Script) where
   pub decided_since : (later since : List Event) (place : ℕ) (id : AskId) (reply : Reply) → id.client ≢ SERVICE_CLIENT → Coherent
       → AllFollow (Follows Coherent opening bytes script) [] later → BeginsWith later since
-      → asked_times id.client id.line since < id.step → IsDecideAt later place id reply → IsDecidedSince later since id reply
+      → asks_count id.client id.line since < id.step → IsDecideAt later place id reply → IsDecidedSince later since id reply
   decided_since later since place id reply other coherent all begins fewer (seat, index, batch, is) =
       let event : Event = record { seat = seat; kind = Decide id index reply batch } in
       let front = take place later in

@@ -1,5 +1,6 @@
 -- Stories that go on from others, and what their events tell.
-use Rattle.std.proofs.Common.{◌≡◌, ◌⊎◌, ⊎_elim, inl, inr, ◌≤◌, Contains, ℕ, ◌+◌, Bool, true, false, ◌||◌, List, [], ◌∷◌, ◌++◌, length, Option, None, Some, refl, sym, ap, ◌∙◌, subst, append_assoc, append-nil, length-append, arith}
+use Rattle.std.proofs.Common.{◌≡◌, ◌⊎◌, ⊎_elim, inl, inr, ◌≤◌, Contains, ◌+◌, Bool, true, List, [], ◌∷◌, ◌++◌, length, Option, None, refl, sym, ap, ◌∙◌, subst, append_assoc, append-nil, length-append, arith}
+use Rattle.std.proofs.lemmas.Bool.{or_left}
 use Rattle.std.proofs.lemmas.List.Elements.{Contains-append_left, Contains-push, filter_map-append}
 use Rattle.std.proofs.lemmas.List.Folds.{list_any-append}
 use Rattle.std.specs.List.{cons_option}
@@ -30,9 +31,11 @@ module _ {E : Type 0} where
 pub among_since : {E : Type 0} (story since front : List E) (e : E) → BeginsWith front since → BeginsWith story (front ++ e ∷ [])
     → (begins : BeginsWith story since) × Contains begins.0 e
 among_since story since front e begins later = (
-  ((begins.0 ++ e ∷ []) ++ later.0,
-  later.1 ∙ (ap (λ l. (l ++ e ∷ []) ++ later.0) begins.1
-  ∙ (ap (λ l. l ++ later.0) (append_assoc since begins.0 (e ∷ [])) ∙ append_assoc since (begins.0 ++ e ∷ []) later.0))),
+  (
+    (begins.0 ++ e ∷ []) ++ later.0,
+    later.1 ∙ (ap (λ l. (l ++ e ∷ []) ++ later.0) begins.1
+        ∙ (ap (λ l. l ++ later.0) (append_assoc since begins.0 (e ∷ [])) ∙ append_assoc since (begins.0 ++ e ∷ []) later.0)),
+  ),
   Contains-append_left (begins.0 ++ e ∷ []) later.0 e (Contains-push begins.0 e),
 )
 
@@ -83,9 +86,6 @@ pub same_by_count : {X : Type 0} (tells : EventKind → Option X) (story seen : 
     → length (all_told tells story) ≡ length (all_told tells seen) → all_told tells story ≡ all_told tells seen
 same_by_count tells story seen begins same =
     no_longer (all_told tells story) (all_told tells seen) (all_told tells begins.0) (told_longer tells story seen begins) same
-
-or_left : (a b : Bool) → a ≡ true → (a || b) ≡ true
-or_left a b is = ap (λ (t : Bool). t || b) is
 
 -- what has happened stays so
 pub happened_still : (is : EventKind → Bool) (story seen : List Event) → BeginsWith story seen → has_event is seen ≡ true → has_event is story ≡ true

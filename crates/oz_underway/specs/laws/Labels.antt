@@ -1,16 +1,17 @@
 -- What a label stands for stays, once the line that opened it was told.
-use Rattle.std.proofs.Common.{◌≡◌, ◌≢◌, ℕ, Bool, true, false, ◌||◌, cond, List, [], ◌∷◌, ◌++◌, length, Option, None, Some, is_some, refl, sym, ap, ◌∙◌, subst}
+use Rattle.std.proofs.Common.{◌≡◌, ◌≢◌, ℕ, Bool, true, false, ◌||◌, List, [], ◌∷◌, ◌++◌, length, Option, None, Some, is_some, refl, sym, ap, ◌∙◌}
 use Rattle.std.proofs.lemmas.Bool.{false≢true}
 use Rattle.std.proofs.lemmas.Option.{none-some}
+use Rattle.std.proofs.lemmas.List.Sums.{fold_push}
 use Rattle.std.specs.List.{cons_option}
 use Rattle.oz_command.specs.declared.command.Command.{Command}
 use Rattle.oz_command.specs.declared.command.Command.TheVariants as commands
 use Rattle.oz_lines.specs.declared.script.Line.{Line}
 use Rattle.oz_lines.specs.declared.script.Script.{Script}
 use Rattle.oz_requests.specs.declared.answer.Answer.{Answer}
-use Rattle.oz_requests.specs.declared.request.Request.{Request}
 use Rattle.oz_core.specs.declared.event.Event.{Event}
 use Rattle.oz_core.specs.declared.event.EventKind.{EventKind}
+use Rattle.oz_core.specs.declared.event.EventKind.TheVariants.{Told}
 use Rattle.oz_core.specs.declared.opening.Opening.{Opening}
 use Rattle.oz_core.specs.Asks.{answer_to, answers_to, is_told}
 use Rattle.oz_core.specs.Contents.{OpeningBytes}
@@ -24,10 +25,10 @@ use Rattle.oz_buffer.specs.Buffer.{AllFollow, Follows}
 use Rattle.oz_turn.specs.Told.{BeginsWith}
 use Rattle.oz_underway.specs.UnderWay.{IsUnderWay, times_asked}
 use Rattle.oz_underway.specs.laws.Going.{begins_through}
-use Rattle.oz_underway.specs.laws.Told.{asks_stop, told_once}
+use Rattle.oz_underway.specs.laws.Told.{answers_now, asks_stop, told_once}
 
 -- who wasn't told has no answer
-none_told : {X : Type 0} (tells : EventKind → Option X) (story : List Event) → has_event (λ kind. is_some (tells kind)) story ≡ false → all_told tells story ≡ []
+pub none_told : {X : Type 0} (tells : EventKind → Option X) (story : List Event) → has_event (λ kind. is_some (tells kind)) story ≡ false → all_told tells story ≡ []
 none_told tells [] none = refl
 none_told {X} tells (event ∷ story) none = by (tells event.kind) (none_told tells story) none
   where
@@ -44,6 +45,12 @@ open_was_told story opened is = by (is_told opened.client opened.number story) r
     by false so =
         let none = none_told (answer_to opened.client opened.number) story so in
         absurd (false≢true (sym (ap (λ (answers : List Answer). was_told_ok (last_in answers)) none) ∙ is))
+
+pub open_as_told : (story : List Event) (seat : ℕ) (line : Line) (answer : Answer)
+    → is_open_at (story ++ record { seat = seat; kind = Told line.client line.number answer } ∷ []) line ≡ was_told_ok (Some answer)
+open_as_told story seat line answer =
+    ap (λ (answers : List Answer). was_told_ok (last_in answers)) (answers_now story seat line.client line.number answer)
+    ∙ ap was_told_ok (fold_push (λ before (x : Answer). Some x) None (answers_to line.client line.number story) answer)
 
 -- a line that commits no label
 pub no_label : (script : Script) (story : List Event) (line : Line) (command : Command) (label : Option Label)

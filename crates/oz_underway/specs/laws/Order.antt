@@ -6,7 +6,6 @@ use Rattle.std.proofs.lemmas.List.{map-append}
 use Rattle.std.proofs.lemmas.List.Elements.{filter-append}
 use Rattle.std.proofs.lemmas.List.Sums.{sum_by-append}
 use Rattle.std.specs.List.{cons_option}
-use Rattle.std.specs.Prelude.{count_by}
 use Rattle.oz_requests.specs.declared.answer.Answer.{Answer}
 use Rattle.oz_lines.specs.declared.script.Line.{Line}
 use Rattle.oz_lines.specs.declared.script.Script.{Script}
@@ -16,7 +15,7 @@ use Rattle.oz_core.specs.declared.event.EventKind.{EventKind}
 use Rattle.oz_core.specs.declared.event.EventKind.TheVariants.{Told}
 use Rattle.oz_core.specs.declared.opening.Opening.{Opening}
 use Rattle.oz_core.specs.Asks.{answer_to, is_told}
-use Rattle.oz_core.specs.Contents.{OpeningBytes, IsLineOf}
+use Rattle.oz_core.specs.Contents.{OpeningBytes}
 use Rattle.oz_core.specs.Fits.{EventFits, Fits, FitsFrom, ToldFits, line_numbers, told_line, told_lines}
 use Rattle.oz_core.specs.Law.{KindIsEnabled}
 use Rattle.oz_buffer.specs.Buffer.{AllFollow, Follows}
@@ -25,7 +24,7 @@ use Rattle.oz_kept.specs.laws.Deleted.{first_or_later}
 use Rattle.oz_underway.specs.laws.Going.{kept_always, none_more, told_more}
 
 -- 1, 2 and so on
-up_to : ℕ → List ℕ
+pub up_to : ℕ → List ℕ
 up_to zero = []
 up_to (suc n) = up_to n ++ suc n ∷ []
 
@@ -104,11 +103,11 @@ module _ (client : ℕ) where
 no_fewer_lines : (before rest : List Line) (client : ℕ) → lines_of before client ≤ lines_of (before ++ rest) client
 no_fewer_lines before rest client = omega (arith, sum_by-append (λ (l : Line). cond (l.client == client) 1 0) before rest)
 
-record HasNumber (lines : List Line) (line : Line) : Type 0 where
-  some : 1 ≤ line.number
-  within : line.number ≤ lines_of lines line.client
+pub record HasNumber (lines : List Line) (line : Line) : Type 0 where
+  pub some : 1 ≤ line.number
+  pub within : line.number ≤ lines_of lines line.client
 
-has_number : (rest before : List Line) (x : Line) → AreNumbered before rest → Contains rest x → HasNumber (before ++ rest) x
+pub has_number : (rest before : List Line) (x : Line) → AreNumbered before rest → Contains rest x → HasNumber (before ++ rest) x
 has_number [] before x numbered among = absurd (omega (arith, among.1))
 has_number (line ∷ rest) before x numbered among = ⊎_elim
     (λ same. subst (HasNumber (before ++ line ∷ rest)) same first)
@@ -126,11 +125,11 @@ has_number (line ∷ rest) before x numbered among = ⊎_elim
 -- ---- what was told
 
 -- A client's lines up to one were told, in order, and no others.
-record AreToldInOrder (script : Script) (client : ℕ) (story : List Event) : Type 0 where
-  within : (number : ℕ) → is_told client number story ≡ true → number ≤ length (told_lines client story)
-  each : (number : ℕ) → 1 ≤ number → number ≤ length (told_lines client story) → is_told client number story ≡ true
-  are : told_lines client story ≡ up_to (length (told_lines client story))
-  few : length (told_lines client story) ≤ lines_of script.lines client
+pub record AreToldInOrder (script : Script) (client : ℕ) (story : List Event) : Type 0 where
+  pub within : (number : ℕ) → is_told client number story ≡ true → number ≤ length (told_lines client story)
+  pub each : (number : ℕ) → 1 ≤ number → number ≤ length (told_lines client story) → is_told client number story ≡ true
+  pub are : told_lines client story ≡ up_to (length (told_lines client story))
+  pub few : length (told_lines client story) ≤ lines_of script.lines client
 
 or_of : (a b : Bool) → (a || b) ≡ true → (a ≡ true) ⊎ (b ≡ true)
 or_of true b is = inl refl
@@ -236,7 +235,7 @@ module _ (Coherent : Type 0) (opening : Opening) (bytes : OpeningBytes) (script 
   one_further numbered client front seat kind enabled fits was =
       told_others script client front was (record { seat = seat; kind = kind }) refl (λ number. refl)
 
-  in_order : (numbered : IsNumbered script) (client : ℕ) (story : List Event) → Coherent → AllFollow Follow [] story → AreToldInOrder script client story
+  pub in_order : (numbered : IsNumbered script) (client : ℕ) (story : List Event) → Coherent → AllFollow Follow [] story → AreToldInOrder script client story
   unfolding up_to
   in_order numbered client story coherent all =
       kept_always Follow (AreToldInOrder script client) story all

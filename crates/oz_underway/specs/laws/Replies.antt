@@ -1,9 +1,8 @@
 -- What a line is replied: no more than it asked.
-use Rattle.std.proofs.Common.{◌≡◌, ◌≢◌, ◌⊎◌, ⊎_elim, inl, inr, ℕ, ◌+◌, ◌≤◌, Bool, true, false, ◌&&◌, ◌==◌, cond, List, [], ◌∷◌, ◌++◌, length, Option, None, Some, Contains, refl, sym, ap, ◌∙◌, subst, length-append, append_assoc, arith}
-use Rattle.std.proofs.lemmas.Bool.{and_parts, and_from, false≢true}
-use Rattle.std.proofs.lemmas.List.Elements.{Contains-append_right}
+use Rattle.std.proofs.Common.{◌≡◌, ◌≢◌, ⊎_elim, ℕ, ◌+◌, ◌≤◌, Bool, true, false, cond, List, [], ◌∷◌, length, None, Some, Contains, refl, sym, ap, ◌∙◌, subst, length-append, arith}
+use Rattle.std.proofs.lemmas.Bool.{false≢true}
 use Rattle.std.proofs.lemmas.Option.{none-some, same_Some}
-use Rattle.std.specs.List.{cons_option, filter_map}
+use Rattle.std.specs.List.{cons_option}
 use Rattle.oz_lines.specs.declared.script.Script.{Script}
 use Rattle.oz_requests.specs.declared.request.AskId.{AskId}
 use Rattle.oz_requests.specs.declared.request.Request.{Request}
@@ -16,29 +15,29 @@ use Rattle.oz_core.specs.declared.opening.Opening.{Opening}
 use Rattle.oz_core.specs.Asks.{is_of_line, is_id, pending, pending_after, ask_id, last_ask, reply_to, replies_to}
 use Rattle.oz_core.specs.Contents.{OpeningBytes}
 use Rattle.oz_core.specs.Law.{KindIsEnabled}
-use Rattle.oz_core.specs.Stories.{all_told}
+use Rattle.oz_asker.specs.laws.Asks.{same_id}
 use Rattle.oz_buffer.specs.Buffer.{AllFollow, Follows}
 use Rattle.oz_buffer.specs.laws.Courses.{pending-push}
 use Rattle.oz_buffer.specs.laws.Lines.{last_or_decided}
 use Rattle.oz_kept.specs.laws.Deleted.{first_or_later}
 use Rattle.oz_kept.specs.laws.Granted.{told_among}
 use Rattle.oz_turn.specs.Told.{BeginsWith}
-use Rattle.oz_underway.specs.laws.Asks.{asked_times, id_of_line, its_line, of_line, same_id, script_of_line}
+use Rattle.oz_underway.specs.laws.Asks.{asks_count, id_of_line, its_line, of_line, script_of_line}
 use Rattle.oz_underway.specs.laws.Going.{count_more, kept_always, told_longer}
 
 -- No more is replied than was asked, and less while something is undecided.
 record AreFew (client line : ℕ) (story : List Event) : Type 0 where
-  few : length (replies_to client line story) ≤ asked_times client line story
+  few : length (replies_to client line story) ≤ asks_count client line story
   fewer : (id : AskId) → is_of_line client line id ≡ true → (request : Request) → pending id story ≡ Some request
-      → length (replies_to client line story) + 1 ≤ asked_times client line story
+      → length (replies_to client line story) + 1 ≤ asks_count client line story
 
 -- what an event adds
 record AreFewBehind (client line : ℕ) (front : List Event) (kind : EventKind) : Type 0 where
   few : length (replies_to client line front) + length (cons_option (reply_to client line kind) [])
-      ≤ asked_times client line front + length (cons_option (ask_id client line kind) [])
+      ≤ asks_count client line front + length (cons_option (ask_id client line kind) [])
   fewer : (id : AskId) → is_of_line client line id ≡ true → (request : Request) → pending_after id (pending id front) kind ≡ Some request
       → length (replies_to client line front) + length (cons_option (reply_to client line kind) []) + 1
-      ≤ asked_times client line front + length (cons_option (ask_id client line kind) [])
+      ≤ asks_count client line front + length (cons_option (ask_id client line kind) [])
 
 module _ (opening : Opening) (client line : ℕ) (front : List Event) (seat : ℕ) (was : AreFew client line front)
     (one : (id other : AskId) → is_of_line client line id ≡ true → is_of_line client line other ≡ true → (request made : Request)
@@ -124,7 +123,7 @@ module _ (Coherent : Type 0) (opening : Opening) (bytes : OpeningBytes) (script 
       (record { few = omega arith; fewer = λ id of request is. absurd (none-some request is) })
 
   pub few_replies : (client line : ℕ) (story : List Event) → client ≢ SERVICE_CLIENT → Coherent → AllFollow Follow [] story
-      → length (replies_to client line story) ≤ asked_times client line story
+      → length (replies_to client line story) ≤ asks_count client line story
   few_replies client line story other coherent all = (are_few client line story other coherent all).few
 
 -- ---- one reply more

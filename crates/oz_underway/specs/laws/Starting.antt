@@ -1,16 +1,15 @@
 -- What has started stays so, and nothing is asked before.
-use Rattle.std.proofs.Common.{◌≡◌, ◌≢◌, ◌⊎◌, ⊎_elim, inl, inr, ℕ, ◌-◌, Bool, true, false, cond, List, [], ◌∷◌, ◌++◌, Option, None, Some, Contains, refl, sym, ap, ◌∙◌, subst, append-nil}
+use Rattle.std.proofs.Common.{◌≡◌, ◌≢◌, ◌⊎◌, ⊎_elim, inl, inr, ℕ, ◌-◌, ◌≤◌, length, Bool, true, false, cond, List, [], Option, None, Some, Contains, refl, ◌∙◌, subst, arith}
+use Rattle.std.proofs.lemmas.List.Elements.{All-contains}
 use Rattle.oz_lines.specs.declared.script.Line.{Line}
 use Rattle.oz_lines.specs.declared.script.Script.{Script}
 use Rattle.oz_lines.specs.Numbered.{IsNumbered}
-use Rattle.oz_requests.specs.declared.request.AskId.{AskId}
-use Rattle.oz_requests.specs.declared.request.Request.{Request}
 use Rattle.oz_core.specs.declared.event.Event.{Event}
 use Rattle.oz_core.specs.declared.event.EventKind.{EventKind}
 use Rattle.oz_core.specs.declared.event.EventKind.TheVariants.{Ask}
 use Rattle.oz_core.specs.declared.limits.TheConstants.{SERVICE_CLIENT}
 use Rattle.oz_core.specs.declared.opening.Opening.{Opening}
-use Rattle.oz_core.specs.Asks.{ask_id, asks_of, is_of_line, is_told}
+use Rattle.oz_core.specs.Asks.{ask_id, asks_of, is_of_line}
 use Rattle.oz_core.specs.Contents.{OpeningBytes}
 use Rattle.oz_core.specs.Fits.{AskFits, EventFits}
 use Rattle.oz_core.specs.Lines.{AfterIsTold, HasStarted}
@@ -30,6 +29,12 @@ started_still story seen line begins started = record {
   before_it = λ lt. told_still line.client (line.number - 1) story seen begins (started.before_it lt);
   after_it = after_still story seen begins line.after started.after_it;
 }
+
+-- no line of a script is the service job's
+pub not_service : (script : Script) → IsNumbered script → (line : Line) → Contains script.lines line → line.client ≢ SERVICE_CLIENT
+not_service script numbered line there is =
+    let known = All-contains (λ (l : Line). l.client ≤ length script.clients) script.lines line numbered.known there in
+    absurd (omega (arith, known, numbered.clients, is))
 
 -- a front at which the line had started, and had asked nothing
 pub record IsFreshAt (story : List Event) (line : Line) (front : List Event) : Type 0 where
@@ -63,17 +68,23 @@ module _ (Coherent : Type 0) (opening : Opening) (bytes : OpeningBytes) (script 
       (λ front event begins follow follows was. ⊎_elim
       (λ (none : asks_of line.client line.number front ≡ []). ⊎_elim
       (λ (no_ask : ask_id line.client line.number event.kind ≡ None). inl (none_more (ask_id line.client line.number) front event [] no_ask none))
-      (λ (started : HasStarted front line). inr (front, record {
-        goes_on = begins_push front front event (begins_itself front);
-        started = started;
-        unasked = none;
-      }))
+      (λ (started : HasStarted front line). inr (
+        front,
+        record {
+          goes_on = begins_push front front event (begins_itself front);
+          started = started;
+          unasked = none;
+        },
+      ))
       (starts front event.kind (follows.fits coherent)))
-      (λ (fresh : (earlier : List Event) × IsFreshAt front line earlier). inr (fresh.0, record {
-        goes_on = begins_push front fresh.0 event fresh.1.goes_on;
-        started = fresh.1.started;
-        unasked = fresh.1.unasked;
-      }))
+      (λ (fresh : (earlier : List Event) × IsFreshAt front line earlier). inr (
+        fresh.0,
+        record {
+          goes_on = begins_push front fresh.0 event fresh.1.goes_on;
+          started = fresh.1.started;
+          unasked = fresh.1.unasked;
+        },
+      ))
       was)
       (inl refl)
 
@@ -83,12 +94,4 @@ module _ (Coherent : Type 0) (opening : Opening) (bytes : OpeningBytes) (script 
   fresh_front story coherent all started = ⊎_elim
       (λ none. (story, record { goes_on = begins_itself story; started = started; unasked = none }))
       (λ fresh. fresh)
-      (unasked_or_fresh story coherent all)
-
-  -- and nothing is asked before the start
-  pub unasked_before : (story : List Event) → Coherent → AllFollow (Follows Coherent opening bytes script) [] story → (HasStarted story line → ⊥)
-      → asks_of line.client line.number story ≡ []
-  unasked_before story coherent all unstarted = ⊎_elim
-      (λ none. none)
-      (λ fresh. absurd (unstarted (started_still story fresh.0 line fresh.1.goes_on fresh.1.started)))
       (unasked_or_fresh story coherent all)

@@ -1,10 +1,10 @@
 -- A line is told once, and asks nothing more then.
-use Rattle.std.proofs.Common.{◌≡◌, ◌≢◌, ℕ, Bool, true, false, ◌||◌, ◌&&◌, ◌==◌, not, cond, List, [], ◌∷◌, ◌++◌, Option, None, Some, is_some, refl, sym, ap, ◌∙◌, subst, append-nil}
-use Rattle.std.proofs.lemmas.Bool.{and_parts, eqb-true, false≢true}
+use Rattle.std.proofs.Common.{◌≡◌, ◌≢◌, ℕ, Bool, true, false, ◌||◌, ◌&&◌, ◌==◌, cond, List, [], ◌∷◌, ◌++◌, Option, None, Some, is_some, eq-eqb, refl, sym, ap, ◌∙◌}
+use Rattle.std.proofs.Math.Bool.{or-true}
+use Rattle.std.proofs.lemmas.Bool.{and_from, and_parts, eqb-true, false≢true}
 use Rattle.std.specs.List.{cons_option}
 use Rattle.oz_lines.specs.declared.script.Script.{Script}
 use Rattle.oz_requests.specs.declared.answer.Answer.{Answer}
-use Rattle.oz_requests.specs.declared.request.AskId.{AskId}
 use Rattle.oz_core.specs.declared.event.Event.{Event}
 use Rattle.oz_core.specs.declared.event.EventKind.{EventKind}
 use Rattle.oz_core.specs.declared.event.EventKind.TheVariants.{Ask, Told}
@@ -14,12 +14,31 @@ use Rattle.oz_core.specs.Asks.{is_of_line, ask_id, asks_of, answer_to, answers_t
 use Rattle.oz_core.specs.Contents.{OpeningBytes}
 use Rattle.oz_core.specs.Law.{KindIsEnabled}
 use Rattle.oz_buffer.specs.Buffer.{AllFollow, Follows}
+use Rattle.oz_buffer.specs.laws.Courses.{is_told-push}
 use Rattle.oz_turn.specs.Told.{BeginsWith}
 use Rattle.oz_underway.specs.laws.Asks.{of_line, script_of_line}
-use Rattle.oz_underway.specs.laws.Going.{happened_still, kept_on, none_more}
+use Rattle.oz_underway.specs.laws.Going.{happened_still, kept_on, none_more, told_more}
 
 pub told_still : (client line : ℕ) (story seen : List Event) → BeginsWith story seen → is_told client line seen ≡ true → is_told client line story ≡ true
 told_still client line story seen begins told = happened_still (λ kind. is_some (answer_to client line kind)) story seen begins told
+
+its_answer : (client line : ℕ) (answer : Answer) → answer_to client line (Told client line answer) ≡ Some answer
+its_answer client line answer =
+    ap (λ (t : Bool). cond t (Some answer) None)
+    (and_from (client == client) (line == line) (eq-eqb client client refl) (eq-eqb line line refl))
+
+pub is_told_now : (story : List Event) (seat client line : ℕ) (answer : Answer)
+    → is_told client line (story ++ record { seat = seat; kind = Told client line answer } ∷ []) ≡ true
+is_told_now story seat client line answer =
+    is_told-push client line story (record { seat = seat; kind = Told client line answer })
+    ∙ (ap (λ (o : Option Answer). is_told client line story || is_some o) (its_answer client line answer)
+    ∙ or-true (is_told client line story))
+
+pub answers_now : (story : List Event) (seat client line : ℕ) (answer : Answer)
+    → answers_to client line (story ++ record { seat = seat; kind = Told client line answer } ∷ []) ≡ answers_to client line story ++ answer ∷ []
+answers_now story seat client line answer =
+    told_more (answer_to client line) story (record { seat = seat; kind = Told client line answer })
+    ∙ ap (λ (o : Option Answer). answers_to client line story ++ cons_option o []) (its_answer client line answer)
 
 -- a line that was told asks nothing, and is told nothing
 no_ask : (opening : Opening) (client line : ℕ) (front : List Event) (seat : ℕ) (kind : EventKind) → client ≢ SERVICE_CLIENT → KindIsEnabled opening front seat kind

@@ -1,9 +1,10 @@
 -- Lines that are under way.
-use Rattle.std.proofs.Common.{◌≡◌, ◌≢◌, ⊎_elim, ℕ, ◌+◌, ◌-◌, ◌≤◌, ◌<◌, Bool, true, false, cond, List, [], ◌∷◌, ◌++◌, length, take, Option, None, Some, Contains, refl, sym, ap, ◌∙◌, subst, length-append, append-nil, arith}
+use Rattle.std.proofs.Common.{◌≡◌, ◌≢◌, ⊎_elim, ℕ, ◌+◌, ◌≤◌, ◌<◌, Bool, true, false, cond, List, [], ◌∷◌, ◌++◌, length, take, Option, None, Some, Contains, refl, sym, ap, ◌∙◌, subst, length-append, append-nil, arith}
 use Rattle.std.proofs.lemmas.Bool.{cases_lt, false≢true}
 use Rattle.std.proofs.lemmas.Option.{none-some, same_Some}
 use Rattle.std.specs.List.{cons_option, filter_map, list_all}
 use Rattle.oz_command.specs.declared.command.Command.{Command}
+use Rattle.oz_fields.specs.declared.block.Piece.{Piece}
 use Rattle.oz_lines.specs.declared.script.Line.{Line}
 use Rattle.oz_lines.specs.declared.script.Script.{Script}
 use Rattle.oz_lines.specs.Numbered.{IsNumbered}
@@ -16,37 +17,43 @@ use Rattle.oz_core.specs.declared.event.EventKind.{EventKind}
 use Rattle.oz_core.specs.declared.event.EventKind.TheVariants.{Ask, Decide, Told}
 use Rattle.oz_core.specs.declared.limits.TheConstants.{SERVICE_CLIENT}
 use Rattle.oz_core.specs.declared.opening.Opening.{Opening}
-use Rattle.oz_core.specs.Asks.{ask_id, asks_of, is_asked, is_id, is_script, last_ask, pending, pending_after, reply_to, replies_to}
-use Rattle.oz_core.specs.Contents.{OpeningBytes, written_for}
+use Rattle.oz_core.specs.Asks.{ask_id, asks_of, is_asked, is_id, is_of_line, is_script, last_ask, pending, pending_after, reply_to, replies_to}
+use Rattle.oz_core.specs.Contents.{HasContent, OpeningBytes, written_for}
 use Rattle.oz_core.specs.Due.{AreContents, IsDue}
 use Rattle.oz_core.specs.Fits.{AskFits, EventFits}
 use Rattle.oz_core.specs.Law.{AskIsEnabled}
-use Rattle.oz_core.specs.Lines.{AfterIsTold, HasStarted}
+use Rattle.oz_core.specs.Lines.{HasStarted}
 use Rattle.oz_core.specs.Steps.{GrantedBlock, grant_to, granted_to, next_step}
 use Rattle.oz_steps.specs.declared.came.Granted.{Granted}
 use Rattle.oz_steps.specs.declared.label.Label.{Label}
+use Rattle.oz_steps.specs.Lines.{IsLabel}
 use Rattle.oz_steps.specs.Came.{granted_by}
+use Rattle.oz_steps.specs.laws.Next.{request-so}
+use Rattle.oz_steps.specs.Requests.{request_by}
 use Rattle.oz_steps.specs.Grants.{AreGrants, has_fate_written, written_blocks}
 use Rattle.oz_client.specs.declared.progress.Progress.{Progress}
 use Rattle.oz_client.specs.declared.step.Got.{Got}
 use Rattle.oz_client.specs.declared.step.Got.TheVariants as gots
 use Rattle.oz_client.specs.declared.step.Step.TheVariants as steps
 use Rattle.oz_client.specs.LineState.{nothing_yet, pieces_in, progress_after}
+use Rattle.oz_client.specs.Onward.{IsReading}
 use Rattle.oz_client.specs.Stories.{HasIt, IsAt, IsStepEverywhere}
-use Rattle.oz_underway.specs.TempDecided.{IsDecideAt}
+use Rattle.oz_asker.specs.Decided.{IsDecideAt}
 use Rattle.oz_buffer.specs.Buffer.{AllFollow, Follows}
 use Rattle.oz_buffer.specs.laws.Courses.{pending-push}
 use Rattle.oz_kept.specs.laws.Granted.{one_ask_id}
 use Rattle.oz_kept.specs.laws.Lines.{lines_apart}
 use Rattle.oz_turn.specs.Told.{BeginsWith}
-use Rattle.oz_underway.specs.GoingOn.{FromHereOn}
 use Rattle.oz_underway.specs.UnderWay.{IsLast, IsUnderWay, LabelStays, times_asked}
-use Rattle.oz_underway.specs.laws.Asks.{asked_of_step, its_line, none_last, pending_was_asked, scripted, step_of_asked, step_of_last}
+use Rattle.oz_underway.specs.laws.Asks.{asked_of_step, its_line, of_line, pending_was_asked, script_of_line, scripted, step_of_asked}
 use Rattle.oz_underway.specs.laws.Blocks.{attempts_written, none_granted, same_written, still_grants}
-use Rattle.oz_underway.specs.laws.Deciding.{IsDecidedSince, decided_since}
-use Rattle.oz_underway.specs.laws.Going.{among_since, begins_itself, begins_push, begins_through, count_more, follow_before, kept_on, no_fewer, told_longer}
+use Rattle.oz_underway.specs.laws.Contents.{contents_more, content_still}
+use Rattle.oz_underway.specs.laws.Deciding.{decided_since}
+use Rattle.oz_underway.specs.laws.Going.{among_since, begins_itself, begins_push, begins_through, follow_before, kept_on, no_fewer, none_more, told_longer}
+use Rattle.oz_underway.specs.laws.Lasting.{times_of_last}
 use Rattle.oz_underway.specs.laws.Replies.{few_replies, none_more_replied, one_more}
-use Rattle.oz_underway.specs.laws.Starting.{started_still}
+use Rattle.oz_underway.specs.laws.Commits.{label_stays}
+use Rattle.oz_underway.specs.laws.Starting.{fresh_front, not_service, started_still}
 
 abbrev next_id : Line → ℕ → AskId
 next_id line asked = record { client = line.client; line = line.number; step = asked + 1 }
@@ -149,6 +156,34 @@ module _ (Coherent : Type 0) (opening : Opening) (bytes : OpeningBytes) (script 
         let few : asked + 1 ≤ times_asked way.since line = step_of_asked Coherent opening bytes script id way.of_client way.since coherent before was in
         absurd (omega (arith, few, way.asked_so)))
 
+  -- ---- who has no next step asks no more
+
+  pub idle_asks : IsNumbered script → (seen : List Event) (line : Line) (asked : ℕ) (command : Command) (progress : Progress) → Coherent
+      → UnderWay seen line asked command progress → request_by command progress.label progress.came ≡ None
+      → (story : List Event) → BeginsWith story seen → AllFollow Follow [] story → times_asked story line ≡ asked
+  idle_asks numbered seen line asked command progress coherent way idle story begins all =
+      let goes = begins_through story seen way.since begins way.goes_on in
+      kept_on Follow (λ front. times_asked front line ≡ asked) story way.since goes all
+      (λ front event behind follow follows was.
+      ap length (none_more (ask_id line.client line.number) front event (asks_of line.client line.number front) (no_ask front behind follow event.kind (follows.fits coherent) was) refl) ∙ was)
+      way.asked_so
+    where
+      no_ask : (front : List Event) → BeginsWith front way.since → AllFollow Follow [] front → (kind : EventKind) → EventFits opening bytes script front kind
+          → times_asked front line ≡ asked → ask_id line.client line.number kind ≡ None
+      no_ask front behind follow (Ask id request) fits was = by (is_of_line line.client line.number id) refl
+        where
+          by : (t : Bool) → is_of_line line.client line.number id ≡ t → cond t (Some id) None ≡ None
+          by false apart = refl
+          by true of =
+              let fit : AskFits opening script front id request = fits.0 (script_of_line line.client line.number id way.of_client of) in
+              let same = of_line line.client line.number id of in
+              let its : fit.line ≡ line = lines_apart script numbered fit.line line fit.its.there way.there (fit.its.of_client ∙ same.0) (fit.its.of_number ∙ same.1) in
+              let next : next_step opening script front line ≡ Some request = subst (λ (l : Line). next_step opening script front l ≡ Some request) its fit.next in
+              let none : next_step opening script front line ≡ None =
+              request-so opening script front line command progress.label progress.came (way.has front behind follow was).of_line ∙ idle in
+              absurd (none-some request (sym none ∙ next))
+      no_ask front behind follow kind fits was = refl
+
   -- ---- a line begins
 
   pub begins : (seen : List Event) (line : Line) (command : Command) (nodes : ℕ) (label : Option Label) → Coherent → Contains script.lines line
@@ -180,6 +215,17 @@ module _ (Coherent : Type 0) (opening : Opening) (bytes : OpeningBytes) (script 
           read = tt;
         };
   }
+
+  -- from its start on
+  pub begins_started : IsNumbered script → (seen : List Event) (line : Line) (command : Command) (nodes : ℕ) (label : Option Label) → Coherent → Contains script.lines line
+      → AllFollow Follow [] seen → HasStarted seen line → line.command ≡ command → IsLabel script seen line command label
+      → UnderWay seen line 0 command (nothing_yet nodes label)
+  begins_started numbered seen line command nodes label coherent there all started does is =
+      let other = not_service script numbered line there in
+      let fresh = fresh_front Coherent opening bytes script numbered line there other seen coherent all started in
+      still_under_way seen fresh.0 line 0 command (nothing_yet nodes label) fresh.1.goes_on
+      (begins fresh.0 line command nodes label coherent there other fresh.1.started does fresh.1.unasked
+      (label_stays Coherent opening bytes script numbered line other fresh.0 seen coherent all fresh.1.goes_on fresh.1.started command label is))
 
   -- ---- a reply comes
 
@@ -274,6 +320,32 @@ module _ (Coherent : Type 0) (opening : Opening) (bytes : OpeningBytes) (script 
             ap (λ (t : Bool). cond t (Some reply) None)
             (its_line line.client line.number (record { client = line.client; line = line.number; step = step }) refl refl)
 
+  -- ---- a piece is read
+
+  pub piece_read : IsNumbered script → (seen later : List Event) (line : Line) (asked : ℕ) (command : Command) (progress : Progress) (piece : Piece) (content : List ℕ) → Coherent
+      → UnderWay seen line asked command progress → IsReading command progress piece → BeginsWith later seen → AllFollow Follow [] later
+      → HasContent opening bytes script later piece.block content
+      → UnderWay later line asked command (record progress { read = progress.read ++ content ∷ [] })
+  piece_read numbered seen later line asked command progress piece content coherent way reading begins all has =
+      let behind = begins_through later seen way.since begins way.goes_on in
+      record {
+        there = way.there;
+        of_client = way.of_client;
+        since = later;
+        goes_on = begins_itself later;
+        started = started_still later way.since line behind way.started;
+        asked_so = idle_asks numbered seen line asked command progress coherent way reading.idle.no_step later begins all;
+        labelled = λ story goes follow. way.labelled story (begins_through story later way.since goes behind) follow;
+        has = λ story goes follow so.
+            let at = way.has story (begins_through story later way.since goes behind) follow so in
+            record {
+              of_line = at.of_line;
+              decided = at.decided;
+              read = contents_more opening bytes script story (pieces_in progress.came.replies) progress.read piece content reading.next at.read
+                  (content_still Coherent opening bytes script numbered story later piece.block content coherent follow goes has);
+            };
+      }
+
   -- ---- what is told
 
   pub told_is_due : (seen : List Event) (line : Line) (asked : ℕ) (command : Command) (progress : Progress) (got : Got) (answer : Answer)
@@ -282,12 +354,6 @@ module _ (Coherent : Type 0) (opening : Opening) (bytes : OpeningBytes) (script 
       → HasIt opening bytes script story line command progress got → IsDue opening bytes script story line answer
   told_is_due seen line asked command progress got answer way step story begins all so has_it =
       step opening bytes script story line (way.has story (begins_through story seen way.since begins way.goes_on) all so) has_it
-
-  times_of_last : (line : Line) (story : List Event) → line.client ≢ SERVICE_CLIENT → Coherent → AllFollow Follow [] story → (last : Option AskId) (asked : ℕ)
-      → IsLast last asked → last_ask line.client line.number story ≡ last → times_asked story line ≡ asked
-  times_of_last line story other coherent all None asked none is = ap length (none_last (asks_of line.client line.number story) is) ∙ sym none
-  times_of_last line story other coherent all (Some id) asked step is =
-      sym (step_of_last Coherent opening bytes script line.client line.number other story coherent all id is) ∙ step
 
   -- what is due is what the script leads to
   pub due_fits : (seen : List Event) (line : Line) (asked : ℕ) (command : Command) (progress : Progress) (answer : Answer)
@@ -308,4 +374,4 @@ module _ (Coherent : Type 0) (opening : Opening) (bytes : OpeningBytes) (script 
   told_fits seen line asked command progress got answer last coherent way step of_last story begins all is has_it =
       due_fits seen line asked command progress answer way story begins
       (told_is_due seen line asked command progress got answer way step story begins all
-      (times_of_last line story way.of_client coherent all last asked of_last is) has_it)
+      (times_of_last Coherent opening bytes script line.client line.number asked story way.of_client coherent all last of_last is) has_it)

@@ -1,6 +1,6 @@
 use Rattle.std.proofs.Common.{subst}
 use Rattle.oz_requests.specs.declared.request.AskId.{AskId}
-use Rattle.oz_underway.specs.TempDecided.{IsDecideAt}
+use Rattle.oz_asker.specs.Decided.{IsDecideAt}
 use Rattle.oz_underway.specs.laws.UnderWay.{reply_comes}
 use Rattle.oz_underway.proofs.laws.a_reply_comes.Goals as goal
 

@@ -30,9 +30,12 @@ returns-clause-ok g c = λ coherent.
     let before = seen_of c.put_ask.new.seat in
     record {
       place = c.last_of.result;
-      behind = omega (arith, longer before (seen_of c.args.seat.now) c.put_ask.ensures.goes_on,
-          c.what_was_decided.ensures.beyond g.O.Opened.opening before story c.args.id c.args.request c.last_of.result decided.0 decided.1 c.in_ok-length.reply decided.2
-          (c.what_follows_is_legal.ensures before coherent c.put_ask.ensures.follow) c.requires.script c.see.ensures.goes_on (c.in-Ok.ensures.undecided coherent) decided.3);
+      behind = omega (
+        arith,
+        longer before (seen_of c.args.seat.now) c.put_ask.ensures.goes_on,
+        c.what_was_decided.ensures.beyond g.O.Opened.opening before story c.args.id c.args.request c.last_of.result decided.0 decided.1 c.in_ok-length.reply decided.2
+            (c.what_follows_is_legal.ensures before coherent c.put_ask.ensures.follow) c.requires.script c.see.ensures.goes_on (c.in-Ok.ensures.undecided coherent) decided.3,
+      );
       index = decided.1;
       batch = decided.2;
       there = subst (λ (n : ℕ). slice_get story c.last_of.result ≡ Some (record { seat = n; kind = Decide c.args.id decided.1 c.in_ok-length.reply decided.2 })) found.of_stripe decided.3;

@@ -79,10 +79,10 @@ unfolding if_opens
 first_opens line next name before rest are same up =
     let one = one_more before line line.client refl in
     let none_of : filter (opens_before next name) rest ≡ [] =
-        nothing_opens next name (before ++ line ∷ []) rest are.2
-        (let n = ap (lines_of (before ++ line ∷ [])) same in omega (arith, are.1, up, one, n)) in
+    nothing_opens next name (before ++ line ∷ []) rest are.2
+    (let n = ap (lines_of (before ++ line ∷ [])) same in omega (arith, are.1, up, one, n)) in
     let none : filter (opens_before line name) rest ≡ [] =
-        nothing_opens line name (before ++ line ∷ []) rest are.2 (omega (arith, are.1, one)) in
+    nothing_opens line name (before ++ line ∷ []) rest are.2 (omega (arith, are.1, one)) in
     let out = not_before line line name (λ e. let n : line.number ≤ line.number = omega arith in n) in
     ap (λ (t : Bool). cond t (line ∷ filter (opens_before next name) rest) (filter (opens_before next name) rest)) (one_opens line next name same up)
     ∙ ap (λ (l : List Line). cond (is_opened_as name line.command) (line ∷ l) l) none_of
@@ -109,7 +109,7 @@ last_opens line next name before (x ∷ rest) (suc k) are at same up =
     let whole = last_opens line next name (before ++ x ∷ []) rest k are.2 at same up in
     let above = floor (before ++ x ∷ []) rest k line are.2 at in
     let test = same_test line next x name same up
-        (λ e. let one = one_more before x line.client e in let n = ap (lines_of before) e in omega (arith, are.1, one, n, above)) in
+    (λ e. let one = one_more before x line.client e in let n = ap (lines_of before) e in omega (arith, are.1, one, n, above)) in
     ap (λ (t : Bool). cond t (x ∷ filter (opens_before next name) rest) (filter (opens_before next name) rest)) test
     ∙ ap (λ (l : List Line). cond (opens_before line name x) (x ∷ l) l) whole
     ∙ there_cond (opens_before line name x) x (filter (opens_before line name) rest) (if_opens line name)

@@ -80,8 +80,8 @@ module _ (Coherent : Type 0) (opening : Opening) (bytes : OpeningBytes) (script 
       let here = placed client [] script.lines told line numbered.in_order at in
       let there = placed client [] script.lines (told + 1) next numbered.in_order next_at in
       let same = next_opening script line next name here.there.0 numbered
-          (slice_get_read script.lines _ here.there.0 line refl here.there.1 (sym here.there.2))
-          (there.its ∙ sym here.its) (omega (arith, here.number, there.number)) in
+      (slice_get_read script.lines _ here.there.0 line refl here.there.1 (sym here.there.2))
+      (there.its ∙ sym here.its) (omega (arith, here.number, there.number)) in
       subst (λ (o : Option Line). IsNoted Coherent opening bytes script seen o (get (noted labels line.command left) name)) (sym same)
       (noted_name seen line labels line.command left name (opening_line script line name) has (was name))
 
@@ -108,7 +108,7 @@ module _ (Coherent : Type 0) (opening : Opening) (bytes : OpeningBytes) (script 
 
   opens_as : (seen : List Event) (line : Line) (name : List ℕ) (label : Option Label)
       → ((opened : Line) (left : Option Label) → opening_line script line name ≡ Some opened → HasLeft Coherent opening bytes script seen opened left
-          → LabelStays Coherent opening bytes script seen line line.command left)
+      → LabelStays Coherent opening bytes script seen line line.command left)
       → (before : Option Line) (found : Option (Option Label)) → opening_line script line name ≡ before → IsNoted Coherent opening bytes script seen before found
       → found ≡ Some label → LabelStays Coherent opening bytes script seen line line.command label
   opens_as seen line name label commits None found opens it is = absurd (none-some label (sym it ∙ is))
@@ -118,7 +118,7 @@ module _ (Coherent : Type 0) (opening : Opening) (bytes : OpeningBytes) (script 
 
   pub label_stays : (seen : List Event) (line : Line) (labels : LabelMap) (label : Option Label)
       → ((opened : Line) (name : List ℕ) (left : Option Label) → line.command ≡ commands.KeyCommit name → opening_line script line name ≡ Some opened
-          → HasLeft Coherent opening bytes script seen opened left → LabelStays Coherent opening bytes script seen line line.command left)
+      → HasLeft Coherent opening bytes script seen opened left → LabelStays Coherent opening bytes script seen line line.command left)
       → (((name : List ℕ) → line.command ≢ commands.KeyCommit name) → LabelStays Coherent opening bytes script seen line line.command label)
       → AreNoted Coherent opening bytes script seen labels line
       → (command : Command) → line.command ≡ command → label_for labels command ≡ Some label
@@ -154,9 +154,9 @@ module _ (Coherent : Type 0) (opening : Opening) (bytes : OpeningBytes) (script 
     labels = it.labels;
   }
 
-  pub without_work : (seen : List Event) (client : Client) (none : Option WorkView) → none ≡ None → IsServed Coherent opening bytes script seen client
-      → IsServed Coherent opening bytes script seen (record client { work = none })
-  without_work seen client none is it = record {
+  pub without_work : (seen : List Event) (client : Client) (empty_now : Option WorkView) → empty_now ≡ None → IsServed Coherent opening bytes script seen client
+      → IsServed Coherent opening bytes script seen (record client { work = empty_now })
+  without_work seen client empty_now is it = record {
     lines = it.lines;
     next = subst (λ (w : Option WorkView). IfSome w (λ work. next_line script client ≡ Some work.line)) (sym is) tt;
     works = λ coherent. subst (λ (w : Option WorkView). IfSome w (IsAtWork Coherent opening bytes script seen)) (sym is) tt;
@@ -165,7 +165,7 @@ module _ (Coherent : Type 0) (opening : Opening) (bytes : OpeningBytes) (script 
 
   pub may_begin : (seen : List Event) (client : Client) (line : Line) (label : Option Label)
       → ((opened : Line) (name : List ℕ) (left : Option Label) → line.command ≡ commands.KeyCommit name → opening_line script line name ≡ Some opened
-          → HasLeft Coherent opening bytes script seen opened left → LabelStays Coherent opening bytes script seen line line.command left)
+      → HasLeft Coherent opening bytes script seen opened left → LabelStays Coherent opening bytes script seen line line.command left)
       → (((name : List ℕ) → line.command ≢ commands.KeyCommit name) → LabelStays Coherent opening bytes script seen line line.command label)
       → IsNumbered script → next_line script client ≡ Some line → HasStarted seen line → IsServed Coherent opening bytes script seen client → Coherent
       → label_for client.labels.labels line.command ≡ Some label → MayBegin Coherent opening bytes script seen line label
@@ -175,7 +175,7 @@ module _ (Coherent : Type 0) (opening : Opening) (bytes : OpeningBytes) (script 
       there = (placed client.number [] script.lines client.told line numbered.in_order at).there;
       started = started;
     };
-    label = label_stays seen line client.labels.labels label commits other
+    labelled = label_stays seen line client.labels.labels label commits other
         (subst (λ (o : Option Line). IfSome o (AreNoted Coherent opening bytes script seen client.labels.labels)) at (it.labels coherent))
         line.command refl is;
   }

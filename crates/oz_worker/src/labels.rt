@@ -65,12 +65,7 @@ impl Labels {
     }
 
     /// A label stands for this from now on.
-    fn note(
-        &mut self,
-        alloc: Global,
-        name: &Name,
-        label: Option<Label>,
-    ) -> Result<(), OutOfMemory>
+    fn note(&mut self, alloc: Global, name: &Name, label: Option<Label>) -> Result<(), OutOfMemory>
         ensures ok { OnOk result (self.new.labels ≡ insert self.old.labels name.now label) }
         ensures err { OnErr result (self.new.labels ≡ self.old.labels) }
     {

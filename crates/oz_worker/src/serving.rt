@@ -97,7 +97,7 @@ impl<'s> Client<'s> {
         let Some(label) = self.labels.label_for(&line.command) else {
             return Did::OutOfMemory;
         };
-        match LineAtWork::begin(rt, alloc, turn, seat, by, line, nodes, label) {
+        match LineAtWork::begin::<O>(alloc, line, nodes, label) {
             Ok(work) => {
                 self.keep(work);
                 Did::WentOn

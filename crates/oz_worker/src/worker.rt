@@ -70,7 +70,8 @@ impl<'s, T: Told<Entry = Event>, O: Opened, R: Ring> Worker<'s, T, O, R> {
         self.clients.iter().all(|client| client.is_done())
     }
 
-    /// Whether it gave up for want of memory. It then serves nothing any more.
+    /// Whether it gave up for want of memory, or at a line that commits a label which no line opened. It then serves nothing
+    /// any more.
     pub fn is_out_of_memory(&self) -> bool {
         self.is_out_of_memory
     }
@@ -124,8 +125,8 @@ impl<'s, O: Opened, R: Ring> Worker<'s, Ledger<O>, O, R> {
         seat
     }
 
-    /// Serves its clients until all their lines were told, or there is no memory, or it has found nothing to do so often.
-    /// Where nothing can go on it flushes, if nobody else does.
+    /// Serves its clients until all their lines were told, or there is no memory, or it has found nothing to do a million
+    /// times in turn. Where nothing can go on it flushes, if nobody else does.
     pub fn work<D: Disk, L: Loaded, M: Mounted, W: Wait, G: Gate>(
         &mut self,
         rt: &W,
@@ -193,7 +194,16 @@ impl<'s, O: Opened, R: Ring> Worker<'s, Ledger<O>, O, R> {
         ensures { self.new ≡ self.old }
     {
         let (by, nodes) = (self.number, self.nodes);
-        match each_goes_on(rt, alloc, turn, manager, &mut self.seat, by, nodes, self.clients.as_mut_slice()) {
+        match each_goes_on(
+            rt,
+            alloc,
+            turn,
+            manager,
+            &mut self.seat,
+            by,
+            nodes,
+            self.clients.as_mut_slice(),
+        ) {
             Pass::WentOn => true,
             Pass::Waits => false,
             Pass::OutOfMemory => {

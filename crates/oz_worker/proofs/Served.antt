@@ -1,5 +1,5 @@
 -- What is kept of a client as its lines are served.
-use Rattle.std.proofs.Common.{◌≡◌, ◌≢◌, ℕ, zero, suc, ◌+◌, ◌≤◌, ◌<◌, ◌==◌, Bool, true, false, cond, List, [], ◌∷◌, length, map, All, Option, None, Some, IfSome, Bor, refl, sym, ap, ◌∙◌, subst, arith}
+use Rattle.std.proofs.Common.{◌≡◌, ◌≢◌, ℕ, ◌+◌, ◌<◌, ◌==◌, Bool, true, false, cond, List, [], map, Option, None, Some, IfSome, Bor, refl, sym, ap, ◌∙◌, subst, arith}
 use Rattle.std.specs.Cmp.Lexicographic.{slice_cmp}
 use Rattle.std.specs.FinMap.{empty, get, insert, get-empty, get-insert}
 use Rattle.std.specs.Ordering.{nat_cmp}
@@ -10,7 +10,7 @@ use Rattle.std.proofs.lemmas.Cmp.{nat_list_cmp_total}
 use Rattle.std.proofs.lemmas.List.Sums.{count_by-le-length, length-filter}
 use Rattle.std.proofs.lemmas.Map.Text.{is_eq-slice_cmp}
 use Rattle.std.proofs.lemmas.Option.{IfSome_then, none-some, same_Some, slice_get-map, slice_get_read, slice_get_within}
-use Rattle.oz_at_work.specs.AtWork.{HasLeft, IsAtWork, IsStarted, MayBegin, WorkView}
+use Rattle.oz_at_work.specs.AtWork.{HasLeft, IsAtWork, MayBegin, WorkView}
 use Rattle.oz_command.specs.declared.command.Command.{Command}
 use Rattle.oz_command.specs.declared.command.Command.TheVariants as commands
 use Rattle.oz_core.specs.declared.event.Event.{Event}

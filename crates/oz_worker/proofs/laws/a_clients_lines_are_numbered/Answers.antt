@@ -1,4 +1,4 @@
-use Rattle.std.proofs.Common.{◌≡◌, ◌≤◌, ℕ, ◌+◌, [], length, ap, arith}
+use Rattle.std.proofs.Common.{◌≤◌, [], length, arith}
 use Rattle.std.proofs.lemmas.List.Elements.{All-contains}
 use Rattle.oz_lines.specs.declared.script.Line.{Line}
 use Rattle.oz_worker.proofs.Numbered.{placed}

@@ -1,4 +1,4 @@
-use Rattle.std.proofs.Common.{◌≡◌, All}
+use Rattle.std.proofs.Common.{All}
 use Rattle.oz_turn.specs.Seat.{IsReady, seen_of}
 use Rattle.oz_turn.specs.Told.{BeginsWith}
 use Rattle.oz_worker.specs.Served.{IsServed}

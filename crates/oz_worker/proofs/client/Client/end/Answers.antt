@@ -1,4 +1,4 @@
-use Rattle.std.proofs.Common.{sym, ap, ◌∙◌, arith}
+use Rattle.std.proofs.Common.{ap, ◌∙◌, arith}
 use Rattle.oz_at_work.specs.AtWork.{left_of}
 use Rattle.oz_lines.specs.declared.script.Line.{Line}
 use Rattle.oz_steps.specs.declared.label.Label.{Label}

@@ -1,4 +1,4 @@
-use Rattle.std.proofs.Common.{ℕ, Some, IfSome, ap, sym, subst, ◌∙◌}
+use Rattle.std.proofs.Common.{IfSome, ap, sym, subst, ◌∙◌}
 use Rattle.std.specs.Prelude.{slice_get}
 use Rattle.oz_lines.specs.declared.script.Script.{Script}
 use Rattle.oz_worker.specs.ClientLines.{lines_of_client}

@@ -1,0 +1,103 @@
+-- A line that is told something else than its steps say.
+use Rattle.std.proofs.Common.{◌≡◌, ◌≢◌, ℕ, true, false, List, [], ◌∷◌, ◌++◌, Option, None, Some, refl, sym, ap, ◌∙◌, subst, eq-eqb, cond, ◌&&◌, ◌==◌, Bool, is_some}
+use Rattle.std.proofs.lemmas.Bool.{and_from, eqb-true, false≢true}
+use Rattle.std.proofs.lemmas.List.Sums.{fold_push}
+use Rattle.std.specs.List.{cons_option}
+use Rattle.oz_asker.specs.laws.Halts.{late_means_halted}
+use Rattle.oz_buffer.specs.Buffer.{AllFollow, Follows}
+use Rattle.oz_client.specs.declared.step.Step.TheVariants as steps
+use Rattle.oz_command.specs.declared.command.AdminCommand.TheVariants as admin
+use Rattle.oz_command.specs.declared.command.Command.{Command}
+use Rattle.oz_command.specs.declared.command.Command.TheVariants as commands
+use Rattle.oz_core.specs.declared.event.Event.{Event}
+use Rattle.oz_core.specs.declared.opening.Opening.{Opening}
+use Rattle.oz_core.specs.Asks.{answer_to, answers_to, last_ask}
+use Rattle.oz_core.specs.Contents.{OpeningBytes}
+use Rattle.oz_core.specs.Due.{IsDue, ManagerHadStopped}
+use Rattle.oz_core.specs.Manager.{asked_late}
+use Rattle.oz_core.specs.Steps.{is_open_at, was_told_ok}
+use Rattle.oz_core.specs.Stories.{last_in}
+use Rattle.oz_lines.specs.declared.script.Line.{Line}
+use Rattle.oz_lines.specs.declared.script.Script.{Script}
+use Rattle.oz_requests.specs.declared.answer.Answer.{Answer}
+use Rattle.oz_requests.specs.declared.answer.Answer.TheVariants as answers
+use Rattle.oz_telling.specs.Tells.{HadStopped, MayTell, told_event}
+use Rattle.oz_telling.specs.laws.Told.{told_now}
+use Rattle.oz_turn.specs.Told.{BeginsWith}
+use Rattle.oz_underway.specs.laws.Going.{told_more}
+use Rattle.oz_underway.specs.laws.Labels.{open_as_told, open_still}
+use Rattle.oz_underway.specs.laws.Starting.{started_still}
+use Rattle.oz_at_work.specs.AtWork.{IsAtWork, IsLabelOf, IsStarted, MayBeTold, WorkView, id_of, last_of}
+use Rattle.oz_at_work.specs.inner.Replied.{IsOfEnd}
+use Rattle.oz_at_work.proofs.Staying.{begun_still}
+
+-- nothing is left where the label isn't open
+pub label_none : (story : List Event) (line : Line) (command : Command) → is_open_at story line ≡ false → IsLabelOf story line command None
+label_none story line (commands.KeyOpen name volume bucket key payload) shut = shut
+label_none story line command shut = tt
+
+end_not_ok : (asked : ℕ) (answer : Answer) → IsOfEnd asked answer → was_told_ok (Some answer) ≡ false
+end_not_ok asked (answers.Ok values) of_end = absurd of_end
+end_not_ok asked answer of_end = refl
+
+pub some_last : (line : Line) (asked : ℕ) → asked ≢ 0 → last_of line asked ≡ Some (id_of line asked)
+some_last line asked some = by (asked == 0) refl
+  where
+    by : (t : Bool) → (asked == 0) ≡ t → cond t None (Some (id_of line asked)) ≡ Some (id_of line asked)
+    by true is = absurd (some (eqb-true asked 0 is))
+    by false is = refl
+
+-- the manager had halted when the line asked last
+stopped_due : (opening : Opening) (story : List Event) (line : Line) (asked : ℕ) → last_ask line.client line.number story ≡ Some (id_of line asked)
+    → asked_late (id_of line asked) story ≡ true → (command : Command) → ManagerHadStopped story line command
+stopped_due opening story line asked last late (commands.Admin admin.Drain) =
+    λ none. false≢true (sym (ap is_some none) ∙ late_means_halted (id_of line asked) story late)
+stopped_due opening story line asked last late command = (id_of line asked, last, late)
+
+end_due : (opening : Opening) (bytes : OpeningBytes) (script : Script) (story : List Event) (line : Line) (asked : ℕ) (answer : Answer) → IsOfEnd asked answer
+    → MayTell opening story line.client line.number (last_of line asked) answer → IsDue opening bytes script story line answer
+end_due opening bytes script story line asked answers.OutOfMemory of_end may = tt
+end_due opening bytes script story line asked answers.Unacknowledged of_end may = may.cause
+end_due opening bytes script story line asked answers.ManagerStopped of_end may =
+    let is = some_last line asked of_end in
+    stopped_due opening story line asked (may.asked ∙ is) (subst (HadStopped story) is may.cause) line.command
+end_due opening bytes script story line asked answer of_end may = absurd of_end
+
+module _ (Coherent : Type 0) (opening : Opening) (bytes : OpeningBytes) (script : Script) where
+  pub told_stays : (story before : List Event) (seat : ℕ) (line : Line) (answer : Answer) → Coherent → AllFollow (Follows Coherent opening bytes script) [] story
+      → BeginsWith story (before ++ told_event seat line.client line.number answer ∷ []) → is_open_at story line ≡ was_told_ok (Some answer)
+  told_stays story before seat line answer coherent all begins =
+      open_still Coherent opening bytes script line story (before ++ told_event seat line.client line.number answer ∷ []) coherent all begins
+      (told_now before seat line.client line.number answer)
+      ∙ open_as_told before seat line answer
+
+  end_fits : (seen : List Event) (line : Line) (asked : ℕ) (answer : Answer) → Coherent → IsStarted script seen line → IsOfEnd asked answer
+      → MayBeTold Coherent opening bytes script seen line (last_of line asked) answer None
+  end_fits seen line asked answer coherent begun of_end = record {
+    fits = λ story begins all may. record {
+      line = line;
+      its = record { there = begun.there; of_client = refl; of_number = refl };
+      started = started_still story seen line begins begun.started;
+      due = end_due opening bytes script story line asked answer of_end may;
+    };
+    leaves = λ story begins all before seat from may behind.
+        label_none story line line.command (told_stays story before seat line answer coherent all behind ∙ end_not_ok asked answer of_end);
+  }
+
+  -- whatever comes next, a line may be told such an answer
+  cut_works : (later seen : List Event) (work : WorkView) (asked : ℕ) (answer : Answer) → Coherent → BeginsWith later seen
+      → IsOfEnd asked answer → IsAtWork Coherent opening bytes script seen work
+      → IsAtWork Coherent opening bytes script later (record work { asked = asked; next = steps.Tell answer; is_cut = true })
+  cut_works later seen work asked answer coherent begins of_end at_work =
+      let begun = begun_still script later seen work.line begins at_work.begun in
+      record {
+        begun = begun;
+        does = at_work.does;
+        next = end_fits later work.line asked answer coherent begun of_end;
+      }
+
+  pub cut_so : (later seen : List Event) (work new : WorkView) (asked : ℕ) (answer : Answer) → Coherent → BeginsWith later seen → IsOfEnd asked answer
+      → new ≡ record work { asked = asked; next = steps.Tell answer; is_cut = true }
+      → IsAtWork Coherent opening bytes script seen work → IsAtWork Coherent opening bytes script later new
+  cut_so later seen work new asked answer coherent begins of_end is at_work =
+      subst (IsAtWork Coherent opening bytes script later) (sym is) (cut_works later seen work asked answer coherent begins of_end at_work)

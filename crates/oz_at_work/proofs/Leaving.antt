@@ -1,0 +1,94 @@
+-- What a line has left once it was told, and what that makes of a label.
+use Rattle.std.proofs.Common.{◌≡◌, ℕ, Bool, true, false, cond, List, [], ◌∷◌, Option, None, Some, refl, sym, ap, ◌∙◌, subst}
+use Rattle.std.proofs.lemmas.Bool.{and_parts, false≢true}
+use Rattle.std.proofs.lemmas.Option.{same_Some}
+use Rattle.std.specs.Prelude.{filter, fold, nat_lt, ◌==◌, ◌&&◌}
+use Rattle.oz_client.specs.declared.step.Step.TheVariants as steps
+use Rattle.oz_command.specs.declared.command.Command.{Command}
+use Rattle.oz_command.specs.declared.command.Command.TheVariants as commands
+use Rattle.oz_core.specs.declared.event.Event.{Event}
+use Rattle.oz_core.specs.declared.opening.Opening.{Opening}
+use Rattle.oz_core.specs.Asks.{is_told}
+use Rattle.oz_core.specs.Contents.{OpeningBytes}
+use Rattle.oz_core.specs.Steps.{commit_step, is_opened_as, opening_line, opens_before}
+use Rattle.oz_lines.specs.declared.script.Line.{Line}
+use Rattle.oz_lines.specs.declared.script.Script.{Script}
+use Rattle.oz_requests.specs.declared.answer.Answer.{Answer}
+use Rattle.oz_requests.specs.declared.answer.Answer.TheVariants as answers
+use Rattle.oz_requests.specs.declared.request.AskId.{AskId}
+use Rattle.oz_steps.specs.declared.label.Label.{Label}
+use Rattle.oz_steps.specs.Lines.{IsLabel}
+use Rattle.oz_telling.specs.Tells.{IsTold, MayTell}
+use Rattle.oz_telling.specs.laws.Told.{told_now}
+use Rattle.oz_turn.specs.Told.{BeginsWith}
+use Rattle.oz_underway.specs.UnderWay.{LabelStays}
+use Rattle.oz_underway.specs.laws.Going.{begins_through}
+use Rattle.oz_underway.specs.laws.Told.{told_still}
+use Rattle.oz_at_work.specs.AtWork.{HasLeft, IsAtWork, IsLabelOf, IsNextFit, MayBeTold, WorkView, last_of, left_of}
+use Rattle.oz_at_work.proofs.Staying.{begun_still}
+
+-- ---- the label of a line that commits
+
+last_passes : {X : Type 0} (p : X → Bool) (before : Option X) (xs : List X) (x : X) → (before ≡ Some x → p x ≡ true)
+    → fold (λ (b : Option X) (y : X). Some y) before (filter p xs) ≡ Some x → p x ≡ true
+last_passes p before [] x was is = was is
+last_passes {X} p before (y ∷ ys) x was is =
+    by (p y) refl (last_passes p (Some y) ys x) (last_passes p before ys x was) is
+  where
+    Ends : Option X → List X → Type 0
+    Ends b l = fold (λ (b : Option X) (z : X). Some z) b l ≡ Some x
+
+    by : (t : Bool) → p y ≡ t → ((Some y ≡ Some x → p x ≡ true) → Ends (Some y) (filter p ys) → p x ≡ true) → (Ends before (filter p ys) → p x ≡ true)
+        → Ends before (cond t (y ∷ filter p ys) (filter p ys)) → p x ≡ true
+    by true passes it others is = it (λ same. subst (λ (z : X). p z ≡ true) (same_Some y x same) passes) is
+    by false fails it others is = others is
+
+-- the last line that opens a label opens one
+opens : (script : Script) (line opened : Line) (name : List ℕ) → opening_line script line name ≡ Some opened → is_opened_as name opened.command ≡ true
+opens script line opened name is =
+    let passes = last_passes (opens_before line name) None script.lines opened (λ wrong. absurd cc) is in
+    (and_parts (opened.client == line.client && nat_lt opened.number line.number) (is_opened_as name opened.command) passes).1
+
+label_is : (script : Script) (story : List Event) (line opened : Line) (name : List ℕ) (command : Command) (left : Option Label) → opening_line script line name ≡ Some opened
+    → is_opened_as name command ≡ true → IsLabelOf story opened command left → IsLabel script story line (commands.KeyCommit name) left
+label_is script story line opened name (commands.KeyOpen other volume bucket key payload) (Some label) its opens is = ap (commit_step story) its ∙ is
+label_is script story line opened name (commands.KeyOpen other volume bucket key payload) None its opens is = (opened, its, is)
+label_is script story line opened name command left its opens is = absurd (false≢true opens)
+
+pub label_left : (Coherent : Type 0) (opening : Opening) (bytes : OpeningBytes) (script : Script) (seen : List Event) (line opened : Line) (name : List ℕ) (left : Option Label)
+    → line.command ≡ commands.KeyCommit name → opening_line script line name ≡ Some opened → HasLeft Coherent opening bytes script seen opened left
+    → LabelStays Coherent opening bytes script seen line line.command left
+label_left Coherent opening bytes script seen line opened name left does its has story goes all =
+    subst (λ (c : Command). IsLabel script story line c left) (sym does)
+    (label_is script story line opened name opened.command left its (opens script line opened name its) (has.stays story goes all))
+
+-- ---- a line that was told
+
+module _ (Coherent : Type 0) (opening : Opening) (bytes : OpeningBytes) (script : Script) (seen after mine mine_after : List Event) (work : WorkView) (seat : ℕ) (answer : Answer)
+    (goes : BeginsWith after seen) (at_work : IsAtWork Coherent opening bytes script seen work) (is : work.next ≡ steps.Tell answer)
+    (told : IsTold opening seat work.line.client work.line.number (last_of work.line work.asked) answer seen mine after mine_after) where
+  is_told_now : is_told work.line.client work.line.number after ≡ true
+  is_told_now = subst (λ (l : List Event). is_told work.line.client work.line.number l ≡ true) (sym told.story) (told_now told.before seat work.line.client work.line.number answer)
+
+  untold_no_more : (story : List Event) (last : Option AskId) (other : Answer) → BeginsWith story after → MayTell opening story work.line.client work.line.number last other → ⊥
+  untold_no_more story last other begins may =
+      false≢true (sym may.untold ∙ told_still work.line.client work.line.number story after begins is_told_now)
+
+  pub told_works : IsAtWork Coherent opening bytes script after (record work { next = steps.Tell answers.OutOfMemory })
+  told_works = record {
+    begun = begun_still script after seen work.line goes at_work.begun;
+    does = at_work.does;
+    next = record {
+      fits = λ story begins all may. absurd (untold_no_more story _ _ begins may);
+      leaves = λ story begins all before by from may behind. absurd (untold_no_more before _ _ from may);
+    };
+  }
+
+  pub has_left : HasLeft Coherent opening bytes script after work.line (left_of work)
+  has_left =
+      let fit : MayBeTold Coherent opening bytes script seen work.line (last_of work.line work.asked) answer (left_of work) = subst (IsNextFit Coherent opening bytes script seen work) is at_work.next in
+      record {
+        told = is_told_now;
+        stays = λ story begins all. fit.leaves story (begins_through story after seen begins goes) all told.before seat told.begins told.may
+            (subst (BeginsWith story) told.story begins);
+      }

@@ -1,0 +1,4 @@
+mod Staying
+mod Cutting
+mod Stepping
+mod Leaving

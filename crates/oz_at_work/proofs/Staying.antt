@@ -1,0 +1,70 @@
+-- What is known of a line stays in what is seen later.
+use Rattle.std.proofs.Common.{◌≢◌, ◌≤◌, List, length, arith}
+use Rattle.std.proofs.lemmas.List.Elements.{All-contains}
+use Rattle.oz_client.specs.declared.step.Step.{Step}
+use Rattle.oz_client.specs.declared.step.Step.TheVariants as steps
+use Rattle.oz_core.specs.declared.event.Event.{Event}
+use Rattle.oz_core.specs.declared.limits.TheConstants.{SERVICE_CLIENT}
+use Rattle.oz_core.specs.declared.opening.Opening.{Opening}
+use Rattle.oz_core.specs.Contents.{OpeningBytes}
+use Rattle.oz_lines.specs.declared.script.Line.{Line}
+use Rattle.oz_lines.specs.declared.script.Script.{Script}
+use Rattle.oz_requests.specs.declared.answer.Answer.{Answer}
+use Rattle.oz_requests.specs.declared.request.AskId.{AskId}
+use Rattle.oz_steps.specs.declared.label.Label.{Label}
+use Rattle.oz_turn.specs.Told.{BeginsWith}
+use Rattle.oz_underway.specs.GoingOn.{FromHereOn}
+use Rattle.oz_underway.specs.laws.Going.{begins_through}
+use Rattle.oz_underway.specs.laws.Starting.{started_still}
+use Rattle.oz_underway.specs.laws.Told.{told_still}
+use Rattle.oz_underway.specs.laws.UnderWay.{still_under_way}
+use Rattle.oz_at_work.specs.AtWork.{HasLeft, IsAtWork, IsNextFit, IsStarted, MayBegin, MayBeTold, WorkView}
+use Rattle.std.specs.Prelude.{Option}
+
+pub begun_still : (script : Script) (later seen : List Event) (line : Line) → BeginsWith later seen → IsStarted script seen line → IsStarted script later line
+begun_still script later seen line begins begun = record {
+  numbered = begun.numbered;
+  there = begun.there;
+  started = started_still later seen line begins begun.started;
+}
+
+module _ (Coherent : Type 0) (opening : Opening) (bytes : OpeningBytes) (script : Script) (later seen : List Event) (begins : BeginsWith later seen) where
+  pub here_still : (Holds : List Event → Type 0) → FromHereOn Coherent opening bytes script seen Holds → FromHereOn Coherent opening bytes script later Holds
+  here_still Holds from story goes all = from story (begins_through story later seen goes begins) all
+
+  told_fit_still : (line : Line) (last : Option AskId) (answer : Answer) (left : Option Label)
+      → MayBeTold Coherent opening bytes script seen line last answer left → MayBeTold Coherent opening bytes script later line last answer left
+  told_fit_still line last answer left fit = record {
+    fits = λ story goes all. fit.fits story (begins_through story later seen goes begins) all;
+    leaves = λ story goes all before seat from may behind.
+        fit.leaves story (begins_through story later seen goes begins) all before seat (begins_through before later seen from begins) may behind;
+  }
+
+  next_still : (work : WorkView) (step : Step) → IsNextFit Coherent opening bytes script seen work step → IsNextFit Coherent opening bytes script later work step
+  next_still work (steps.Ask request) fit = record {
+    under_way = still_under_way Coherent opening bytes script later seen work.line work.asked work.line.command work.state.progress begins fit.under_way;
+    alone = fit.alone;
+    fits = λ story goes all. fit.fits story (begins_through story later seen goes begins) all;
+    same = λ story goes all. fit.same story (begins_through story later seen goes begins) all;
+  }
+  next_still work (steps.Tell answer) fit = told_fit_still work.line _ answer _ fit
+  next_still work step fit = tt
+
+  pub work_still : (work : WorkView) → IsAtWork Coherent opening bytes script seen work → IsAtWork Coherent opening bytes script later work
+  work_still work at_work = record {
+    begun = begun_still script later seen work.line begins at_work.begun;
+    does = at_work.does;
+    next = next_still work work.next at_work.next;
+  }
+
+  pub begin_still : (line : Line) (label : Option Label) → MayBegin Coherent opening bytes script seen line label → MayBegin Coherent opening bytes script later line label
+  begin_still line label may = record {
+    begun = begun_still script later seen line begins may.begun;
+    labelled = λ story goes all. may.labelled story (begins_through story later seen goes begins) all;
+  }
+
+  pub left_still : (line : Line) (left : Option Label) → HasLeft Coherent opening bytes script seen line left → HasLeft Coherent opening bytes script later line left
+  left_still line left has = record {
+    told = told_still line.client line.number later seen begins has.told;
+    stays = λ story goes all. has.stays story (begins_through story later seen goes begins) all;
+  }

@@ -1,0 +1,8 @@
+use Rattle.oz_at_work.proofs.Stepping.{begin_so}
+use Rattle.oz_at_work.proofs.at_work.LineAtWork.begin.Goals as goal
+
+pub returns-clause-works : goal.returns-clause-works
+returns-clause-works g c coherent seen all may =
+    let O = g.O.Opened in
+    begin_so O.coherent O.opening O.bytes O.script seen c.args.line.now c.args.nodes _ c.in_ok-steps.steps c.next.new.self c.in_ok-next.next coherent may all
+    c.in_ok-steps.ensures c.in_ok-next.ensures.state c.in_ok-next.ensures.is c.in_ok-next.ensures.so

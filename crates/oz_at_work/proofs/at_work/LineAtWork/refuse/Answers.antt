@@ -1,0 +1,26 @@
+use Rattle.oz_requests.specs.declared.answer.Answer.TheVariants as answers
+use Rattle.oz_turn.specs.Seat.{seen_of}
+use Rattle.oz_underway.specs.laws.Going.{begins_itself}
+use Rattle.oz_at_work.proofs.Cutting.{cut_so}
+use Rattle.oz_at_work.proofs.at_work.LineAtWork.refuse.Goals as goal
+
+pub returns-in-Stopped-clause-works : goal.returns-in-Stopped-clause-works
+returns-in-Stopped-clause-works g c coherent =
+    let O = g.O.Opened in
+    let seen = seen_of c.args.seat.now in
+    cut_so O.coherent O.opening O.bytes O.script seen seen c.args.self.now c.cut.new.self c.args.step
+    answers.ManagerStopped coherent (begins_itself seen) c.requires.step c.cut.ensures (c.requires.works coherent)
+
+pub returns-in-PoolEmpty-clause-works : goal.returns-in-PoolEmpty-clause-works
+returns-in-PoolEmpty-clause-works g c coherent =
+    let O = g.O.Opened in
+    let seen = seen_of c.args.seat.now in
+    cut_so O.coherent O.opening O.bytes O.script seen seen c.args.self.now c.cut-in-PoolEmpty.new.self c.args.step
+    answers.OutOfMemory coherent (begins_itself seen) tt c.cut-in-PoolEmpty.ensures (c.requires.works coherent)
+
+pub returns-in-OutOfMemory-clause-works : goal.returns-in-OutOfMemory-clause-works
+returns-in-OutOfMemory-clause-works g c coherent =
+    let O = g.O.Opened in
+    let seen = seen_of c.args.seat.now in
+    cut_so O.coherent O.opening O.bytes O.script seen seen c.args.self.now c.cut-in-OutOfMemory-2.new.self _
+    answers.OutOfMemory coherent (begins_itself seen) tt c.cut-in-OutOfMemory-2.ensures (c.requires.works coherent)

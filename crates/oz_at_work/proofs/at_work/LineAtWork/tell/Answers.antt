@@ -1,0 +1,65 @@
+use Rattle.std.proofs.Common.{◌≡◌, Option, sym, ap, ◌∙◌, subst}
+use Rattle.oz_client.specs.declared.step.Step.{Step}
+use Rattle.oz_client.specs.declared.step.Step.TheVariants as steps
+use Rattle.oz_requests.specs.declared.request.AskId.{AskId}
+use Rattle.oz_telling.specs.Tells.{IsTold, MayTell}
+use Rattle.oz_turn.specs.Seat.{mine_of, seen_of}
+use Rattle.oz_at_work.specs.AtWork.{IsAtWork, IsNextFit, MayBeTold, WorkView, last_of, left_of}
+use Rattle.oz_at_work.proofs.Leaving.{has_left, told_works}
+use Rattle.oz_at_work.proofs.Staying.{work_still}
+use Rattle.oz_at_work.proofs.at_work.LineAtWork.tell.Goals as goal
+
+pub tell-requires-clause-fits : goal.tell-requires-clause-fits
+tell-requires-clause-fits g c coherent story begins all may =
+    let O = g.O.Opened in
+    let inside = c.self.inside in
+    let seen = seen_of c.args.seat.now in
+    let work : WorkView = record { line = inside.line.now; state = inside.steps; asked = inside.asked; next = inside.next; is_cut = inside.is_cut } in
+    let at_work : IsAtWork O.coherent O.opening O.bytes O.script seen work =
+    subst (IsAtWork O.coherent O.opening O.bytes O.script seen) (sym c.self.view_is) (c.requires.works coherent) in
+    let fit : MayBeTold O.coherent O.opening O.bytes O.script seen work.line (last_of work.line work.asked) c.in-Tell.answer (left_of work) =
+    subst (IsNextFit O.coherent O.opening O.bytes O.script seen work) (sym c.in-Tell.ensures.value) at_work.next in
+    fit.fits story begins all
+    (subst (λ (last : Option AskId). MayTell O.opening story work.line.client work.line.number last c.in-Tell.answer) c.last-last.ensures may)
+
+pub put_off-requires-clause-works : goal.put_off-requires-clause-works
+put_off-requires-clause-works g c coherent =
+    let O = g.O.Opened in
+    let inside = c.self.inside in
+    let seen = seen_of c.args.seat.now in
+    let later = seen_of c.tell.new.seat in
+    let work : WorkView = record { line = inside.line.now; state = inside.steps; asked = inside.asked; next = inside.next; is_cut = inside.is_cut } in
+    let at_work : IsAtWork O.coherent O.opening O.bytes O.script seen work =
+    subst (IsAtWork O.coherent O.opening O.bytes O.script seen) (sym c.self.view_is) (c.requires.works coherent) in
+    let same : steps.Tell c.in-Err.answer ≡ inside.next = ap steps.Tell c.in-Err.ensures.answer ∙ c.in-Tell.ensures.value in
+    subst (λ (step : Step). IsAtWork O.coherent O.opening O.bytes O.script later (record work { next = step })) (sym same)
+    (work_still O.coherent O.opening O.bytes O.script later seen c.in-Err.ensures.goes_on work at_work)
+
+pub returns-in-Ok-clause-works : goal.returns-in-Ok-clause-works
+returns-in-Ok-clause-works g c coherent =
+    let O = g.O.Opened in
+    let inside = c.self.inside in
+    let seen = seen_of c.args.seat.now in
+    let later = seen_of c.tell.new.seat in
+    let work : WorkView = record { line = inside.line.now; state = inside.steps; asked = inside.asked; next = inside.next; is_cut = inside.is_cut } in
+    let at_work : IsAtWork O.coherent O.opening O.bytes O.script seen work =
+    subst (IsAtWork O.coherent O.opening O.bytes O.script seen) (sym c.self.view_is) (c.requires.works coherent) in
+    let told = subst (λ (last : Option AskId). IsTold O.opening c.args.by work.line.client work.line.number last c.in-Tell.answer seen (mine_of c.args.seat.now) later (mine_of c.tell.new.seat))
+    c.last-last.ensures c.in-Ok.ensures.told in
+    subst (λ (step : Step). IsAtWork O.coherent O.opening O.bytes O.script later (record work { next = step })) (sym c.replace-next.ensures.after)
+    (told_works O.coherent O.opening O.bytes O.script seen later (mine_of c.args.seat.now) (mine_of c.tell.new.seat) work c.args.by c.in-Tell.answer
+    c.in-Ok.ensures.goes_on at_work (sym c.in-Tell.ensures.value) told)
+
+pub returns-in-Ok-clause-ended : goal.returns-in-Ok-clause-ended
+returns-in-Ok-clause-ended g c ended coherent =
+    let O = g.O.Opened in
+    let inside = c.self.inside in
+    let seen = seen_of c.args.seat.now in
+    let later = seen_of c.tell.new.seat in
+    let work : WorkView = record { line = inside.line.now; state = inside.steps; asked = inside.asked; next = inside.next; is_cut = inside.is_cut } in
+    let at_work : IsAtWork O.coherent O.opening O.bytes O.script seen work =
+    subst (IsAtWork O.coherent O.opening O.bytes O.script seen) (sym c.self.view_is) (c.requires.works coherent) in
+    let told = subst (λ (last : Option AskId). IsTold O.opening c.args.by work.line.client work.line.number last c.in-Tell.answer seen (mine_of c.args.seat.now) later (mine_of c.tell.new.seat))
+    c.last-last.ensures c.in-Ok.ensures.told in
+    has_left O.coherent O.opening O.bytes O.script seen later (mine_of c.args.seat.now) (mine_of c.tell.new.seat) work c.args.by c.in-Tell.answer
+    c.in-Ok.ensures.goes_on at_work (sym c.in-Tell.ensures.value) told

@@ -1,0 +1,113 @@
+-- A line that a worker works for, what it may do next, and what it leaves.
+use Rattle.std.specs.Prelude.{◌≡◌, ℕ, ◌+◌, ◌==◌, Bool, true, false, List, [], ◌∷◌, ◌++◌, None, Option, Some, Contains}
+use Rattle.std.specs.Prelude.{if◌then◌else◌}
+use Rattle.std.specs.List.{list_any}
+use Rattle.oz_client.specs.declared.progress.Progress.{Progress}
+use Rattle.oz_client.specs.declared.step.Step.{Step}
+use Rattle.oz_client.specs.declared.step.Step.TheVariants as steps
+use Rattle.oz_client.specs.LineState.{LineState}
+use Rattle.oz_command.specs.declared.command.Command.{Command}
+use Rattle.oz_command.specs.declared.command.Command.TheVariants as commands
+use Rattle.oz_core.specs.declared.event.Event.{Event}
+use Rattle.oz_core.specs.declared.event.EventKind.TheVariants.{Ask, Told}
+use Rattle.oz_core.specs.declared.opening.Opening.{Opening}
+use Rattle.oz_core.specs.Asks.{is_told, pending}
+use Rattle.oz_core.specs.Contents.{OpeningBytes}
+use Rattle.oz_core.specs.Fits.{EventFits}
+use Rattle.oz_core.specs.Law.{AskIsEnabled}
+use Rattle.oz_core.specs.Lines.{HasStarted}
+use Rattle.oz_core.specs.Steps.{commit_step, is_code, is_open_at}
+use Rattle.oz_lines.specs.declared.script.Line.{Line}
+use Rattle.oz_lines.specs.declared.script.Script.{Script}
+use Rattle.oz_lines.specs.Numbered.{IsNumbered}
+use Rattle.oz_requests.specs.declared.answer.Answer.{Answer}
+use Rattle.oz_requests.specs.declared.request.AskId.{AskId}
+use Rattle.oz_requests.specs.declared.request.Request.{Request}
+use Rattle.oz_steps.specs.declared.label.Label.{Label}
+use Rattle.oz_steps.specs.Lines.{commit_of_label}
+use Rattle.oz_telling.specs.Tells.{MayTell, told_event}
+use Rattle.oz_turn.specs.Told.{BeginsWith}
+use Rattle.oz_underway.specs.GoingOn.{FromHereOn}
+use Rattle.oz_underway.specs.UnderWay.{IsUnderWay, LabelStays}
+
+-- A line, what came back to it, how often it has asked, what it does next, and whether that isn't of its steps.
+pub record WorkView : Type 0 where
+  pub line : Line
+  pub state : LineState
+  pub asked : ℕ
+  pub next : Step
+  pub is_cut : Bool
+
+-- the id of a line's Ask of this number, and of the last of so many
+abbrev pub id_of : Line → ℕ → AskId
+id_of line step = record { client = line.client; line = line.number; step = step }
+
+abbrev pub last_of : Line → ℕ → Option AskId
+last_of line asked = if asked == 0 then None else Some (id_of line asked)
+
+-- what a line leaves in the label that it opens: what its steps say, where it is told what they say
+abbrev pub left_of : WorkView → Option Label
+left_of work = if work.is_cut then None else work.state.left
+
+-- The label that a line opened stands for this; for nothing where the line was told something else than OK.
+abbrev pub IsLabelOf : List Event → Line → Command → Option Label → Type 0
+IsLabelOf story line (commands.KeyOpen name volume bucket key payload) (Some label) =
+    commit_step story (Some line) ≡ Some (commit_of_label label)
+IsLabelOf story line (commands.KeyOpen name volume bucket key payload) None = is_open_at story line ≡ false
+IsLabelOf story line command left = Unit {0}
+
+-- a line of a script that has started
+pub record IsStarted (script : Script) (seen : List Event) (line : Line) : Type 0 where
+  pub numbered : IsNumbered script
+  pub there : Contains script.lines line
+  pub started : HasStarted seen line
+
+-- nothing came back but replies, and none of them is a code or granted a block
+pub record HasRepliesAlone (progress : Progress) : Type 0 where
+  pub no_code : list_any is_code progress.came.replies ≡ false
+  pub no_attempts : progress.came.attempts ≡ []
+  pub unwritten : progress.came.writing ≡ None
+  pub unread : progress.read ≡ []
+
+module _ (Coherent : Type 0) (opening : Opening) (bytes : OpeningBytes) (script : Script) (seen : List Event) where
+  -- A line may begin, and its label stays what it is.
+  pub record MayBegin (line : Line) (label : Option Label) : Type 0 where
+    pub begun : IsStarted script seen line
+    pub labelled : LabelStays Coherent opening bytes script seen line line.command label
+
+  -- From here on the request is the line's next wherever the law lets it ask, and nothing else is asked by its id.
+  pub record MayAsk (line : Line) (asked : ℕ) (request : Request) (progress : Progress) : Type 0 where
+    pub under_way : IsUnderWay Coherent opening bytes script seen line asked line.command progress
+    pub alone : HasRepliesAlone progress
+    pub fits : FromHereOn Coherent opening bytes script seen (λ story. (seat : ℕ)
+        → AskIsEnabled opening story seat (id_of line (asked + 1)) request
+        → EventFits opening bytes script story (Ask (id_of line (asked + 1)) request))
+    pub same : FromHereOn Coherent opening bytes script seen (λ story. (other : Request)
+        → pending (id_of line (asked + 1)) story ≡ Some other → other ≡ request)
+
+  -- From here on the answer is the line's wherever it may be told it, and once it is told this is what it left.
+  pub record MayBeTold (line : Line) (last : Option AskId) (answer : Answer) (left : Option Label) : Type 0 where
+    pub fits : FromHereOn Coherent opening bytes script seen (λ story.
+        MayTell opening story line.client line.number last answer
+        → EventFits opening bytes script story (Told line.client line.number answer))
+    pub leaves : FromHereOn Coherent opening bytes script seen (λ story. (before : List Event) (seat : ℕ)
+        → BeginsWith before seen → MayTell opening before line.client line.number last answer
+        → BeginsWith story (before ++ told_event seat line.client line.number answer ∷ [])
+        → IsLabelOf story line line.command left)
+
+  -- what comes next may come
+  abbrev pub IsNextFit : WorkView → Step → Type 0
+  IsNextFit work (steps.Ask request) = MayAsk work.line work.asked request work.state.progress
+  IsNextFit work (steps.Tell answer) = MayBeTold work.line (last_of work.line work.asked) answer (left_of work)
+  IsNextFit work step = Unit {0}
+
+  -- What is known of a line that is worked for.
+  pub record IsAtWork (work : WorkView) : Type 0 where
+    pub begun : IsStarted script seen work.line
+    pub does : work.state.command ≡ work.line.command
+    pub next : IsNextFit work work.next
+
+  -- The line was told, and from here on this is what it left.
+  pub record HasLeft (line : Line) (left : Option Label) : Type 0 where
+    pub told : is_told line.client line.number seen ≡ true
+    pub stays : FromHereOn Coherent opening bytes script seen (λ story. IsLabelOf story line line.command left)

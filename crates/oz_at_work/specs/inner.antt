@@ -1,0 +1,2 @@
+-- For private calls: no public contract rests on these.
+pub mod Replied

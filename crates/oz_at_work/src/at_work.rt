@@ -1,0 +1,90 @@
+//! A line that is worked for, as a type.
+
+ghost use Rattle.std.specs.Prelude.{◌≡◌, true};
+ghost use Rattle.oz_at_work.specs.AtWork.{id_of, last_of, left_of};
+ghost use Rattle.oz_client.specs.declared.step.Step.TheVariants as steps;
+
+use oz_client::{LineSteps, Step};
+use oz_lines::Line;
+use oz_requests::{Answer, AskId};
+use oz_steps::Label;
+use std::marker::Model;
+
+/// A line that a worker works for. It knows nothing of the turn: what its worker's seat has seen makes it fit to go on.
+#[derive(Drop)]
+pub struct LineAtWork<'s> {
+    pub(crate) line: &'s Line,
+    pub(crate) steps: LineSteps<'s>,
+    pub(crate) asked: u16,
+    pub(crate) next: Step,
+    /// Whether what comes next is not of its steps, but comes of want of memory or of the manager's end.
+    pub(crate) is_cut: bool,
+}
+
+impl<'s> Model for LineAtWork<'s> {
+    ghost use Rattle.oz_at_work.specs.AtWork.{WorkView};
+
+    ghost Value = { WorkView };
+
+    ghost view = { λ w. record {
+      line = w.line.now;
+      state = w.steps;
+      asked = w.asked;
+      next = w.next;
+      is_cut = w.is_cut;
+    } };
+}
+
+impl<'s> LineAtWork<'s> {
+    /// The line itself.
+    pub fn line(&self) -> &'s Line
+        ensures { result.now ≡ self.now.line }
+    {
+        self.line
+    }
+
+    /// What the line left in the label that it opened, once it was told. It takes no memory.
+    pub fn into_label(self) -> Option<Label>
+        ensures { result ≡ left_of self.entry }
+    {
+        let LineAtWork {
+            line: _,
+            steps,
+            asked: _,
+            next: _,
+            is_cut,
+        } = self;
+        if is_cut { None } else { steps.label() }
+    }
+
+    /// The id of its Ask of this number.
+    pub(crate) fn id(&self, step: u16) -> AskId
+        ensures { result ≡ id_of self.now.line step }
+    {
+        AskId {
+            client: self.line.client,
+            line: self.line.number,
+            step,
+        }
+    }
+
+    /// What it asked last.
+    pub(crate) fn last(&self) -> Option<AskId>
+        ensures { result ≡ last_of self.now.line self.now.asked }
+    {
+        if self.asked == 0 {
+            None
+        } else {
+            Some(self.id(self.asked))
+        }
+    }
+
+    /// It is told this next, whatever its steps say.
+    pub(crate) fn cut(&mut self, asked: u16, answer: Answer)
+        ensures { self.new ≡ record self.old { asked = asked; next = steps.Tell answer; is_cut = true } }
+    {
+        self.asked = asked;
+        self.next = Step::Tell(answer);
+        self.is_cut = true;
+    }
+}

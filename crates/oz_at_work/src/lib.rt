@@ -1,0 +1,14 @@
+//! A line of a script that a worker works for: how far it is, and what it does next.
+#![tactic(auto)]
+
+mod asking;
+mod at_work;
+mod beginning;
+mod laws;
+mod outcome;
+mod telling;
+mod waiting;
+
+pub use at_work::LineAtWork;
+pub use laws::{a_label_was_left, what_is_at_work_stays};
+pub use outcome::Did;

@@ -1,0 +1,14 @@
+//! What a line did.
+
+/// What a line did when it went on.
+#[derive(Clone, Copy, Debug, PartialEq, Eq)]
+pub enum Did {
+    /// It asked, or knows now what it is told.
+    WentOn,
+    /// Nothing: what was decided for it isn't stable yet, or the manager's buffer is full. A flush helps.
+    Waits,
+    /// It was told its answer.
+    Ended,
+    /// There is no memory in which to tell it.
+    OutOfMemory,
+}

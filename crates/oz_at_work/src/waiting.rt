@@ -1,0 +1,112 @@
+//! How a line waits, and why it stops waiting.
+
+ghost use Rattle.std.specs.Prelude.{◌≡◌, ◌≢◌, ◌≤◌};
+ghost use Rattle.oz_at_work.specs.AtWork.{IsAtWork};
+ghost use Rattle.oz_turn.specs.Seat.{IsReady, room_of, seen_of};
+ghost use Rattle.oz_turn.specs.Told.{BeginsWith};
+ghost use Rattle.oz_turn.specs.Turn.{turn_id};
+
+use crate::at_work::LineAtWork;
+use crate::outcome::Did;
+use oz_buffer::{Ledger, Opened};
+use oz_om::Refusal;
+use oz_requests::Answer;
+use oz_telling::{Settlement, settle_line};
+use oz_turn::{Seat, Turn};
+use std::sync::Wait;
+
+impl<'s> LineAtWork<'s> {
+    /// Its next Ask, which has this number, wasn't decided.
+    pub(crate) fn refuse<O: Opened, W: Wait>(
+        &mut self,
+        rt: &W,
+        turn: &Turn<Ledger<O>>,
+        seat: &mut Seat<Ledger<O>>,
+        by: u16,
+        step: u16,
+        refusal: Refusal,
+    ) -> Did
+        requires ready { IsReady (turn_id turn.now) by seat.old }
+        requires step { step ≢ 0 }
+        requires works { O.coherent → IsAtWork O.coherent O.opening O.bytes O.script (seen_of seat.old) self.old }
+        ensures ready { IsReady (turn_id turn.now) by seat.new }
+        ensures room { room_of seat.new ≡ room_of seat.old }
+        ensures goes_on { BeginsWith (seen_of seat.new) (seen_of seat.old) }
+        ensures line { self.new.line ≡ self.old.line }
+        ensures works { O.coherent → IsAtWork O.coherent O.opening O.bytes O.script (seen_of seat.new) self.new }
+        ensures unended { result ≢ Did.Ended }
+    {
+        match refusal {
+            Refusal::Early => self.wait(rt, turn, seat, by),
+            Refusal::Later { .. } => self.wait_for_room(rt, turn, seat, by, step),
+            Refusal::Stopped { .. } => {
+                self.cut(step, Answer::ManagerStopped);
+                Did::WentOn
+            }
+            Refusal::PoolEmpty { .. } => {
+                self.cut(step, Answer::OutOfMemory);
+                Did::WentOn
+            }
+            Refusal::OutOfMemory => {
+                self.cut(self.asked, Answer::OutOfMemory);
+                Did::WentOn
+            }
+        }
+    }
+
+    /// Waits until all that was decided for the line is stable. Where that never will be it is told so next.
+    pub(crate) fn wait<O: Opened, W: Wait>(
+        &mut self,
+        rt: &W,
+        turn: &Turn<Ledger<O>>,
+        seat: &mut Seat<Ledger<O>>,
+        by: u16,
+    ) -> Did
+        requires ready { IsReady (turn_id turn.now) by seat.old }
+        requires works { O.coherent → IsAtWork O.coherent O.opening O.bytes O.script (seen_of seat.old) self.old }
+        ensures ready { IsReady (turn_id turn.now) by seat.new }
+        ensures room { room_of seat.new ≡ room_of seat.old }
+        ensures goes_on { BeginsWith (seen_of seat.new) (seen_of seat.old) }
+        ensures line { self.new.line ≡ self.old.line }
+        ensures works { O.coherent → IsAtWork O.coherent O.opening O.bytes O.script (seen_of seat.new) self.new }
+        ensures unended { result ≢ Did.Ended }
+    {
+        let (client, line, last) = (self.line.client, self.line.number, self.last());
+        match settle_line(rt, turn, seat, by, client, line, last) {
+            Settlement::Unacknowledged { .. } => {
+                self.cut(self.asked, Answer::Unacknowledged);
+                Did::WentOn
+            }
+            Settlement::Stable | Settlement::Waits | Settlement::Stopped { .. } => Did::Waits,
+        }
+    }
+
+    /// Waits until the manager's buffer has room for its Ask of this number, which stands undecided. Where the manager
+    /// has halted there never will be: then it is told next that there is no memory.
+    fn wait_for_room<O: Opened, W: Wait>(
+        &mut self,
+        rt: &W,
+        turn: &Turn<Ledger<O>>,
+        seat: &mut Seat<Ledger<O>>,
+        by: u16,
+        step: u16,
+    ) -> Did
+        requires ready { IsReady (turn_id turn.now) by seat.old }
+        requires works { O.coherent → IsAtWork O.coherent O.opening O.bytes O.script (seen_of seat.old) self.old }
+        ensures ready { IsReady (turn_id turn.now) by seat.new }
+        ensures room { room_of seat.new ≡ room_of seat.old }
+        ensures goes_on { BeginsWith (seen_of seat.new) (seen_of seat.old) }
+        ensures line { self.new.line ≡ self.old.line }
+        ensures works { O.coherent → IsAtWork O.coherent O.opening O.bytes O.script (seen_of seat.new) self.new }
+        ensures unended { result ≢ Did.Ended }
+    {
+        // Of no Ask the settlement says whether the manager has halted by now, and not when the line asked last.
+        match settle_line(rt, turn, seat, by, self.line.client, self.line.number, None) {
+            Settlement::Stopped { .. } | Settlement::Unacknowledged { .. } => {
+                self.cut(step, Answer::OutOfMemory);
+                Did::WentOn
+            }
+            Settlement::Stable | Settlement::Waits => Did::Waits,
+        }
+    }
+}

@@ -1,0 +1,4 @@
+pub mod ClientLines
+pub mod Labels
+pub mod Served
+pub mod Workers

@@ -1,0 +1,62 @@
+//! How a worker goes on with its clients.
+
+ghost use Rattle.std.specs.Prelude.{◌≡◌, All};
+ghost use Rattle.oz_lines.specs.Numbered.{IsNumbered};
+ghost use Rattle.oz_turn.specs.Seat.{IsReady, seen_of};
+ghost use Rattle.oz_turn.specs.Told.{BeginsWith};
+ghost use Rattle.oz_turn.specs.Turn.{turn_id};
+ghost use Rattle.oz_worker.specs.Served.{IsServed};
+ghost use Rattle.oz_worker.specs.Workers.{IsOfWorker};
+
+use crate::client::Client;
+use oz_at_work::{Did, what_is_at_work_stays};
+use oz_buffer::{Ledger, Opened};
+use oz_locks::Loaded;
+use oz_om::Manager;
+use oz_turn::{Ring, Seat, Turn};
+use std::alloc::Global;
+use std::sync::Wait;
+
+/// What came of the lines of all clients of a worker.
+#[derive(Clone, Copy, PartialEq, Eq)]
+pub(crate) enum Pass {
+    /// One at least went on.
+    WentOn,
+    /// None did.
+    Waits,
+    /// There was no memory for one.
+    OutOfMemory,
+}
+
+/// Each client's next line goes on by one thing, so that what many of them ask is flushed together. `by` is the seat's
+/// number, and `nodes` that of the datanodes.
+pub(crate) fn each_goes_on<O: Opened, L: Loaded, R: Ring, W: Wait>(
+    rt: &W,
+    alloc: Global,
+    turn: &Turn<Ledger<O>>,
+    manager: &Manager<Ledger<O>, O, L, R>,
+    seat: &mut Seat<Ledger<O>>,
+    by: u16,
+    nodes: u8,
+    clients: &mut [Client<'_>],
+) -> Pass
+    requires turn { turn_id turn.now ≡ R.turn }
+    requires ready { IsReady R.turn by seat.old }
+    requires worker { IsOfWorker by nodes }
+    requires numbered { IsNumbered O.script }
+    requires served { All (IsServed O.coherent O.opening O.bytes O.script (seen_of seat.old)) clients.old }
+    ensures ready { IsReady R.turn by seat.new }
+    ensures goes_on { BeginsWith (seen_of seat.new) (seen_of seat.old) }
+    ensures served { All (IsServed O.coherent O.opening O.bytes O.script (seen_of seat.new)) clients.new }
+{
+    what_is_at_work_stays::<O>();
+    let mut pass = Pass::Waits;
+    for client in clients.iter_mut() {
+        match client.go_on(rt, alloc, turn, manager, seat, by, nodes) {
+            Did::WentOn | Did::Ended => pass = Pass::WentOn,
+            Did::Waits => {}
+            Did::OutOfMemory => return Pass::OutOfMemory,
+        }
+    }
+    pass
+}

@@ -1,0 +1,126 @@
+//! How a client's next line starts, goes on and ends.
+
+ghost use Rattle.std.specs.Prelude.{◌≡◌, ◌≤◌, ◌<◌, List, None, Some};
+ghost use Rattle.oz_at_work.specs.AtWork.{HasLeft, left_of};
+ghost use Rattle.oz_core.specs.declared.event.Event.{Event as AnyEvent};
+ghost use Rattle.oz_core.specs.Seats.{IsLineSeat};
+ghost use Rattle.oz_lines.specs.Numbered.{IsNumbered};
+ghost use Rattle.oz_nodes.specs.declared.nodes.TheConstants.{FEWEST_NODES, MOST_NODES};
+ghost use Rattle.oz_turn.specs.Seat.{IsReady, seen_of};
+ghost use Rattle.oz_turn.specs.Told.{BeginsWith};
+ghost use Rattle.oz_turn.specs.Turn.{turn_id};
+ghost use Rattle.oz_worker.specs.Served.{IsServed, next_line};
+
+use crate::client::Client;
+use oz_at_work::{Did, LineAtWork, a_label_was_left, what_is_at_work_stays};
+use oz_buffer::{Ledger, Opened};
+use oz_locks::Loaded;
+use oz_om::Manager;
+use oz_telling::has_started;
+use oz_turn::{Ring, Seat, Turn};
+use std::alloc::Global;
+use std::sync::Wait;
+
+impl<'s> Client<'s> {
+    /// The next line starts, or goes on by one thing. `by` is the seat's number, and `nodes` that of the datanodes.
+    pub(crate) fn go_on<O: Opened, L: Loaded, R: Ring, W: Wait>(
+        &mut self,
+        rt: &W,
+        alloc: Global,
+        turn: &Turn<Ledger<O>>,
+        manager: &Manager<Ledger<O>, O, L, R>,
+        seat: &mut Seat<Ledger<O>>,
+        by: u16,
+        nodes: u8,
+    ) -> Did
+        requires turn { turn_id turn.now ≡ R.turn }
+        requires ready { IsReady R.turn by seat.old }
+        requires seats { by < 64 }
+        requires of_line { IsLineSeat by }
+        requires least { FEWEST_NODES ≤ nodes }
+        requires most { nodes ≤ MOST_NODES }
+        requires numbered { IsNumbered O.script }
+        requires served { IsServed O.coherent O.opening O.bytes O.script (seen_of seat.old) self.old }
+        ensures ready { IsReady R.turn by seat.new }
+        ensures goes_on { BeginsWith (seen_of seat.new) (seen_of seat.old) }
+        ensures served { IsServed O.coherent O.opening O.bytes O.script (seen_of seat.new) self.new }
+    {
+        what_is_at_work_stays::<O>();
+        let Some(mut work) = self.work.take() else {
+            return self.begin::<O, W>(rt, alloc, turn, seat, by, nodes);
+        };
+        match work.go_on(rt, alloc, turn, manager, seat, by) {
+            Did::Ended => self.end::<O>(alloc, work),
+            did => {
+                self.keep(work);
+                did
+            }
+        }
+    }
+
+    /// This is worked for from now on.
+    fn keep(&mut self, work: LineAtWork<'s>)
+        ensures { self.new ≡ record self.old { work = Some work.entry } }
+    {
+        self.work = Some(work);
+    }
+
+    /// The next line starts, if it may. A line that commits a label which no line opened never does: there is no such line
+    /// in a script that was read, and where one stands it ends as where there is no memory.
+    fn begin<O: Opened, W: Wait>(
+        &mut self,
+        rt: &W,
+        alloc: Global,
+        turn: &Turn<Ledger<O>>,
+        seat: &mut Seat<Ledger<O>>,
+        by: u16,
+        nodes: u8,
+    ) -> Did
+        requires ready { IsReady (turn_id turn.now) by seat.old }
+        requires least { FEWEST_NODES ≤ nodes }
+        requires most { nodes ≤ MOST_NODES }
+        requires numbered { IsNumbered O.script }
+        requires none { self.old.work ≡ None }
+        requires served { IsServed O.coherent O.opening O.bytes O.script (seen_of seat.old) self.old }
+        ensures ready { IsReady (turn_id turn.now) by seat.new }
+        ensures goes_on { BeginsWith (seen_of seat.new) (seen_of seat.old) }
+        ensures served { IsServed O.coherent O.opening O.bytes O.script (seen_of seat.new) self.new }
+    {
+        what_is_at_work_stays::<O>();
+        a_label_was_left::<O>();
+        let Some(line) = self.next_line() else {
+            return Did::Waits;
+        };
+        if !has_started(rt, turn, seat, by, line) {
+            return Did::Waits;
+        }
+        let Some(label) = self.labels.label_for(&line.command) else {
+            return Did::OutOfMemory;
+        };
+        match LineAtWork::begin::<O>(alloc, line, nodes, label) {
+            Ok(work) => {
+                self.keep(work);
+                Did::WentOn
+            }
+            Err(_error) => Did::OutOfMemory,
+        }
+    }
+
+    /// The line that was told leaves its label. Where there is no memory for that the client stays at the line.
+    fn end<O: Opened>(&mut self, alloc: Global, work: LineAtWork<'s>) -> Did
+        requires numbered { IsNumbered O.script }
+        requires none { self.old.work ≡ None }
+        requires next { next_line O.script self.old ≡ Some work.line }
+        ensures served { (seen : List AnyEvent) → IsServed O.coherent O.opening O.bytes O.script seen self.old →
+            (O.coherent → HasLeft O.coherent O.opening O.bytes O.script seen work.entry.line (left_of work.entry)) →
+            IsServed O.coherent O.opening O.bytes O.script seen self.new }
+    {
+        let command = &work.line().command;
+        let left = work.into_label();
+        let Ok(()) = self.labels.note_left(alloc, command, left) else {
+            return Did::OutOfMemory;
+        };
+        self.told += 1;
+        Did::Ended
+    }
+}

@@ -1,0 +1,106 @@
+//! The jobs of a run: on threads of their own, and what they leave on the caller's.
+
+ghost use Rattle.std.specs.Prelude.{◌≡◌};
+ghost use Rattle.oz_turn.specs.Turn.{turn_id};
+
+use crate::job::Job;
+use oz_buffer::{Ledger, Opened};
+use oz_core::Event;
+use oz_flushing::{Flushing, Mounted};
+use oz_locks::Loaded;
+use oz_om::Manager;
+use oz_turn::{Ring, Told, Turn};
+use oz_world::{Disk, Gate};
+use std::alloc::Global;
+use std::sync::atomic::AtomicU64;
+use std::sync::{Mutex, Wait};
+use std::thread::{Threads, for_each_mut};
+
+/// Does all jobs, each on a thread of its own. Where a thread can't be made a job is done behind others; what is left then,
+/// and what workers gave up, is for `finish`.
+pub fn work_together<
+    D: Disk + Send,
+    O: Opened + Send + Sync,
+    L: Loaded + Send + Sync,
+    M: Mounted + Send + Sync,
+    R: Ring + Send + Sync,
+    W: Threads + Wait + Sync,
+    G: Gate + Sync,
+>(
+    rt: &W,
+    alloc: Global,
+    turn: &Turn<Ledger<O>>,
+    manager: &Manager<Ledger<O>, O, L, R>,
+    flushing: &Mutex<Flushing<D, Ledger<O>, O, M, R>>,
+    gate: &G,
+    jobs: &mut [Job<'_, Ledger<O>, O, R>],
+)
+    requires { turn_id turn.now ≡ R.turn }
+    ensures { jobs.new ≡ jobs.old }
+{
+    if jobs.is_empty() {
+        return;
+    }
+    let threads = jobs.len();
+    let at_work = AtomicU64::new(workers_in(jobs));
+    let run = |_: usize, job: &mut Job<'_, Ledger<O>, O, R>|
+        requires { turn_id turn.now ≡ R.turn }
+        ensures { job.exit.now ≡ job.entry.now }
+    { job.run(rt, alloc, turn, manager, flushing, gate, &at_work) };
+    for_each_mut(rt, jobs, threads, &run);
+}
+
+/// Serves on the caller's thread what the jobs have left, worker after worker, each from its own seat, until nothing goes
+/// on any more. Says whether all lines were told: else there was no memory, or a line waits for one that nobody serves.
+pub fn finish<D: Disk, O: Opened, L: Loaded, M: Mounted, R: Ring, W: Wait, G: Gate>(
+    rt: &W,
+    alloc: Global,
+    turn: &Turn<Ledger<O>>,
+    manager: &Manager<Ledger<O>, O, L, R>,
+    flushing: &Mutex<Flushing<D, Ledger<O>, O, M, R>>,
+    gate: &G,
+    jobs: &mut [Job<'_, Ledger<O>, O, R>],
+) -> bool
+    requires { turn_id turn.now ≡ R.turn }
+    ensures { jobs.new ≡ jobs.old }
+{
+    for _ in rt.forever() {
+        if !each_goes_on(rt, alloc, turn, manager, flushing, gate, jobs) {
+            return jobs.iter().all(|job| job.is_done());
+        }
+    }
+    unreachable!()
+}
+
+/// Each worker serves its clients as far as they can go on without other workers. Says whether anything went on.
+fn each_goes_on<D: Disk, O: Opened, L: Loaded, M: Mounted, R: Ring, W: Wait, G: Gate>(
+    rt: &W,
+    alloc: Global,
+    turn: &Turn<Ledger<O>>,
+    manager: &Manager<Ledger<O>, O, L, R>,
+    flushing: &Mutex<Flushing<D, Ledger<O>, O, M, R>>,
+    gate: &G,
+    jobs: &mut [Job<'_, Ledger<O>, O, R>],
+) -> bool
+    requires { turn_id turn.now ≡ R.turn }
+    ensures { jobs.new ≡ jobs.old }
+{
+    let mut went_on = false;
+    for job in jobs.iter_mut() {
+        if job.go_on(rt, alloc, turn, manager, flushing, gate) {
+            went_on = true;
+        }
+    }
+    went_on
+}
+
+/// How many workers there are.
+fn workers_in<T: Told<Entry = Event>, O: Opened, R: Ring>(jobs: &[Job<'_, T, O, R>]) -> u64 {
+    let mut workers: u64 = 0;
+    for job in jobs {
+        if job.is_worker() {
+            workers = workers.saturating_add(1);
+        }
+    }
+    workers
+}

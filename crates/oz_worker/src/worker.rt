@@ -1,0 +1,239 @@
+//! A worker: a seat, and the clients that are served from it.
+
+ghost use Rattle.std.specs.Prelude.{◌≡◌, ◌<◌, All, List, IfOk, IfErr};
+ghost use Rattle.oz_core.specs.declared.event.Event.{Event as AnyEvent};
+ghost use Rattle.oz_lines.specs.Numbered.{IsNumbered};
+ghost use Rattle.oz_turn.specs.Seat.{IsReady};
+ghost use Rattle.oz_turn.specs.Turn.{turn_id};
+ghost use Rattle.oz_worker.specs.Served.{IsServed};
+ghost use Rattle.oz_worker.specs.Workers.{IsOfWorker};
+
+use crate::client::Client;
+use crate::passing::{Pass, each_goes_on};
+use oz_buffer::{Ledger, Opened};
+use oz_core::Event;
+use oz_fields::OutOfMemory;
+use oz_flushing::{Flushing, Mounted, flush_if_free};
+use oz_lines::Script;
+use oz_locks::Loaded;
+use oz_om::Manager;
+use oz_turn::{Ring, Seat, Told, Turn};
+use oz_world::{Disk, Gate};
+use std::alloc::Global;
+use std::marker::{Model, PhantomData};
+use std::sync::{Mutex, Wait};
+use std::thread::yield_now;
+
+/// How often in turn who works on a thread of his own looks and finds nothing to do, before he leaves the rest to the caller.
+pub(crate) const MOST_LOOKS: u32 = 1_000_000;
+
+/// How often a worker does on the caller's thread, where nobody else could help: once more behind a flush.
+pub(crate) const FEWEST_LOOKS: u32 = 1;
+
+/// Serves clients from a seat of the turn. Contracts see the seat's number.
+#[derive(Drop)]
+pub struct Worker<'s, T: Told<Entry = Event>, O: Opened, R: Ring> {
+    number: u16,
+    seat: Seat<T>,
+    clients: Vec<Client<'s>>,
+    /// How many datanodes there are.
+    nodes: u8,
+    is_out_of_memory: bool,
+    of: PhantomData<(O, R)>,
+}
+
+impl<'s, T: Told<Entry = Event>, O: Opened, R: Ring> Model for Worker<'s, T, O, R> {
+    ghost use Rattle.std.specs.Prelude.{ℕ, All};
+    ghost use Rattle.oz_lines.specs.Numbered.{IsNumbered};
+    ghost use Rattle.oz_turn.specs.Seat.{IsReady, seen_of};
+    ghost use Rattle.oz_worker.specs.Served.{IsServed};
+    ghost use Rattle.oz_worker.specs.Workers.{IsOfWorker};
+
+    ghost Value = { ℕ };
+
+    ghost view = { λ w. w.number };
+
+    ghost invariant = { λ w. IsReady R.turn w.number w.seat × IsOfWorker w.number w.nodes × IsNumbered O.script
+        × All (IsServed O.coherent O.opening O.bytes O.script (seen_of w.seat)) w.clients.items };
+}
+
+impl<'s, T: Told<Entry = Event>, O: Opened, R: Ring> Worker<'s, T, O, R> {
+    /// The seat's number.
+    pub fn number(&self) -> u16
+        ensures { result ≡ self.now }
+    {
+        self.number
+    }
+
+    /// Whether all lines of its clients were told.
+    pub fn is_done(&self) -> bool {
+        self.clients.iter().all(|client| client.is_done())
+    }
+
+    /// Whether it gave up for want of memory, or at a line that commits a label which no line opened. It then serves nothing
+    /// any more.
+    pub fn is_out_of_memory(&self) -> bool {
+        self.is_out_of_memory
+    }
+}
+
+impl<'s, O: Opened, R: Ring> Worker<'s, Ledger<O>, O, R> {
+    /// A worker at a seat, for those clients of the script whose numbers less one leave `rest` when they are divided by
+    /// `workers`. `nodes` is the number of datanodes. Where there is no memory the seat comes back.
+    pub fn make(
+        alloc: Global,
+        script: &'s Script,
+        number: u16,
+        seat: Seat<Ledger<O>>,
+        rest: u16,
+        workers: u16,
+        nodes: u8,
+    ) -> Result<Worker<'s, Ledger<O>, O, R>, (Seat<Ledger<O>>, OutOfMemory)>
+        requires script { script.now ≡ O.script }
+        requires numbered { IsNumbered O.script }
+        requires seat { IsReady R.turn number seat }
+        requires worker { IsOfWorker number nodes }
+        requires some { 0 < workers }
+        ensures ok { IfOk result (λ worker. worker ≡ number) }
+        ensures err { IfErr result (λ refused. refused.0 ≡ seat) }
+    {
+        match clients_from::<O>(alloc, script, rest, workers) {
+            Ok(clients) => Ok(Worker {
+                number,
+                seat,
+                clients,
+                nodes,
+                is_out_of_memory: false,
+                of: PhantomData,
+            }),
+            Err(error) => Err((seat, error)),
+        }
+    }
+
+    /// Its seat. It takes no memory.
+    pub fn into_seat(self) -> Seat<Ledger<O>>
+        ensures { IsReady R.turn self.entry result }
+    {
+        let Worker {
+            number: _,
+            seat,
+            clients: _,
+            nodes: _,
+            is_out_of_memory: _,
+            of: _,
+        } = self;
+        seat
+    }
+
+    /// Serves its clients until all their lines were told, or there is no memory, or it has found nothing to do a million
+    /// times in turn. Where nothing can go on it flushes, if nobody else does.
+    pub fn work<D: Disk, L: Loaded, M: Mounted, W: Wait, G: Gate>(
+        &mut self,
+        rt: &W,
+        alloc: Global,
+        turn: &Turn<Ledger<O>>,
+        manager: &Manager<Ledger<O>, O, L, R>,
+        flushing: &Mutex<Flushing<D, Ledger<O>, O, M, R>>,
+        gate: &G,
+    )
+        requires { turn_id turn.now ≡ R.turn }
+        ensures { self.new ≡ self.old }
+    {
+        self.serve(rt, alloc, turn, manager, flushing, gate, MOST_LOOKS);
+    }
+
+    /// Serves its clients until nothing went on so often in turn, and once more. Says whether anything did.
+    pub(crate) fn serve<D: Disk, L: Loaded, M: Mounted, W: Wait, G: Gate>(
+        &mut self,
+        rt: &W,
+        alloc: Global,
+        turn: &Turn<Ledger<O>>,
+        manager: &Manager<Ledger<O>, O, L, R>,
+        flushing: &Mutex<Flushing<D, Ledger<O>, O, M, R>>,
+        gate: &G,
+        most_looks: u32,
+    ) -> bool
+        requires { turn_id turn.now ≡ R.turn }
+        ensures { self.new ≡ self.old }
+    {
+        let mut went_on = false;
+        let mut looks = most_looks;
+        for _ in rt.forever() {
+            if self.is_over() {
+                return went_on;
+            }
+            if self.go_on(rt, alloc, turn, manager) {
+                went_on = true;
+                looks = most_looks;
+                continue;
+            }
+            if looks == 0 {
+                return went_on;
+            }
+            looks -= 1;
+            let _ = flush_if_free(rt, flushing, turn, gate);
+            yield_now();
+        }
+        unreachable!()
+    }
+
+    /// Whether there is nothing left that it could serve.
+    fn is_over(&self) -> bool {
+        self.is_out_of_memory || self.is_done()
+    }
+
+    /// Each client's next line goes on by one thing. Says whether any did.
+    fn go_on<L: Loaded, W: Wait>(
+        &mut self,
+        rt: &W,
+        alloc: Global,
+        turn: &Turn<Ledger<O>>,
+        manager: &Manager<Ledger<O>, O, L, R>,
+    ) -> bool
+        requires { turn_id turn.now ≡ R.turn }
+        ensures { self.new ≡ self.old }
+    {
+        let (by, nodes) = (self.number, self.nodes);
+        match each_goes_on(
+            rt,
+            alloc,
+            turn,
+            manager,
+            &mut self.seat,
+            by,
+            nodes,
+            self.clients.as_mut_slice(),
+        ) {
+            Pass::WentOn => true,
+            Pass::Waits => false,
+            Pass::OutOfMemory => {
+                self.is_out_of_memory = true;
+                false
+            }
+        }
+    }
+}
+
+/// Those clients of a script whose numbers less one leave `rest` when they are divided by `workers`.
+fn clients_from<'s, O: Opened>(
+    alloc: Global,
+    script: &'s Script,
+    rest: u16,
+    workers: u16,
+) -> Result<Vec<Client<'s>>, OutOfMemory>
+    requires script { script.now ≡ O.script }
+    requires numbered { IsNumbered O.script }
+    requires some { 0 < workers }
+    ensures { IfOk result (λ clients. (seen : List AnyEvent) →
+        All (IsServed O.coherent O.opening O.bytes O.script seen) clients.items) }
+{
+    let mut clients = Vec::new(alloc);
+    let count = script.clients.len() as u16;
+    for place in 0..count {
+        if place % workers != rest {
+            continue;
+        }
+        clients.push(Client::new::<O>(alloc, script, place + 1)?)?;
+    }
+    Ok(clients)
+}

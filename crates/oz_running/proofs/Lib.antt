@@ -1,0 +1,5 @@
+pub mod Counts
+pub mod Jobs
+pub mod Left
+pub mod Placed
+pub mod Whole

@@ -1,0 +1,18 @@
+use Rattle.std.proofs.Common.{rules, ◌≡◌, ◌-◌, ◌∙◌, length, vec_len, sym, ap, subst, arith}
+use Rattle.oz_running.specs.Jobs.{AreJobs}
+use Rattle.oz_running.proofs.Placed.{lent}
+use Rattle.oz_running.proofs.running.run_staffed.Goals as goal
+
+pub all_seats-journal-requires-clause-jobs : goal.all_seats-journal-requires-clause-jobs
+all_seats-journal-requires-clause-jobs g c =
+    let count : c.args.staff.jobs.len ≡ length c.args.staff.jobs.items = search rules in
+    let back = lent c.args.staff.jobs.items c.work.new.jobs c.args.staff.jobs.len (c.work.ensures ∙ c.as_mut_slice.ensures.value) count in
+    subst (λ l. AreJobs (length l - 1) l) (sym back) c.requires.staff.of_workers
+
+pub ended-requires-clause-count : goal.ended-requires-clause-count
+ended-requires-clause-count g c =
+    let count : c.args.staff.jobs.len ≡ length c.args.staff.jobs.items = search rules in
+    let back = lent c.args.staff.jobs.items c.work.new.jobs c.args.staff.jobs.len (c.work.ensures ∙ c.as_mut_slice.ensures.value) count in
+    let same = ap length back in
+    let all : vec_len c.all_seats-journal.result.1 ≡ length c.all_seats-journal.result.1.items = search rules in
+    omega (arith, all, c.all_seats-journal.ensures.count, same, c.requires.staff.count, c.requires.many)

@@ -1,0 +1,16 @@
+use Rattle.std.proofs.Common.{rules, ◌≡◌, ◌-◌, length, subst, arith}
+use Rattle.oz_running.specs.Jobs.{AreJobs}
+use Rattle.oz_running.proofs.staff.staffed.Goals as goal
+
+pub returns-in-Ok : goal.returns-in-Ok
+returns-in-Ok g c = record {
+  count = search rules;
+  of_workers =
+      let count : length c.in_ok-flusher.field-0.workers.items ≡ length c.in_ok-jobs.jobs.items - 1 = omega (arith, c.in_ok-jobs.ensures.count) in
+      subst (λ n. AreJobs n c.in_ok-jobs.jobs.items) count c.in_ok-jobs.ensures.jobs;
+  first = search rules;
+  quiet_count = search rules;
+  quiet_seats = search rules;
+  none = search rules;
+  fits = search rules;
+}

@@ -7,7 +7,8 @@ use Rattle.oz_command.specs.declared.command.Command.{Command}
 use Rattle.oz_command.specs.declared.command.Command.TheVariants.{KeyCommit, KeyOpen}
 use Rattle.oz_steps.specs.declared.label.Label.{Label}
 
--- what each label that was opened stands for: nothing where the line that opened it last was told something else than OK
+-- what each label that was opened stands for: nothing where the line that opened it last was told something else than
+-- OK
 abbrev pub LabelMap : Type 0
 LabelMap = FinMap {K = List ℕ} (slice_cmp nat_cmp) (Option Label)
 

@@ -29,8 +29,8 @@ module _ (Coherent : Type 0) (opening : Opening) (bytes : OpeningBytes) (script 
   abbrev pub AreNoted : LabelMap → Line → Type 0
   AreNoted labels line = (name : List ℕ) → IsNoted (opening_line script line name) (get labels name)
 
-  -- A client's lines are those of the script, and what is worked for is the next of them; its labels stand as they are before
-  -- that.
+  -- A client's lines are those of the script, and what is worked for is the next of them; its labels stand as they are
+  -- before that.
   pub record IsServed (client : Client) : Type 0 where
     pub lines : map (λ line. line.now) client.lines.items ≡ lines_of_client script client.number
     pub next : IfSome client.work (λ work. next_line script client ≡ Some work.line)

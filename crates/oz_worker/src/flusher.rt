@@ -12,7 +12,8 @@ use std::sync::atomic::{AtomicU64, Ordering};
 use std::sync::{Mutex, Wait};
 use std::thread::yield_now;
 
-/// Flushes again and again, until no worker is at work, the manager halts, or there was nothing to flush so often in turn.
+/// Flushes again and again, until no worker is at work, the manager halts, or there was nothing to flush so often in
+/// turn.
 pub(crate) fn flush_for<D: Disk, O: Opened, M: Mounted, R: Ring, W: Wait, G: Gate>(
     rt: &W,
     turn: &Turn<Ledger<O>>,

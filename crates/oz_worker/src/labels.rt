@@ -11,8 +11,8 @@ use oz_namespace::NameMap;
 use oz_steps::Label;
 use std::alloc::Global;
 
-/// The labels that a client's lines opened, with what each stands for: nothing where the line that opened it last was told
-/// something else than `OK`.
+/// The labels that a client's lines opened, with what each stands for: nothing where the line that opened it last was
+/// told something else than `OK`.
 #[derive(Drop)]
 pub(crate) struct Labels {
     labels: NameMap<Option<Label>>,

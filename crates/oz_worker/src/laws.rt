@@ -16,8 +16,8 @@ pub fn a_clients_lines_are_numbered()
         IsLineOf script client (place + 1) line × (client ≢ SERVICE_CLIENT) }
 {}
 
-/// The line that opened a label last, before a client's next line: the one before that, if it opens the label, and else the
-/// one that opened it before that line. Before a client's first line no label was opened.
+/// The line that opened a label last, before a client's next line: the one before that, if it opens the label, and
+/// else the one that opened it before that line. Before a client's first line no label was opened.
 pub fn a_label_is_opened_by_the_last_line()
     ensures next { (script : AnyScript) (line next : AnyLine) (name : List ℕ) → IsNumbered script →
         IsLineOf script next.client line.number line → next.number ≡ line.number + 1 →

@@ -65,8 +65,8 @@ impl<'s> Client<'s> {
         self.work = Some(work);
     }
 
-    /// The next line starts, if it may. A line that commits a label which no line opened never does: there is no such line
-    /// in a script that was read, and where one stands it ends as where there is no memory.
+    /// The next line starts, if it may. A line that commits a label which no line opened never does: there is no such
+    /// line in a script that was read, and where one stands it ends as where there is no memory.
     fn begin<O: Opened, W: Wait>(
         &mut self,
         rt: &W,

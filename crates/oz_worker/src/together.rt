@@ -16,8 +16,8 @@ use std::sync::atomic::AtomicU64;
 use std::sync::{Mutex, Wait};
 use std::thread::{Threads, for_each_mut};
 
-/// Does all jobs, each on a thread of its own. Where a thread can't be made a job is done behind others; what is left then,
-/// and what workers gave up, is for `finish`.
+/// Does all jobs, each on a thread of its own. Where a thread can't be made a job is done behind others; what is left
+/// then, and what workers gave up, is for `finish`.
 pub fn work_together<
     D: Disk + Send,
     O: Opened + Send + Sync,
@@ -50,8 +50,9 @@ pub fn work_together<
     for_each_mut(rt, jobs, threads, &run);
 }
 
-/// Serves on the caller's thread what the jobs have left, worker after worker, each from its own seat, until nothing goes
-/// on any more. Says whether all lines were told: else there was no memory, or a line waits for one that nobody serves.
+/// Serves on the caller's thread what the jobs have left, worker after worker, each from its own seat, until nothing
+/// goes on any more. Says whether all lines were told: else there was no memory, or a line waits for one that nobody
+/// serves.
 pub fn finish<D: Disk, O: Opened, L: Loaded, M: Mounted, R: Ring, W: Wait, G: Gate>(
     rt: &W,
     alloc: Global,

@@ -24,7 +24,8 @@ use std::marker::{Model, PhantomData};
 use std::sync::{Mutex, Wait};
 use std::thread::yield_now;
 
-/// How often in turn who works on a thread of his own looks and finds nothing to do, before he leaves the rest to the caller.
+/// How often in turn who works on a thread of his own looks and finds nothing to do, before he leaves the rest to the
+/// caller.
 pub(crate) const MOST_LOOKS: u32 = 1_000_000;
 
 /// How often a worker does on the caller's thread, where nobody else could help: once more behind a flush.
@@ -70,8 +71,8 @@ impl<'s, T: Told<Entry = Event>, O: Opened, R: Ring> Worker<'s, T, O, R> {
         self.clients.iter().all(|client| client.is_done())
     }
 
-    /// Whether it gave up for want of memory, or at a line that commits a label which no line opened. It then serves nothing
-    /// any more.
+    /// Whether it gave up for want of memory, or at a line that commits a label which no line opened. It then serves
+    /// nothing any more.
     pub fn is_out_of_memory(&self) -> bool {
         self.is_out_of_memory
     }
@@ -125,8 +126,8 @@ impl<'s, O: Opened, R: Ring> Worker<'s, Ledger<O>, O, R> {
         seat
     }
 
-    /// Serves its clients until all their lines were told, or there is no memory, or it has found nothing to do a million
-    /// times in turn. Where nothing can go on it flushes, if nobody else does.
+    /// Serves its clients until all their lines were told, or there is no memory, or it has found nothing to do a
+    /// million times in turn. Where nothing can go on it flushes, if nobody else does.
     pub fn work<D: Disk, L: Loaded, M: Mounted, W: Wait, G: Gate>(
         &mut self,
         rt: &W,

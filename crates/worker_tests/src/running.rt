@@ -55,7 +55,12 @@ fn serve<
 }
 
 /// The same, counted from the disk as it is now.
-fn served<D: Disk + Drop + Send, O: Opened + Send + Sync, R: Ring + Send + Sync, W: Threads + Wait + Sync>(
+fn served<
+    D: Disk + Drop + Send,
+    O: Opened + Send + Sync,
+    R: Ring + Send + Sync,
+    W: Threads + Wait + Sync,
+>(
     rt: &W,
     alloc: Global,
     turn: &Turn<Ledger<O>>,

@@ -8,9 +8,9 @@ use crate::office::{Desk, asks, flush, opened, story};
 use crate::requests::Kind;
 use crate::store::{Book, Office, Worker, holds, made};
 use crate::stories::{asks_in, have_their_indexes, namespace_behind};
-use oz_core::Event;
+use oz_core::{Event, Opening};
 use oz_fields::OutOfMemory;
-use oz_legal::legal;
+use oz_legal::enabled;
 use oz_loaded::load;
 use oz_model::Namespace;
 use oz_turn::{Ring, Seat, Turn};
@@ -136,14 +136,26 @@ fn loads_as<R: Ring>(alloc: Global, desk: Desk<R>, namespace: &Namespace) -> Res
     Ok(shown.is_all(alloc, namespace, 0)?)
 }
 
-/// The story has all lines, and is legal.
-fn check_story(rt: &impl Abort, alloc: Global, told: &[Event]) -> Result<(), Fail> {
+/// The story has all lines.
+fn check_story(rt: &impl Abort, told: &[Event]) {
     holds(rt, asks_in(told) == ALL_LINES, "each once");
     holds(rt, told.len() == 2 * ALL_LINES, "each is decided");
     holds(rt, have_their_indexes(told), "indexes");
-    let opening = opening_of(alloc, "")?;
-    holds(rt, legal(alloc, &opening, told)?.is_none(), "legal");
-    Ok(())
+}
+
+/// Whether every fourth event of a story, from the one at this place on, may follow those before it.
+fn fourths_are_legal(
+    alloc: Global,
+    opening: &Opening,
+    told: &[Event],
+    first: usize,
+) -> Result<bool, OutOfMemory> {
+    for place in 0..told.len() {
+        if place % 4 == first && !enabled(alloc, opening, &told[..place], &told[place])? {
+            return Ok(false);
+        }
+    }
+    Ok(true)
 }
 
 /// The replies are those of one thread, and the rows those of its namespace: in the stripes, and on the disk once they are
@@ -183,9 +195,37 @@ fn ask_together<R: Ring + Send + Sync, W: Threads + Wait + Abort + Sync>(
         return Err("a worker".into());
     };
     let told = story(rt, alloc, turn, &mut worker)?;
-    check_story(rt, alloc, told.as_slice())?;
+    check_story(rt, told.as_slice());
     check_rows(rt, alloc, turn, &office, desk, told.as_slice())?;
     holds(rt, office.into_seats(rt).len() == 16, "all seats leave");
+    Ok(())
+}
+
+/// Four threads ask, and a fourth of what they make is looked at: all of it would take half a minute.
+fn ask_legally<R: Ring + Send + Sync, W: Threads + Wait + Abort + Sync>(
+    rt: &W,
+    alloc: Global,
+    turn: &Turn<Book>,
+    seats: Vec<Seat<Book>>,
+    first: usize,
+) -> Result<(), Fail>
+    requires turn { turn_id turn.now ≡ R.turn }
+    requires count { vec_len seats ≡ 40 }
+    requires new { AreNewSeats R.turn seats.items }
+{
+    let (office, _desk, mut workers) = opened::<R>(alloc, seats, 0)?;
+    work_together(rt, alloc, turn, &office, workers.as_mut_slice());
+    let Some(mut worker) = workers.pop() else {
+        return Err("a worker".into());
+    };
+    let told = story(rt, alloc, turn, &mut worker)?;
+    let opening = opening_of(alloc, "")?;
+    holds(rt, told.len() == 2 * ALL_LINES, "all of it");
+    holds(
+        rt,
+        fourths_are_legal(alloc, &opening, told.as_slice(), first)?,
+        "legal",
+    );
     Ok(())
 }
 
@@ -193,4 +233,28 @@ fn ask_together<R: Ring + Send + Sync, W: Threads + Wait + Abort + Sync>(
 fn four_threads_ask_as_one_would(rt: HostRuntime) -> Result<(), Fail> {
     let (turn, seats) = made(rt.alloc())?;
     ask_together::<Brand, _>(&rt, rt.alloc(), &turn, seats)
+}
+
+#[test]
+fn the_first_of_four_events_is_legal(rt: HostRuntime) -> Result<(), Fail> {
+    let (turn, seats) = made(rt.alloc())?;
+    ask_legally::<Brand, _>(&rt, rt.alloc(), &turn, seats, 0)
+}
+
+#[test]
+fn the_second_of_four_events_is_legal(rt: HostRuntime) -> Result<(), Fail> {
+    let (turn, seats) = made(rt.alloc())?;
+    ask_legally::<Brand, _>(&rt, rt.alloc(), &turn, seats, 1)
+}
+
+#[test]
+fn the_third_of_four_events_is_legal(rt: HostRuntime) -> Result<(), Fail> {
+    let (turn, seats) = made(rt.alloc())?;
+    ask_legally::<Brand, _>(&rt, rt.alloc(), &turn, seats, 2)
+}
+
+#[test]
+fn the_fourth_of_four_events_is_legal(rt: HostRuntime) -> Result<(), Fail> {
+    let (turn, seats) = made(rt.alloc())?;
+    ask_legally::<Brand, _>(&rt, rt.alloc(), &turn, seats, 3)
 }

@@ -23,8 +23,9 @@ pub record HasRun (opening : Opening) (loaded : Rows) (story : List Event) (stri
   pub rows : Rows
   pub stood : HasStood opening loaded stripe seen rows
 
--- that the disks agree; what was opened, with its bytes and the bodies of the journal; the script; how often the manager's
--- disk had failed once it was loaded, and from which moment on it is said what a stop leaves; and the rows that were loaded
+-- that the disks agree; what was opened, with its bytes and the bodies of the journal; the script; how often the
+-- manager's disk had failed once it was loaded, and from which moment on it is said what a stop leaves; and the rows
+-- that were loaded
 module _ (Coherent : Type 0) (opening : Opening) (bytes : OpeningBytes) (bodies : List (List ℕ)) (script : Script)
     (faults first : ℕ) (loaded : Rows) where
   -- of a turn with so many seats: the story, whether a write of the journal has failed, its disk, and what was counted

@@ -10,8 +10,8 @@ use Rattle.oz_turn.specs.Ring.{TurnId}
 use Rattle.oz_turn.specs.Seat.{IsNewSeat}
 use Rattle.oz_worker.specs.declared.job.Job.{Job}
 
--- The jobs of a turn of so many seats, the new seats of the flusher and of those who give nothing, and the list that all
--- seats came in, empty, with room for them.
+-- The jobs of a turn of so many seats, the new seats of the flusher and of those who give nothing, and the list that
+-- all seats came in, empty, with room for them.
 pub record IsStaff {T O R A : Type 0} {told : Ghosts A Event} (turn : TurnId) (seats : ℕ) (jobs : List (Job T O R))
     (flusher : Seat A Event told) (quiet all : List (Seat A Event told)) (room : ℕ) : Type 0 where
   pub count : first_worker_seat + length jobs ≡ seats + 1

@@ -1,4 +1,4 @@
-//! The middle of a run: from the loaded manager's disk to the story that all threads made, and the disk that they leave.
+//! The middle of a run: from the manager's loaded disk to the story that all threads made, and the disk they leave.
 #![tactic(auto)]
 
 mod closing;

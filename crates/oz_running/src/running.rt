@@ -35,9 +35,9 @@ use std::marker::Brand;
 use std::sync::{Mutex, Wait};
 use std::thread::Threads;
 
-/// Runs the lines of a script over a manager that was loaded, by so many workers beside each other and a flusher, and then
-/// by this thread what they leave. Where memory runs out before any of them starts, the journal comes back, and nothing
-/// was done. Whether threads can be made changes no more than how long it takes.
+/// Runs the lines of a script over a manager that was loaded, by so many workers and a flusher beside each other, and
+/// then by this thread what they leave. Where memory runs out before any of them starts, the journal comes back, and
+/// nothing was done. Where no threads can be made this one does it all.
 pub fn run_lines<
     D: Disk + Send,
     O: Opened + Send + Sync,
@@ -174,8 +174,8 @@ fn run_staffed<
     requires many { first_worker_seat ≤ seats_of turn }
     requires staff { IsStaff R.turn (seats_of turn) staff.jobs.items staff.flusher staff.quiet.items staff.all.items
         (vec_capacity staff.all) }
-    ensures { IsRun O.coherent O.opening O.bytes O.bodies O.script M.faults M.first L.rows (seats_of turn) result.story.items
-        result.journal.stopped
+    ensures { IsRun O.coherent O.opening O.bytes O.bodies O.script M.faults M.first L.rows (seats_of turn)
+        result.story.items result.journal.stopped
         (seen (D.told result.journal.disk) (D.clock result.journal.disk) (D.image result.journal.disk)
         (D.faults result.journal.disk))
         result.all_told }

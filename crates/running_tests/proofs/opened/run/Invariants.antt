@@ -1,0 +1,7 @@
+use Rattle.std.proofs.Common.{[], None}
+use Rattle.oz_buffer.specs.Openings.{no_opening}
+use Rattle.running_tests.proofs.opened.run.Given as goal
+
+-- the script that was handed in, over disks of which nothing is asked
+abbrev pub ghosts-opened : goal.ghosts-opened
+ghosts-opened g a = record { opening = no_opening; bodies = []; bytes = λ dn block. None; script = a.script.now; coherent = ⊥ }

@@ -1,0 +1,144 @@
+//! A run of a script over an empty disk.
+
+ghost use Rattle.std.specs.Prelude.{◌≡◌, ◌≤◌, false, IfOk};
+ghost use Rattle.oz_buffer.specs.Openings.{no_opening};
+ghost use Rattle.oz_lines.specs.Numbered.{IsNumbered};
+ghost use Rattle.oz_om.specs.Keeps.{KeepsRows};
+ghost use Rattle.oz_om.specs.Opens.{Opens};
+ghost use Rattle.oz_om.specs.Seated.{ArePartsOf};
+
+use oz_buffer::Opened;
+use oz_flusher::Flusher;
+use oz_flushing::Mounted;
+use oz_lines::Script;
+use oz_loaded::{Unseated, load};
+use oz_locks::Loaded;
+use oz_running::{Ran, run_lines};
+use oz_world::{Disk, MemoryDisk, OpenGate};
+use std::alloc::Global;
+use std::marker::Brand;
+use std::sync::Wait;
+use std::test::Fail;
+use std::thread::Threads;
+
+/// A disk without rows.
+pub struct NoRows;
+
+impl Loaded for NoRows {
+    ghost use Rattle.std.specs.Prelude.{None};
+    ghost use Rattle.oz_buffer.specs.Openings.{no_opening};
+    ghost use Rattle.oz_om.specs.Keeps.{KeepsRows};
+
+    ghost rows = { λ key. None };
+
+    ghost last_index = { 0 };
+
+    ghost coherent = { ⊥ };
+
+    ghost keeps = { KeepsRows ⊥ no_opening (λ key. None) };
+}
+
+/// An empty disk is loaded. One call of it fails: loading makes three.
+fn loaded(alloc: Global, failing: u64) -> Result<(Unseated, Flusher<MemoryDisk>), Fail>
+    ensures parts { IfOk result (λ r. ArePartsOf (λ key. None) 0 r.0.parts) }
+    ensures index { IfOk result (λ r. r.0.last_index ≡ 0) }
+    ensures running { IfOk result (λ r. r.1.stopped ≡ false) }
+{
+    let fails = vec![in alloc; failing]?;
+    let disk = MemoryDisk::new(alloc, Vec::new(alloc), fails, 1_000_000)?;
+    match load(alloc, disk) {
+        Ok(loaded) => Ok(loaded),
+        Err(_) => Err("a disk".into()),
+    }
+}
+
+/// The run over a disk as it was mounted.
+fn mounted<
+    D: Disk + Drop + Send,
+    O: Opened + Send + Sync,
+    M: Mounted + Send + Sync,
+    W: Threads + Wait + Sync,
+>(
+    rt: &W,
+    alloc: Global,
+    script: &Script,
+    unseated: Unseated,
+    flusher: Flusher<D>,
+    workers: u8,
+) -> Result<Ran<D>, Fail>
+    requires incoherent { O.coherent → ⊥ }
+    requires opens { Opens O.coherent O.opening O.bytes (λ key. None) 0 ⊥ (KeepsRows ⊥ no_opening (λ key. None)) }
+    requires parts { ArePartsOf (λ key. None) 0 unseated.parts }
+    requires index { unseated.last_index ≡ O.opening.last_index }
+    requires script { script.now ≡ O.script }
+    requires numbered { IsNumbered O.script }
+    requires some { 1 ≤ workers }
+    requires few { workers ≤ 16 }
+    requires running { flusher.stopped ≡ false }
+    requires faults { D.faults flusher.disk ≡ M.faults }
+    requires first { M.first ≤ D.clock flusher.disk }
+{
+    match run_lines::<D, O, NoRows, M, W, OpenGate>(
+        rt, alloc, &OpenGate, script, unseated, flusher, workers, 3,
+    ) {
+        Ok(ran) => Ok(ran),
+        Err((_journal, error)) => Err(error.into()),
+    }
+}
+
+/// The same, counted from the disk as it is now.
+fn counted<D: Disk + Drop + Send, O: Opened + Send + Sync, W: Threads + Wait + Sync>(
+    rt: &W,
+    alloc: Global,
+    script: &Script,
+    unseated: Unseated,
+    flusher: Flusher<D>,
+    workers: u8,
+) -> Result<Ran<D>, Fail>
+    requires incoherent { O.coherent → ⊥ }
+    requires opens { Opens O.coherent O.opening O.bytes (λ key. None) 0 ⊥ (KeepsRows ⊥ no_opening (λ key. None)) }
+    requires parts { ArePartsOf (λ key. None) 0 unseated.parts }
+    requires index { unseated.last_index ≡ O.opening.last_index }
+    requires script { script.now ≡ O.script }
+    requires numbered { IsNumbered O.script }
+    requires some { 1 ≤ workers }
+    requires few { workers ≤ 16 }
+    requires running { flusher.stopped ≡ false }
+{
+    mounted::<D, O, Brand, W>(rt, alloc, script, unseated, flusher, workers)
+}
+
+/// The run over an empty disk.
+fn opened<O: Opened + Send + Sync, W: Threads + Wait + Sync>(
+    rt: &W,
+    alloc: Global,
+    script: &Script,
+    workers: u8,
+    failing: u64,
+) -> Result<Ran<MemoryDisk>, Fail>
+    requires incoherent { O.coherent → ⊥ }
+    requires opens { Opens O.coherent O.opening O.bytes (λ key. None) 0 ⊥ (KeepsRows ⊥ no_opening (λ key. None)) }
+    requires index { O.opening.last_index ≡ 0 }
+    requires script { script.now ≡ O.script }
+    requires numbered { IsNumbered O.script }
+    requires some { 1 ≤ workers }
+    requires few { workers ≤ 16 }
+{
+    let (unseated, flusher) = loaded(alloc, failing)?;
+    counted::<MemoryDisk, O, W>(rt, alloc, script, unseated, flusher, workers)
+}
+
+/// What is left of a run of a script by so many workers over an empty disk, of which one call fails.
+pub fn run<W: Threads + Wait + Sync>(
+    rt: &W,
+    alloc: Global,
+    script: &Script,
+    workers: u8,
+    failing: u64,
+) -> Result<Ran<MemoryDisk>, Fail>
+    requires numbered { IsNumbered script.now }
+    requires some { 1 ≤ workers }
+    requires few { workers ≤ 16 }
+{
+    opened::<Brand, W>(rt, alloc, script, workers, failing)
+}

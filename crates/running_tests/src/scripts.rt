@@ -1,6 +1,6 @@
 //! A script of eight clients whose lines wait for one another.
 
-ghost use Rattle.std.specs.Prelude.{IfOk};
+ghost use Rattle.std.specs.Prelude.{◌≤◌, IfOk};
 ghost use Rattle.oz_lines.specs.Numbered.{IsNumbered};
 
 use oz_lines::Script;

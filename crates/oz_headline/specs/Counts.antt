@@ -1,4 +1,4 @@
--- Whether a client was told all its lines, by their count.
+-- How many lines the clients of a script were told.
 use Rattle.std.specs.Prelude.{◌≡◌, ℕ, ◌≤◌, List, length}
 use Rattle.oz_lines.specs.declared.script.Script.{Script}
 use Rattle.oz_core.specs.declared.event.Event.{Event}
@@ -9,6 +9,7 @@ pub record IsClient (script : Script) (client : ℕ) : Type 0 where
   pub some : 1 ≤ client
   pub within : client ≤ length script.clients
 
--- the story told as many lines of the client as the script has
-abbrev pub IsToldAsMany : Script → List Event → ℕ → Type 0
-IsToldAsMany script story client = length (told_lines client story) ≡ length (line_numbers script client)
+-- each client of the script was told as many lines as it has
+abbrev pub AreToldAsMany : Script → List Event → Type 0
+AreToldAsMany script story =
+    (client : ℕ) → IsClient script client → length (told_lines client story) ≡ length (line_numbers script client)

@@ -7,7 +7,7 @@ ghost use Rattle.oz_core.specs.Contents.{OpeningBytes};
 ghost use Rattle.oz_core.specs.Fits.{AllAreTold, Fits, line_numbers, told_lines};
 ghost use Rattle.oz_core.specs.Law.{IsLegal};
 ghost use Rattle.oz_core.specs.Manager.{flushed_moment};
-ghost use Rattle.oz_headline.specs.Counts.{IsClient, IsToldAsMany};
+ghost use Rattle.oz_headline.specs.Counts.{AreToldAsMany, IsClient};
 ghost use Rattle.oz_headline.specs.History.{AllAreBy, AllAreInTurn, RepliesAreOneThreads, ToldIsStable};
 ghost use Rattle.oz_lines.specs.declared.script.Script.{Script as AnyScript};
 ghost use Rattle.oz_lines.specs.Numbered.{IsNumbered};
@@ -30,7 +30,7 @@ pub fn one_history_says_the_rest()
 pub fn all_are_told_by_count()
     ensures all { (opening : AnyOpening) (bytes : OpeningBytes) (script : AnyScript) (story : List AnyEvent) →
         IsNumbered script → Fits opening bytes script story →
-        ((client : ℕ) → IsClient script client → IsToldAsMany script story client) → AllAreTold script story }
+        AreToldAsMany script story → AllAreTold script story }
     ensures others { (opening : AnyOpening) (bytes : OpeningBytes) (script : AnyScript) (story : List AnyEvent)
         (client : ℕ) → IsNumbered script → Fits opening bytes script story → (IsClient script client → ⊥) →
         (line_numbers script client ≡ []) × (told_lines client story ≡ []) }

@@ -8,7 +8,7 @@ use Rattle.oz_rows.specs.declared.key.RowKey.{RowKey}
 use Rattle.oz_rows.specs.declared.key.RowKey.TheVariants as keys
 use Rattle.oz_rows.specs.declared.row.Row.{Row}
 use Rattle.oz_rows.specs.RowMaps.{Rows}
-use Rattle.oz_sound.specs.Sound.{AreTogether, AtMost, BlocksAreSound, CountsAreSound, IsKeeper, IsNamedAnew, IsRename, IsSound, IsUsing, NamesAreSound, NumbersAreSound, RenamesAreSound, SnapshotHas, StandsIn, bucket_of_row}
+use Rattle.oz_sound.specs.Sound.{AreTogether, AtMost, BlocksAreSound, CountsAreSound, IsKeeper, IsNamedAnew, IsRename, IsSound, IsSoundButRenames, IsUsing, NamesAreSound, NumbersAreSound, RenamesAreSound, SnapshotHas, StandsIn, bucket_of_row}
 use Rattle.oz_sound.specs.StandsFor.{IsLive, drawn_in}
 use Rattle.oz_stripes.specs.Stripes.{is_own, only}
 
@@ -23,7 +23,7 @@ at_most {A} count P Q from most items differ hold = most items differ (each item
     each [] all = tt
     each (x ∷ l) all = (from x all.0, each l all.1)
 
-module _ (stripe : ℕ) (all : Rows) (sound : IsSound all) where
+module _ (stripe : ℕ) (all : Rows) (sound : IsSoundButRenames all) where
   own_rows : Rows
   own_rows = only stripe all
 
@@ -132,18 +132,18 @@ module _ (stripe : ℕ) (all : Rows) (sound : IsSound all) where
         (stands_from block (keys.Open volume bucket key session) stands) (has_from volume bucket number block name has);
   }
 
-  noted : (volume bucket name : List ℕ) (number : ℕ) (block : Block) → SnapshotHas own_rows volume bucket number block name → IsNamedAnew own_rows volume bucket number block name
+  noted : RenamesAreSound all → (volume bucket name : List ℕ) (number : ℕ) (block : Block) → SnapshotHas own_rows volume bucket number block name → IsNamedAnew own_rows volume bucket number block name
       → (owner : ℕ) × (another : List ℕ) × IsRename own_rows volume bucket number block.local owner another
-  noted volume bucket name number block has anew =
+  noted renames volume bucket name number block has anew =
       let own = live_own volume bucket number has.live in
-      let (owner, another, rename) = sound.renames.noted volume bucket name number block (has_from volume bucket number block name has) (anew_from volume bucket number block name anew) in
+      let (owner, another, rename) = renames.noted volume bucket name number block (has_from volume bucket number block name has) (anew_from volume bucket number block name anew) in
       (owner, another, rename_to volume bucket own number block.local owner another rename)
 
-  renames : RenamesAreSound own_rows
-  renames = record {
-    renamed = λ volume bucket name another number owner block has rename. sound.renames.renamed volume bucket name another number owner block
+  its_renames : RenamesAreSound all → RenamesAreSound own_rows
+  its_renames renames = record {
+    renamed = λ volume bucket name another number owner block has rename. renames.renamed volume bucket name another number owner block
         (has_from volume bucket number block name has) (rename_from volume bucket (live_own volume bucket number has.live) number block.local owner another rename);
-    noted = noted;
+    noted = noted renames;
   }
 
   drawn_same : (volume : List ℕ) → (stripe_of volume == stripe) ≡ true → drawn_in (all (keys.Stripe (stripe_of volume))) ≡ drawn_in (own_rows (keys.Stripe (stripe_of volume)))
@@ -176,6 +176,24 @@ module _ (stripe : ℕ) (all : Rows) (sound : IsSound all) where
         (sound.counts.snapshot_keys volume bucket number (live_from volume bucket number live));
   }
 
-  pub own_rows_are_sound : IsSound (only stripe all)
+  pub own_rows_are_sound_but_renames : IsSoundButRenames (only stripe all)
   unfolding own_rows
-  own_rows_are_sound = record { blocks = blocks; names = names; renames = renames; numbers = numbers; counts = counts }
+  own_rows_are_sound_but_renames = record { blocks = blocks; names = names; numbers = numbers; counts = counts }
+
+  own_renames : RenamesAreSound all → RenamesAreSound (only stripe all)
+  unfolding own_rows
+  own_renames renames = its_renames renames
+
+but_renames : (all : Rows) → IsSound all → IsSoundButRenames all
+but_renames all sound = record { blocks = sound.blocks; names = sound.names; numbers = sound.numbers; counts = sound.counts }
+
+pub own_rows_are_sound : (stripe : ℕ) (all : Rows) → IsSound all → IsSound (only stripe all)
+own_rows_are_sound stripe all sound =
+    let most = own_rows_are_sound_but_renames stripe all (but_renames all sound) in
+    record {
+      blocks = most.blocks;
+      names = most.names;
+      renames = own_renames stripe all (but_renames all sound) sound.renames;
+      numbers = most.numbers;
+      counts = most.counts;
+    }

@@ -10,7 +10,7 @@ ghost use Rattle.oz_namespace.specs.declared.namespace.Namespace.{Namespace as A
 ghost use Rattle.oz_names.specs.declared.limits.TheConstants.{STRIPES};
 ghost use Rattle.oz_rows.specs.declared.key.RowKey.{RowKey as AnyKey};
 ghost use Rattle.oz_rows.specs.RowMaps.{Rows as AnyRows, row_of};
-ghost use Rattle.oz_sound.specs.Sound.{IsSound};
+ghost use Rattle.oz_sound.specs.Sound.{IsSound, IsSoundButRenames};
 ghost use Rattle.oz_sound.specs.StandsFor.{StandsFor};
 ghost use Rattle.oz_store.specs.Store.{IsInADeletedRow};
 ghost use Rattle.oz_stripes.specs.Stripes.{only, stripe_of_key};
@@ -55,9 +55,10 @@ pub fn what_is_left_stands_in_deleted_rows()
 }
 
 /// Where all rows are sound and stand for a namespace, the rows of one stripe alone are sound and stand for what the
-/// namespace has of that stripe.
+/// namespace has of that stripe; and they are sound but for what renamed rows say where all are.
 pub fn a_stripes_rows_are_sound()
     ensures sound { (stripe : ℕ) (all : AnyRows) → IsSound all → IsSound (only stripe all) }
+    ensures but_renames { (stripe : ℕ) (all : AnyRows) → IsSoundButRenames all → IsSoundButRenames (only stripe all) }
     ensures stand { (stripe : ℕ) (all : AnyRows) (namespace part : AnyNamespace) →
         StandsFor all namespace → IsOfStripe stripe namespace part → StandsFor (only stripe all) part }
 {}

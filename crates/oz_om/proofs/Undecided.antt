@@ -12,7 +12,7 @@ use Rattle.oz_namespace.specs.declared.namespace.Namespace.{Namespace}
 use Rattle.oz_rows.specs.declared.key.RowKey.{RowKey}
 use Rattle.oz_rows.specs.declared.row.Row.{Row}
 use Rattle.oz_rows.specs.RowMaps.{KeysRise, Rows, row_after, row_of}
-use Rattle.oz_sound.specs.Sound.{IsSound, IsSoundButRenames}
+use Rattle.oz_sound.specs.Sound.{IsSoundButRenames}
 use Rattle.oz_sound.specs.StandsFor.{StandsFor}
 use Rattle.oz_striped.specs.Shares.{IsOfStripe, share_of}
 use Rattle.oz_striped.specs.laws.Shares.{share_is_there}
@@ -25,13 +25,10 @@ use Rattle.oz_om.specs.Opens.{Opens}
 use Rattle.oz_om.specs.Seated.{ArePartsOf, IsPartOf, ArePlaced}
 
 abbrev pub SoundLaw : Type 0
-SoundLaw = (stripe : ℕ) (all : Rows) → IsSound all → IsSound (only stripe all)
+SoundLaw = (stripe : ℕ) (all : Rows) → IsSoundButRenames all → IsSoundButRenames (only stripe all)
 
 abbrev pub StandLaw : Type 0
 StandLaw = (stripe : ℕ) (all : Rows) (namespace part : Namespace) → StandsFor all namespace → IsOfStripe stripe namespace part → StandsFor (only stripe all) part
-
-but_renames : (all : Rows) → IsSound all → IsSoundButRenames all
-but_renames all sound = record { blocks = sound.blocks; names = sound.names; numbers = sound.numbers; counts = sound.counts }
 
 at_first : (opening : Opening) → opening.namespace ≡ namespace_of opening []
 unfolding namespace_from
@@ -50,7 +47,7 @@ module _ (Coherent Agrees : Type 0) (opening : Opening) (bytes : OpeningBytes) (
         stand = subst (λ (namespace : Namespace). Stand IsSoundButRenames (only stripe loaded) (share_of stripe namespace)) (at_first opening) (record {
           fit = fit_only stripe;
           stands = stand_law stripe loaded opening.namespace (share_of stripe opening.namespace) store.stands (share_is_there stripe opening.namespace);
-          sound = but_renames (only stripe loaded) (sound_law stripe loaded store.sound);
+          sound = sound_law stripe loaded store.sound;
         });
         old = λ block key it. inl (key, it);
       }

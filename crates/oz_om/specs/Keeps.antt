@@ -18,6 +18,7 @@ use Rattle.oz_rows.specs.RowMaps.{AreRows, Rows, after_changes}
 use Rattle.oz_sound.specs.Sound.{IsSoundButRenames}
 use Rattle.oz_striped.specs.Shares.{share_of}
 use Rattle.oz_stripes.specs.Stripes.{only}
+use Rattle.oz_turn.specs.Told.{BeginsWith}
 
 -- The rows are sound and stand for what the namespace of the story that was seen has of the stripe. Each block in them
 -- was loaded in a row of the stripe, or a Decide of the stripe handed it out.
@@ -52,6 +53,13 @@ HasStoodFrom opening loaded stripe before rows (event ∷ story) last =
 -- so did those that were loaded of it
 abbrev pub HasStood : Opening → Rows → ℕ → List Event → Rows → Type 0
 HasStood opening loaded stripe seen rows = HasStoodFrom opening loaded stripe [] (only stripe loaded) seen rows
+
+-- The stripe's rows stood at each place of a beginning of the story, up to these, and the rest has no event of its seat.
+pub record HasRun (opening : Opening) (loaded : Rows) (story : List Event) (stripe : ℕ) (rows : Rows) : Type 0 where
+  pub seen : List Event
+  pub begins : BeginsWith story seen
+  pub stood : HasStood opening loaded stripe seen rows
+  pub given : mine (stripe_seat stripe) story ≡ mine (stripe_seat stripe) seen
 
 -- There are only so many rows.
 pub record AreListed (rows : Rows) : Type 0 where

@@ -1,9 +1,9 @@
 //! Which lines are served today.
 
 ghost use Rattle.std.specs.Prelude.{◌≡◌};
-ghost use Rattle.oz_placed.specs.Served.{is_served, is_served_command, later_index};
+ghost use Rattle.oz_placed.specs.Served.{is_empty_data, is_served, is_served_command, later_index};
 
-use oz_command::Command;
+use oz_command::{Command, Data};
 use oz_fields::List;
 use oz_lines::Line;
 
@@ -14,11 +14,11 @@ pub fn later_index(lines: &List<Line>) -> Option<usize>
     lines.iter().position(|line| !is_served(line))
 }
 
-/// A line of the first client that waits for no other, with a command that is served.
+/// A line whose command is served.
 pub fn is_served(line: &Line) -> bool
     ensures { result ≡ is_served line.now }
 {
-    is_served_command(&line.command) && line.client == 1 && line.after.is_none()
+    is_served_command(&line.command)
 }
 
 fn is_served_command(command: &Command) -> bool
@@ -31,19 +31,31 @@ fn is_served_command(command: &Command) -> bool
         | Command::BucketCreate { .. }
         | Command::BucketDelete { .. }
         | Command::BucketInfo { .. }
-        | Command::BucketList { .. } => true,
-        Command::KeyPut { .. }
-        | Command::KeyOpen { .. }
+        | Command::BucketList { .. }
         | Command::KeyCommit { .. }
-        | Command::KeyGet { .. }
         | Command::KeyDelete { .. }
         | Command::KeyRename { .. }
-        | Command::KeyList { .. }
-        | Command::KeyExpire { .. }
-        | Command::SnapshotCreate { .. }
+        | Command::KeyExpire { .. } => true,
+        Command::KeyPut { payload, .. } | Command::KeyOpen { payload, .. } => {
+            is_empty_data(payload)
+        }
+        Command::KeyGet { snapshot, .. } | Command::KeyList { snapshot, .. } => snapshot.is_none(),
+        Command::SnapshotCreate { .. }
         | Command::SnapshotDelete { .. }
         | Command::SnapshotInfo { .. }
         | Command::SnapshotList { .. }
         | Command::Admin(_) => false,
+    }
+}
+
+fn is_empty_data(payload: &Data) -> bool
+    ensures { result ≡ is_empty_data payload.now }
+{
+    match payload {
+        Data::Text(text) => text.bytes().is_empty(),
+        Data::Fill { number, length } => {
+            let _number = *number;
+            *length == 0
+        }
     }
 }

@@ -5,8 +5,6 @@ use Rattle.oz_core.specs.declared.event.EventKind.{EventKind}
 use Rattle.oz_core.specs.declared.event.EventKind.TheVariants.{Decide}
 use Rattle.oz_core.specs.declared.opening.Opening.{Opening}
 use Rattle.oz_core.specs.Manager.{namespace_of}
-use Rattle.oz_core.specs.Seats.{stripe_seat}
-use Rattle.oz_core.specs.Stories.{mine}
 use Rattle.oz_decision.specs.Meets.{Stand}
 use Rattle.oz_effects.specs.Batches.{IsBatchOf}
 use Rattle.oz_names.specs.declared.limits.TheConstants.{STRIPES}
@@ -15,15 +13,7 @@ use Rattle.oz_rows.specs.declared.operation.TheConstants.{END_OF_INDEXES}
 use Rattle.oz_rows.specs.RowMaps.{Rows, after_changes}
 use Rattle.oz_sound.specs.Sound.{IsSoundButRenames}
 use Rattle.oz_stripes.specs.Stripes.{only, stripe_of_key}
-use Rattle.oz_turn.specs.Told.{BeginsWith}
-use Rattle.oz_om.specs.Keeps.{HasStood, StandAt}
-
--- A stripe's rows stood at each place of a beginning of the story, up to these, and the rest has no event of its seat.
-pub record HasRun (opening : Opening) (loaded : Rows) (story : List Event) (stripe : ℕ) (rows : Rows) : Type 0 where
-  pub seen : List Event
-  pub begins : BeginsWith story seen
-  pub stood : HasStood opening loaded stripe seen rows
-  pub given : mine (stripe_seat stripe) story ≡ mine (stripe_seat stripe) seen
+use Rattle.oz_om.specs.Keeps.{StandAt}
 
 -- the rows of the sixteen stripes: each is that of its own stripe
 abbrev pub together : (ℕ → Rows) → Rows

@@ -21,7 +21,8 @@ ghost use Rattle.oz_sound.specs.StandsFor.{StandsFor};
 ghost use Rattle.oz_store.specs.Store.{IsStore};
 ghost use Rattle.oz_turn.specs.Told.{BeginsWith};
 ghost use Rattle.oz_restored.specs.Opens.{IsSinceSwap, NoneTakes, OpensUpTo, StandUpTo};
-ghost use Rattle.oz_restored.specs.Together.{AllStood, HasRun, LeadsOn, StandTogether, together};
+ghost use Rattle.oz_restored.specs.Together.{AllStood, LeadsOn, StandTogether, together};
+ghost use Rattle.oz_om.specs.Keeps.{HasRun};
 
 use oz_build::bodies_make_one_thing;
 use oz_journal::bytes_stand_for_one_thing;

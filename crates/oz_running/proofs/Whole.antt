@@ -6,8 +6,8 @@ use Rattle.oz_core.specs.Seats.{first_worker_seat, flusher_seat, stripe_seat}
 use Rattle.oz_core.specs.Stories.{mine}
 use Rattle.oz_flushing.specs.Kept.{IsKept}
 use Rattle.oz_names.specs.declared.limits.TheConstants.{STRIPES}
+use Rattle.oz_om.specs.Keeps.{HasRun}
 use Rattle.oz_rows.specs.RowMaps.{Rows}
-use Rattle.oz_running.specs.Run.{HasRun}
 use Rattle.oz_running.specs.Seats.{HaveLeft}
 use Rattle.oz_running.proofs.Placed.{all_at, there}
 use Rattle.oz_turn.specs.declared.seat.Seat.{Seat}
@@ -39,16 +39,18 @@ module _ {T : Type 0} {told : Ghosts T Event} (turn : TurnId) (Coherent : Type 0
         let it = there seats seat (omega (arith, below, many)) in
         own_at seat it.0 it.1 ∙ (left seat it.0 it.1).quiet above below
 
-    pub stripe_left : Coherent → (stripe : ℕ) → stripe < STRIPES → HasRun opening loaded story stripe
+    pub stripe_left : Coherent → (stripe : ℕ) → stripe < STRIPES → (rows : Rows) × HasRun opening loaded story stripe rows
     stripe_left coherent stripe less =
         let it = there seats (stripe_seat stripe) (omega (arith, less, many)) in
-        let stood = (left (stripe_seat stripe) it.0 it.1).stripe coherent stripe less refl in record {
-          seen = seen_of it.0;
-          begins = begins_at (stripe_seat stripe) it.0 it.1;
-          given = own_at (stripe_seat stripe) it.0 it.1 ∙ sym stood.own;
-          rows = stood.rows;
-          stood = stood.stood;
-        }
+        let stood = (left (stripe_seat stripe) it.0 it.1).stripe coherent stripe less refl in (
+          stood.rows,
+          record {
+            seen = seen_of it.0;
+            begins = begins_at (stripe_seat stripe) it.0 it.1;
+            given = own_at (stripe_seat stripe) it.0 it.1 ∙ sym stood.own;
+            stood = stood.stood;
+          },
+        )
 
     -- by what is kept of a story that goes on without the flusher
     pub flusher_left : ((seen given : List Event) → IsKept Coherent opening bodies faults first stopped seen given disk → BeginsWith story seen

@@ -1,5 +1,4 @@
 pub mod Jobs
-pub mod Told
 pub mod Run
 pub mod Seats
 pub mod Staff

@@ -7,21 +7,12 @@ use Rattle.oz_core.specs.Contents.{OpeningBytes}
 use Rattle.oz_core.specs.Seats.{flusher_seat, stripe_seat}
 use Rattle.oz_core.specs.Stories.{mine}
 use Rattle.oz_flushing.specs.Kept.{IsKept}
+use Rattle.oz_headline.specs.Counts.{AreToldAsMany}
 use Rattle.oz_lines.specs.declared.script.Script.{Script}
 use Rattle.oz_names.specs.declared.limits.TheConstants.{STRIPES}
-use Rattle.oz_om.specs.Keeps.{HasStood}
+use Rattle.oz_om.specs.Keeps.{HasRun}
 use Rattle.oz_rows.specs.RowMaps.{Rows}
-use Rattle.oz_running.specs.Told.{AreToldAsMany}
-use Rattle.oz_turn.specs.Told.{BeginsWith}
 use Rattle.oz_world.specs.Disk.{Seen}
-
--- The stripe's rows stood at each place of a beginning of the story, up to some, and the rest has no event of its seat.
-pub record HasRun (opening : Opening) (loaded : Rows) (story : List Event) (stripe : ℕ) : Type 0 where
-  pub seen : List Event
-  pub begins : BeginsWith story seen
-  pub given : mine (stripe_seat stripe) story ≡ mine (stripe_seat stripe) seen
-  pub rows : Rows
-  pub stood : HasStood opening loaded stripe seen rows
 
 -- that the disks agree; what was opened, with its bytes and the bodies of the journal; the script; how often the
 -- manager's disk had failed once it was loaded, and from which moment on it is said what a stop leaves; and the rows
@@ -32,7 +23,7 @@ module _ (Coherent : Type 0) (opening : Opening) (bytes : OpeningBytes) (bodies 
   pub record IsRun (seats : ℕ) (story : List Event) (stopped : Bool) (disk : Seen) (all_told : Bool) : Type 0 where
     pub follow : AllFollow (Follows Coherent opening bytes script) [] story
     pub kept : IsKept Coherent opening bodies faults first stopped story (mine flusher_seat story) disk
-    pub stood : Coherent → (stripe : ℕ) → stripe < STRIPES → HasRun opening loaded story stripe
+    pub stood : Coherent → (stripe : ℕ) → stripe < STRIPES → (rows : Rows) × HasRun opening loaded story stripe rows
     -- The service job, the caller, the SCM and the datanodes gave nothing.
     pub quiet : (seat : ℕ) → flusher_seat < seat → seat < stripe_seat 0 → mine seat story ≡ []
     pub seated : All (λ event. event.seat < seats) story

@@ -3,7 +3,7 @@
 ghost use Rattle.std.specs.Prelude.{◌≡◌, ◌≤◌, ◌↔◌, true, length};
 ghost use Rattle.oz_lines.specs.declared.script.TheConstants.{MOST_CLIENTS};
 ghost use Rattle.oz_lines.specs.Numbered.{lines_of};
-ghost use Rattle.oz_running.specs.Told.{AreToldAsMany};
+ghost use Rattle.oz_headline.specs.Counts.{AreToldAsMany};
 
 use oz_buffer::{Ledger, Opened};
 use oz_lines::{Line, Script};

@@ -7,7 +7,7 @@ use Rattle.oz_fields.specs.declared.block.Block.{Block}
 use Rattle.oz_namespace.specs.Namespace.{nothing}
 use Rattle.oz_rows.specs.declared.key.RowKey.{RowKey}
 use Rattle.oz_rows.specs.RowMaps.{row_of}
-use Rattle.oz_sound.specs.Sound.{IsSound, IsUsing, StandsIn, AtMost, SnapshotHas}
+use Rattle.oz_sound.specs.Sound.{IsSoundButRenames, IsUsing, StandsIn, AtMost, SnapshotHas}
 use Rattle.oz_sound.specs.StandsFor.{StandsFor, IsLive}
 use Rattle.oz_store.specs.Store.{IsStore, IsInARow, empty_store}
 use Rattle.oz_store.specs.laws.Found.{reached_is_found}
@@ -25,7 +25,7 @@ none_at_most most Holds none (x ∷ xs) differ each = absurd (none x each.0)
 no_snapshot_has : {X : Type 0} (volume bucket name : List ℕ) (number : ℕ) (block : Block) → SnapshotHas (row_of []) volume bucket number block name → X
 no_snapshot_has volume bucket name number block has = no_live volume bucket number has.live
 
-pub nothing_is_sound : IsSound (row_of [])
+pub nothing_is_sound : IsSoundButRenames (row_of [])
 nothing_is_sound = record {
   blocks = record {
     one_bucket = λ block key other here there. no_row block key here;
@@ -39,10 +39,6 @@ nothing_is_sound = record {
     one_snapshot = λ volume bucket name number previous other before is also. absurd (cc);
     one_name = λ volume bucket name another number block has also. no_snapshot_has volume bucket name number block has;
     open_name = λ volume bucket key name session number block here has. no_row block _ here;
-  };
-  renames = record {
-    renamed = λ volume bucket name another number owner block has is. no_snapshot_has volume bucket name number block has;
-    noted = λ volume bucket name number block has anew. no_snapshot_has volume bucket name number block has;
   };
   numbers = record {
     sessions = λ volume bucket key number is. absurd (cc);

@@ -11,7 +11,7 @@ use Rattle.oz_rows.specs.declared.row.Row.TheVariants as rows
 use Rattle.oz_rows.specs.declared.row.SnapshotState.{SnapshotState}
 use Rattle.oz_rows.specs.declared.row.SnapshotState.TheVariants.{Live}
 use Rattle.oz_rows.specs.RowMaps.{Rows}
-use Rattle.oz_sound.specs.Sound.{IsSound, StandsIn}
+use Rattle.oz_sound.specs.Sound.{IsSoundButRenames, StandsIn}
 use Rattle.oz_sound.specs.StandsFor.{StandsFor}
 use Rattle.oz_core.specs.declared.opening.Opening.{Opening}
 use Rattle.oz_core.specs.Coherent.{IsCoherent}
@@ -44,11 +44,11 @@ pub record RowsAreCoherent (all : Rows) (opening : Opening) : Type 0 where
   pub fresh_in_keys : (key : RowKey) (local : ℕ) → IsSome (all key) → local_in key ≡ Some local
       → local < opening.next_id
 
--- The manager's rows are sound and stand for the opening's namespace, its deleted rows have the blocks that are left, and
--- all disks agree.
+-- The manager's rows stand for the opening's namespace and are sound, but for what renamed rows say, which no request writes
+-- yet; its deleted rows have the blocks that are left, and all disks agree.
 pub record IsStore (all : Rows) (opening : Opening) (bytes : OpeningBytes) : Type 0 where
   pub stands : StandsFor all opening.namespace
-  pub sound : IsSound all
+  pub sound : IsSoundButRenames all
   pub left : (block : Block) → Contains opening.left block ↔ IsInADeletedRow all block
   pub rows : RowsAreCoherent all opening
   pub disks : IsCoherent opening bytes

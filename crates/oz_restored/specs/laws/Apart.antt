@@ -17,7 +17,7 @@ use Rattle.oz_rows.specs.declared.row.Row.{Row}
 use Rattle.oz_rows.specs.declared.row.Row.TheVariants as rows
 use Rattle.oz_rows.specs.Rows.{RowFits}
 use Rattle.oz_rows.specs.RowMaps.{Rows, is_block}
-use Rattle.oz_sound.specs.Sound.{IsSound, StandsIn, blocks_of, bucket_of_row}
+use Rattle.oz_sound.specs.Sound.{IsSoundButRenames, StandsIn, blocks_of, bucket_of_row}
 use Rattle.oz_store.specs.Store.{IsInARow, RowsAreCoherent}
 use Rattle.oz_stripes.specs.Stripes.{only, stripe_of_key}
 use Rattle.oz_restored.specs.laws.Sound.{its_own, stands_from}
@@ -58,7 +58,7 @@ same_stripe key other one two same =
 
 -- ---- blocks that were loaded
 
-module _ (loaded : Rows) (fit : AreInGrammar loaded) (sound : IsSound loaded) where
+module _ (loaded : Rows) (fit : AreInGrammar loaded) (sound : IsSoundButRenames loaded) where
   loaded_in : (block : Block) (key : RowKey) → StandsIn loaded block key → IsOfBucket key
   loaded_in block key it = of_bucket block key it.row (fit key it.row it.there) it.has
 
@@ -75,7 +75,7 @@ module _ (loaded : Rows) (fit : AreInGrammar loaded) (sound : IsSound loaded) wh
 
 -- ---- and those that were handed out
 
-module _ (opening : Opening) (loaded : Rows) (fit : AreInGrammar loaded) (sound : IsSound loaded) (coherent : RowsAreCoherent loaded opening) (story : List Event) (legal : IsLegal opening story) where
+module _ (opening : Opening) (loaded : Rows) (fit : AreInGrammar loaded) (sound : IsSoundButRenames loaded) (coherent : RowsAreCoherent loaded opening) (story : List Event) (legal : IsLegal opening story) where
   -- a block that was loaded has no id of one that was handed out
   handed_new : (stripe other : ℕ) (block twin : Block) → IsInARow (only stripe loaded) block → Contains (handed_out other story) twin → block.local ≡ twin.local → ⊥
   handed_new stripe other block twin row handed same =

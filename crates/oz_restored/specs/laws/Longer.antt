@@ -20,8 +20,7 @@ use Rattle.oz_striped.specs.Shares.{share_of}
 use Rattle.oz_striped.specs.laws.Shares.{one_share, share_is_there}
 use Rattle.oz_striped.specs.laws.Stories.{share_of_seen}
 use Rattle.oz_stripes.specs.Stripes.{only}
-use Rattle.oz_om.specs.Keeps.{HasStood, HasStoodFrom, StandAt}
-use Rattle.oz_restored.specs.Together.{HasRun}
+use Rattle.oz_om.specs.Keeps.{HasRun, HasStood, HasStoodFrom, StandAt}
 
 none_more : {E : Type 0} (l more : List E) → l ++ more ≡ l → more ≡ []
 none_more l [] same = refl

@@ -25,8 +25,8 @@ use Rattle.oz_rows.specs.laws.Same.{same_is_one}
 use Rattle.oz_store.specs.Store.{IsStore}
 use Rattle.oz_stripes.specs.Stripes.{ChangeOnly, is_own, only, stripe_of_key}
 use Rattle.oz_striped.specs.laws.Shares.{one_of_sixteen}
-use Rattle.oz_om.specs.Keeps.{HasStoodFrom, IsMadeBy, IsWrittenBy, StandAt, StepsTo}
-use Rattle.oz_restored.specs.Together.{AllStood, AllStoodFrom, HasRun, LeadsOn, Makes, StandTogether, together}
+use Rattle.oz_om.specs.Keeps.{HasRun, HasStoodFrom, IsMadeBy, IsWrittenBy, StandAt, StepsTo}
+use Rattle.oz_restored.specs.Together.{AllStood, AllStoodFrom, LeadsOn, Makes, StandTogether, together}
 use Rattle.oz_restored.specs.laws.Longer.{stood_all, stood_first}
 use Rattle.oz_restored.specs.laws.Sound.{own_row}
 use Rattle.oz_restored.specs.laws.Union.{none_of_more, one_of_few, same_together, union_batch, union_stands}

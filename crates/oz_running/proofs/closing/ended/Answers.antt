@@ -2,7 +2,7 @@ use Rattle.std.proofs.Common.{◌≡◌, ◌≤◌, ◌<◌, ◌↔◌, true, Li
 use Rattle.oz_core.specs.declared.event.Event.{Event}
 use Rattle.oz_core.specs.Seats.{first_worker_seat}
 use Rattle.oz_lines.specs.declared.script.Script.{Script}
-use Rattle.oz_running.specs.Told.{AreToldAsMany}
+use Rattle.oz_headline.specs.Counts.{AreToldAsMany}
 use Rattle.oz_running.proofs.Whole.{flusher_left, quiet_left, ready_left, stripe_left}
 use Rattle.oz_turn.specs.Seat.{AreReady, mine_of, number_of, seen_of}
 use Rattle.oz_turn.specs.Told.{BeginsWith, own_entries}

@@ -19,5 +19,5 @@ returns-then-lines_told-line_count g c = (
   λ wrong. absurd (false≢true wrong),
   λ all. absurd (c.if-lines_told-line_count.true
       (same_count c.args.script.now c.args.ledger.now.story (c.loop-client.client + 1) _ _ _ c.lines_told.ensures c.line_count.ensures c.items-in-loop-client.ensures
-      (all (c.loop-client.client + 1) (omega arith) (omega (arith, c.loop-client-test.true, ap length c.items.ensures, c.requires))))),
+      (all (c.loop-client.client + 1) (record { some = omega arith; within = omega (arith, c.loop-client-test.true, ap length c.items.ensures, c.requires) })))),
 )

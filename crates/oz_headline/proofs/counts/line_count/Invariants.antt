@@ -1,9 +1,0 @@
-use Rattle.std.proofs.Common.{◌≡◌, ◌≤◌, take}
-use Rattle.oz_lines.specs.Numbered.{lines_of}
-use Rattle.oz_headline.proofs.counts.line_count.Given as goal
-
-abbrev pub invariant-loop-line : goal.invariant-loop-line
-invariant-loop-line l = record {
-  counted : l.count ≡ lines_of (take l.line-index l.lines) l.client;
-  few : l.count ≤ l.line-index;
-}

@@ -78,7 +78,7 @@ module _ (all : Rows) where
   pub none_below : BelowAre 0 empty
   none_below = record { lower = λ v e. absurd (omega (arith, e)); others = λ v e. get-empty (slice_cmp nat_cmp) v }
 
-  one_more : (now : Rows) (stripe : ℕ) (before after : Volumes) → ((key : RowKey) → now key ≡ only stripe all key) → AddsVolumes now before after → BelowAre stripe before → BelowAre (stripe + 1) after
+  pub one_more : (now : Rows) (stripe : ℕ) (before after : Volumes) → ((key : RowKey) → now key ≡ only stripe all key) → AddsVolumes now before after → BelowAre stripe before → BelowAre (stripe + 1) after
   one_more now stripe before after own adds below = record { lower = λ v. lower v (stripe_of v == stripe) refl; others = λ v. others v (stripe_of v == stripe) refl }
     where
       not_here : (v : List ℕ) → (stripe_of v == stripe) ≡ false → get after v ≡ get before v

@@ -50,15 +50,15 @@ module _ (all : List RowEntry) where
   abbrev Volumes : Type 0
   Volumes = ByName (ByName Bucket)
 
-  here : (made : Volumes) (w : List ℕ) → IsSome (row_of all (keys.Volume w)) → get (entered made (volume_in all (keys.Volume w))) w ≡ Some (buckets_made all w)
+  pub here : (made : Volumes) (w : List ℕ) → IsSome (row_of all (keys.Volume w)) → get (entered made (volume_in all (keys.Volume w))) w ≡ Some (buckets_made all w)
   here made w some =
       ap (λ (t : Bool). get (entered made (cond t (Some (w, buckets_made all w)) None)) w) some
       ∙ there_after nat_list_cmp_total names_apart made w (buckets_made all w)
 
-  none : (made : Volumes) (w q : List ℕ) → row_of all (keys.Volume w) ≡ None → get (entered made (volume_in all (keys.Volume w))) q ≡ get made q
+  pub none : (made : Volumes) (w q : List ℕ) → row_of all (keys.Volume w) ≡ None → get (entered made (volume_in all (keys.Volume w))) q ≡ get made q
   none made w q e = ap (λ (o : Option Row). get (entered made (cond (is_some o) (Some (w, buckets_made all w)) None)) q) e
 
-  other : (made : Volumes) (w q : List ℕ) → eq_by_cmp (slice_cmp nat_cmp) q w ≡ false → get (entered made (volume_in all (keys.Volume w))) q ≡ get made q
+  pub other : (made : Volumes) (w q : List ℕ) → eq_by_cmp (slice_cmp nat_cmp) q w ≡ false → get (entered made (volume_in all (keys.Volume w))) q ≡ get made q
   other made w q apart = by (is_some (row_of all (keys.Volume w)))
     where
       by : (t : Bool) → get (entered made (cond t (Some (w, buckets_made all w)) None)) q ≡ get made q

@@ -1,4 +1,4 @@
--- For private calls: what is made of rows, one after another.
+-- What is made of rows, one after another.
 use Rattle.std.specs.Prelude.{ℕ, ◌==◌, List, [], ◌∷◌, Option, None, Some, is_some, if◌then◌else◌}
 use Rattle.std.specs.List.{flat_map, fold}
 use Rattle.std.specs.Ordering.{is_eq}

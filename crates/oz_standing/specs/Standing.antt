@@ -49,7 +49,7 @@ pub record AreStripesOf (all : Rows) (parts : List CacheView) : Type 0 where
   pub each : (stripe : ℕ) (part : CacheView) → slice_get parts stripe ≡ Some part
       → (key : RowKey) → row_of part.durable.rows key ≡ only stripe all key
 
--- For a private call: how many numbers the part of a stripe says were drawn there.
+-- how many numbers the part of a stripe says were drawn there
 abbrev pub drawn_at : ℕ → Option CacheView → ℕ
 drawn_at stripe None = 0
 drawn_at stripe (Some part) = drawn_in (row_of part.durable.rows (keys.Stripe stripe))

@@ -3,7 +3,9 @@
 
 mod buckets;
 mod entries;
+mod laws;
 mod namespace;
 mod volumes;
 
+pub use laws::parts_show_their_namespace;
 pub use namespace::namespace_of;

@@ -1,6 +1,6 @@
 //! One stripe: its rows, and the seat whose Decides they are.
 
-ghost use Rattle.std.specs.Prelude.{◌≡◌, ℕ, ◌+◌, ◌<◌, ◌≤◌, List as AnyList, [], ◌∷◌, ◌++◌, length, take, drop, true, All, Any, None, IfOk, IfSome, OnOk, OnErr, MatchOption};
+ghost use Rattle.std.specs.Prelude.{◌≡◌, ℕ, ◌+◌, ◌<◌, ◌≤◌, List as AnyList, [], ◌∷◌, ◌++◌, length, take, drop, true, All, Any, None, IsSome, IfOk, IfSome, OnOk, OnErr, MatchOption};
 ghost use Rattle.oz_cache.specs.Cache.{batch_of, batched_changes, last_epoch, later, newest, up_to};
 ghost use Rattle.oz_core.specs.Asks.{is_told};
 ghost use Rattle.oz_core.specs.Grants.{IsExcluded};
@@ -21,7 +21,8 @@ ghost use Rattle.oz_rows.specs.RowMaps.{after_changes, row_of, row_after};
 ghost use Rattle.oz_rows.specs.declared.key.RowKey.{RowKey as AnyKey};
 ghost use Rattle.oz_rows.specs.declared.operation.TheConstants.{END_OF_INDEXES};
 ghost use Rattle.oz_stripes.specs.Stripes.{only};
-ghost use Rattle.oz_turn.specs.Seat.{IsReady, IsNewSeat, mine_of, seen_of};
+ghost use Rattle.oz_turn.specs.Seat.{IsReady, IsNewSeat, IsSameSeat};
+ghost use Rattle.oz_turn.specs.Seat.{turn_of, number_of, mine_of, seen_of, room_of, taken_of};
 ghost use Rattle.oz_turn.specs.Told.{own_entries, BeginsWith, KeepsOtherRooms};
 ghost use Rattle.oz_turn.specs.Turn.{turn_id};
 
@@ -186,6 +187,27 @@ impl<T: Told<Entry = Event>, L: Loaded, R: Ring> Stripe<T, L, R> {
         ensures room { T.room result.0 (stripe_seat self.old.number) ≡ self.old.room }
     {
         turn.take(rt, &mut self.seat)
+    }
+
+    /// While the stripe's seat has the value, another seat sees the story that it tells. The stripe stays as it was. It waits
+    /// for nothing, and takes no memory.
+    pub fn show(&mut self, turn: &Turn<T>, other: &mut Seat<T>)
+        requires turn { turn_id turn.now ≡ R.turn }
+        requires other_turn { turn_of other.old ≡ R.turn }
+        requires held { IsSome self.old.taken }
+        requires free { taken_of other.old ≡ None }
+        ensures stripe { self.new ≡ self.old }
+
+        // The other seat has seen what the stripe's has, and its entries in it are those that it gave.
+        ensures other { IsSameSeat other.old other.new }
+        ensures other_free { taken_of other.new ≡ None }
+        ensures begins { BeginsWith (seen_of other.new) (seen_of other.old) }
+        ensures seen { seen_of other.new ≡ self.new.seen }
+        ensures mine { mine_of other.new ≡ mine_of other.old }
+        ensures own { own_entries T.seat_of (number_of other.new) (seen_of other.new) ≡ mine_of other.new }
+        ensures room { room_of other.new ≡ room_of other.old }
+    {
+        turn.show(&mut self.seat, other);
     }
 
     /// Gives the value back with the story that it had.

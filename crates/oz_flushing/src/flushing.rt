@@ -1,6 +1,6 @@
 //! The flusher with its seat.
 
-ghost use Rattle.std.specs.Prelude.{◌≡◌, ◌<◌, [], true, false, Ok, None, Some, is_err};
+ghost use Rattle.std.specs.Prelude.{◌≡◌, ◌≤◌, ◌<◌, [], true, false, Ok, None, Some, is_err};
 ghost use Rattle.std.specs.Prelude.{IsErr, IsSome, IfSome, IfOk, IfErr};
 ghost use Rattle.oz_core.specs.declared.event.Node.TheVariants.{Manager};
 ghost use Rattle.oz_core.specs.Manager.{halt_of};
@@ -14,7 +14,6 @@ ghost use Rattle.oz_turn.specs.Told.{BeginsWith};
 ghost use Rattle.oz_turn.specs.Turn.{turn_id};
 ghost use Rattle.oz_world.specs.Disk.{seen};
 ghost use Rattle.oz_world.specs.Faults.{Rose};
-ghost use Rattle.oz_world.specs.Moments.{Elapses};
 
 use crate::halting::halted_count;
 use crate::mounted::Mounted;
@@ -46,7 +45,6 @@ impl<D: Disk, T: Told<Entry = Event>, O: Opened, M: Mounted, R: Ring> Model
     ghost use Rattle.oz_flushing.specs.Kept.{FlushingView, IsKept};
     ghost use Rattle.oz_turn.specs.Seat.{IsReady, mine_of, seen_of};
     ghost use Rattle.oz_world.specs.Disk.{seen};
-    ghost use Rattle.oz_world.specs.Moments.{Elapses};
 
     ghost Value = { FlushingView D };
 
@@ -59,8 +57,7 @@ impl<D: Disk, T: Told<Entry = Event>, O: Opened, M: Mounted, R: Ring> Model
 
     ghost invariant = { λ f. IsReady R.turn flusher_seat f.seat × (f.halted ≡ halt_of Manager (mine_of f.seat))
         × IsKept O.coherent O.opening O.bodies M.faults M.first f.flusher.stopped (seen_of f.seat) (mine_of f.seat)
-        (seen (D.told f.flusher.disk) (D.clock f.flusher.disk) (D.image f.flusher.disk) (D.faults f.flusher.disk))
-        × Elapses M.first (D.clock f.flusher.disk) M.images (D.image f.flusher.disk) };
+        (seen (D.told f.flusher.disk) (D.clock f.flusher.disk) (D.image f.flusher.disk) (D.faults f.flusher.disk)) };
 }
 
 impl<D: Disk, T: Told<Entry = Event>, O: Opened, M: Mounted, R: Ring> Flushing<D, T, O, M, R> {
@@ -69,7 +66,7 @@ impl<D: Disk, T: Told<Entry = Event>, O: Opened, M: Mounted, R: Ring> Flushing<D
         requires running { flusher.stopped ≡ false }
         requires seat { IsNewSeat R.turn flusher_seat seat }
         requires faults { D.faults flusher.disk ≡ M.faults }
-        requires time { Elapses M.first (D.clock flusher.disk) M.images (D.image flusher.disk) }
+        requires first { M.first ≤ D.clock flusher.disk }
         requires journal { O.coherent → IfSome (D.told flusher.disk) (λ bytes. IsJournal bytes O.bodies) }
         requires stops { O.coherent → IsSome (D.told flusher.disk) →
             StopsHold O.bodies [] M.first (D.clock flusher.disk) (D.image flusher.disk) }
@@ -99,7 +96,6 @@ impl<D: Disk, T: Told<Entry = Event>, O: Opened, M: Mounted, R: Ring> Flushing<D
         ensures kept { IsKept O.coherent O.opening O.bodies M.faults M.first result.0.stopped (seen_of result.1)
             (mine_of result.1)
             (seen (D.told result.0.disk) (D.clock result.0.disk) (D.image result.0.disk) (D.faults result.0.disk)) }
-        ensures time { Elapses M.first (D.clock result.0.disk) M.images (D.image result.0.disk) }
     {
         let Flushing {
             flusher,

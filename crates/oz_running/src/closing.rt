@@ -32,12 +32,11 @@ pub(crate) fn ended<D: Disk, O: Opened, L: Loaded, M: Mounted, R: Ring>(
     requires many { first_worker_seat ≤ vec_len seats }
     requires left { HaveLeft R.turn O.coherent O.opening O.bodies M.faults M.first L.rows journal.stopped
         (seen (D.told journal.disk) (D.clock journal.disk) (D.image journal.disk) (D.faults journal.disk)) seats.items }
-    ensures ran { IsRun O.coherent O.opening O.bytes O.bodies O.script M.faults M.first L.rows (seats_of turn)
+    ensures { IsRun O.coherent O.opening O.bytes O.bodies O.script M.faults M.first L.rows (seats_of turn)
         result.story.items result.journal.stopped
         (seen (D.told result.journal.disk) (D.clock result.journal.disk) (D.image result.journal.disk)
         (D.faults result.journal.disk))
         result.all_told }
-    ensures journal { result.journal ≡ journal }
 {
     ready_seats_may_close::<Ledger<O>>();
     the_whole_story_is_kept::<D, O, M>();

@@ -5,7 +5,6 @@ ghost use Rattle.oz_core.specs.Seats.{first_worker_seat};
 ghost use Rattle.oz_running.specs.Jobs.{AreJobs};
 ghost use Rattle.oz_running.specs.Seats.{AddsReady, AreNewFrom, HaveLeft};
 ghost use Rattle.oz_world.specs.Disk.{seen};
-ghost use Rattle.oz_world.specs.Moments.{Elapses};
 
 use oz_buffer::{Ledger, Opened};
 use oz_core::Event;
@@ -37,7 +36,6 @@ pub(crate) fn all_seats<D: Disk, O: Opened, L: Loaded, M: Mounted, R: Ring, W: W
     ensures left { HaveLeft R.turn O.coherent O.opening O.bodies M.faults M.first L.rows result.0.stopped
         (seen (D.told result.0.disk) (D.clock result.0.disk) (D.image result.0.disk) (D.faults result.0.disk))
         result.1.items }
-    ensures time { Elapses M.first (D.clock result.0.disk) M.images (D.image result.0.disk) }
 {
     let (journal, flusher) = flushing.into_parts();
     let stripes = manager.into_seats(rt);

@@ -13,7 +13,6 @@ ghost use Rattle.oz_running.specs.Staff.{IsStaff};
 ghost use Rattle.oz_turn.specs.Seat.{AreNewSeats};
 ghost use Rattle.oz_turn.specs.Turn.{seats_of, turn_id};
 ghost use Rattle.oz_world.specs.Disk.{seen};
-ghost use Rattle.oz_world.specs.Moments.{Elapses};
 
 use crate::closing::ended;
 use crate::leaving::all_seats;
@@ -67,7 +66,7 @@ pub fn run_lines<
     requires most { nodes ≤ MOST_NODES }
     requires running { flusher.stopped ≡ false }
     requires faults { D.faults flusher.disk ≡ M.faults }
-    requires time { Elapses M.first (D.clock flusher.disk) M.images (D.image flusher.disk) }
+    requires first { M.first ≤ D.clock flusher.disk }
     requires journal { O.coherent → IfSome (D.told flusher.disk) (λ bytes. IsJournal bytes O.bodies) }
     requires stops { O.coherent → IsSome (D.told flusher.disk) →
         StopsHold O.bodies [] M.first (D.clock flusher.disk) (D.image flusher.disk) }
@@ -76,8 +75,6 @@ pub fn run_lines<
         (seen (D.told ran.journal.disk) (D.clock ran.journal.disk) (D.image ran.journal.disk)
         (D.faults ran.journal.disk))
         ran.all_told) }
-    ensures time { IfOk result (λ ran.
-        Elapses M.first (D.clock ran.journal.disk) M.images (D.image ran.journal.disk)) }
     ensures err { IfErr result (λ refused. refused.0 ≡ flusher) }
 {
     let seats = FIRST_WORKER_SEAT + u16::from(workers);
@@ -123,7 +120,7 @@ fn run_in_turn<
     requires most { nodes ≤ MOST_NODES }
     requires running { flusher.stopped ≡ false }
     requires faults { D.faults flusher.disk ≡ M.faults }
-    requires time { Elapses M.first (D.clock flusher.disk) M.images (D.image flusher.disk) }
+    requires first { M.first ≤ D.clock flusher.disk }
     requires journal { O.coherent → IfSome (D.told flusher.disk) (λ bytes. IsJournal bytes O.bodies) }
     requires stops { O.coherent → IsSome (D.told flusher.disk) →
         StopsHold O.bodies [] M.first (D.clock flusher.disk) (D.image flusher.disk) }
@@ -137,8 +134,6 @@ fn run_in_turn<
         (seen (D.told ran.journal.disk) (D.clock ran.journal.disk) (D.image ran.journal.disk)
         (D.faults ran.journal.disk))
         ran.all_told) }
-    ensures time { IfOk result (λ ran.
-        Elapses M.first (D.clock ran.journal.disk) M.images (D.image ran.journal.disk)) }
     ensures err { IfErr result (λ refused. refused.0 ≡ flusher) }
 {
     match staffed::<O, L, R>(alloc, script, unseated, seats, nodes) {
@@ -171,7 +166,7 @@ fn run_staffed<
     requires numbered { IsNumbered O.script }
     requires running { flusher.stopped ≡ false }
     requires faults { D.faults flusher.disk ≡ M.faults }
-    requires time { Elapses M.first (D.clock flusher.disk) M.images (D.image flusher.disk) }
+    requires first { M.first ≤ D.clock flusher.disk }
     requires journal { O.coherent → IfSome (D.told flusher.disk) (λ bytes. IsJournal bytes O.bodies) }
     requires stops { O.coherent → IsSome (D.told flusher.disk) →
         StopsHold O.bodies [] M.first (D.clock flusher.disk) (D.image flusher.disk) }
@@ -179,12 +174,11 @@ fn run_staffed<
     requires many { first_worker_seat ≤ seats_of turn }
     requires staff { IsStaff R.turn (seats_of turn) staff.jobs.items staff.flusher staff.quiet.items staff.all.items
         (vec_capacity staff.all) }
-    ensures ran { IsRun O.coherent O.opening O.bytes O.bodies O.script M.faults M.first L.rows (seats_of turn)
+    ensures { IsRun O.coherent O.opening O.bytes O.bodies O.script M.faults M.first L.rows (seats_of turn)
         result.story.items result.journal.stopped
         (seen (D.told result.journal.disk) (D.clock result.journal.disk) (D.image result.journal.disk)
         (D.faults result.journal.disk))
         result.all_told }
-    ensures time { Elapses M.first (D.clock result.journal.disk) M.images (D.image result.journal.disk) }
 {
     let Staff {
         manager,

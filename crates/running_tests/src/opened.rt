@@ -6,7 +6,6 @@ ghost use Rattle.oz_lines.specs.Numbered.{IsNumbered};
 ghost use Rattle.oz_om.specs.Keeps.{KeepsRows};
 ghost use Rattle.oz_om.specs.Opens.{Opens};
 ghost use Rattle.oz_om.specs.Seated.{ArePartsOf};
-ghost use Rattle.oz_world.specs.Moments.{Elapses};
 
 use oz_buffer::Opened;
 use oz_flusher::Flusher;
@@ -77,7 +76,7 @@ fn mounted<
     requires few { workers ≤ 16 }
     requires running { flusher.stopped ≡ false }
     requires faults { D.faults flusher.disk ≡ M.faults }
-    requires time { Elapses M.first (D.clock flusher.disk) M.images (D.image flusher.disk) }
+    requires first { M.first ≤ D.clock flusher.disk }
 {
     match run_lines::<D, O, NoRows, M, W, OpenGate>(
         rt, alloc, &OpenGate, script, unseated, flusher, workers, 3,

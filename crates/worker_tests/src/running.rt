@@ -45,7 +45,7 @@ fn serve<
     requires running { flusher.stopped ≡ false }
     requires seat { IsNewSeat R.turn 0 seat }
     requires faults { D.faults flusher.disk ≡ M.faults }
-    requires time { Elapses M.first (D.clock flusher.disk) M.images (D.image flusher.disk) }
+    requires first { M.first ≤ D.clock flusher.disk }
 {
     let flushing: Mutex<Flushing<D, Ledger<O>, O, M, R>> = Mutex::new(Flushing::make(
         flusher, seat,

@@ -1,7 +1,6 @@
 use Rattle.std.proofs.Common.{rules, ◌≡◌, None, Ok, sym, ap, ◌∙◌, subst}
 use Rattle.oz_core.specs.declared.event.Event.{Event}
 use Rattle.oz_core.specs.Seats.{flusher_seat}
-use Rattle.oz_flushing.proofs.Elapsed.{elapsed, elapsed_to_halt}
 use Rattle.oz_flushing.proofs.Kept.{begins_as, goes_on, halt_goes_on, halted_of, kept_halted, kept_ok, no_halt, not_stopped}
 use Rattle.oz_flushing.proofs.Longer.{kept_longer_as}
 use Rattle.oz_flushing.proofs.Own.{own}
@@ -27,8 +26,6 @@ invariant_of-self g c =
       subst (λ t. IsReady t flusher_seat seat) c.requires flushed.seat,
       none ∙ sym (no_halt _ _ _ flushed.stopped after.halt),
       after,
-      elapsed O.opening _ _ _ _ _ _ M.first M.images c.self.invariant.3 c.in-Ok.flushed flushed.ends
-          (λ is. (let same = flushed.none (ap (λ o. Ok o) is) in (ap (λ s. D.clock s.disk) same, ap (λ s. D.image s.disk) same))),
     )
 
 pub invariant_of-self-in-Err : goal.invariant_of-self-in-Err
@@ -48,7 +45,6 @@ invariant_of-self-in-Err g c =
       subst (λ t. IsReady t flusher_seat last) c.requires found.ready,
       sym (halted_of (mine_of last) found.count.0 c.halted_count-count.result found.count.1),
       after,
-      elapsed_to_halt O.opening _ _ _ _ _ _ M.first M.images c.self.invariant.3 c.in-Err.field-0 failed.ends,
     )
 
 pub returns-in-Ok-clause-goes_on : goal.returns-in-Ok-clause-goes_on

@@ -31,8 +31,8 @@ close-ledger-requires-clause-all g c n less =
     let ready = ready_left g.R.Ring.turn O.coherent O.opening O.bodies M.faults M.first g.L.Loaded.rows c.args.journal.stopped _ c.args.seats.items c.requires.left in
     c.ready_seats_may_close.ensures.all g.R.Ring.turn c.args.seats.items n ready (omega (arith, less, c.requires.count))
 
-pub returns-clause-ran : goal.returns-clause-ran
-returns-clause-ran g c =
+pub returns : goal.returns
+returns g c =
     let O = g.O.Opened in
     let M = g.M.Mounted in
     let D = g.D.Disk in

@@ -1,8 +1,8 @@
 //! Calls of a turn, by one thread and by two.
 
-ghost use Rattle.std.specs.Prelude.{◌≡◌, ◌+◌, ◌≤◌, ◌<◌, [], ◌∷◌, ◌++◌, vec_len, IfOk, OnOk, IfSome, OnSome};
-ghost use Rattle.oz_turn.specs.Told.{own_entries};
-ghost use Rattle.oz_turn.specs.Seat.{number_of, seen_of, mine_of, IsReady, AreReady};
+ghost use Rattle.std.specs.Prelude.{◌≡◌, ◌+◌, ◌≤◌, ◌<◌, [], ◌∷◌, ◌++◌, length, vec_len, IfOk, OnOk, IfSome, OnSome};
+ghost use Rattle.oz_turn.specs.Told.{own_entries, BeginsWith};
+ghost use Rattle.oz_turn.specs.Seat.{number_of, seen_of, mine_of, room_of, IsReady, AreReady};
 ghost use Rattle.oz_turn.specs.Turn.{turn_id, seats_of};
 
 use oz_turn::{
@@ -219,6 +219,74 @@ fn a_room_is_changed_by_giving_back(rt: HostRuntime) -> Result<(), Fail> {
     let notes = ended(turn, seats);
     assert_eq!(rt; [first, second, notes.first, notes.second], [0, 7, 9, 0]);
     assert_eq!(rt; notes.list.len(), 0);
+    Ok(())
+}
+
+// While the seat 0 has the value, the seat 1 is shown its list. It answers how many entries the seat 1 has seen then.
+fn show_beside<R: Wait>(
+    rt: &R,
+    turn: &Turn<Notes>,
+    holder: &mut Seat<Notes>,
+    other: &mut Seat<Notes>,
+) -> u64
+    requires holder { IsReady (turn_id turn.now) 0 holder.old }
+    requires other { IsReady (turn_id turn.now) 1 other.old }
+    ensures holder { IsReady (turn_id turn.now) 0 holder.new }
+    ensures other { IsReady (turn_id turn.now) 1 other.new }
+    ensures seen { seen_of other.new ≡ seen_of holder.new }
+    ensures count { result ≡ length (seen_of other.new) }
+    ensures begins { BeginsWith (seen_of other.new) (seen_of other.old) }
+    ensures mine { mine_of other.new ≡ mine_of other.old }
+    ensures room { room_of other.new ≡ room_of other.old }
+{
+    let (notes, held) = turn.take(rt, holder);
+    turn.show(holder, other);
+    let count = notes.list.len() as u64;
+    turn.give_back(holder, notes, held);
+    count
+}
+
+#[test]
+fn a_seat_is_shown_what_it_had_not_seen(rt: HostRuntime) -> Result<(), Fail> {
+    let (turn, mut seats) = made(rt.alloc(), 2)?;
+    let Some(mut two) = pop_last(&turn, &mut seats) else {
+        return Err("no seat".into());
+    };
+    let Some(mut one) = pop_last(&turn, &mut seats) else {
+        return Err("one seat".into());
+    };
+    let empty = show_beside(&rt, &turn, &mut one, &mut two);
+    let _ = add(&rt, &turn, &mut two, 1, 5);
+    let _ = add(&rt, &turn, &mut one, 0, 6);
+    let both = show_beside(&rt, &turn, &mut one, &mut two);
+    let again = show_beside(&rt, &turn, &mut one, &mut two);
+    assert_eq!(rt; [empty, both, again], [0, 2, 2]);
+    Ok(())
+}
+
+#[test]
+fn a_shown_seat_takes_gives_and_closes(rt: HostRuntime) -> Result<(), Fail> {
+    let (turn, mut seats) = made(rt.alloc(), 2)?;
+    let Some(mut two) = pop_last(&turn, &mut seats) else {
+        return Err("no seat".into());
+    };
+    let Some(mut one) = pop_last(&turn, &mut seats) else {
+        return Err("one seat".into());
+    };
+    let _ = add(&rt, &turn, &mut one, 0, 5);
+    let seen = show_beside(&rt, &turn, &mut one, &mut two);
+    let second = add(&rt, &turn, &mut two, 1, 6);
+    let third = add(&rt, &turn, &mut one, 0, 7);
+    push_next(&turn, &mut seats, one)?;
+    push_next(&turn, &mut seats, two)?;
+    let notes = ended(turn, seats);
+    let expected = [
+        Note { seat: 0, text: 5 },
+        Note { seat: 1, text: 6 },
+        Note { seat: 0, text: 7 },
+    ];
+    assert_eq!(rt; (seen, second, third), (1, Some(2), Some(3)));
+    assert_eq!(rt; notes.list.as_slice(), expected.as_slice());
     Ok(())
 }
 

@@ -7,7 +7,7 @@ use Rattle.oz_journal.specs.Body.{bodies_in, places_in}
 use Rattle.oz_journal.specs.Grammar.{IsDamagedAt, IsJournal, TellsBodies, places, records, sized}
 use Rattle.oz_journal.specs.Journal.{State}
 use Rattle.oz_rows.specs.declared.entry.RowEntry.{RowEntry}
-use Rattle.oz_loaded.specs.Loads.{IsDamagedDisk, IsFaultIn, IsLoaded, Loads}
+use Rattle.oz_loaded.specs.Loads.{IsDamagedDisk, IsFaultIn, IsLoaded}
 use Rattle.oz_loaded.specs.Unseated.{UnseatedView}
 
 length-u32 : (n : ℕ) → length (u32_bytes n) ≡ 4
@@ -78,10 +78,10 @@ pub damaged_body : (told : Option (List ℕ)) (bodies : List (List ℕ)) (offset
 damaged_body None bodies offset journal fault = tt
 damaged_body (Some bytes) bodies offset journal fault = inr (bodies, journal, fault)
 
-pub loads_bodies : (told after : Option (List ℕ)) (bodies : List (List ℕ)) (unseated : UnseatedView) → IfSome told (λ bytes. IsJournal bytes bodies) → IfSome told (λ _. TellsBodies after bodies) → IsLoaded bodies unseated
-    → IfSome told (λ bytes. Loads bytes after unseated)
-loads_bodies None after bodies unseated journal tells loaded = tt
-loads_bodies (Some bytes) after bodies unseated journal tells loaded = (bodies, journal, tells, loaded)
+pub tells_journal : (told after : Option (List ℕ)) (bodies : List (List ℕ)) → IfSome told (λ bytes. IsJournal bytes bodies) → IfSome told (λ _. TellsBodies after bodies)
+    → IfSome told (λ bytes. IsJournal bytes bodies × TellsBodies after bodies)
+tells_journal None after bodies journal tells = tt
+tells_journal (Some bytes) after bodies journal tells = (journal, tells)
 
 -- bytes are loaded as one thing, or are damaged at one place
 module _ (one_reading : (bytes : List ℕ) (bodies others : List (List ℕ)) → IsJournal bytes bodies → IsJournal bytes others → bodies ≡ others) where

@@ -1,5 +1,5 @@
 -- What a manager's disk has, and where it is damaged.
-use Rattle.std.specs.Prelude.{◌≡◌, ◌⊎◌, ℕ, ◌+◌, List, Option, Some, Result, Ok, Err, slice_get}
+use Rattle.std.specs.Prelude.{◌≡◌, ◌⊎◌, ℕ, ◌+◌, List, Option, Some, Result, Ok, Err, IfSome, slice_get}
 use Rattle.oz_effects.specs.Build.{Builds, FailsAt}
 use Rattle.oz_journal.specs.declared.load_fault.LoadFault.{LoadFault}
 use Rattle.oz_journal.specs.Grammar.{IsDamagedAt, IsJournal, TellsBodies, places}
@@ -19,10 +19,12 @@ pub record IsLoaded (bodies : List (List ℕ)) (unseated : UnseatedView) : Type 
   pub greatest_id : IsGreatestId (row_of all) unseated.greatest_id
   pub left : unseated.left ≡ left_in all
 
--- the bytes are a journal of such bodies, which the disk tells after the load too
-abbrev pub Loads : List ℕ → Option (List ℕ) → UnseatedView → Type 0
-Loads bytes told unseated =
-    (bodies : List (List ℕ)) × IsJournal bytes bodies × TellsBodies told bodies × IsLoaded bodies unseated
+-- Bodies make what was loaded. Where the disk told its bytes they are a journal of these bodies, which it tells after
+-- the load too.
+abbrev pub Loads : Option (List ℕ) → Option (List ℕ) → UnseatedView → Type 0
+Loads before told unseated =
+    (bodies : List (List ℕ)) × IsLoaded bodies unseated
+    × IfSome before (λ bytes. IsJournal bytes bodies × TellsBodies told bodies)
 
 -- one of these bodies of a journal is damaged, and its first bad field has this place on the disk
 pub record IsFaultIn (bodies : List (List ℕ)) (offset : ℕ) : Type 0 where

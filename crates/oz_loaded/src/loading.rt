@@ -25,8 +25,7 @@ use std::alloc::Global;
 /// Loads what the manager's disk has, or begins where it has at most one byte. It writes to no other disk, and makes what
 /// it reads stable before it reads it. The disk comes back where it can't.
 pub fn load<D: Disk>(alloc: Global, disk: D) -> Result<(Unseated, Flusher<D>), (D, LoadFault)>
-    ensures loads { IfOk result (λ loaded. IfSome (D.told disk) (λ bytes.
-        Loads bytes (D.told loaded.1.disk) loaded.0)) }
+    ensures loads { IfOk result (λ loaded. Loads (D.told disk) (D.told loaded.1.disk) loaded.0) }
     ensures index { IfOk result (λ loaded. loaded.0.last_index < END_OF_INDEXES) }
     ensures running { IfOk result (λ loaded. loaded.1.stopped ≡ false) }
 

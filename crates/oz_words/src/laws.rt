@@ -1,0 +1,15 @@
+//! What rules out what, of the words of the command line.
+
+ghost use Rattle.std.specs.Prelude.{◌≡◌, ℕ, List};
+ghost use Rattle.oz_words.specs.Words.{IsRunWith, IsRun, IsFirstFault};
+
+/// Words that are a run have no fault.
+pub fn words_of_a_run_have_no_fault()
+    ensures { (words : List (List ℕ)) (place : ℕ) → IsRun words → IsFirstFault words place → ⊥ }
+{}
+
+/// Words that are a run say one number of workers.
+pub fn words_are_one_run()
+    ensures { (words : List (List ℕ)) (workers others : ℕ) →
+        IsRunWith words workers → IsRunWith words others → workers ≡ others }
+{}

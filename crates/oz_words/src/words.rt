@@ -13,6 +13,9 @@ pub const DEFAULT_WORKERS: u8 = 4;
 /// A run has at most so many workers.
 pub const MOST_WORKERS: u8 = 16;
 
+/// A run has at most so many words.
+const MOST_WORDS: usize = 4;
+
 /// What the command line asks for.
 #[derive(Clone, Copy, Debug, PartialEq, Eq)]
 pub enum Words {
@@ -41,7 +44,7 @@ pub fn read_words(words: &[String]) -> Result<Words, usize>
         [_, _, _] => Err(4),
         [_, _, _, count, ..] => match workers_in(count.as_str()) {
             None => Err(4),
-            Some(_) if words.len() > 4 => Err(5),
+            Some(_) if words.len() > MOST_WORDS => Err(5),
             Some(workers) => Ok(Words::Run { dir: 1, workers }),
         },
     }

@@ -62,7 +62,7 @@ returns-in-Some-clause-fault c =
     let folder = are_front c.verb-item.result c.dir-item.result c.as_str.result.now c.ne.result c.is_empty.result c.as_str.ensures.value c.ne.ensures c.if-ne.false c.is_empty.ensures c.if-is_empty.false in
     let at = same_text c.as_str-2.result.now (string_bytes c.option-item.result) (codes "--workers") c.ne-2.result c.as_str-2.ensures.value c.ne-2.ensures c.if-ne-2.false in
     let says = ap (number_in 1 MOST_WORKERS) (sym c.as_str-in-len4-up.ensures.value) ∙ sym c.workers_in.ensures.exact ∙ c.in-Some.is in
-    rw front.1 (fault_at_more (string_bytes c.verb-item.result) (string_bytes c.dir-item.result) (string_bytes c.option-item.result) (string_bytes c.count-item.result) front.0 c.in-Some.field-0 folder at says (omega (arith, front.2, c.if-words-gt4.true)))
+    rw front.1 (fault_at_more (string_bytes c.verb-item.result) (string_bytes c.dir-item.result) (string_bytes c.option-item.result) (string_bytes c.count-item.result) front.0 c.in-Some.field-0 folder at says (omega (arith, front.2, c.if-words-gt-MOST_WORDS.true)))
 
 pub returns-in-Some-2-clause-found : goal.returns-in-Some-2-clause-found
 returns-in-Some-2-clause-found c =
@@ -70,4 +70,4 @@ returns-in-Some-2-clause-found c =
     let folder = are_front c.verb-item.result c.dir-item.result c.as_str.result.now c.ne.result c.is_empty.result c.as_str.ensures.value c.ne.ensures c.if-ne.false c.is_empty.ensures c.if-is_empty.false in
     let at = same_text c.as_str-2.result.now (string_bytes c.option-item.result) (codes "--workers") c.ne-2.result c.as_str-2.ensures.value c.ne-2.ensures c.if-ne-2.false in
     let says = ap (number_in 1 MOST_WORKERS) (sym c.as_str-in-len4-up.ensures.value) ∙ sym c.workers_in.ensures.exact ∙ c.in-Some.is in
-    (refl, rw front.1 (run_of_4 (string_bytes c.verb-item.result) (string_bytes c.dir-item.result) (string_bytes c.option-item.result) (string_bytes c.count-item.result) front.0 c.in-Some.field-0 folder at says (omega (arith, front.2, c.if-words-gt4.false))))
+    (refl, rw front.1 (run_of_4 (string_bytes c.verb-item.result) (string_bytes c.dir-item.result) (string_bytes c.option-item.result) (string_bytes c.count-item.result) front.0 c.in-Some.field-0 folder at says (omega (arith, front.2, c.if-words-gt-MOST_WORDS.false))))

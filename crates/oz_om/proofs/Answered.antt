@@ -39,3 +39,12 @@ pub fault_stands : (story : List Event) (id : AskId) (request : Request) (fault 
 fault_stands story id request faults.Early stands = tt
 fault_stands story id request (faults.Stopped count) stands = stands count refl
 fault_stands story id request faults.OutOfMemory stands = tt
+
+-- where a refusal comes once the Ask stands
+pub refused_stands : (story : List Event) (id : AskId) (request : Request) (refusal : Refusal) → (place : ℕ) × IsAskAt story place id request
+    → AskStands story id request (Err refusal)
+refused_stands story id request refusals.Early stands = tt
+refused_stands story id request (refusals.Stopped count) stands = stands
+refused_stands story id request (refusals.PoolEmpty stripe) stands = stands
+refused_stands story id request (refusals.Later held asked) stands = stands
+refused_stands story id request refusals.OutOfMemory stands = tt

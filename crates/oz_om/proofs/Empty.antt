@@ -9,7 +9,6 @@ use Rattle.oz_core.specs.declared.opening.Opening.{Opening}
 use Rattle.oz_core.specs.Asks.{is_script}
 use Rattle.oz_core.specs.Contents.{OpeningBytes}
 use Rattle.oz_core.specs.Grants.{IsExcluded}
-use Rattle.oz_core.specs.Law.{IsLegal}
 use Rattle.oz_core.specs.Manager.{namespace_of}
 use Rattle.oz_core.specs.Nodes.{is_block}
 use Rattle.oz_core.specs.Scm.{IsOfGrant}
@@ -40,7 +39,7 @@ use Rattle.oz_striped.specs.laws.Requests.{share_answers}
 use Rattle.oz_om.specs.Decided.{IsPoolEmpty}
 use Rattle.oz_om.specs.Held.{IsHeld, IsOpenAsk, IsPickFor, IsPicked}
 use Rattle.oz_om.specs.Opens.{Opens}
-use Rattle.oz_om.proofs.Tellable.{PoolLaw, legal, of, part, pends}
+use Rattle.oz_om.proofs.Tellable.{PoolLaw, of, part, pends}
 
 -- a block is one of some where a test says so
 itself : (block : Block) → is_block block block ≡ true
@@ -67,9 +66,6 @@ module _ {T : Type 0} (Coherent Agrees : Type 0) (opening : Opening) (bytes : Op
     (Keeps : ℕ → List Event → List Event → Rows → Type 0) (opens : Opens Coherent opening bytes loaded last Agrees Keeps)
     (pool : PoolLaw) (s : StripeView T) (story : List Event) (held : IsHeld Coherent opening bytes script loaded s story)
     (id : AskId) (scripted : is_script id ≡ true) (coherent : Coherent) where
-  legal_now : IsLegal opening story
-  legal_now = legal Coherent Agrees opening bytes script loaded last Keeps opens pool s story held id scripted coherent
-
   abbrev share : Namespace
   share = part Coherent Agrees opening bytes script loaded last Keeps opens pool s story held id scripted coherent
 
@@ -100,12 +96,10 @@ module _ {T : Type 0} (Coherent Agrees : Type 0) (opening : Opening) (bytes : Op
   answers_any request block pipeline is none = absurd cc
 
   pub no_block : (place : ℕ) (request : Request) (pick : Option (Block × ℕ)) → IsOpenAsk story place id s.number request
-      → IsPickFor Agrees s request pick → WantsBlock share request pick → IsPoolEmpty opening id s.number
+      → IsPickFor Agrees s request pick → WantsBlock share request pick → IsPoolEmpty opening story id s.number
   no_block place (AllocateBlock volume bucket key session exclude) pick ask picked wants =
       let request = AllocateBlock volume bucket key session exclude in
       record {
-        story = story;
-        legal = legal_now;
         volume = volume;
         bucket = bucket;
         key = key;

@@ -4,6 +4,7 @@ pub mod Old
 pub mod Granting
 pub mod Tellable
 pub mod Empty
+mod Full
 pub mod Picking
 pub mod Roomier
 pub mod Stood

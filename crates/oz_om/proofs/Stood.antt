@@ -2,7 +2,6 @@
 use Rattle.std.proofs.Common.{◌≡◌, ℕ, List, [], ◌∷◌, ◌++◌, append_assoc, refl, sym, subst}
 use Rattle.oz_core.specs.declared.event.Event.{Event}
 use Rattle.oz_core.specs.declared.opening.Opening.{Opening}
-use Rattle.oz_core.specs.Seats.{stripe_seat}
 use Rattle.oz_rows.specs.RowMaps.{Rows}
 use Rattle.oz_stripes.specs.Stripes.{only}
 use Rattle.oz_om.specs.Keeps.{HasStood, HasStoodFrom, StandAt, StepsTo}

@@ -1,6 +1,5 @@
 -- The rows of a stripe that has decided nothing: those that were loaded of it.
-use Rattle.std.proofs.Common.{◌≡◌, inl, ℕ, Bool, true, false, List, [], None, Some, cond, refl, sym, ap, ◌∙◌, subst}
-use Rattle.std.proofs.lemmas.Option.{none-some}
+use Rattle.std.proofs.Common.{◌≡◌, inl, ℕ, List, [], refl, sym, ap, ◌∙◌, subst}
 use Rattle.oz_cache.specs.Cache.{CacheView, batched_changes, newest}
 use Rattle.oz_cache.specs.declared.batch.Batch.{Batch}
 use Rattle.oz_core.specs.declared.event.Event.{Event}
@@ -10,13 +9,12 @@ use Rattle.oz_core.specs.Manager.{namespace_from, namespace_of}
 use Rattle.oz_decision.specs.Meets.{AreInGrammar, Stand}
 use Rattle.oz_namespace.specs.declared.namespace.Namespace.{Namespace}
 use Rattle.oz_rows.specs.declared.key.RowKey.{RowKey}
-use Rattle.oz_rows.specs.declared.row.Row.{Row}
 use Rattle.oz_rows.specs.RowMaps.{KeysRise, Rows, row_after, row_of}
 use Rattle.oz_sound.specs.Sound.{IsSoundButRenames}
 use Rattle.oz_sound.specs.StandsFor.{StandsFor}
 use Rattle.oz_striped.specs.Shares.{IsOfStripe, share_of}
 use Rattle.oz_striped.specs.laws.Shares.{share_is_there}
-use Rattle.oz_stripes.specs.Stripes.{is_own, only}
+use Rattle.oz_stripes.specs.Stripes.{only}
 use Rattle.oz_tables.specs.Tables.{TableView}
 use Rattle.oz_om.specs.Keeps.{StandAt}
 use Rattle.oz_om.proofs.Old.{only_of}

@@ -7,7 +7,7 @@ use Rattle.oz_core.specs.declared.event.EventKind.TheVariants.{Decide}
 use Rattle.oz_core.specs.declared.opening.Opening.{Opening}
 use Rattle.oz_core.specs.Asks.{pending}
 use Rattle.oz_core.specs.Grants.{IsSpent}
-use Rattle.oz_core.specs.Law.{IsLegal}
+use Rattle.oz_core.specs.Law.{DecideIsEnabled}
 use Rattle.oz_core.specs.Manager.{namespace_at, namespace_of}
 use Rattle.oz_core.specs.Seats.{stripe_seat}
 use Rattle.oz_fields.specs.declared.block.Block.{Block}
@@ -36,11 +36,9 @@ pub record IsDecided (opening : Opening) (seen story : List Event) (id : AskId) 
   pub asked : pending id (take place story) ≡ Some request
   pub one_thread : Answers (namespace_at opening story place) request reply
 
--- Behind a legal story a session wants a block, one thread would grant it any, and each block that its stripe was
+-- At the end of a story a session wants a block, one thread would grant it any, and each block that its stripe was
 -- granted is used, or excluded.
-pub record IsPoolEmpty (opening : Opening) (id : AskId) (stripe : ℕ) : Type 0 where
-  pub story : List Event
-  pub legal : IsLegal opening story
+pub record IsPoolEmpty (opening : Opening) (story : List Event) (id : AskId) (stripe : ℕ) : Type 0 where
   pub volume : List ℕ
   pub bucket : List ℕ
   pub key : List ℕ
@@ -52,8 +50,18 @@ pub record IsPoolEmpty (opening : Opening) (id : AskId) (stripe : ℕ) : Type 0 
       → Answers (namespace_of opening story) (AllocateBlock volume bucket key session exclude) (Granted block pipeline)
   pub spent : IsSpent opening story stripe exclude
 
--- What was decided since the last Swap of some story, and so many bytes more, are too many for the buffer.
-pub record IsTooMuch (held asked : ℕ) : Type 0 where
-  pub story : List Event
+-- The id may be decided at the end of a story, with a batch of so many bytes.
+pub record IsBatchDue (opening : Opening) (story : List Event) (id : AskId) (asked : ℕ) : Type 0 where
+  pub seat : ℕ
+  pub index : ℕ
+  pub reply : Reply
+  pub batch : List ℕ
+  pub enabled : DecideIsEnabled opening story seat id index reply batch
+  pub asked_is : asked ≡ length batch
+
+-- What was decided since the last Swap of a story, and the bytes of the batch that is due, are too many for the buffer.
+pub record IsTooMuch (Coherent : Type 0) (opening : Opening) (story : List Event) (id : AskId) (held asked : ℕ)
+    : Type 0 where
   pub held_is : held ≡ length (buffer_of story)
   pub too_much : LARGEST_BUFFER < held + asked
+  pub due : Coherent → IsBatchDue opening story id asked

@@ -1,22 +1,17 @@
 -- Which refusals come from where.
-use Rattle.std.specs.Prelude.{ℕ, List, Result, Err}
+use Rattle.std.specs.Prelude.{◌≡◌, ℕ, false, List, Result, Err}
 use Rattle.oz_asker.specs.declared.fault.AskFault.{AskFault}
 use Rattle.oz_asker.specs.declared.fault.AskFault.TheVariants as faults
 use Rattle.oz_asker.specs.Asked.{IsAskAt}
 use Rattle.oz_core.specs.declared.event.Event.{Event}
+use Rattle.oz_core.specs.declared.opening.Opening.{Opening}
+use Rattle.oz_core.specs.Manager.{asked_late}
 use Rattle.oz_requests.specs.declared.reply.Reply.{Reply}
 use Rattle.oz_requests.specs.declared.request.AskId.{AskId}
 use Rattle.oz_requests.specs.declared.request.Request.{Request}
 use Rattle.oz_om.specs.declared.refusal.Refusal.{Refusal}
 use Rattle.oz_om.specs.declared.refusal.Refusal.TheVariants.{Early, Stopped, PoolEmpty, Later, OutOfMemory}
-
--- from deciding
-abbrev pub IsOfPool : Refusal → Type 0
-IsOfPool Early = ⊥
-IsOfPool (Stopped count) = ⊥
-IsOfPool (PoolEmpty stripe) = Unit {0}
-IsOfPool (Later held asked) = ⊥
-IsOfPool OutOfMemory = Unit {0}
+use Rattle.oz_om.specs.Decided.{IsPoolEmpty, IsTooMuch}
 
 -- from making room
 abbrev pub IsOfRoom : Refusal → Type 0
@@ -26,11 +21,15 @@ IsOfRoom (PoolEmpty stripe) = ⊥
 IsOfRoom (Later held asked) = Unit {0}
 IsOfRoom OutOfMemory = Unit {0}
 
--- from either, at the stripe
-abbrev pub IsAtStripe : Refusal → Type 0
-IsAtStripe Early = ⊥
-IsAtStripe (Stopped count) = ⊥
-IsAtStripe refusal = Unit {0}
+-- what is so at the end of a story where the stripe refuses an id
+abbrev pub RefusalHolds : Type 0 → Opening → List Event → AskId → Refusal → Type 0
+RefusalHolds Coherent opening story id Early = ⊥
+RefusalHolds Coherent opening story id (Stopped count) = ⊥
+RefusalHolds Coherent opening story id (PoolEmpty stripe) =
+    (asked_late id story ≡ false) × (Coherent → IsPoolEmpty opening story id stripe)
+RefusalHolds Coherent opening story id (Later held asked) =
+    (asked_late id story ≡ false) × IsTooMuch Coherent opening story id held asked
+RefusalHolds Coherent opening story id OutOfMemory = Unit {0}
 
 -- how an asker's seat is refused
 abbrev pub refusal_of : AskFault → Refusal

@@ -74,14 +74,15 @@ impl<O: Opened, L: Loaded, R: Ring> Manager<Ledger<O>, O, L, R> {
             id request reply) }
         ensures seen { IfOk result (λ reply. IsSome (index_of id (seen_of seat.new))) }
 
-        // When each refusal comes, and what stands then.
+        // When each refusal comes, in the story that the seat has seen then, and what stands there.
         ensures early { result ≡ Err Refusal.Early → (mine_of seat.new ≡ mine_of seat.old)
             × (O.coherent → IsEarly O.opening (seen_of seat.new) by id request) }
         ensures stopped { (count : ℕ) → result ≡ Err (refusals.Stopped count) → IsLate (seen_of seat.new) id count }
         ensures in_time { IfErr result (λ refusal. IsOfStripe refusal → asked_late id (seen_of seat.new) ≡ false) }
         ensures pool_empty { (stripe : ℕ) → result ≡ Err (refusals.PoolEmpty stripe) → O.coherent →
-            IsPoolEmpty O.opening id stripe }
-        ensures later { (held asked : ℕ) → result ≡ Err (refusals.Later held asked) → IsTooMuch held asked }
+            IsPoolEmpty O.opening (seen_of seat.new) id stripe }
+        ensures later { (held asked : ℕ) → result ≡ Err (refusals.Later held asked) →
+            IsTooMuch O.coherent O.opening (seen_of seat.new) id held asked }
         ensures stands { O.coherent → AskStands (seen_of seat.new) id request result }
     {
         let stripe = stripe_of(request.volume());
@@ -90,7 +91,20 @@ impl<O: Opened, L: Loaded, R: Ring> Manager<Ledger<O>, O, L, R> {
             Err(fault) => return Err(of_asker(fault)),
         };
         self.opens();
-        let (length, reply) = decide_locked(rt, alloc, turn, &self.stripes, stripe, place, id)?;
+        let (length, reply) = match decide_locked(
+            rt,
+            alloc,
+            turn,
+            &self.stripes,
+            stripe,
+            seat,
+            by,
+            place,
+            id,
+        ) {
+            Ok(decided) => decided,
+            Err(refusal) => return Err(refusal),
+        };
         what_follows_is_legal::<O>();
         what_was_decided();
         see(rt, turn, seat, by, last_of(length), id, &reply);

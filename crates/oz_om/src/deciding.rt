@@ -1,15 +1,15 @@
 //! Deciding under the lock of one stripe.
 
-ghost use Rattle.std.specs.Prelude.{◌≡◌, ◌≢◌, ℕ, ◌<◌, true, slice_index, IfOk, IfErr, IfSome, Some, Err};
+ghost use Rattle.std.specs.Prelude.{◌≡◌, ◌≢◌, ℕ, ◌<◌, true, slice_index, IfOk, IfErr, IfSome, OnOk, OnErr, None};
 ghost use Rattle.oz_core.specs.Asks.{is_script};
 ghost use Rattle.oz_locks.specs.Stripe.{IsAtRest};
 ghost use Rattle.oz_names.specs.declared.limits.TheConstants.{STRIPES};
-ghost use Rattle.oz_om.specs.Decided.{IsPoolEmpty, IsTooMuch};
 ghost use Rattle.oz_core.specs.Seats.{stripe_seat};
 ghost use Rattle.oz_om.specs.Held.{IsDraft, IsDrafting, IsHeld};
 ghost use Rattle.oz_om.specs.Opens.{Opens};
-ghost use Rattle.oz_om.specs.Refusals.{IsAtStripe};
-ghost use Rattle.oz_om.specs.declared.refusal.Refusal.TheVariants as refusals;
+ghost use Rattle.oz_om.specs.Refusals.{RefusalHolds};
+ghost use Rattle.oz_om.specs.Shown.{HasSeen};
+ghost use Rattle.oz_turn.specs.Seat.{IsReady, seen_of};
 ghost use Rattle.oz_turn.specs.Turn.{turn_id};
 
 use crate::draft::Draft;
@@ -20,37 +20,39 @@ use crate::telling::{bring_down, tell};
 use oz_buffer::{Ledger, Opened};
 use oz_locks::{Loaded, Stripe, Stripes};
 use oz_requests::{AskId, Reply};
-use oz_turn::{Ring, Turn};
+use oz_turn::{Ring, Seat, Turn};
 use std::alloc::Global;
 use std::sync::Wait;
 
 /// Decides what an id asked at a place of the story, under the lock of its stripe. Answers the length of the story with
 /// the Decide at its end, and the reply. It waits until the story that the stripe's seat takes has the Ask, which it
-/// has at once.
+/// has at once. Where the stripe refuses, the asker's seat, whose number is `by`, has seen the story that it refused over.
 pub(crate) fn decide_locked<O: Opened, L: Loaded, R: Ring, W: Wait>(
     rt: &W,
     alloc: Global,
     turn: &Turn<Ledger<O>>,
     stripes: &Stripes<Ledger<O>, L, R>,
     stripe: u8,
+    seat: &mut Seat<Ledger<O>>,
+    by: u16,
     place: usize,
     id: AskId,
 ) -> Result<(u64, Reply), Refusal>
     requires turn { turn_id turn.now ≡ R.turn }
     requires opens { Opens O.coherent O.opening O.bytes L.rows L.last_index L.coherent L.keeps }
     requires stripe { stripe < STRIPES }
+    requires ready { IsReady R.turn by seat.old }
     requires script { is_script id ≡ true }
-    ensures pool_empty { (number : ℕ) → result ≡ Err (refusals.PoolEmpty number) → O.coherent →
-        IsPoolEmpty O.opening id number }
-    ensures later { (held asked : ℕ) → result ≡ Err (refusals.Later held asked) → IsTooMuch held asked }
-    ensures refused { IfErr result IsAtStripe }
+    ensures same { OnOk result (seat.new ≡ seat.old) }
+    ensures shown { OnErr result (HasSeen R.turn O.coherent O.opening O.bytes O.script by seat.old seat.new) }
+    ensures refused { IfErr result (RefusalHolds O.coherent O.opening (seen_of seat.new) id) }
 {
     let mut guard = stripes.lock(rt, stripe);
     let resting = &mut *guard;
     let Some(mut inside) = resting.take_out() else {
         unreachable!()
     };
-    let decided = decide(rt, alloc, turn, &mut inside, place, id);
+    let decided = decide(rt, alloc, turn, &mut inside, seat, by, place, id);
     resting.put_back(inside);
     decided
 }
@@ -61,21 +63,23 @@ fn decide<O: Opened, L: Loaded, R: Ring, W: Wait>(
     alloc: Global,
     turn: &Turn<Ledger<O>>,
     stripe: &mut Stripe<Ledger<O>, L, R>,
+    seat: &mut Seat<Ledger<O>>,
+    by: u16,
     place: usize,
     id: AskId,
 ) -> Result<(u64, Reply), Refusal>
     requires turn { turn_id turn.now ≡ R.turn }
     requires opens { Opens O.coherent O.opening O.bytes L.rows L.last_index L.coherent L.keeps }
     requires rests { IsAtRest L.last_index L.coherent L.keeps stripe.old }
+    requires ready { IsReady R.turn by seat.old }
     requires script { is_script id ≡ true }
     ensures rests { IsAtRest L.last_index L.coherent L.keeps stripe.new }
-    ensures pool_empty { (number : ℕ) → result ≡ Err (refusals.PoolEmpty number) → O.coherent →
-        IsPoolEmpty O.opening id number }
-    ensures later { (held asked : ℕ) → result ≡ Err (refusals.Later held asked) → IsTooMuch held asked }
-    ensures refused { IfErr result IsAtStripe }
+    ensures same { OnOk result (seat.new ≡ seat.old) }
+    ensures shown { OnErr result (HasSeen R.turn O.coherent O.opening O.bytes O.script by seat.old seat.new) }
+    ensures refused { IfErr result (RefusalHolds O.coherent O.opening (seen_of seat.new) id) }
 {
     for _ in rt.forever() {
-        if let Some(decided) = decide_once(rt, alloc, turn, stripe, place, id) {
+        if let Some(decided) = decide_once(rt, alloc, turn, stripe, seat, by, place, id) {
             return decided;
         }
     }
@@ -88,19 +92,23 @@ fn decide_once<O: Opened, L: Loaded, R: Ring, W: Wait>(
     alloc: Global,
     turn: &Turn<Ledger<O>>,
     stripe: &mut Stripe<Ledger<O>, L, R>,
+    seat: &mut Seat<Ledger<O>>,
+    by: u16,
     place: usize,
     id: AskId,
 ) -> Option<Result<(u64, Reply), Refusal>>
     requires turn { turn_id turn.now ≡ R.turn }
     requires opens { Opens O.coherent O.opening O.bytes L.rows L.last_index L.coherent L.keeps }
     requires rests { IsAtRest L.last_index L.coherent L.keeps stripe.old }
+    requires ready { IsReady R.turn by seat.old }
     requires script { is_script id ≡ true }
     ensures rests { IsAtRest L.last_index L.coherent L.keeps stripe.new }
-    ensures pool_empty { IfSome result (λ decided. (number : ℕ) → decided ≡ Err (refusals.PoolEmpty number) →
-        O.coherent → IsPoolEmpty O.opening id number) }
-    ensures later { IfSome result (λ decided. (held asked : ℕ) → decided ≡ Err (refusals.Later held asked) →
-        IsTooMuch held asked) }
-    ensures refused { IfSome result (λ decided. IfErr decided IsAtStripe) }
+    ensures waits { result ≡ None → seat.new ≡ seat.old }
+    ensures same { IfSome result (λ decided. OnOk decided (seat.new ≡ seat.old)) }
+    ensures shown { IfSome result (λ decided. OnErr decided
+        (HasSeen R.turn O.coherent O.opening O.bytes O.script by seat.old seat.new)) }
+    ensures refused { IfSome result (λ decided.
+        IfErr decided (RefusalHolds O.coherent O.opening (seen_of seat.new) id)) }
 {
     let (mut ledger, held) = stripe.take(rt, turn);
     ledger.all_follow();
@@ -112,6 +120,7 @@ fn decide_once<O: Opened, L: Loaded, R: Ring, W: Wait>(
             None
         }
         Err(refusal) => {
+            stripe.show(turn, seat);
             stripe.give_back(turn, ledger, held);
             Some(Err(refusal))
         }
@@ -139,10 +148,7 @@ fn draft_at<O: Opened, L: Loaded, R: Ring>(
     ensures draft { IfOk result (λ found. IfSome found (λ draft. IsDraft O.coherent O.opening L.rows
         stripe.new ledger.new.story id
         (slice_index ledger.new.rooms (stripe_seat stripe.new.number)) ledger.new.spare draft)) }
-    ensures pool_empty { (number : ℕ) → result ≡ Err (refusals.PoolEmpty number) → O.coherent →
-        IsPoolEmpty O.opening id number }
-    ensures later { (held asked : ℕ) → result ≡ Err (refusals.Later held asked) → IsTooMuch held asked }
-    ensures refused { IfErr result IsAtStripe }
+    ensures refused { IfErr result (RefusalHolds O.coherent O.opening ledger.old.story id) }
 {
     match make(alloc, stripe, ledger, place, id)? {
         Some(made) => Ok(Some(draft(alloc, stripe, ledger, id, made)?)),

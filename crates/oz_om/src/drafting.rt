@@ -2,16 +2,16 @@
 
 ghost use Rattle.std.specs.Prelude.{◌≡◌, ◌≢◌, true, ◌≤◌, ◌<◌, ℕ, ◌+◌, [], length, None, Err};
 ghost use Rattle.std.specs.Prelude.{IfOk, IfErr, IfSome, OnOk, slice_index};
-ghost use Rattle.oz_batches.specs.declared.batches.TheConstants.{LONGEST_BATCH};
+ghost use Rattle.oz_batches.specs.declared.batches.TheConstants.{LARGEST_BUFFER, LONGEST_BATCH};
+ghost use Rattle.oz_buffer.specs.Buffer.{buffer_of};
 ghost use Rattle.oz_core.specs.Asks.{is_script};
 ghost use Rattle.oz_core.specs.Manager.{last_index};
 ghost use Rattle.oz_core.specs.Seats.{stripe_seat};
 ghost use Rattle.oz_names.specs.declared.limits.TheConstants.{STRIPES};
-ghost use Rattle.oz_om.specs.Decided.{IsTooMuch};
 ghost use Rattle.oz_om.specs.Held.{IsAbove, IsDraft, IsGrantOf, IsHeld, IsMade, IsNextIndex, IsRoomier};
 ghost use Rattle.oz_om.specs.Opens.{Opens};
 ghost use Rattle.oz_om.specs.declared.refusal.Refusal.TheVariants as refusals;
-ghost use Rattle.oz_om.specs.Refusals.{IsOfRoom};
+ghost use Rattle.oz_om.specs.Refusals.{IsOfRoom, RefusalHolds};
 
 use crate::draft::{Draft, Made};
 use crate::refusal::Refusal;
@@ -49,8 +49,7 @@ pub(crate) fn draft<O: Opened, L: Loaded, R: Ring>(
         slice_index ledger.new.rooms n ≡ slice_index ledger.old.rooms n }
     ensures draft { IfOk result (λ draft. IsDraft O.coherent O.opening L.rows stripe.new ledger.new.story id
         (slice_index ledger.new.rooms (stripe_seat stripe.new.number)) ledger.new.spare draft) }
-    ensures later { (held asked : ℕ) → result ≡ Err (refusals.Later held asked) → IsTooMuch held asked }
-    ensures refused { IfErr result IsOfRoom }
+    ensures refused { IfErr result (RefusalHolds O.coherent O.opening ledger.old.story id) }
 {
     a_pool_has_what_is_free();
     let Made { decision, granted } = made;
@@ -71,16 +70,18 @@ pub(crate) fn draft<O: Opened, L: Loaded, R: Ring>(
     let Ok(changes) = stripe.prepare(alloc, changes.into_items()) else {
         return Err(Refusal::OutOfMemory);
     };
-    reserve(alloc, ledger, stripe.number(), bytes.len())?;
-    Ok(Draft {
-        reply,
-        told,
-        batch: bytes,
-        changes,
-        granted,
-        pins,
-        index,
-    })
+    match reserve(alloc, ledger, stripe.number(), bytes.len()) {
+        Ok(()) => Ok(Draft {
+            reply,
+            told,
+            batch: bytes,
+            changes,
+            granted,
+            pins,
+            index,
+        }),
+        Err(refusal) => Err(refusal),
+    }
 }
 
 /// The index of a decision: the last one, or, where it changes rows, the next, which is above all that the stripe has
@@ -119,7 +120,8 @@ fn reserve<O: Opened>(
         slice_index ledger.new.rooms n ≡ slice_index ledger.old.rooms n }
     ensures room { OnOk result (4 ≤ slice_index ledger.new.rooms (stripe_seat stripe)) }
     ensures spare { OnOk result (bytes ≤ ledger.new.spare) }
-    ensures later { (held asked : ℕ) → result ≡ Err (refusals.Later held asked) → IsTooMuch held asked }
+    ensures later { (held asked : ℕ) → result ≡ Err (refusals.Later held asked) →
+        (held ≡ length (buffer_of ledger.old.story)) × (asked ≡ bytes) × (LARGEST_BUFFER < held + asked) }
     ensures refused { IfErr result IsOfRoom }
 {
     match ledger.reserve(alloc, FIRST_STRIPE_SEAT + u16::from(stripe), bytes as u32) {

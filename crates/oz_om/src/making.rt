@@ -1,12 +1,10 @@
 //! What is decided while the turn is held, over the rows of one stripe.
 
-ghost use Rattle.std.specs.Prelude.{◌≡◌, ◌↔◌, ℕ, [], None, Some, Err, IfOk, IfErr, IfSome, IsTrue, true};
+ghost use Rattle.std.specs.Prelude.{◌≡◌, ◌↔◌, [], None, IfOk, IfErr, IfSome, IsTrue, true};
 ghost use Rattle.oz_core.specs.Asks.{is_script};
-ghost use Rattle.oz_om.specs.Decided.{IsPoolEmpty};
 ghost use Rattle.oz_om.specs.Held.{IsGrantOf, IsHeld, IsMade, IsPickFor, IsPickedGrant};
 ghost use Rattle.oz_om.specs.Opens.{Opens};
-ghost use Rattle.oz_om.specs.declared.refusal.Refusal.TheVariants as refusals;
-ghost use Rattle.oz_om.specs.Refusals.{IsOfPool};
+ghost use Rattle.oz_om.specs.Refusals.{RefusalHolds};
 ghost use Rattle.oz_om_session.specs.Picks.{IsPick};
 ghost use Rattle.oz_rows.specs.Rows.{IsBlock};
 
@@ -41,9 +39,7 @@ pub(crate) fn make<O: Opened, L: Loaded, R: Ring>(
     ensures granted { IfOk result (λ found. IfSome found (λ made.
         IsGrantOf stripe.new.pool made.decision.reply made.granted)) }
     ensures quiet { IfOk result (λ found. IfSome found (λ made. made.decision.bytes ≡ [] → made.granted ≡ None)) }
-    ensures pool_empty { (number : ℕ) → result ≡ Err (refusals.PoolEmpty number) → O.coherent →
-        IsPoolEmpty O.opening id number }
-    ensures others { IfErr result IsOfPool }
+    ensures refused { IfErr result (RefusalHolds O.coherent O.opening ledger.now.story id) }
 {
     a_pool_has_what_is_free();
     let Some(request) = open_ask(ledger, place, id, stripe.number()) else {

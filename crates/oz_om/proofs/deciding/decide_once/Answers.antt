@@ -63,7 +63,8 @@ returns-clause-rests g c =
         keeps = subst (λ (v : StripeView (Ledger g.row.O.Denot)). KeepsRows g.O.Opened.coherent g.O.Opened.opening g.L.Loaded.rows v.number v.mine v.seen (newest v.cache)) (sym w.stripe-is) w.tell.ensures.told.keeps;
       }
       | in-Ok-None w ↦ back w.give_back.new.self (slice_index c.draft_at.new.ledger.rooms (stripe_seat drafted.number)) w.stripe-is w.give_back.ensures
-      | in-Err w ↦ back w.give_back-in-Err.new.self (slice_index c.draft_at.new.ledger.rooms (stripe_seat drafted.number)) w.stripe-is w.give_back-in-Err.ensures
+      | in-Err w ↦ back w.give_back-in-Err.new.self (slice_index c.draft_at.new.ledger.rooms (stripe_seat drafted.number)) w.stripe-is
+          (w.give_back-in-Err.ensures ∙ ap (λ (v : StripeView (Ledger g.row.O.Denot)). record v { room = slice_index c.draft_at.new.ledger.rooms (stripe_seat v.number); taken = None }) w.show.ensures.stripe)
     ] in
     rests_again g.O.Opened.coherent g.L.Loaded.coherent g.O.Opened.opening g.O.Opened.bytes g.L.Loaded.rows last g.L.Loaded.keeps c.requires.opens old story
     s c.bring_down.new.stripe c.durable_index-durable.result came c.bring_down.ensures.same c.bring_down.ensures.newest c.bring_down.ensures.brought c.durable_index-durable.ensures

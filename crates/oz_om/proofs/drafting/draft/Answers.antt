@@ -1,4 +1,4 @@
-use Rattle.std.proofs.Common.{◌≡◌, ◌≢◌, ◌≤◌, ◌<◌, ◌+◌, ℕ, List, [], length, sym, ap, ◌∙◌, subst, arith}
+use Rattle.std.proofs.Common.{◌≡◌, ◌≢◌, ◌≤◌, ◌<◌, ◌+◌, ℕ, List, [], length, Err, sym, ap, ◌∙◌, subst, arith}
 use Rattle.std.specs.Prelude.{slice_index}
 use Rattle.oz_cache.specs.Cache.{newest, last_epoch}
 use Rattle.oz_core.specs.declared.event.Event.{Event}
@@ -7,13 +7,15 @@ use Rattle.oz_core.specs.Seats.{stripe_seat}
 use Rattle.oz_locks.specs.declared.pool.FreeBlock.{FreeBlock}
 use Rattle.oz_rows.specs.declared.operation.Change.{Change}
 use Rattle.oz_rows.specs.RowMaps.{Rows}
+use Rattle.oz_om.specs.declared.refusal.Refusal.{Refusal}
 use Rattle.oz_om.specs.Held.{IsAbove, IsGrantOf, IsTellable}
+use Rattle.oz_om.proofs.Full.{full_refused}
 use Rattle.oz_om.proofs.Roomier.{last_same, newest_same, not_empty}
 use Rattle.oz_om.proofs.Tellable.{tellable}
 use Rattle.oz_om.proofs.drafting.draft.Goals as goal
 
-pub returns-clause-draft : goal.returns-clause-draft
-returns-clause-draft g c =
+pub returns-in-Ok-reserve-clause-draft : goal.returns-in-Ok-reserve-clause-draft
+returns-in-Ok-reserve-clause-draft g c =
     let old = c.args.stripe.now in
     let s = c.prepare.new.self in
     let one = c.in-Ok.ensures.same in
@@ -37,7 +39,7 @@ returns-clause-draft g c =
           subst (λ (n : ℕ). IsTellable g.O.Opened.coherent g.O.Opened.opening g.L.Loaded.rows n (newest s.cache) c.reserve.new.ledger.story c.args.id c.args.made.decision.reply c.args.made.decision.bytes c.in-Ok-prepare.changes c.in-Some.index) (sym number)
           (subst (λ (r : Rows). IsTellable g.O.Opened.coherent g.O.Opened.opening g.L.Loaded.rows old.number r c.reserve.new.ledger.story c.args.id c.args.made.decision.reply c.args.made.decision.bytes c.in-Ok-prepare.changes c.in-Some.index) (sym rows)
           (subst (λ (l : List Change). IsTellable g.O.Opened.coherent g.O.Opened.opening g.L.Loaded.rows old.number (newest old.cache) c.reserve.new.ledger.story c.args.id c.args.made.decision.reply c.args.made.decision.bytes l c.in-Some.index) (sym changes)
-          (subst (λ (l : List Event). IsTellable g.O.Opened.coherent g.O.Opened.opening g.L.Loaded.rows old.number (newest old.cache) l c.args.id c.args.made.decision.reply c.args.made.decision.bytes c.args.made.decision.changes c.in-Some.index) (sym c.in_ok-reserve.ensures.story)
+          (subst (λ (l : List Event). IsTellable g.O.Opened.coherent g.O.Opened.opening g.L.Loaded.rows old.number (newest old.cache) l c.args.id c.args.made.decision.reply c.args.made.decision.bytes c.args.made.decision.changes c.in-Some.index) (sym c.in-Ok-reserve.ensures.story)
           base)));
       above = λ some. let is = (above some).1 in record {
         entered = subst (λ (n : ℕ). n < c.in-Some.index) (sym last) is.entered;
@@ -49,6 +51,18 @@ returns-clause-draft g c =
       pins_are = c.in-Ok-Ok.ensures';
       pin_room = subst (λ (n : ℕ). length c.in-Ok-Ok.pins.items ≤ n) (sym (λ i. (two.same i).pin_room)) (omega (arith, c.in-Ok.ensures.room, c.len.ensures));
       cache_room = subst (λ (l : List Change). length l ≤ s.cache.spare) (sym two.changes) two.room;
-      event_room = subst (λ (n : ℕ). 4 ≤ slice_index c.reserve.new.ledger.rooms (stripe_seat n)) c.number.ensures c.in_ok-reserve.ensures.room;
-      buffer_room = omega (arith, c.in_ok-reserve.ensures.spare, c.len-2.ensures);
+      event_room = subst (λ (n : ℕ). 4 ≤ slice_index c.reserve.new.ledger.rooms (stripe_seat n)) c.number.ensures c.in-Ok-reserve.ensures.room;
+      buffer_room = omega (arith, c.in-Ok-reserve.ensures.spare, c.len-2.ensures);
     }
+
+pub returns-in-Err-clause-refused : goal.returns-in-Err-clause-refused
+returns-in-Err-clause-refused g c =
+    let old = c.args.stripe.now in
+    let made = c.requires.made in
+    let stays : c.args.made.decision.bytes ≡ [] → c.in-Some.index ≡ last_index g.O.Opened.opening c.args.ledger.now.story = λ none. c.in-Some.ensures.stays (c.is_empty.ensures.1 none) in
+    let above : c.args.made.decision.bytes ≢ [] → (c.in-Some.index ≡ last_index g.O.Opened.opening c.args.ledger.now.story + 1) × IsAbove old c.in-Some.index = λ some. c.in-Some.ensures.rises (not_empty c.args.made.decision.bytes c.is_empty.result c.is_empty.ensures some) in
+    let base = tellable g.O.Opened.coherent g.L.Loaded.coherent g.O.Opened.opening g.O.Opened.bytes g.O.Opened.script g.L.Loaded.rows g.L.Loaded.last_index g.L.Loaded.keeps
+    c.requires.opens c.a_pool_has_what_is_free.ensures old c.args.ledger.now.story c.requires.held c.args.id c.requires.script
+    made.0 c.args.made.decision made.1 c.in-Some.index stays (λ some. (above some).0) in
+    full_refused g.O.Opened.coherent g.O.Opened.opening c.args.ledger.now.story c.args.id (stripe_seat old.number) c.in-Some.index c.args.made.decision.reply c.args.made.decision.bytes
+    made.1.ask.in_time base.enabled _ (c.len-2.ensures) c.in-Err.refusal c.in-Err.ensures.refused (λ held asked is. c.reserve.ensures.later held asked (c.in-Err.is ∙ ap (λ (refusal : Refusal). Err refusal) is))

@@ -19,8 +19,12 @@ use Rattle.oz_flusher.specs.declared.flushed.Flushed.{Flushed}
 use Rattle.oz_flushing.specs.Kept.{IsKept}
 use Rattle.oz_flushing.proofs.Own.{own}
 use Rattle.oz_journal.specs.Grammar.{IsJournal}
+use Rattle.oz_journal.specs.Journal.{State}
 use Rattle.oz_turn.specs.Told.{BeginsWith}
 use Rattle.oz_world.specs.Disk.{Images, IsStable, Seen, TellsAsBefore}
+use Rattle.oz_world.specs.laws.Moments.{elapses_then}
+use Rattle.oz_world.specs.laws.Telling.{same_tells, tells_then}
+use Rattle.oz_world.specs.Moments.{Elapses}
 use Rattle.oz_world.specs.declared.failed.Failed.{Failed}
 
 -- the moment that was told last, with a Swap, a Halt or a Flushed more
@@ -79,6 +83,12 @@ halt_goes_on opening seen mine until mine_after story now later failed ends begi
 pub begins_as : (story one other : List Event) → one ≡ other → BeginsWith story one → BeginsWith story other
 begins_as story one other same begins = (begins.0, begins.1 ∙ ap (λ (l : List Event). l ++ begins.0) same)
 
+-- a disk that is as it was
+pub still : {D : Type 0} (clock : D → ℕ) (image : D → Images) {before after : State D} → after ≡ before → Elapses (clock before.disk) (clock after.disk) (image before.disk) (image after.disk)
+still {D} clock image {before} same =
+    subst (λ (s : State D). Elapses (clock before.disk) (clock s.disk) (image before.disk) (image s.disk)) (sym same)
+    (record { later = omega arith; kept = λ t left le. (λ h. h, λ h. h) })
+
 none_taken : bodies_of [] ≡ []
 unfolding bodies_from
 none_taken = refl
@@ -93,49 +103,51 @@ at_rest bytes bodies clock image is stable moment left from by h =
       later = tt;
     }
 
-module _ (Coherent : Type 0) (opening : Opening) (loaded : List (List ℕ)) (faults first : ℕ) where
+module _ (Coherent : Type 0) (opening : Opening) (loaded : List (List ℕ)) (begun : Seen) where
   abbrev Keeps : Bool → List Event → List Event → Seen → Type 0
-  Keeps stopped seen mine disk = IsKept Coherent opening loaded faults first stopped seen mine disk
+  Keeps stopped seen mine disk = IsKept Coherent opening loaded begun stopped seen mine disk
 
-  empty : (disk : Seen) → disk.faults ≡ faults → first ≤ disk.clock
-      → (Coherent → IfSome disk.told (λ bytes. IsJournal bytes loaded)) → (Coherent → IsSome disk.told → StopsHold loaded [] first disk.clock disk.image)
-      → IsKept Coherent opening loaded faults first false [] [] disk
-  empty disk counted since journal stops = record {
+  empty : (disk : Seen) → disk.faults ≡ begun.faults → TellsAsBefore begun.told disk.told → Elapses begun.clock disk.clock begun.image disk.image
+      → (Coherent → IfSome disk.told (λ bytes. IsJournal bytes loaded)) → (Coherent → IsSome disk.told → StopsHold loaded [] begun.clock disk.clock disk.image)
+      → IsKept Coherent opening loaded begun false [] [] disk
+  empty disk counted telling time journal stops = record {
     own = refl;
     halt = refl;
     rose = λ stopped. absurd (false≢true stopped);
     no_fewer = omega (arith, counted);
     all_flushed = λ running. refl;
     by_now = tt;
-    since = since;
+    telling = telling;
+    time = time;
     journal = λ coherent running. subst (λ (l : List (List ℕ)). IfSome disk.told (λ bytes. IsJournal bytes l)) (sym (ap (λ l. loaded ++ l) none_taken ∙ append-nil loaded)) (journal coherent);
     stops = stops;
   }
 
-  pub kept_new : (disk : Seen) (stopped : Bool) (seen mine : List Event) → stopped ≡ false → seen ≡ [] → mine ≡ [] → disk.faults ≡ faults → first ≤ disk.clock
-      → (Coherent → IfSome disk.told (λ bytes. IsJournal bytes loaded)) → (Coherent → IsSome disk.told → StopsHold loaded [] first disk.clock disk.image)
+  pub kept_new : (disk : Seen) (stopped : Bool) (seen mine : List Event) → stopped ≡ false → seen ≡ [] → mine ≡ [] → disk.faults ≡ begun.faults → TellsAsBefore begun.told disk.told → Elapses begun.clock disk.clock begun.image disk.image
+      → (Coherent → IfSome disk.told (λ bytes. IsJournal bytes loaded)) → (Coherent → IsSome disk.told → StopsHold loaded [] begun.clock disk.clock disk.image)
       → Keeps stopped seen mine disk
-  kept_new disk stopped seen mine running none given counted since journal stops =
+  kept_new disk stopped seen mine running none given counted telling time journal stops =
       subst (λ (b : Bool). Keeps b seen mine disk) (sym running)
       (subst (λ (s : List Event). Keeps false s mine disk) (sym none)
-      (subst (λ (m : List Event). Keeps false [] m disk) (sym given) (empty disk counted since journal stops)))
+      (subst (λ (m : List Event). Keeps false [] m disk) (sym given) (empty disk counted telling time journal stops)))
 
   module _ (seen mine seen_after mine_after : List Event) (now later : Seen) (was : Bool) (running : was ≡ false) (kept_was : Keeps was seen mine now) (known : own seen_after ≡ mine_after)
-      (stops : Coherent → IsSome now.told → StopsHold loaded seen first now.clock now.image → StopsHold loaded seen_after first later.clock later.image) where
+      (stops : Coherent → IsSome now.told → StopsHold loaded seen begun.clock now.clock now.image → StopsHold loaded seen_after begun.clock later.clock later.image) where
     kept : Keeps false seen mine now
     kept = subst (λ (b : Bool). Keeps b seen mine now) running kept_was
 
     -- nothing was taken
-    kept_none : mine_after ≡ mine → (later.told ≡ now.told) → later.clock ≡ now.clock → later.faults ≡ now.faults
+    kept_none : mine_after ≡ mine → (later.told ≡ now.told) → later.clock ≡ now.clock → later.faults ≡ now.faults → Elapses now.clock later.clock now.image later.image
         → (Coherent → IfSome later.told (λ bytes. IsJournal bytes (loaded ++ bodies_of seen_after))) → Keeps false seen_after mine_after later
-    kept_none same told clock counted journal = record {
+    kept_none same told clock counted goes journal = record {
       own = known;
       halt = ap (halt_of Manager) same ∙ kept.halt;
       rose = λ stopped. absurd (false≢true stopped);
       no_fewer = (let was = kept.no_fewer in omega (arith, was, counted));
       all_flushed = λ running. ap (swapped_index opening) same ∙ (kept.all_flushed refl ∙ sym (ap (durable_index opening) same));
       by_now = by_later (flushed_moment mine_after) now.clock later.clock (omega (arith, clock)) (subst (λ (l : List Event). IfSome (flushed_moment l) (λ at. at ≤ now.clock)) (sym same) kept.by_now);
-      since = (let was = kept.since in omega (arith, was, clock));
+      telling = tells_then begun.told now.told later.told kept.telling (same_tells now.told later.told told);
+      time = elapses_then begun.clock now.clock later.clock begun.image now.image later.image kept.time goes;
       journal = λ coherent running. journal coherent;
       stops = λ coherent some. (let some_now = subst (λ (o : Option (List ℕ)). IsSome o) told some in stops coherent some_now (kept.stops coherent some_now));
     }
@@ -159,19 +171,20 @@ module _ (Coherent : Type 0) (opening : Opening) (loaded : List (List ℕ)) (fau
               ∙ (told-push taken_index opening.last_index mine (swap_event index)
               ∙ (sym (told-push stable_index opening.last_index one (flushed_event index moment)) ∙ sym (ap (durable_index opening) given))));
           by_now = subst (λ (o : Option ℕ). IfSome o (λ at. at ≤ later.clock)) (sym (ap flushed_moment given ∙ moment_told one index moment)) (let at = ends.0 in omega (arith, at));
-          since = (let was = kept.since in let goes = written.time.later in omega (arith, was, goes));
+          telling = tells_then begun.told now.told later.told kept.telling written.telling;
+          time = elapses_then begun.clock now.clock later.clock begun.image now.image later.image kept.time written.time;
           journal = λ coherent running. journal coherent;
           stops = λ coherent some. (let some_now = told_before now.told later.told written.telling some in stops coherent some_now (kept.stops coherent some_now));
         }
 
     of_answer : (answer : Option Flushed) → FlushEnds opening seen mine seen_after mine_after now later (Ok answer)
-        → (answer ≡ None → (later.told ≡ now.told) × (later.clock ≡ now.clock) × (later.faults ≡ now.faults))
+        → (answer ≡ None → (later.told ≡ now.told) × (later.clock ≡ now.clock) × (later.faults ≡ now.faults) × Elapses now.clock later.clock now.image later.image)
         → (Coherent → IfSome later.told (λ bytes. IsJournal bytes (loaded ++ bodies_of seen_after))) → Keeps false seen_after mine_after later
-    of_answer None ends same journal = (let all = same refl in kept_none ends.2 all.0 all.1 all.2 journal)
+    of_answer None ends same journal = (let all = same refl in kept_none ends.2 all.0 all.1 all.2 all.3 journal)
     of_answer (Some flushed) ends same journal = kept_flushed flushed ends journal
 
     pub kept_ok : (stopped : Bool) → stopped ≡ false → (answer : Option Flushed) → FlushEnds opening seen mine seen_after mine_after now later (Ok answer)
-        → (answer ≡ None → (later.told ≡ now.told) × (later.clock ≡ now.clock) × (later.faults ≡ now.faults))
+        → (answer ≡ None → (later.told ≡ now.told) × (later.clock ≡ now.clock) × (later.faults ≡ now.faults) × Elapses now.clock later.clock now.image later.image)
         → (Coherent → IfSome later.told (λ bytes. IsJournal bytes (loaded ++ bodies_of seen_after))) → Keeps stopped seen_after mine_after later
     kept_ok stopped is answer ends same journal = subst (λ (b : Bool). Keeps b seen_after mine_after later) (sym is) (of_answer answer ends same journal)
 
@@ -190,7 +203,8 @@ module _ (Coherent : Type 0) (opening : Opening) (loaded : List (List ℕ)) (fau
           all_flushed = λ running. absurd (false≢true (sym running));
           by_now = by_later (flushed_moment mine_after) now.clock later.clock written.time.later
               (subst (λ (o : Option ℕ). IfSome o (λ at. at ≤ now.clock)) (sym (ap flushed_moment flush.given ∙ (no_moment one (halt_event later.faults) refl ∙ no_moment mine (swap_event index) refl))) kept.by_now);
-          since = (let was = kept.since in let goes = written.time.later in omega (arith, was, goes));
+          telling = tells_then begun.told now.told later.told kept.telling written.telling;
+          time = elapses_then begun.clock now.clock later.clock begun.image now.image later.image kept.time written.time;
           journal = λ coherent running. absurd (false≢true (sym running));
           stops = λ coherent some. (let some_now = told_before now.told later.told written.telling some in stops coherent some_now (kept.stops coherent some_now));
         }

@@ -59,9 +59,9 @@ module _ (loaded : List (List ℕ)) (seen more story : List Event) (goes : story
     later = later_more moment prefix.behind more prefix.later others;
   }
 
-module _ (Coherent : Type 0) (opening : Opening) (bytes : OpeningBytes) (script : Script) (loaded : List (List ℕ)) (faults first : ℕ) (stopped : Bool) (seen mine story : List Event) (disk : Seen) where
-  pub kept_longer : IsKept Coherent opening loaded faults first stopped seen mine disk → BeginsWith story seen → own story ≡ mine
-      → AllFollow (Follows Coherent opening bytes script) [] story → IsKept Coherent opening loaded faults first stopped story mine disk
+module _ (Coherent : Type 0) (opening : Opening) (bytes : OpeningBytes) (script : Script) (loaded : List (List ℕ)) (begun : Seen) (stopped : Bool) (seen mine story : List Event) (disk : Seen) where
+  pub kept_longer : IsKept Coherent opening loaded begun stopped seen mine disk → BeginsWith story seen → own story ≡ mine
+      → AllFollow (Follows Coherent opening bytes script) [] story → IsKept Coherent opening loaded begun stopped story mine disk
   kept_longer kept begins known all = record {
     own = known;
     halt = kept.halt;
@@ -69,7 +69,8 @@ module _ (Coherent : Type 0) (opening : Opening) (bytes : OpeningBytes) (script 
     no_fewer = kept.no_fewer;
     all_flushed = kept.all_flushed;
     by_now = kept.by_now;
-    since = kept.since;
+    telling = kept.telling;
+    time = kept.time;
     journal = λ coherent running. subst (λ (l : List (List ℕ)). IfSome disk.told (λ bytes. IsJournal bytes (loaded ++ l)))
         (sym (same_bodies loaded seen begins.0 story begins.1 (others coherent))) (kept.journal coherent running);
     stops = λ coherent told moment left from by h. prefix_longer loaded seen begins.0 story begins.1 (others coherent) moment left (kept.stops coherent told moment left from by h);
@@ -80,7 +81,7 @@ module _ (Coherent : Type 0) (opening : Opening) (bytes : OpeningBytes) (script 
           let ours = ours_all Coherent opening bytes script coherent story all in
           others_more seen begins.0 (subst AreOurs begins.1 ours) (ap own (sym begins.1) ∙ (known ∙ sym kept.own))
 
-  pub kept_longer_as : (mine_after : List Event) → mine_after ≡ mine → IsKept Coherent opening loaded faults first stopped seen mine disk → BeginsWith story seen → own story ≡ mine_after
-      → AllFollow (Follows Coherent opening bytes script) [] story → IsKept Coherent opening loaded faults first stopped story mine_after disk
+  pub kept_longer_as : (mine_after : List Event) → mine_after ≡ mine → IsKept Coherent opening loaded begun stopped seen mine disk → BeginsWith story seen → own story ≡ mine_after
+      → AllFollow (Follows Coherent opening bytes script) [] story → IsKept Coherent opening loaded begun stopped story mine_after disk
   kept_longer_as mine_after same kept begins known all =
-      subst (λ (l : List Event). IsKept Coherent opening loaded faults first stopped story l disk) (sym same) (kept_longer kept begins (known ∙ same) all)
+      subst (λ (l : List Event). IsKept Coherent opening loaded begun stopped story l disk) (sym same) (kept_longer kept begins (known ∙ same) all)

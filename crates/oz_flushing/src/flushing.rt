@@ -12,8 +12,9 @@ ghost use Rattle.oz_core.specs.Seats.{flusher_seat};
 ghost use Rattle.oz_turn.specs.Seat.{IsNewSeat, IsReady, mine_of, seen_of};
 ghost use Rattle.oz_turn.specs.Told.{BeginsWith};
 ghost use Rattle.oz_turn.specs.Turn.{turn_id};
-ghost use Rattle.oz_world.specs.Disk.{seen};
+ghost use Rattle.oz_world.specs.Disk.{seen, TellsAsBefore};
 ghost use Rattle.oz_world.specs.Faults.{Rose};
+ghost use Rattle.oz_world.specs.Moments.{Elapses};
 
 use crate::halting::halted_count;
 use crate::mounted::Mounted;
@@ -56,7 +57,7 @@ impl<D: Disk, T: Told<Entry = Event>, O: Opened, M: Mounted, R: Ring> Model
     } };
 
     ghost invariant = { λ f. IsReady R.turn flusher_seat f.seat × (f.halted ≡ halt_of Manager (mine_of f.seat))
-        × IsKept O.coherent O.opening O.bodies M.faults M.first f.flusher.stopped (seen_of f.seat) (mine_of f.seat)
+        × IsKept O.coherent O.opening O.bodies M.disk f.flusher.stopped (seen_of f.seat) (mine_of f.seat)
         (seen (D.told f.flusher.disk) (D.clock f.flusher.disk) (D.image f.flusher.disk) (D.faults f.flusher.disk)) };
 }
 
@@ -65,11 +66,12 @@ impl<D: Disk, T: Told<Entry = Event>, O: Opened, M: Mounted, R: Ring> Flushing<D
     pub fn make(flusher: Flusher<D>, seat: Seat<T>) -> Flushing<D, T, O, M, R>
         requires running { flusher.stopped ≡ false }
         requires seat { IsNewSeat R.turn flusher_seat seat }
-        requires faults { D.faults flusher.disk ≡ M.faults }
-        requires first { M.first ≤ D.clock flusher.disk }
+        requires faults { D.faults flusher.disk ≡ M.disk.faults }
+        requires telling { TellsAsBefore M.disk.told (D.told flusher.disk) }
+        requires time { Elapses M.disk.clock (D.clock flusher.disk) M.disk.image (D.image flusher.disk) }
         requires journal { O.coherent → IfSome (D.told flusher.disk) (λ bytes. IsJournal bytes O.bodies) }
         requires stops { O.coherent → IsSome (D.told flusher.disk) →
-            StopsHold O.bodies [] M.first (D.clock flusher.disk) (D.image flusher.disk) }
+            StopsHold O.bodies [] M.disk.clock (D.clock flusher.disk) (D.image flusher.disk) }
         ensures { result ≡ record { disk = flusher.disk; stopped = false; seen = []; mine = [] } }
     {
         Flushing {
@@ -82,7 +84,7 @@ impl<D: Disk, T: Told<Entry = Event>, O: Opened, M: Mounted, R: Ring> Flushing<D
 
     /// What holds of every one. It does nothing when it runs.
     pub fn is_kept(&self)
-        ensures { IsKept O.coherent O.opening O.bodies M.faults M.first self.now.stopped self.now.seen self.now.mine
+        ensures { IsKept O.coherent O.opening O.bodies M.disk self.now.stopped self.now.seen self.now.mine
             (seen (D.told self.now.disk) (D.clock self.now.disk) (D.image self.now.disk) (D.faults self.now.disk)) }
     {
         let _halted = self.halted;
@@ -93,7 +95,7 @@ impl<D: Disk, T: Told<Entry = Event>, O: Opened, M: Mounted, R: Ring> Flushing<D
         ensures journal { result.0 ≡ record { disk = self.disk; stopped = self.stopped } }
         ensures ready { IsReady R.turn flusher_seat result.1 }
         ensures events { (seen_of result.1 ≡ self.seen) × (mine_of result.1 ≡ self.mine) }
-        ensures kept { IsKept O.coherent O.opening O.bodies M.faults M.first result.0.stopped (seen_of result.1)
+        ensures kept { IsKept O.coherent O.opening O.bodies M.disk result.0.stopped (seen_of result.1)
             (mine_of result.1)
             (seen (D.told result.0.disk) (D.clock result.0.disk) (D.image result.0.disk) (D.faults result.0.disk)) }
     {
@@ -123,9 +125,9 @@ impl<D: Disk, O: Opened, M: Mounted, R: Ring> Flushing<D, Ledger<O>, O, M, R> {
             (seen (D.told self.new.disk) (D.clock self.new.disk) (D.image self.new.disk) (D.faults self.new.disk))
             result }
         ensures halted { self.old.stopped ≡ true → (self.new ≡ self.old) × IsErr result }
-        ensures err { IfErr result (λ count. (count ≡ D.faults self.new.disk) × Rose M.faults count
+        ensures err { IfErr result (λ count. (count ≡ D.faults self.new.disk) × Rose M.disk.faults count
             × (halt_of Manager self.new.mine ≡ Some count)) }
-        ensures moment { IfOk result (λ flushed. IfSome flushed (λ this. M.first < this.moment)) }
+        ensures moment { IfOk result (λ flushed. IfSome flushed (λ this. M.disk.clock < this.moment)) }
         ensures none { result ≡ Ok None → self.new.disk ≡ self.old.disk }
         ensures stopped { self.new.stopped ≡ is_err result }
         ensures goes_on { BeginsWith self.new.seen self.old.seen }

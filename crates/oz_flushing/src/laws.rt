@@ -27,11 +27,11 @@ pub fn a_journal_at_rest_stands<D: Disk>()
 /// other seats: of the whole story, once nobody flushes any more.
 pub fn the_whole_story_is_kept<D: Disk, O: Opened, M: Mounted>()
     ensures { (disk : D) (stopped : Bool) (seen mine story : List AnyEvent) →
-        IsKept O.coherent O.opening O.bodies M.faults M.first stopped seen mine
+        IsKept O.coherent O.opening O.bodies M.disk stopped seen mine
         (seen_disk (D.told disk) (D.clock disk) (D.image disk) (D.faults disk)) →
         BeginsWith story seen → own_entries (λ event. event.seat) flusher_seat story ≡ mine →
         AllFollow (Follows O.coherent O.opening O.bytes O.script) [] story →
-        IsKept O.coherent O.opening O.bodies M.faults M.first stopped story mine
+        IsKept O.coherent O.opening O.bodies M.disk stopped story mine
         (seen_disk (D.told disk) (D.clock disk) (D.image disk) (D.faults disk)) }
 {}
 

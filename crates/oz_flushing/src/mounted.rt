@@ -5,18 +5,16 @@ use std::marker::Brand;
 /// The manager's disk as a run found it. A type that keeps what became of it takes it as a parameter, so that all of
 /// them count from there.
 pub trait Mounted {
-    ghost use Rattle.std.specs.Prelude.{ℕ};
+    ghost use Rattle.oz_world.specs.Disk.{Seen};
 
-    /// How often it had failed.
-    ghost faults: { ℕ };
-
-    /// The moment from which on it is said what a stop leaves.
-    ghost first: { ℕ };
+    /// What was seen of it.
+    ghost disk: { Seen };
 }
 
 // What stands there until a run picks its disk.
 impl Mounted for Brand {
-    ghost faults = { 0 };
+    ghost use Rattle.std.specs.Prelude.{None};
+    ghost use Rattle.oz_world.specs.Disk.{seen};
 
-    ghost first = { 0 };
+    ghost disk = { seen None 0 (λ moment left. ⊥) 0 };
 }

@@ -21,8 +21,8 @@ pub fn flush_if_free<D: Disk, O: Opened, M: Mounted, R: Ring, W: Wait, G: Gate>(
     gate: &G,
 ) -> Option<Result<Option<Flushed>, u64>>
     requires { turn_id turn.now ≡ R.turn }
-    ensures moment { IfSome result (λ told. IfOk told (λ flushed. IfSome flushed (λ this. M.first < this.moment))) }
-    ensures err { IfSome result (λ told. IfErr told (λ count. Rose M.faults count)) }
+    ensures moment { IfSome result (λ told. IfOk told (λ flushed. IfSome flushed (λ this. M.disk.clock < this.moment))) }
+    ensures err { IfSome result (λ told. IfErr told (λ count. Rose M.disk.faults count)) }
 {
     let mut guard = lock.try_lock()?;
     Some(guard.flush(rt, turn, gate))
@@ -36,8 +36,8 @@ pub fn flush_in_turn<D: Disk, O: Opened, M: Mounted, R: Ring, W: Wait, G: Gate>(
     gate: &G,
 ) -> Result<Option<Flushed>, u64>
     requires { turn_id turn.now ≡ R.turn }
-    ensures moment { IfOk result (λ flushed. IfSome flushed (λ this. M.first < this.moment)) }
-    ensures err { IfErr result (λ count. Rose M.faults count) }
+    ensures moment { IfOk result (λ flushed. IfSome flushed (λ this. M.disk.clock < this.moment)) }
+    ensures err { IfErr result (λ count. Rose M.disk.faults count) }
 {
     let mut guard = lock.lock(rt);
     guard.flush(rt, turn, gate)

@@ -1,7 +1,7 @@
 use Rattle.std.proofs.Common.{rules, ◌≡◌, None, Ok, sym, ap, ◌∙◌, subst}
 use Rattle.oz_core.specs.declared.event.Event.{Event}
 use Rattle.oz_core.specs.Seats.{flusher_seat}
-use Rattle.oz_flushing.proofs.Kept.{begins_as, goes_on, halt_goes_on, halted_of, kept_halted, kept_ok, no_halt, not_stopped}
+use Rattle.oz_flushing.proofs.Kept.{begins_as, goes_on, halt_goes_on, halted_of, kept_halted, kept_ok, no_halt, not_stopped, still}
 use Rattle.oz_flushing.proofs.Longer.{kept_longer_as}
 use Rattle.oz_flushing.proofs.Own.{own}
 use Rattle.oz_turn.specs.Seat.{mine_of, seen_of, IsReady}
@@ -19,9 +19,9 @@ invariant_of-self g c =
     let none : c.self.inside.halted ≡ None = search rules in
     let running = not_stopped _ _ _ (sym c.self.invariant.1 ∙ none) kept.halt in
     let known : own (seen_of seat) ≡ mine_of seat = ap (λ n. own_entries (λ (event : Event). event.seat) n (seen_of seat)) (sym flushed.seat.numbered) ∙ c.knows_own.ensures in
-    let after = kept_ok O.coherent O.opening O.bodies M.faults M.first _ _ (seen_of seat) (mine_of seat) _ _ _ running kept known
-    (λ coherent told hold. flushed.stops coherent told M.first hold) c.flush_once-ended.new.self.stopped flushed.stopped c.in-Ok.flushed flushed.ends
-    (λ is. (let same = flushed.none (ap (λ o. Ok o) is) in (ap (λ s. D.told s.disk) same, ap (λ s. D.clock s.disk) same, ap (λ s. D.faults s.disk) same)))
+    let after = kept_ok O.coherent O.opening O.bodies M.disk _ _ (seen_of seat) (mine_of seat) _ _ _ running kept known
+    (λ coherent told hold. flushed.stops coherent told M.disk.clock hold) c.flush_once-ended.new.self.stopped flushed.stopped c.in-Ok.flushed flushed.ends
+    (λ is. (let same = flushed.none (ap (λ o. Ok o) is) in (ap (λ s. D.told s.disk) same, ap (λ s. D.clock s.disk) same, ap (λ s. D.faults s.disk) same, still D.clock D.image same)))
     (λ coherent. (flushed.idle.quiet coherent).journal) in (
       subst (λ t. IsReady t flusher_seat seat) c.requires flushed.seat,
       none ∙ sym (no_halt _ _ _ flushed.stopped after.halt),
@@ -39,9 +39,9 @@ invariant_of-self-in-Err g c =
     let kept = c.self.invariant.2 in
     let none : c.self.inside.halted ≡ None = search rules in
     let running = not_stopped _ _ _ (sym c.self.invariant.1 ∙ none) kept.halt in
-    let until = kept_halted O.coherent O.opening O.bodies M.faults M.first _ _ (seen_of seat) (mine_of seat) _ _ _ running kept found.known
-    (λ coherent told hold. failed.stops coherent told M.first hold) c.flush_once-ended.new.self.stopped failed.stopped c.in-Err.field-0 failed.ends in
-    let after = kept_longer_as O.coherent O.opening O.bytes O.script O.bodies M.faults M.first _ (seen_of seat) (mine_of seat) (seen_of last) _ (mine_of last) found.mine until found.goes_on found.known_after found.follow in (
+    let until = kept_halted O.coherent O.opening O.bodies M.disk _ _ (seen_of seat) (mine_of seat) _ _ _ running kept found.known
+    (λ coherent told hold. failed.stops coherent told M.disk.clock hold) c.flush_once-ended.new.self.stopped failed.stopped c.in-Err.field-0 failed.ends in
+    let after = kept_longer_as O.coherent O.opening O.bytes O.script O.bodies M.disk _ (seen_of seat) (mine_of seat) (seen_of last) _ (mine_of last) found.mine until found.goes_on found.known_after found.follow in (
       subst (λ t. IsReady t flusher_seat last) c.requires found.ready,
       sym (halted_of (mine_of last) found.count.0 c.halted_count-count.result found.count.1),
       after,

@@ -10,5 +10,5 @@ invariant_of-result g c =
     let r = c.requires in (
       r.seat.ready,
       ap (halt_of Manager) (sym r.seat.mine),
-      kept_new O.coherent O.opening O.bodies g.M.Mounted.faults g.M.Mounted.first _ _ _ _ r.running r.seat.seen r.seat.mine r.faults r.first r.journal r.stops,
+      kept_new O.coherent O.opening O.bodies g.M.Mounted.disk _ _ _ _ r.running r.seat.seen r.seat.mine r.faults r.telling r.time r.journal r.stops,
     )

@@ -1,5 +1,8 @@
 //! The words of the command line: what they ask for, and the first of them that isn't in the grammar.
 #![tactic(auto)]
 
-pub mod laws;
-pub mod words;
+mod laws;
+mod words;
+
+pub use laws::{words_are_one_run, words_of_a_run_have_no_fault};
+pub use words::{DEFAULT_WORKERS, MOST_WORKERS, Words, read_words};

@@ -3,7 +3,7 @@
 
 #[cfg(test)]
 mod tests {
-    use oz_words::words::{Words, read_words};
+    use oz_words::{Words, read_words};
     use std::test::Fail;
 
     #[test]

@@ -29,9 +29,9 @@ pub fn the_story_keeps_the_headline<D: Disk, O: Opened, M: Mounted>()
         AllFollow (Follows O.coherent O.opening O.bytes O.script) [] story →
         All (λ other. other.0 ≢ DiskName.Manager) others →
         (let see = (λ (d : D). seen_disk (D.told d) (D.clock d) (D.image d) (D.faults d)) in
-        IsKept O.coherent O.opening O.bodies M.faults M.first stopped story mine (see disk) →
+        IsKept O.coherent O.opening O.bodies M.disk stopped story mine (see disk) →
         Headline O.opening O.bytes O.script
-        (manager_disk M.faults M.first stopped (see begun) (see disk) ∷ untouched_disks see others) story) }
+        (manager_disk M.disk.faults M.disk.clock stopped (see begun) (see disk) ∷ untouched_disks see others) story) }
 {
     lines_are_told_in_order::<O>();
     the_flusher_alone_tells::<O>();
@@ -44,13 +44,13 @@ pub fn halts_are_named<D: Disk, O: Opened, M: Mounted>()
         AllFollow (Follows O.coherent O.opening O.bytes O.script) [] story → OthersAreSilent O.opening story →
         All (λ other. other.0 ≢ DiskName.Manager) others →
         (let see = (λ (d : D). seen_disk (D.told d) (D.clock d) (D.image d) (D.faults d)) in
-        IsKept O.coherent O.opening O.bodies M.faults M.first stopped story mine (see disk) →
+        IsKept O.coherent O.opening O.bodies M.disk stopped story mine (see disk) →
         HaltsAreNamed
-        (manager_disk M.faults M.first stopped (see begun) (see disk) ∷ untouched_disks see others) story) }
+        (manager_disk M.disk.faults M.disk.clock stopped (see begun) (see disk) ∷ untouched_disks see others) story) }
     ensures status { (begun disk : D) (others : List (DiskName × D)) (stopped : Bool) (story : List AnyEvent) →
         (let see = (λ (d : D). seen_disk (D.told d) (D.clock d) (D.image d) (D.faults d)) in
         HaltsAreNamed
-        (manager_disk M.faults M.first stopped (see begun) (see disk) ∷ untouched_disks see others) story →
+        (manager_disk M.disk.faults M.disk.clock stopped (see begun) (see disk) ∷ untouched_disks see others) story →
         StatusNamesHalts (if stopped then Status.Disk else Status.Done) story) }
     ensures silent { (story : List AnyEvent) → length O.opening.nodes ≤ MOST_NODES →
         ((seat : ℕ) → scm_seat ≤ seat → seat < stripe_seat 0 →

@@ -16,9 +16,9 @@ use Rattle.oz_turn.specs.Seat.{IsReady, mine_of, seen_of}
 use Rattle.oz_world.specs.Disk.{Seen}
 
 module _ {T : Type 0} {told : Ghosts T Event} (turn : TurnId) (Coherent : Type 0) (opening : Opening) (bodies : List (List ℕ))
-    (faults first : ℕ) (loaded : Rows) (stopped : Bool) (disk : Seen) where
-  flusher_left : (s : Seat T Event told) → IsReady turn flusher_seat s → IsKept Coherent opening bodies faults first stopped (seen_of s) (mine_of s) disk
-      → HasLeft turn Coherent opening bodies faults first loaded stopped disk 0 s
+    (begun : Seen) (loaded : Rows) (stopped : Bool) (disk : Seen) where
+  flusher_left : (s : Seat T Event told) → IsReady turn flusher_seat s → IsKept Coherent opening bodies begun stopped (seen_of s) (mine_of s) disk
+      → HasLeft turn Coherent opening bodies begun loaded stopped disk 0 s
   flusher_left s ready kept = record {
     ready = ready;
     flusher = λ at. kept;
@@ -27,7 +27,7 @@ module _ {T : Type 0} {told : Ghosts T Event} (turn : TurnId) (Coherent : Type 0
   }
 
   quiet_left : (n : ℕ) (s : Seat T Event told) → n < 19 → IsReady turn (1 + n) s → mine_of s ≡ []
-      → HasLeft turn Coherent opening bodies faults first loaded stopped disk (1 + n) s
+      → HasLeft turn Coherent opening bodies begun loaded stopped disk (1 + n) s
   quiet_left n s few ready none = record {
     ready = ready;
     flusher = λ at. absurd (omega (arith, at));
@@ -36,7 +36,7 @@ module _ {T : Type 0} {told : Ghosts T Event} (turn : TurnId) (Coherent : Type 0
   }
 
   stripe_left : (n : ℕ) (s : Seat T Event told) → IsReady turn (stripe_seat n) s → (Coherent → HasStoodIn opening loaded n s)
-      → HasLeft turn Coherent opening bodies faults first loaded stopped disk (20 + n) s
+      → HasLeft turn Coherent opening bodies begun loaded stopped disk (20 + n) s
   stripe_left n s ready stood = record {
     ready = ready;
     flusher = λ at. absurd (omega (arith, at));
@@ -44,7 +44,7 @@ module _ {T : Type 0} {told : Ghosts T Event} (turn : TurnId) (Coherent : Type 0
     stripe = λ coherent stripe less at. let e : n ≡ stripe = omega (arith, at) in subst (λ (k : ℕ). HasStoodIn opening loaded k s) e (stood coherent);
   }
 
-  worker_left : (n : ℕ) (s : Seat T Event told) → IsReady turn (36 + n) s → HasLeft turn Coherent opening bodies faults first loaded stopped disk (36 + n) s
+  worker_left : (n : ℕ) (s : Seat T Event told) → IsReady turn (36 + n) s → HasLeft turn Coherent opening bodies begun loaded stopped disk (36 + n) s
   worker_left n s ready = record {
     ready = ready;
     flusher = λ at. absurd (omega (arith, at));
@@ -57,13 +57,13 @@ module _ {T : Type 0} {told : Ghosts T Event} (turn : TurnId) (Coherent : Type 0
 
   -- the flusher's seat, the quiet ones, the stripes', and then the workers'
   pub all_left : (flusher : Seat T Event told) (quiet stripes all after : List (Seat T Event told))
-      → IsReady turn flusher_seat flusher → IsKept Coherent opening bodies faults first stopped (seen_of flusher) (mine_of flusher) disk
+      → IsReady turn flusher_seat flusher → IsKept Coherent opening bodies begun stopped (seen_of flusher) (mine_of flusher) disk
       → length quiet ≡ 19 → AreNewFrom turn 1 quiet
       → AreReadyStripeSeats turn stripes → (Coherent → ArePlaced (HasStoodIn opening loaded) stripes)
       → all ≡ ((flusher ∷ []) ++ quiet) ++ stripes → AddsReady turn all after
-      → HaveLeft turn Coherent opening bodies faults first loaded stopped disk after
+      → HaveLeft turn Coherent opening bodies begun loaded stopped disk after
   all_left flusher quiet stripes all after ready kept quiet_count new stripes_ready stood parts adds =
-      let P = HasLeft turn Coherent opening bodies faults first loaded stopped disk in
+      let P = HasLeft turn Coherent opening bodies begun loaded stopped disk in
       let one : ArePlaced P (flusher ∷ []) = one_placed P flusher (flusher_left flusher ready kept) in
       let two : ArePlaced P ((flusher ∷ []) ++ quiet) = joined_placed P (flusher ∷ []) quiet one
       (λ n s at. let is = new n s at in

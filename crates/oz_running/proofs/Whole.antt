@@ -18,8 +18,8 @@ use Rattle.oz_turn.specs.Told.{BeginsWith, own_entries}
 use Rattle.oz_world.specs.Disk.{Seen}
 
 module _ {T : Type 0} {told : Ghosts T Event} (turn : TurnId) (Coherent : Type 0) (opening : Opening) (bodies : List (List ℕ))
-    (faults first : ℕ) (loaded : Rows) (stopped : Bool) (disk : Seen) (seats : List (Seat T Event told))
-    (left : HaveLeft turn Coherent opening bodies faults first loaded stopped disk seats) where
+    (begun : Seen) (loaded : Rows) (stopped : Bool) (disk : Seen) (seats : List (Seat T Event told))
+    (left : HaveLeft turn Coherent opening bodies begun loaded stopped disk seats) where
   pub ready_left : AreReady turn seats
   ready_left n s at = (left n s at).ready
 
@@ -53,11 +53,11 @@ module _ {T : Type 0} {told : Ghosts T Event} (turn : TurnId) (Coherent : Type 0
         )
 
     -- by what is kept of a story that goes on without the flusher
-    pub flusher_left : ((seen given : List Event) → IsKept Coherent opening bodies faults first stopped seen given disk → BeginsWith story seen
-        → mine flusher_seat story ≡ given → IsKept Coherent opening bodies faults first stopped story given disk)
-        → IsKept Coherent opening bodies faults first stopped story (mine flusher_seat story) disk
+    pub flusher_left : ((seen given : List Event) → IsKept Coherent opening bodies begun stopped seen given disk → BeginsWith story seen
+        → mine flusher_seat story ≡ given → IsKept Coherent opening bodies begun stopped story given disk)
+        → IsKept Coherent opening bodies begun stopped story (mine flusher_seat story) disk
     flusher_left goes_on =
         let it = there seats flusher_seat (omega (arith, many)) in
         let known = own_at flusher_seat it.0 it.1 in
-        subst (λ (given : List Event). IsKept Coherent opening bodies faults first stopped story given disk) (sym known)
+        subst (λ (given : List Event). IsKept Coherent opening bodies begun stopped story given disk) (sym known)
         (goes_on (seen_of it.0) (mine_of it.0) ((left flusher_seat it.0 it.1).flusher refl) (begins_at flusher_seat it.0 it.1) known)

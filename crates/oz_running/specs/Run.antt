@@ -14,15 +14,14 @@ use Rattle.oz_om.specs.Keeps.{HasRun}
 use Rattle.oz_rows.specs.RowMaps.{Rows}
 use Rattle.oz_world.specs.Disk.{Seen}
 
--- that the disks agree; what was opened, with its bytes and the bodies of the journal; the script; how often the
--- manager's disk had failed once it was loaded, and from which moment on it is said what a stop leaves; and the rows
--- that were loaded
+-- that the disks agree; what was opened, with its bytes and the bodies of the journal; the script; what was seen of the
+-- manager's disk once it was loaded; and the rows that were loaded
 module _ (Coherent : Type 0) (opening : Opening) (bytes : OpeningBytes) (bodies : List (List ℕ)) (script : Script)
-    (faults first : ℕ) (loaded : Rows) where
+    (begun : Seen) (loaded : Rows) where
   -- of a turn with so many seats: the story, whether a write of the journal has failed, its disk, and what was counted
   pub record IsRun (seats : ℕ) (story : List Event) (stopped : Bool) (disk : Seen) (all_told : Bool) : Type 0 where
     pub follow : AllFollow (Follows Coherent opening bytes script) [] story
-    pub kept : IsKept Coherent opening bodies faults first stopped story (mine flusher_seat story) disk
+    pub kept : IsKept Coherent opening bodies begun stopped story (mine flusher_seat story) disk
     pub stood : Coherent → (stripe : ℕ) → stripe < STRIPES → (rows : Rows) × HasRun opening loaded story stripe rows
     -- The service job, the caller, the SCM and the datanodes gave nothing.
     pub quiet : (seat : ℕ) → flusher_seat < seat → seat < stripe_seat 0 → mine seat story ≡ []

@@ -24,14 +24,14 @@ module _ {T : Type 0} {told : Ghosts T Event} where
     pub behind : after ≡ before ++ more
     pub ready : ArePlaced (λ n s. IsReady turn (length before + n) s) more
 
-  module _ (turn : TurnId) (Coherent : Type 0) (opening : Opening) (bodies : List (List ℕ)) (faults first : ℕ)
+  module _ (turn : TurnId) (Coherent : Type 0) (opening : Opening) (bodies : List (List ℕ)) (begun : Seen)
       (loaded : Rows) (stopped : Bool) (disk : Seen) where
     -- What a seat of this number leaves with: the flusher's with what is kept of the disk, a stripe's with its rows.
     -- Those between them gave nothing.
     pub record HasLeft (number : ℕ) (s : Seat T Event told) : Type 0 where
       pub ready : IsReady turn number s
       pub flusher : number ≡ flusher_seat
-          → IsKept Coherent opening bodies faults first stopped (seen_of s) (mine_of s) disk
+          → IsKept Coherent opening bodies begun stopped (seen_of s) (mine_of s) disk
       pub quiet : flusher_seat < number → number < stripe_seat 0 → mine_of s ≡ []
       pub stripe : Coherent → (stripe : ℕ) → stripe < STRIPES → number ≡ stripe_seat stripe
           → HasStoodIn opening loaded stripe s

@@ -30,9 +30,9 @@ pub(crate) fn ended<D: Disk, O: Opened, L: Loaded, M: Mounted, R: Ring>(
     requires turn { turn_id turn ≡ R.turn }
     requires count { vec_len seats ≡ seats_of turn }
     requires many { first_worker_seat ≤ vec_len seats }
-    requires left { HaveLeft R.turn O.coherent O.opening O.bodies M.faults M.first L.rows journal.stopped
+    requires left { HaveLeft R.turn O.coherent O.opening O.bodies M.disk L.rows journal.stopped
         (seen (D.told journal.disk) (D.clock journal.disk) (D.image journal.disk) (D.faults journal.disk)) seats.items }
-    ensures { IsRun O.coherent O.opening O.bytes O.bodies O.script M.faults M.first L.rows (seats_of turn)
+    ensures { IsRun O.coherent O.opening O.bytes O.bodies O.script M.disk L.rows (seats_of turn)
         result.story.items result.journal.stopped
         (seen (D.told result.journal.disk) (D.clock result.journal.disk) (D.image result.journal.disk)
         (D.faults result.journal.disk))

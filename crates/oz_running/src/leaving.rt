@@ -33,7 +33,7 @@ pub(crate) fn all_seats<D: Disk, O: Opened, L: Loaded, M: Mounted, R: Ring, W: W
     requires none { all.items ≡ [] }
     requires room { first_worker_seat + (length jobs.items - 1) ≤ vec_capacity all }
     ensures count { length result.1.items ≡ first_worker_seat + (length jobs.entry.items - 1) }
-    ensures left { HaveLeft R.turn O.coherent O.opening O.bodies M.faults M.first L.rows result.0.stopped
+    ensures left { HaveLeft R.turn O.coherent O.opening O.bodies M.disk L.rows result.0.stopped
         (seen (D.told result.0.disk) (D.clock result.0.disk) (D.image result.0.disk) (D.faults result.0.disk))
         result.1.items }
 {

@@ -12,7 +12,8 @@ ghost use Rattle.oz_running.specs.Run.{IsRun};
 ghost use Rattle.oz_running.specs.Staff.{IsStaff};
 ghost use Rattle.oz_turn.specs.Seat.{AreNewSeats};
 ghost use Rattle.oz_turn.specs.Turn.{seats_of, turn_id};
-ghost use Rattle.oz_world.specs.Disk.{seen};
+ghost use Rattle.oz_world.specs.Disk.{seen, TellsAsBefore};
+ghost use Rattle.oz_world.specs.Moments.{Elapses};
 
 use crate::closing::ended;
 use crate::leaving::all_seats;
@@ -65,12 +66,13 @@ pub fn run_lines<
     requires least { FEWEST_NODES ≤ nodes }
     requires most { nodes ≤ MOST_NODES }
     requires running { flusher.stopped ≡ false }
-    requires faults { D.faults flusher.disk ≡ M.faults }
-    requires first { M.first ≤ D.clock flusher.disk }
+    requires faults { D.faults flusher.disk ≡ M.disk.faults }
+    requires telling { TellsAsBefore M.disk.told (D.told flusher.disk) }
+    requires time { Elapses M.disk.clock (D.clock flusher.disk) M.disk.image (D.image flusher.disk) }
     requires journal { O.coherent → IfSome (D.told flusher.disk) (λ bytes. IsJournal bytes O.bodies) }
     requires stops { O.coherent → IsSome (D.told flusher.disk) →
-        StopsHold O.bodies [] M.first (D.clock flusher.disk) (D.image flusher.disk) }
-    ensures ran { IfOk result (λ ran. IsRun O.coherent O.opening O.bytes O.bodies O.script M.faults M.first L.rows
+        StopsHold O.bodies [] M.disk.clock (D.clock flusher.disk) (D.image flusher.disk) }
+    ensures ran { IfOk result (λ ran. IsRun O.coherent O.opening O.bytes O.bodies O.script M.disk L.rows
         (first_worker_seat + workers) ran.story.items ran.journal.stopped
         (seen (D.told ran.journal.disk) (D.clock ran.journal.disk) (D.image ran.journal.disk)
         (D.faults ran.journal.disk))
@@ -119,17 +121,18 @@ fn run_in_turn<
     requires least { FEWEST_NODES ≤ nodes }
     requires most { nodes ≤ MOST_NODES }
     requires running { flusher.stopped ≡ false }
-    requires faults { D.faults flusher.disk ≡ M.faults }
-    requires first { M.first ≤ D.clock flusher.disk }
+    requires faults { D.faults flusher.disk ≡ M.disk.faults }
+    requires telling { TellsAsBefore M.disk.told (D.told flusher.disk) }
+    requires time { Elapses M.disk.clock (D.clock flusher.disk) M.disk.image (D.image flusher.disk) }
     requires journal { O.coherent → IfSome (D.told flusher.disk) (λ bytes. IsJournal bytes O.bodies) }
     requires stops { O.coherent → IsSome (D.told flusher.disk) →
-        StopsHold O.bodies [] M.first (D.clock flusher.disk) (D.image flusher.disk) }
+        StopsHold O.bodies [] M.disk.clock (D.clock flusher.disk) (D.image flusher.disk) }
     requires turn { turn_id turn ≡ R.turn }
     requires count { vec_len seats ≡ seats_of turn }
     requires many { first_worker_seat ≤ vec_len seats }
     requires few_seats { vec_len seats ≤ first_worker_seat + 16 }
     requires seats { AreNewSeats R.turn seats.items }
-    ensures ran { IfOk result (λ ran. IsRun O.coherent O.opening O.bytes O.bodies O.script M.faults M.first L.rows
+    ensures ran { IfOk result (λ ran. IsRun O.coherent O.opening O.bytes O.bodies O.script M.disk L.rows
         (seats_of turn) ran.story.items ran.journal.stopped
         (seen (D.told ran.journal.disk) (D.clock ran.journal.disk) (D.image ran.journal.disk)
         (D.faults ran.journal.disk))
@@ -165,16 +168,17 @@ fn run_staffed<
     requires script { script.now ≡ O.script }
     requires numbered { IsNumbered O.script }
     requires running { flusher.stopped ≡ false }
-    requires faults { D.faults flusher.disk ≡ M.faults }
-    requires first { M.first ≤ D.clock flusher.disk }
+    requires faults { D.faults flusher.disk ≡ M.disk.faults }
+    requires telling { TellsAsBefore M.disk.told (D.told flusher.disk) }
+    requires time { Elapses M.disk.clock (D.clock flusher.disk) M.disk.image (D.image flusher.disk) }
     requires journal { O.coherent → IfSome (D.told flusher.disk) (λ bytes. IsJournal bytes O.bodies) }
     requires stops { O.coherent → IsSome (D.told flusher.disk) →
-        StopsHold O.bodies [] M.first (D.clock flusher.disk) (D.image flusher.disk) }
+        StopsHold O.bodies [] M.disk.clock (D.clock flusher.disk) (D.image flusher.disk) }
     requires turn { turn_id turn ≡ R.turn }
     requires many { first_worker_seat ≤ seats_of turn }
     requires staff { IsStaff R.turn (seats_of turn) staff.jobs.items staff.flusher staff.quiet.items staff.all.items
         (vec_capacity staff.all) }
-    ensures { IsRun O.coherent O.opening O.bytes O.bodies O.script M.faults M.first L.rows (seats_of turn)
+    ensures { IsRun O.coherent O.opening O.bytes O.bodies O.script M.disk L.rows (seats_of turn)
         result.story.items result.journal.stopped
         (seen (D.told result.journal.disk) (D.clock result.journal.disk) (D.image result.journal.disk)
         (D.faults result.journal.disk))

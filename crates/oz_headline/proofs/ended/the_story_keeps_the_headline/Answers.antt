@@ -8,7 +8,7 @@ use Rattle.oz_headline.proofs.ended.the_story_keeps_the_headline.Goals as goal
 pub returns : goal.returns
 returns g c coherent numbered begun disk others stopped mine story all apart kept =
     let O = g.O.Opened in
-    headline_holds O.opening O.bytes O.script story (λ d. seen (g.D.Disk.told d) (g.D.Disk.clock d) (g.D.Disk.image d) (g.D.Disk.faults d)) others g.M.Mounted.faults g.M.Mounted.first stopped _ _
+    headline_holds O.opening O.bytes O.script story (λ d. seen (g.D.Disk.told d) (g.D.Disk.clock d) (g.D.Disk.image d) (g.D.Disk.faults d)) others g.M.Mounted.disk.faults g.M.Mounted.disk.clock stopped _ _
     (legal_of_follow O.coherent O.opening O.bytes O.script story coherent all)
     (c.lines_are_told_in_order.ensures coherent numbered story all) apart
     (by_flushers story mine _ (c.the_flusher_alone_tells.ensures.moment story coherent all ∙ ap flushed_moment kept.own) kept.by_now)

@@ -21,7 +21,7 @@ returns-clause-left g c =
     let first : c.push_reserved.new.self.items ≡ flusher ∷ [] = c.push_reserved.ensures.items ∙ ap (λ l. l ++ flusher ∷ []) c.requires.none in
     let parts : c.add_all-2.new.all.items ≡ ((flusher ∷ []) ++ quiet) ++ stripes =
     c.add_all-2.ensures.items ∙ ap (λ l. l ++ stripes) (c.add_all.ensures.items ∙ ap (λ l. l ++ quiet) first) in
-    all_left g.R.Ring.turn O.coherent O.opening O.bodies M.faults M.first g.L.Loaded.rows c.into_parts-journal.result.0.stopped _
+    all_left g.R.Ring.turn O.coherent O.opening O.bodies M.disk g.L.Loaded.rows c.into_parts-journal.result.0.stopped _
     flusher quiet stripes c.add_all-2.new.all.items c.add_workers.new.all.items
     c.into_parts-journal.ensures.ready c.into_parts-journal.ensures.kept c.requires.quiet_count c.requires.quiet
     c.into_seats-stripes.ensures.ready c.into_seats-stripes.ensures.stood parts c.add_workers.ensures.added

@@ -1,0 +1,94 @@
+#!/usr/bin/env bash
+# What many clients and workers make of a run: over a folder on a disk whose sync takes its time, and over one in memory.
+#
+# usage: bench/clients.sh [ROUNDS] [FOLDER] [MEMORY]
+#
+# Each figure is the median of ROUNDS runs (5), each over a fresh folder: in FOLDER (data), on a disk, or in MEMORY (/dev/shm).
+# What is compared stands side by side within each round. Printed are the file system, how busy the machine was, and
+#     length    a line of one client's script of 4,096 lines, as a part of one of 512 lines, over a folder in memory
+#     clients   volumes a second that 64 clients make with 4 workers, as a part of those that one client makes, on the disk
+#     sqlite    volumes a second that 64 clients make with 4 workers, as a part of rows that SQLite commits, each by itself
+#     workers   what 4 workers take for 64 clients, as a part of what 1 takes, over a folder in memory
+#     memory    the greatest memory of a run of 4,096 lines, beside that of a run of none, in bytes a line
+# It needs Python 3 with its sqlite3.
+set -euo pipefail
+top=$(dirname "$(dirname "$(readlink -f "${BASH_SOURCE[0]}")")")
+rounds=${1:-5} folder=${2:-$top/data} memory=${3:-/dev/shm}
+[[ ${OZONE_PROGRAM:-} ]] || "$top/ozone" build
+program=${OZONE_PROGRAM:-$top/crates/oz_main/out/oz_main}
+
+load=$(cut -d ' ' -f 1 /proc/loadavg)
+echo "file system $(stat -f -c %T "$folder"), load $load over $(nproc) processors, $rounds rounds"
+python3 - "$program" "$folder" "$memory" "$rounds" <<'PYTHON'
+import os, resource, shutil, sqlite3, statistics, subprocess, sys, tempfile, time
+
+program, disk, memory, rounds = sys.argv[1], sys.argv[2], sys.argv[3], int(sys.argv[4])
+
+
+def script(clients, lines):
+    """Volumes, made by the clients in turn."""
+    return "".join(f"c{n % clients} volume create /vol{n}\n" for n in range(lines)).encode()
+
+
+def run(text, where, workers):
+    """The seconds of a run, and its greatest memory in bytes."""
+    folder = tempfile.mkdtemp(prefix="clients.", dir=where)
+    began = time.perf_counter()
+    ran = subprocess.Popen([program, "run", folder, "--workers", str(workers)], stdin=subprocess.PIPE, stdout=subprocess.PIPE)
+    report, _ = ran.communicate(text)
+    took = time.perf_counter() - began
+    shutil.rmtree(folder)
+    count = text.count(b"\n")
+    assert ran.returncode == 0 and report.endswith(b"end %d of %d\n" % (count, count)), report[-200:]
+    return took
+
+
+def greatest(text, where):
+    """The greatest memory of a run, in bytes."""
+    folder = tempfile.mkdtemp(prefix="clients.", dir=where)
+    file = os.path.join(folder, "script")
+    with open(file, "wb") as it:
+        it.write(text)
+    code = ("import resource, subprocess, sys; subprocess.run([sys.argv[1], 'run', sys.argv[2]], stdin=open(sys.argv[3]),"
+            " stdout=subprocess.DEVNULL, check=True); print(resource.getrusage(resource.RUSAGE_CHILDREN).ru_maxrss)")
+    ran = subprocess.run([sys.executable, "-c", code, program, folder, file], stdout=subprocess.PIPE, check=True)
+    shutil.rmtree(folder)
+    return int(ran.stdout) * 1024
+
+
+def sqlite(rows):
+    folder = tempfile.mkdtemp(prefix="clients.", dir=disk)
+    store = sqlite3.connect(os.path.join(folder, "store"), isolation_level=None)
+    store.execute("pragma synchronous=full")
+    store.execute("create table volume (name text primary key)")
+    began = time.perf_counter()
+    for number in range(rows):
+        store.execute("insert into volume values (?)", (f"vol{number}",))
+    took = time.perf_counter() - began
+    store.close()
+    shutil.rmtree(folder)
+    return took
+
+
+def told(name, each, digits=2):
+    print(f"{name} {statistics.median(each):.{digits}f} (from {min(each):.{digits}f} to {max(each):.{digits}f})")
+
+
+lengths, clients, rows, workers = [], [], [], []
+for _ in range(rounds):
+    none = run(b"", memory, 4)
+    short, long = run(script(1, 512), memory, 4) - none, run(script(1, 4096), memory, 4) - none
+    lengths.append(long / 4096 / (short / 512))
+    none = run(b"", disk, 4)
+    one = (run(script(1, 256), disk, 4) - none) / 256
+    many = (run(script(64, 2048), disk, 4) - none) / 2048
+    clients.append(one / many)
+    rows.append(sqlite(256) / 256 / many)
+    by_one, by_four = run(script(64, 4096), memory, 1), run(script(64, 4096), memory, 4)
+    workers.append(by_four / by_one)
+told("length", lengths)
+told("clients", clients)
+told("sqlite", rows)
+told("workers", workers)
+print(f"memory {(greatest(script(64, 4096), memory) - greatest(b'', memory)) / 4096:.0f}")
+PYTHON

@@ -6,6 +6,8 @@ ghost use Rattle.oz_lines.specs.Numbered.{IsNumbered};
 ghost use Rattle.oz_om.specs.Keeps.{KeepsRows};
 ghost use Rattle.oz_om.specs.Opens.{Opens};
 ghost use Rattle.oz_om.specs.Seated.{ArePartsOf};
+ghost use Rattle.oz_world.specs.Disk.{TellsAsBefore};
+ghost use Rattle.oz_world.specs.Moments.{Elapses};
 
 use oz_buffer::Opened;
 use oz_flusher::Flusher;
@@ -75,8 +77,9 @@ fn mounted<
     requires some { 1 ≤ workers }
     requires few { workers ≤ 16 }
     requires running { flusher.stopped ≡ false }
-    requires faults { D.faults flusher.disk ≡ M.faults }
-    requires first { M.first ≤ D.clock flusher.disk }
+    requires faults { D.faults flusher.disk ≡ M.disk.faults }
+    requires telling { TellsAsBefore M.disk.told (D.told flusher.disk) }
+    requires time { Elapses M.disk.clock (D.clock flusher.disk) M.disk.image (D.image flusher.disk) }
 {
     match run_lines::<D, O, NoRows, M, W, OpenGate>(
         rt, alloc, &OpenGate, script, unseated, flusher, workers, 3,

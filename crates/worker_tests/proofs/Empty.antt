@@ -1,5 +1,5 @@
 -- What an empty disk is loaded as.
-use Rattle.std.proofs.Common.{◌≡◌, inl, inr, ℕ, List, [], Option, None, refl, sym, ◌∙◌, ap, subst, arith}
+use Rattle.std.proofs.Common.{◌≡◌, inl, inr, ℕ, List, [], Option, None, Some, refl, sym, ◌∙◌, ap, subst, arith}
 use Rattle.oz_effects.specs.Build.{Builds, BuildsFrom, no_head}
 use Rattle.oz_journal.specs.Grammar.{IsJournal}
 use Rattle.oz_loaded.specs.Loads.{Loads}
@@ -19,10 +19,10 @@ no_rows : (all : List RowEntry) (index : ℕ) → Builds [] all index → (all �
 unfolding BuildsFrom
 no_rows all index (head, from, is) = (from.0, sym is ∙ ap (λ (h : Head). h.index) from.1)
 
-pub empty_parts : (bytes : List ℕ) (told : Option (List ℕ)) (unseated : UnseatedView) → bytes ≡ [] → Loads bytes told unseated
+pub empty_parts : (bytes : List ℕ) (told : Option (List ℕ)) (unseated : UnseatedView) → bytes ≡ [] → Loads (Some bytes) told unseated
     → ArePartsOf (λ key. None) 0 unseated.parts
-empty_parts bytes told unseated none (bodies, journal, tells, loaded) =
-    let empty = no_bodies bodies (subst (λ (b : List ℕ). IsJournal b bodies) none journal) in
+empty_parts bytes told unseated none (bodies, loaded, both) =
+    let empty = no_bodies bodies (subst (λ (b : List ℕ). IsJournal b bodies) none both.0) in
     let nothing = no_rows loaded.all unseated.last_index (subst (λ (b : List (List ℕ)). Builds b loaded.all unseated.last_index) empty loaded.builds) in
     record {
       all = [];

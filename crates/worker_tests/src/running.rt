@@ -7,6 +7,8 @@ ghost use Rattle.oz_om.specs.Keeps.{KeepsRows};
 ghost use Rattle.oz_om.specs.Opens.{Opens};
 ghost use Rattle.oz_turn.specs.Seat.{AreNewSeats, IsNewSeat};
 ghost use Rattle.oz_turn.specs.Turn.{turn_id};
+ghost use Rattle.oz_world.specs.Disk.{TellsAsBefore};
+ghost use Rattle.oz_world.specs.Moments.{Elapses};
 
 use crate::opened::{NoRows, add_worker, first_seat, last_seat, loaded, seated, stripe_seats};
 use crate::told::answers;
@@ -44,8 +46,9 @@ fn serve<
     requires incoherent { O.coherent → ⊥ }
     requires running { flusher.stopped ≡ false }
     requires seat { IsNewSeat R.turn 0 seat }
-    requires faults { D.faults flusher.disk ≡ M.faults }
-    requires first { M.first ≤ D.clock flusher.disk }
+    requires faults { D.faults flusher.disk ≡ M.disk.faults }
+    requires telling { TellsAsBefore M.disk.told (D.told flusher.disk) }
+    requires time { Elapses M.disk.clock (D.clock flusher.disk) M.disk.image (D.image flusher.disk) }
 {
     let flushing: Mutex<Flushing<D, Ledger<O>, O, M, R>> = Mutex::new(Flushing::make(
         flusher, seat,

@@ -2,18 +2,24 @@
 use Rattle.std.specs.Prelude.{◌≡◌, ◌⊎◌, ℕ, ◌≤◌, List, take, Option, Some, Err, IfSome}
 use Rattle.oz_draft.specs.declared.fault.Cause.{Cause}
 use Rattle.oz_draft.specs.declared.fault.ScriptFault.TheVariants.{At}
-use Rattle.oz_rows.specs.declared.entry.RowEntry.{RowEntry}
-use Rattle.oz_cluster.specs.Opens.{Loads, IsDamagedDisk}
+use Rattle.oz_journal.specs.Grammar.{IsJournal}
+use Rattle.oz_loaded.specs.Loads.{IsDamagedDisk, IsLoaded}
+use Rattle.oz_loaded.specs.Unseated.{UnseatedView}
 use Rattle.oz_cluster.specs.Stopped.{IsScript}
 use Rattle.oz_script.specs.Parsing.{ParsesTo}
 use Rattle.oz_cluster.specs.Streams.{script_limit}
-use Rattle.oz_cluster.specs.Words.{IsRun, IsFirstFault}
+use Rattle.oz_words.specs.Words.{IsRun, IsFirstFault}
+
+-- the bytes of the manager's disk load
+abbrev pub IsLoadedOf : List ℕ → Type 0
+IsLoadedOf bytes =
+    (bodies : List (List ℕ)) × IsJournal bytes bodies × ((unseated : UnseatedView) × IsLoaded bodies unseated)
 
 -- the run came to its work
 pub record HasBegun (words : List (List ℕ)) (left disk : Option (List ℕ)) : Type 0 where
   pub given : IsRun words
   pub script : IsScript left
-  pub loads : IfSome disk (λ bytes. (all : List RowEntry) × (index : ℕ) × Loads bytes all index)
+  pub loads : IfSome disk IsLoadedOf
 
 -- the first fault of what a source has left
 abbrev pub IsFaultOf : List ℕ → ℕ → Cause → Type 0

@@ -1,23 +1,25 @@
 -- What stops a run before its work: its status, its text, and what is then so.
-use Rattle.std.specs.Prelude.{◌≡◌, ◌⊎◌, ℕ, ◌≤◌, List, [], ◌++◌, length, take, Option, Some, IfSome, Ok, Err}
-use Rattle.std.specs.Option.{option_map}
+use Rattle.std.specs.Prelude.{◌≡◌, ℕ, ◌≤◌, List, [], length, take, Option, Some, IfSome, Ok, Err}
 use Rattle.oz_cluster.specs.declared.stop.Stop.{Stop}
 use Rattle.oz_cluster.specs.declared.stop.Stop.TheVariants.{Words, Read, Script, Disk, Damaged, OutOfMemory}
 use Rattle.oz_world.specs.Disk.{Seen, Stands}
 use Rattle.oz_world.specs.Faults.{Rose}
+use Rattle.oz_journal.specs.declared.load_fault.LoadFault.{LoadFault}
+use Rattle.oz_journal.specs.declared.load_fault.LoadFault.TheVariants as load
 use Rattle.oz_journal.specs.Load.{IsLoadable, IsLeftAlone}
 use Rattle.oz_world.specs.Moments.{Spans}
-use Rattle.oz_cluster.specs.declared.events.Event.{Event}
+use Rattle.oz_core.specs.declared.event.Event.{Event}
 use Rattle.oz_lines.specs.declared.script.Script.{Script as Lines}
 use Rattle.oz_draft.specs.declared.fault.ScriptFault.TheVariants.{At}
-use Rattle.oz_cluster.specs.declared.status.Status.{Status}
-use Rattle.oz_cluster.specs.declared.status.Status.TheVariants as status
+use Rattle.oz_headline.specs.declared.status.Status.{Status}
+use Rattle.oz_headline.specs.declared.status.Status.TheVariants as status
 use Rattle.oz_draft.specs.Causes.{cause_text}
-use Rattle.oz_cluster.specs.Opens.{IsDamagedDisk}
-use Rattle.oz_cluster.specs.Report.{words_fault, script_fault, damaged_manager, disk_fault, read_fault, memory_fault}
+use Rattle.oz_headline.specs.Printed.{Says, memory_fault}
+use Rattle.oz_loaded.specs.Loads.{IsDamagedDisk}
+use Rattle.oz_cluster.specs.Texts.{words_fault, script_fault, damaged_manager, disk_fault, read_fault}
 use Rattle.oz_script.specs.Parsing.{ParsesTo}
-use Rattle.oz_cluster.specs.Streams.{script_limit, TakesUpTo, IsReadThrough, HoldsPrefix}
-use Rattle.oz_cluster.specs.Words.{IsRun, IsFirstFault}
+use Rattle.oz_cluster.specs.Streams.{script_limit, TakesUpTo, IsReadThrough}
+use Rattle.oz_words.specs.Words.{IsRun, IsFirstFault}
 
 -- the status that the program ends with
 abbrev pub status_of : Stop → Status
@@ -37,6 +39,12 @@ text_of Disk = disk_fault
 text_of (Damaged offset) = damaged_manager offset
 text_of OutOfMemory = memory_fault
 
+-- what stops the run where the manager's disk can't be loaded
+abbrev pub as_stop : LoadFault → Stop
+as_stop load.Disk = Disk
+as_stop (load.Damaged offset) = Damaged offset
+as_stop load.OutOfMemory = OutOfMemory
+
 -- the script that is read from what a source has left
 abbrev pub IsScriptOf : Option (List ℕ) → Lines → Type 0
 IsScriptOf left script = IfSome left (λ text. ParsesTo (take script_limit text) (Ok script))
@@ -55,11 +63,6 @@ IsSo words left disk source_rose disk_rose Disk = IsRun words × IsScript left �
 IsSo words left disk source_rose disk_rose (Damaged offset) =
     IsRun words × IsScript left × IfSome disk (λ bytes. IsDamagedDisk bytes offset)
 IsSo words left disk source_rose disk_rose OutOfMemory = Unit {0}
-
--- the text was written, or a prefix of it where the sink failed
-abbrev pub Says : List ℕ → Option (List ℕ) → Option (List ℕ) → Type 0 → Type 0
-Says text before after rose =
-    (after ≡ option_map (λ held. held ++ text) before) ⊎ (HoldsPrefix text before after × rose)
 
 -- the disk wasn't touched
 pub record IsUntouched (before after : Seen) : Type 0 where

@@ -1,5 +1,5 @@
--- What reading a script takes, and what writing the text leaves.
-use Rattle.std.specs.Prelude.{◌≡◌, ℕ, ◌+◌, ◌≤◌, List, ◌++◌, length, take, drop, Option}
+-- What reading a script takes.
+use Rattle.std.specs.Prelude.{◌≡◌, ℕ, ◌+◌, ◌≤◌, List, drop, Option}
 use Rattle.std.specs.Option.{option_map}
 use Rattle.oz_draft.specs.declared.drafting.TheConstants.{MOST_BYTES}
 
@@ -16,9 +16,3 @@ pub record TakesUpTo (most : ℕ) (before after : Option (List ℕ)) : Type 0 wh
 -- what was left was read to its end, or to the limit
 abbrev pub IsReadThrough : Option (List ℕ) → Option (List ℕ) → Type 0
 IsReadThrough before after = after ≡ option_map (drop script_limit) before
-
--- a prefix of the bytes was written, perhaps none or all of them
-pub record HoldsPrefix (bytes : List ℕ) (before after : Option (List ℕ)) : Type 0 where
-  pub count : ℕ
-  pub within : count ≤ length bytes
-  pub held : after ≡ option_map (λ held. held ++ take count bytes) before

@@ -1,46 +1,42 @@
-//! What the bytes of a manager's disk stand for.
+//! What a run comes to that nothing disturbs, and what an empty disk opens as.
 
-ghost use Rattle.std.specs.Prelude.{◌≡◌, ◌≤◌, ℕ, List, length};
+ghost use Rattle.std.specs.Prelude.{◌≡◌, ◌⊎◌, ◌≤◌, ℕ, List, Some, length};
+ghost use Rattle.oz_cluster.specs.StatusCauses.{IsLoadedOf, StatusCauses};
+ghost use Rattle.oz_cluster.specs.Stopped.{IsScript};
+ghost use Rattle.oz_journal.specs.Grammar.{IsJournal};
+ghost use Rattle.oz_loaded.specs.Loads.{IsLoaded};
+ghost use Rattle.oz_loaded.specs.Unseated.{UnseatedView};
 ghost use Rattle.oz_namespace.specs.Namespace.{nothing};
-ghost use Rattle.oz_rows.specs.declared.entry.RowEntry.{RowEntry as AnyEntry};
-ghost use Rattle.oz_cluster.specs.Opens.{Loads, IsCoherent, Opens, IsDamagedDisk};
-ghost use Rattle.oz_cluster.specs.Story.{Opening};
-ghost use Rattle.oz_cluster.specs.Words.{IsRun, IsFirstFault};
+ghost use Rattle.oz_rows.specs.RowMaps.{row_of};
+ghost use Rattle.oz_sound.specs.Sound.{IsSoundButRenames};
+ghost use Rattle.oz_sound.specs.StandsFor.{StandsFor};
+ghost use Rattle.oz_words.specs.Words.{IsRun};
+ghost use Rattle.oz_world.specs.Faults.{Rose};
 
 use oz_build::bodies_make_one_thing;
-use oz_journal::bytes_stand_for_one_thing;
-use oz_sound::{no_rows_stand_for_nothing, rows_stand_for_one_namespace};
+use oz_loaded::a_disk_loads_as_one_thing;
+use oz_store::an_empty_store_is_one;
+use oz_words::words_of_a_run_have_no_fault;
 
-/// The bytes of a manager's disk open as one thing, or are damaged at one place.
-pub fn a_disk_opens_as_one_thing()
-    ensures one_opening { (bytes : List ℕ) (opening other : Opening) →
-        Opens bytes opening → Opens bytes other → opening ≡ other }
-    ensures loads_or_damaged { (bytes : List ℕ) (all : List AnyEntry) (index offset : ℕ) →
-        Loads bytes all index → IsDamagedDisk bytes offset → ⊥ }
-    ensures not_both { (bytes : List ℕ) (opening : Opening) (offset : ℕ) →
-        Opens bytes opening → IsDamagedDisk bytes offset → ⊥ }
-    ensures one_fault { (bytes : List ℕ) (offset other : ℕ) →
-        IsDamagedDisk bytes offset → IsDamagedDisk bytes other → offset ≡ other }
+/// Words and a script in their grammars, a manager's disk that loads, and no count of faults that rises: so a run is done,
+/// or there was no memory. The source has to tell its text, and the disk its bytes.
+pub fn a_run_that_nothing_disturbs_is_done()
+    ensures { (words : List (List ℕ)) (text bytes : List ℕ) (source source_after sink sink_after disk disk_after : ℕ)
+        (status : ℕ) → StatusCauses words (Some text) (Some bytes) (Rose source source_after) (Rose sink sink_after)
+        (Rose disk disk_after) status → IsRun words → IsScript (Some text) → IsLoadedOf bytes →
+        (Rose source source_after → ⊥) → (Rose sink sink_after → ⊥) → (Rose disk disk_after → ⊥) →
+        (status ≡ 0) ⊎ (status ≡ 7) }
 {
-    bytes_stand_for_one_thing();
-    bodies_make_one_thing();
-    rows_stand_for_one_namespace();
+    a_disk_loads_as_one_thing();
+    words_of_a_run_have_no_fault();
 }
 
-/// A disk of at most one byte opens as the namespace of nothing, with index 0. Whatever rows it is read as stand for
-/// nothing, and are sound.
+/// Of a disk of at most one byte rows are loaded that stand for the namespace of nothing and are sound, with index 0.
 pub fn an_empty_disk_opens_as_nothing()
-    ensures opens { (bytes : List ℕ) → length bytes ≤ 1 →
-        Opens bytes (record { namespace = nothing; index = 0 }) }
-    ensures coherent { (bytes : List ℕ) (all : List AnyEntry) (index : ℕ) → length bytes ≤ 1 →
-        Loads bytes all index → IsCoherent all nothing × (index ≡ 0) }
+    ensures { (bytes : List ℕ) (bodies : List (List ℕ)) (unseated : UnseatedView) → length bytes ≤ 1 →
+        IsJournal bytes bodies → (this : IsLoaded bodies unseated) → StandsFor (row_of this.all) nothing
+        × IsSoundButRenames (row_of this.all) × (unseated.last_index ≡ 0) }
 {
-    bytes_stand_for_one_thing();
+    an_empty_store_is_one();
     bodies_make_one_thing();
-    no_rows_stand_for_nothing();
 }
-
-/// Words that are a run have no fault.
-pub fn words_of_a_run_have_no_fault()
-    ensures { (words : List (List ℕ)) (place : ℕ) → IsRun words → IsFirstFault words place → ⊥ }
-{}

@@ -1,15 +1,13 @@
-//! The object store as one call: a script and disks go in, the story of what the manager decided comes out.
+//! The object store as one call: a script and disks go in, the story of all that happened comes out.
 #![tactic(auto)]
 
-mod asking;
-pub mod events;
-pub mod laws;
-mod manager;
-mod opening;
-pub mod report;
-pub mod run;
-pub mod status;
+mod laws;
 mod stop;
 mod streams;
-pub mod words;
-mod work;
+mod texts;
+mod top;
+
+pub use laws::{a_run_that_nothing_disturbs_is_done, an_empty_disk_opens_as_nothing};
+pub use oz_headline::Status;
+pub use oz_words::{Words, read_words};
+pub use top::{Disks, Ended, NodeDisks, run};

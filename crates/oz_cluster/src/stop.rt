@@ -4,20 +4,20 @@ ghost use Rattle.std.specs.Prelude.{◌≡◌, ◌⊎◌, ◌≤◌, ℕ, List a
 ghost use Rattle.std.specs.String.{string_bytes};
 ghost use Rattle.oz_world.specs.Faults.{Rose};
 ghost use Rattle.oz_cluster.specs.declared.stop.Stop.{Stop};
-ghost use Rattle.oz_cluster.specs.Stopped.{status_of, text_of, IsScriptOf, IsSo, Reads, Says};
+ghost use Rattle.oz_cluster.specs.Stopped.{IsScriptOf, IsSo, Reads, status_of, text_of};
+ghost use Rattle.oz_headline.specs.Printed.{Says};
 ghost use Rattle.oz_lines.specs.Numbered.{IsNumbered};
-ghost use Rattle.oz_placed.specs.Served.{later_index};
 ghost use Rattle.oz_cluster.specs.Streams.{script_limit, TakesUpTo, IsReadThrough};
-ghost use Rattle.oz_cluster.specs.Words.{IsRun};
+ghost use Rattle.oz_words.specs.Words.{IsRun, IsRunWith};
 
-use crate::report;
-use crate::status::Status;
 use crate::streams::{ReadFault, read_script, write_all};
-use crate::words::read_words;
+use crate::texts;
 use oz_draft::{Cause, ScriptFault};
 use oz_fields::OutOfMemory;
+use oz_headline::Status;
 use oz_lines::Script;
 use oz_script::parse;
+use oz_words::{Words, read_words};
 use oz_world::{Sink, Source};
 use std::alloc::Global;
 
@@ -55,12 +55,12 @@ impl Stop {
         ensures { IfOk result (λ text. text.items ≡ text_of self) }
     {
         match self {
-            Stop::Script { line, cause } => report::script_text(alloc, line, cause.text()),
-            Stop::Words { place } => report::words_text(alloc, place),
-            Stop::Read => Vec::from_slice(alloc, report::read_fault_text().as_bytes()),
-            Stop::Disk => Vec::from_slice(alloc, report::disk_fault_text().as_bytes()),
-            Stop::Damaged { offset } => report::damaged_text(alloc, offset),
-            Stop::OutOfMemory => Vec::from_slice(alloc, report::out_of_memory_text().as_bytes()),
+            Stop::Script { line, cause } => texts::script_text(alloc, line, cause.text()),
+            Stop::Words { place } => texts::words_text(alloc, place),
+            Stop::Read => Vec::from_slice(alloc, texts::read_fault_text().as_bytes()),
+            Stop::Disk => Vec::from_slice(alloc, texts::disk_fault_text().as_bytes()),
+            Stop::Damaged { offset } => texts::damaged_text(alloc, offset),
+            Stop::OutOfMemory => Vec::from_slice(alloc, texts::out_of_memory_text().as_bytes()),
         }
     }
 }
@@ -83,19 +83,26 @@ pub fn say_stop<K: Sink>(alloc: Global, out: &mut K, stop: Stop) -> Status
     ensures never_falls { K.faults out.old ≤ K.faults out.new }
 {
     let Ok(text) = stop.text(alloc) else {
-        say(out, report::out_of_memory_text().as_bytes());
+        say(out, texts::out_of_memory_text().as_bytes());
         return Status::OutOfMemory;
     };
     say(out, &text);
     stop.status()
 }
 
+/// What a run begins with.
+#[derive(Drop)]
+pub struct Begun {
+    pub script: Script,
+    pub workers: u8,
+}
+
 /// Reads the words, and then the script to its end.
-pub fn begin<S: Source>(alloc: Global, words: &[String], source: &mut S) -> Result<Script, Stop>
-    ensures words { IfOk result (λ _. IsRun (map string_bytes words.now)) }
-    ensures script { IfOk result (IsScriptOf (S.left source.old)) }
-    ensures numbered { IfOk result IsNumbered }
-    ensures served { IfOk result (λ script. later_index script.lines ≡ None) }
+pub fn begin<S: Source>(alloc: Global, words: &[String], source: &mut S) -> Result<Begun, Stop>
+    ensures words { IfOk result (λ begun. IsRunWith (map string_bytes words.now) begun.workers) }
+    ensures few { IfOk result (λ begun. (1 ≤ begun.workers) × (begun.workers ≤ 16)) }
+    ensures script { IfOk result (λ begun. IsScriptOf (S.left source.old) begun.script) }
+    ensures numbered { IfOk result (λ begun. IsNumbered begun.script) }
     ensures so { IfErr result (λ stop. (disk : Option (Items ℕ)) →
         IsSo (map string_bytes words.now) (S.left source.old) disk (Rose (S.faults source.old) (S.faults source.new))
         ⊥ stop) }
@@ -107,16 +114,17 @@ pub fn begin<S: Source>(alloc: Global, words: &[String], source: &mut S) -> Resu
     ensures unread { (IsRun (map string_bytes words.now) → ⊥) → source.new ≡ source.old }
     ensures never_falls { S.faults source.old ≤ S.faults source.new }
 {
-    if let Err(place) = read_words(words) {
-        return Err(Stop::Words { place });
-    }
+    let workers = match read_words(words) {
+        Ok(Words::Run { workers, .. }) => workers,
+        Err(place) => return Err(Stop::Words { place }),
+    };
     let text = match read_script(alloc, source) {
         Ok(text) => text,
         Err(ReadFault::Failed) => return Err(Stop::Read),
         Err(ReadFault::OutOfMemory) => return Err(Stop::OutOfMemory),
     };
     match parse(alloc, &text) {
-        Ok(script) => Ok(script),
+        Ok(script) => Ok(Begun { script, workers }),
         Err(ScriptFault::At { line, cause }) => Err(Stop::Script { line, cause }),
         Err(ScriptFault::OutOfMemory) => Err(Stop::OutOfMemory),
     }

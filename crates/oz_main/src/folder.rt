@@ -1,14 +1,13 @@
 //! The disks of a folder.
 
-ghost use Rattle.std.specs.Prelude.{List, ℕ, ◌≡◌, ◌<◌, [], ◌∷◌, ◌++◌, None, map, length, codes, vec_len, IfOk};
+ghost use Rattle.std.specs.Prelude.{List, ℕ, ◌≡◌, ◌∷◌, ◌++◌, None, map, codes, vec_len, IfOk};
 ghost use Rattle.std.specs.Prelude.{IsSomeAnd};
 ghost use Rattle.std.specs.String.{string_bytes};
-ghost use Rattle.oz_cluster.specs.Words.{IsRun};
+ghost use Rattle.oz_words.specs.Words.{IsRun};
 
 use crate::FileDisk;
-use oz_cluster::laws::words_of_a_run_have_no_fault;
-use oz_cluster::run::{Disks, NodeDisks};
-use oz_cluster::words::{Words, read_words};
+use oz_cluster::{Disks, NodeDisks};
+use oz_words::{Words, read_words, words_of_a_run_have_no_fault};
 use oz_world::OutOfMemory;
 use std::alloc::Global;
 use std::fs::File;
@@ -44,14 +43,14 @@ fn manager_for<'a, R: Files<File = File>>(
     words: &'a [String],
 ) -> Result<FileDisk<'a, R>, OutOfMemory>
     ensures untouched { IfOk result (λ disk. (IsRun (map string_bytes words.now) → ⊥) → disk.place ≡ None) }
-    ensures place { (dir : List ℕ) → map string_bytes words.now ≡ codes "run" ∷ dir ∷ [] → 0 < length dir →
-        IfOk result (λ disk. IsSomeAnd disk.place (λ place.
+    ensures place { (dir : List ℕ) (options : List (List ℕ)) → map string_bytes words.now ≡ codes "run" ∷ dir ∷ options →
+        IsRun (map string_bytes words.now) → IfOk result (λ disk. IsSomeAnd disk.place (λ place.
         (place.folder.now ≡ dir) × (string_bytes place.path ≡ dir ++ codes "/manager"))) }
     ensures unopened { IfOk result (λ disk. disk.file ≡ None) }
 {
     words_of_a_run_have_no_fault();
     match read_words(words) {
-        Ok(Words::Run { dir }) => manager_in(rt, alloc, &words[dir]),
+        Ok(Words::Run { dir, .. }) => manager_in(rt, alloc, &words[dir]),
         Err(_) => Ok(FileDisk::without_file()),
     }
 }
@@ -64,8 +63,8 @@ pub fn disks_for<'a, R: Files<File = File>>(
     words: &'a [String],
 ) -> Result<Disks<FileDisk<'a, R>>, OutOfMemory>
     ensures untouched { IfOk result (λ disks. (IsRun (map string_bytes words.now) → ⊥) → disks.manager.place ≡ None) }
-    ensures manager { (dir : List ℕ) → map string_bytes words.now ≡ codes "run" ∷ dir ∷ [] → 0 < length dir →
-        IfOk result (λ disks. IsSomeAnd disks.manager.place (λ place.
+    ensures manager { (dir : List ℕ) (options : List (List ℕ)) → map string_bytes words.now ≡ codes "run" ∷ dir ∷ options →
+        IsRun (map string_bytes words.now) → IfOk result (λ disks. IsSomeAnd disks.manager.place (λ place.
         (place.folder.now ≡ dir) × (string_bytes place.path ≡ dir ++ codes "/manager"))) }
     ensures unopened { IfOk result (λ disks. disks.manager.file ≡ None) }
     ensures scm { IfOk result (λ disks. (disks.scm.place ≡ None) × (disks.scm.file ≡ None)) }

@@ -3,7 +3,7 @@
 
 ghost use Rattle.std.specs.Prelude.{◌≡◌, ◌≤◌, map, IfOk, OnErr};
 ghost use Rattle.std.specs.String.{string_bytes};
-ghost use Rattle.oz_cluster.specs.Words.{IsRun};
+ghost use Rattle.oz_words.specs.Words.{IsRun};
 
 mod arguments;
 mod file_disk;
@@ -12,9 +12,8 @@ mod streams;
 
 use file_disk::FileDisk;
 use folder::{disks_for, let_go};
-use oz_cluster::laws::words_of_a_run_have_no_fault;
-use oz_cluster::run::{Ended, run};
-use oz_cluster::status::Status;
+use oz_cluster::{Ended, Status, run};
+use oz_words::words_of_a_run_have_no_fault;
 use oz_world::{OpenGate, OutOfMemory};
 use std::alloc::AllocGlobal;
 use std::fs::File;
@@ -22,18 +21,19 @@ use std::io::{Stdin, Stdout};
 use std::process::ExitCode;
 use std::rt::{Env, Files};
 use std::sync::Wait;
+use std::thread::Threads;
 use streams::{StdinSource, StdoutSink, take_closed_streams};
 
-const HELP: &str = "usage: ozone run DIR
+const HELP: &str = "usage: ozone run DIR [--workers N]
 Runs the script on standard input over the disks in the folder DIR, and prints the report.
-DIR must be there.
+DIR must be there. N threads, 1 to 16 and 4 if nothing is said, serve the clients of the script.
 ";
 
 const VERSION: &str = "ozone 0.1.0
 ";
 
 /// Runs the script over the disks in the folder that the words name, and answers the program's status.
-fn serve<R: Wait + AllocGlobal + Files<File = File>>(
+fn serve<R: Threads + Wait + Sync + AllocGlobal + Files<File = File>>(
     rt: &R,
     words: &[String],
     stdin: Stdin,
@@ -66,7 +66,7 @@ fn serve<R: Wait + AllocGlobal + Files<File = File>>(
 }
 
 /// Answers the two words that stand alone, and hands on all others.
-fn start<R: Wait + AllocGlobal + Env + Files<File = File>>(
+fn start<R: Threads + Wait + Sync + AllocGlobal + Env + Files<File = File>>(
     rt: &R,
     stdin: Stdin,
     stdout: Stdout,

@@ -1,0 +1,178 @@
+//! The top call.
+
+ghost use Rattle.std.specs.Prelude.{◌≡◌, ◌⊎◌, ◌≤◌, ℕ, [], map, false, true};
+ghost use Rattle.std.specs.String.{string_bytes};
+ghost use Rattle.oz_cluster.specs.Headline.{RunEnds};
+ghost use Rattle.oz_cluster.specs.StatusCauses.{StatusCauses};
+ghost use Rattle.oz_cluster.specs.Stopped.{as_stop};
+ghost use Rattle.oz_cluster.specs.Streams.{TakesUpTo, script_limit};
+ghost use Rattle.oz_headline.specs.Printed.{IsPrinted};
+ghost use Rattle.oz_headline.specs.Statuses.{status_number};
+ghost use Rattle.oz_words.specs.Words.{IsRun};
+ghost use Rattle.oz_world.specs.Disk.{seen};
+ghost use Rattle.oz_world.specs.Faults.{Rose};
+
+use crate::stop::{Begun, Stop, begin, say, say_stop};
+use crate::streams::write_all;
+use crate::texts;
+use oz_core::Event;
+use oz_disk_run::run_over_disk;
+use oz_headline::{Status, all_are_told_by_count};
+use oz_journal::LoadFault;
+use oz_lines::Script;
+use oz_loaded::a_disk_loads_as_one_thing;
+use oz_report::text;
+use oz_running::Ran;
+use oz_words::words_of_a_run_have_no_fault;
+use oz_world::{Disk, Gate, Sink, Source};
+use std::alloc::Global;
+use std::sync::Wait;
+use std::thread::Threads;
+
+/// How many datanodes a run has.
+const NODE_COUNT: u8 = 3;
+
+/// The disks of a datanode.
+#[derive(Drop)]
+pub struct NodeDisks<D> {
+    pub meta: D,
+    pub slots: D,
+}
+
+/// The disks of a run.
+#[derive(Drop)]
+pub struct Disks<D> {
+    pub manager: D,
+    pub scm: D,
+    pub nodes: Vec<NodeDisks<D>>,
+}
+
+/// What a run leaves: the program's status, what happened, and the disks.
+#[derive(Drop)]
+pub struct Ended<D> {
+    pub status: u8,
+    pub story: Vec<Event>,
+    pub disks: Disks<D>,
+}
+
+fn stop_of(fault: LoadFault) -> Stop
+    ensures { result ≡ as_stop fault }
+{
+    match fault {
+        LoadFault::Disk => Stop::Disk,
+        LoadFault::Damaged { offset } => Stop::Damaged { offset },
+        LoadFault::OutOfMemory => Stop::OutOfMemory,
+    }
+}
+
+/// Writes the report of a story, and answers how a run ends whose work went so.
+fn finish<K: Sink>(
+    alloc: Global,
+    out: &mut K,
+    script: &Script,
+    story: &[Event],
+    all_told: bool,
+    stopped: bool,
+) -> Status
+    ensures printed { IsPrinted result script.now story.now (K.held out.old) (K.held out.new)
+        (Rose (K.faults out.old) (K.faults out.new)) }
+    ensures done { result ≡ Status.Done → stopped ≡ false }
+    ensures disk { result ≡ Status.Disk → stopped ≡ true }
+    ensures told { (result ≡ Status.OutOfMemory) ⊎ (all_told ≡ true) }
+    ensures never_falls { K.faults out.old ≤ K.faults out.new }
+{
+    let Ok(report) = text(alloc, script.lines.items().len() as u64, story) else {
+        say(out, texts::out_of_memory_text().as_bytes());
+        return Status::OutOfMemory;
+    };
+    if !all_told {
+        say(out, &report);
+        return Status::OutOfMemory;
+    }
+    let Ok(()) = write_all(out, &report) else {
+        return Status::Unwritten;
+    };
+    if stopped { Status::Disk } else { Status::Done }
+}
+
+/// What a run leaves that something stopped before its work.
+fn ended_early<D>(alloc: Global, status: Status, disks: Disks<D>) -> Ended<D>
+    ensures status { result.status ≡ status_number status }
+    ensures story { result.story.items ≡ [] }
+    ensures disks { result.disks ≡ disks }
+{
+    Ended {
+        status: status.number(),
+        story: Vec::new(alloc),
+        disks,
+    }
+}
+
+/// Runs a script over disks: its lines are asked, decided, made stable and told by as many threads as the words say, those of
+/// one client one after another, and at last the report of all that happened is written. Statuses and texts stand in
+/// docs/SCRIPT.md. It waits for other threads.
+pub fn run<W: Threads + Wait + Sync, S: Source, K: Sink, D: Disk + Send, G: Gate + Sync>(
+    rt: &W,
+    alloc: Global,
+    words: &[String],
+    source: &mut S,
+    out: &mut K,
+    disks: Disks<D>,
+    gate: &G,
+) -> Ended<D>
+    ensures one_run { RunEnds (λ disk. seen (D.told disk) (D.clock disk) (D.image disk) (D.faults disk))
+        (map string_bytes words.now) (S.left source.old) (S.left source.new) disks result.disks
+        (K.held out.old) (K.held out.new) (Rose (K.faults out.old) (K.faults out.new)) result.story.items
+        (Rose (S.faults source.old) (S.faults source.new)) result.status }
+    ensures causes { StatusCauses (map string_bytes words.now) (S.left source.old) (D.told disks.manager)
+        (Rose (S.faults source.old) (S.faults source.new))
+        (Rose (K.faults out.old) (K.faults out.new))
+        (Rose (D.faults disks.manager) (D.faults result.disks.manager)) result.status }
+    ensures taken { TakesUpTo script_limit (S.left source.old) (S.left source.new) }
+
+    // Wrong words leave the source as it is.
+    ensures unread { (IsRun (map string_bytes words.now) → ⊥) → source.new ≡ source.old }
+
+    // Nothing touches the disks of the SCM and of the datanodes yet.
+    ensures scm { result.disks.scm ≡ disks.scm }
+    ensures nodes { result.disks.nodes ≡ disks.nodes }
+{
+    a_disk_loads_as_one_thing();
+    all_are_told_by_count();
+    words_of_a_run_have_no_fault();
+    let Begun { script, workers } = match begin(alloc, words, source) {
+        Ok(begun) => begun,
+        Err(stop) => return ended_early(alloc, say_stop(alloc, out, stop), disks),
+    };
+    let Disks {
+        manager,
+        scm,
+        nodes,
+    } = disks;
+    let ran = match run_over_disk(rt, alloc, gate, &script, manager, workers, NODE_COUNT) {
+        Ok(ran) => ran,
+        Err((manager, fault)) => {
+            let disks = Disks {
+                manager,
+                scm,
+                nodes,
+            };
+            return ended_early(alloc, say_stop(alloc, out, stop_of(fault)), disks);
+        }
+    };
+    let Ran {
+        story,
+        journal,
+        all_told,
+    } = ran;
+    let status = finish(alloc, out, &script, &story, all_told, journal.stopped());
+    Ended {
+        status: status.number(),
+        story,
+        disks: Disks {
+            manager: journal.into_disk(),
+            scm,
+            nodes,
+        },
+    }
+}

@@ -1,0 +1,141 @@
+-- What a run over what was loaded leaves.
+use Rattle.std.proofs.Common.{◌≡◌, inl, inr, ℕ, ◌<◌, ◌≤◌, Bool, true, false, List, [], ◌++◌, append-nil, Option, None, Some, IfSome, IsSome, IsSomeAnd, is_some, refl, sym, ◌∙◌, ap, subst, arith}
+use Rattle.std.specs.Prelude.{nat_lt}
+use Rattle.std.proofs.lemmas.Bool.{cases_lt, false≢true, lt-ltb, ltb-true}
+use Rattle.oz_core.specs.declared.event.Event.{Event}
+use Rattle.oz_core.specs.declared.opening.Opening.{Opening}
+use Rattle.oz_core.specs.Law.{IsLegal}
+use Rattle.oz_core.specs.Manager.{durable_index}
+use Rattle.oz_decision.specs.Meets.{AreInGrammar}
+use Rattle.oz_disk_run.specs.RunOver.{IsOneHistory, LoadingKeeps, OpensAs}
+use Rattle.oz_disk_run.specs.Shown.{ShowStore, bodies_shown, opening_shown, rows_shown}
+use Rattle.oz_disk_run.specs.Told.{IsTold}
+use Rattle.oz_disk_run.proofs.Bodies.{told_shows}
+use Rattle.oz_flusher.specs.Stops.{IsPrefix}
+use Rattle.oz_flusher.specs.Taken.{bodies_of}
+use Rattle.oz_journal.specs.Grammar.{IsJournal}
+use Rattle.oz_journal.specs.Load.{IsLeftAlone, IsLoadable, loaded_at}
+use Rattle.oz_lines.specs.declared.script.Script.{Script}
+use Rattle.oz_loaded.specs.Loads.{IsLoaded}
+use Rattle.oz_loaded.specs.Unseated.{UnseatedView}
+use Rattle.oz_namespace.specs.declared.namespace.Namespace.{Namespace}
+use Rattle.oz_names.specs.declared.limits.TheConstants.{STRIPES}
+use Rattle.oz_om.specs.Keeps.{HasRun}
+use Rattle.oz_opening.specs.Openings.{no_bytes, opening_over}
+use Rattle.oz_restored.specs.laws.Images.{front_opens, image_opens}
+use Rattle.oz_restored.specs.laws.Whole.{all_stood}
+use Rattle.oz_restored.specs.Opens.{StandUpTo}
+use Rattle.oz_restored.specs.Together.{AllStood, together}
+use Rattle.oz_rows.specs.RowMaps.{Rows, row_of}
+use Rattle.oz_sound.specs.Sound.{IsSoundButRenames}
+use Rattle.oz_sound.specs.StandsFor.{StandsFor}
+use Rattle.oz_standing.specs.Shown.{namespace_shown}
+use Rattle.oz_store.specs.Store.{IsStore}
+use Rattle.oz_world.specs.Disk.{Seen, TellsAsBefore}
+use Rattle.oz_world.specs.Moments.{Elapses, Spans}
+
+tells_still : (before after : Option (List ℕ)) → TellsAsBefore before after → IsSome before → IsSome after
+tells_still before None alike some = absurd (false≢true (ap (λ (o : Option (List ℕ)). is_some o) (sym (alike.1 refl)) ∙ some))
+tells_still before (Some bytes) alike some = refl
+
+opens_told : (opening : Opening) (story : List Event) (most : ℕ) (bodies : List (List ℕ)) (told : Option (List ℕ)) → IsSome told
+    → IfSome told (λ bytes. IsJournal bytes bodies) → StandUpTo opening story bodies most → IsSomeAnd told (λ left. OpensAs opening story left most)
+opens_told opening story most bodies None some journal stand = absurd (false≢true some)
+opens_told opening story most bodies (Some left) some journal stand = (bodies, journal, stand)
+
+-- ---- while the disk was loaded
+
+module _ (before mounted after : Seen) (time : Elapses mounted.clock after.clock mounted.image after.image) where
+  keeps : (bytes : List ℕ) → mounted.clock ≡ loaded_at before.clock bytes → Spans IsLeftAlone before.clock mounted.clock before.image mounted.image
+      → LoadingKeeps before bytes after.image
+  keeps bytes ended spans moment left from by h =
+      let within : moment ≤ mounted.clock = omega (arith, by, ended) in
+      let was = (time.kept moment left within).0 h in
+      elim (cases_lt before.clock moment) [
+        | inl later ↦ spans.made moment left later within was
+        | inr first ↦
+            let same : moment ≡ before.clock = omega (arith, first, from) in
+            let at_first = (spans.elapses.kept moment left (omega (arith, same))).0 was in
+            (left, subst (λ (n : ℕ). before.image n left) same at_first, inl refl)
+      ]
+
+  pub loading_keeps : (told : Option (List ℕ)) → IfSome told (λ bytes. mounted.clock ≡ loaded_at before.clock bytes)
+      → IfSome told (λ bytes. IsLoadable bytes (before.image before.clock) → Spans IsLeftAlone before.clock mounted.clock before.image mounted.image)
+      → IfSome told (λ bytes. IsLoadable bytes (before.image before.clock) → LoadingKeeps before bytes after.image)
+  loading_keeps None ended moments = tt
+  loading_keeps (Some bytes) ended moments = λ loadable. keeps bytes ended (moments loadable)
+
+-- ---- where the disks agree
+
+module _ {D : Type 0} (see : D → Seen) (script : Script) (nodes : ℕ) (before mounted after : D) (bodies : List (List ℕ)) (unseated : UnseatedView)
+    (this : IsLoaded bodies unseated) (rows_are : rows_shown unseated.parts ≡ row_of this.all)
+    (journal : IfSome (see mounted).told (λ bytes. IsJournal bytes bodies)) (telling : TellsAsBefore (see before).told (see mounted).told)
+    (seats : ℕ) (story : List Event) (stopped all_told : Bool) where
+  abbrev Told : Opening → Rows → Type 0
+  Told opening loaded = IsTold see (ShowStore unseated.parts) opening no_bytes (bodies_shown (see mounted).told) script (see mounted) loaded seats story stopped after all_told
+
+  module _ (namespace : Namespace) (shown : namespace_shown unseated.parts ≡ namespace) (stands : StandsFor (row_of this.all) namespace)
+      (sound : IsSoundButRenames (row_of this.all)) (store : IsStore (row_of this.all) (opening_over unseated namespace nodes) no_bytes)
+      (fit : AreInGrammar (row_of this.all)) (its : Told (opening_over unseated namespace nodes) (row_of this.all)) where
+    abbrev opening : Opening
+    opening = opening_over unseated namespace nodes
+
+    agree : ShowStore unseated.parts
+    agree = (
+      subst (λ (rows : Rows). StandsFor rows (namespace_shown unseated.parts)) (sym rows_are) (subst (StandsFor (row_of this.all)) (sym shown) stands),
+      subst IsSoundButRenames (sym rows_are) sound,
+    )
+
+    legal : IsLegal opening story
+    legal = (its.headline agree before [] (λ k other less. absurd (omega (arith, less)))).one_history.0
+
+    run_of : (stripe : ℕ) → (rows : Rows) × (stripe < STRIPES → HasRun opening (row_of this.all) story stripe rows)
+    run_of stripe = by (nat_lt stripe STRIPES) refl
+      where
+        by : (t : Bool) → nat_lt stripe STRIPES ≡ t → (rows : Rows) × (stripe < STRIPES → HasRun opening (row_of this.all) story stripe rows)
+        by true is = let run = its.run.stood agree stripe (ltb-true stripe STRIPES is) in (run.0, λ less. run.1)
+        by false is = (λ key. None, λ less. absurd (false≢true (sym is ∙ lt-ltb stripe STRIPES less)))
+
+    rows : ℕ → Rows
+    rows stripe = (run_of stripe).0
+
+    runs : (stripe : ℕ) → stripe < STRIPES → HasRun opening (row_of this.all) story stripe (rows stripe)
+    unfolding rows
+    runs stripe less = (run_of stripe).1 less
+
+    stood : AllStood opening (row_of this.all) story (together rows)
+    stood = all_stood opening no_bytes (row_of this.all) store fit story rows legal runs
+
+    some_mounted : IsSome (see before).told → IsSome (see mounted).told
+    some_mounted some = tells_still (see before).told (see mounted).told telling some
+
+    some_after : IsSome (see before).told → IsSome (see after).told
+    some_after some = tells_still (see mounted).told (see after).told its.run.kept.telling (some_mounted some)
+
+    shown_bodies : IsSome (see before).told → bodies_shown (see mounted).told ≡ bodies
+    shown_bodies some = told_shows (see mounted).told bodies (some_mounted some) journal
+
+    -- all that the story took opens as the store after all that is flushed
+    whole : stopped ≡ false → StandUpTo opening story (bodies ++ bodies_of story) (durable_index opening story)
+    whole running =
+        subst (StandUpTo opening story (bodies ++ bodies_of story)) (its.all_flushed agree running)
+        (front_opens opening (row_of this.all) bodies this.all this.builds refl story legal (together rows) stood story [] (sym (append-nil story)))
+
+    pub one_history : IsOneHistory see script opening (see mounted).faults (see mounted).clock before after stopped story
+    one_history = record {
+      headline = λ others apart. its.headline agree before others apart;
+      stops = λ some moment left from by h.
+          image_opens opening (row_of this.all) bodies this.all this.builds refl story legal (together rows) stood moment left
+          (subst (λ (l : List (List ℕ)). IsPrefix l story moment left) (shown_bodies some) (its.run.kept.stops agree (some_after some) moment left from by h));
+      reopens = λ running some.
+          opens_told opening story (durable_index opening story) (bodies ++ bodies_of story) (see after).told (some_after some)
+          (subst (λ (l : List (List ℕ)). IfSome (see after).told (λ bytes. IsJournal bytes (l ++ bodies_of story))) (shown_bodies some) (its.run.kept.journal agree running))
+          (whole running);
+    }
+
+  -- what the rows and the namespace show is what they are
+  pub told_of : (namespace : Namespace) → namespace_shown unseated.parts ≡ namespace → Told (opening_shown unseated nodes) (rows_shown unseated.parts)
+      → Told (opening_over unseated namespace nodes) (row_of this.all)
+  told_of namespace shown told =
+      subst (λ (n : Namespace). Told (opening_over unseated n nodes) (row_of this.all)) shown
+      (subst (λ (loaded : Rows). Told (opening_shown unseated nodes) loaded) rows_are told)

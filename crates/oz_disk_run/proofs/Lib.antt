@@ -1,0 +1,4 @@
+mod Bodies
+mod History
+mod Opened
+mod Rows

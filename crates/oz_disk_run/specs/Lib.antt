@@ -1,0 +1,3 @@
+pub mod RunOver
+pub mod Shown
+pub mod Told

@@ -1,7 +1,7 @@
 //! `ozone`, the program: its words, real files for disks, and the standard streams.
 #![tactic(auto)]
 
-ghost use Rattle.std.specs.Prelude.{◌≡◌, ◌≤◌, map, IfOk, OnErr};
+ghost use Rattle.std.specs.Prelude.{◌≡◌, ◌≤◌, map};
 ghost use Rattle.std.specs.String.{string_bytes};
 ghost use Rattle.oz_words.specs.Words.{IsRun};
 
@@ -12,14 +12,12 @@ mod streams;
 
 use file_disk::FileDisk;
 use folder::{disks_for, let_go};
-use oz_cluster::{Ended, Status, run};
+use oz_cluster::{Disks, Ended, Status, run};
 use oz_words::words_of_a_run_have_no_fault;
-use oz_world::{OpenGate, OutOfMemory};
-use std::alloc::AllocGlobal;
-use std::fs::File;
+use oz_world::{Disk, OpenGate};
+use std::alloc::Global;
 use std::io::{Stdin, Stdout};
 use std::process::ExitCode;
-use std::rt::{Env, Files};
 use std::sync::Wait;
 use std::thread::Threads;
 use streams::{StdinSource, StdoutSink, take_closed_streams};
@@ -32,66 +30,56 @@ DIR must be there. N threads, 1 to 16 and 4 if nothing is said, serve the client
 const VERSION: &str = "ozone 0.1.0
 ";
 
-/// Runs the script over the disks in the folder that the words name, and answers the program's status.
-fn serve<R: Threads + Wait + Sync + AllocGlobal + Files<File = File>>(
+/// Runs the script over these disks, and answers the program's status, with the disks as the run left them.
+fn serve<D: Disk + Drop + Send, R: Threads + Wait + Sync>(
     rt: &R,
+    alloc: Global,
     words: &[String],
     stdin: Stdin,
     stdout: Stdout,
-) -> Result<u8, OutOfMemory>
-    ensures known { IfOk result (λ status. status ≤ 7) }
-    ensures refused { IfOk result (λ status. status ≡ 2 → IsRun (map string_bytes words.now) → ⊥) }
-    ensures served { IfOk result (λ status. status ≡ 0 → IsRun (map string_bytes words.now)) }
+    disks: Disks<D>,
+) -> (u8, Disks<D>)
+    ensures known { result.0 ≤ 7 }
+    ensures refused { result.0 ≡ 2 → IsRun (map string_bytes words.now) → ⊥ }
+    ensures served { result.0 ≡ 0 → IsRun (map string_bytes words.now) }
 {
     words_of_a_run_have_no_fault();
-    let _closed = take_closed_streams(rt);
-    let disks = disks_for(rt, rt.alloc(), words)?;
     let mut source = StdinSource::new(stdin);
     let mut out = StdoutSink::new(stdout);
     let Ended {
         status,
         story: _,
         disks,
-    } = run(
-        rt,
-        rt.alloc(),
-        words,
-        &mut source,
-        &mut out,
-        disks,
-        &OpenGate,
-    );
-    let_go(disks);
-    Ok(status)
+    } = run(rt, alloc, words, &mut source, &mut out, disks, &OpenGate);
+    (status, disks)
 }
 
-/// Answers the two words that stand alone, and hands on all others.
-fn start<R: Threads + Wait + Sync + AllocGlobal + Env + Files<File = File>>(
-    rt: &R,
-    stdin: Stdin,
-    stdout: Stdout,
-) -> Result<u8, OutOfMemory>
-    ensures { IfOk result (λ status. status ≤ 7) }
+/// The status of a program that finds no memory for its words or its disks.
+fn no_memory() -> u8
+    ensures { result ≡ 7 }
 {
-    let words = arguments::words(rt, rt.alloc())?;
-    match &words[..] {
-        [word] if word.as_str() == "--help" => Ok(StdoutSink::new(stdout).tell(HELP)),
-        [word] if word.as_str() == "--version" => Ok(StdoutSink::new(stdout).tell(VERSION)),
-        _ => serve(rt, &words, stdin, stdout),
-    }
+    Status::OutOfMemory.number()
 }
 
-/// The status that the program ends with.
-fn exit_status(started: Result<u8, OutOfMemory>) -> u8
-    ensures started { IfOk started (λ status. result ≡ status) }
-    ensures no_memory { OnErr started (result ≡ 7) }
-{
-    match started {
-        Ok(status) => status,
-        Err(_) => Status::OutOfMemory.number(),
-    }
-}
-
+/// Answers the two words that stand alone, and runs all others over the disks in the folder that they name.
 fn main(rt: HostRuntime) -> ExitCode {
-    ExitCode::from(exit_status(start(&rt, rt.stdin(), rt.stdout())))
+    let Ok(words) = arguments::words(&rt, rt.alloc()) else {
+        return ExitCode::from(no_memory());
+    };
+    match &words[..] {
+        [word] if word.as_str() == "--help" => {
+            return ExitCode::from(StdoutSink::new(rt.stdout()).tell(HELP));
+        }
+        [word] if word.as_str() == "--version" => {
+            return ExitCode::from(StdoutSink::new(rt.stdout()).tell(VERSION));
+        }
+        _ => {}
+    }
+    let _closed = take_closed_streams(&rt);
+    let Ok(disks) = disks_for(&rt, rt.alloc(), &words) else {
+        return ExitCode::from(no_memory());
+    };
+    let (status, disks) = serve(&rt, rt.alloc(), &words, rt.stdin(), rt.stdout(), disks);
+    let_go(disks);
+    ExitCode::from(status)
 }

@@ -34,9 +34,9 @@ mod tests {
             ),
             (
                 "a volume info /v\nb after a 1 volume info /v\na after b 1 volume info /v",
-                "2 later",
+                "3 of 2",
             ),
-            ("a volume info /v\na after a 1 volume info /v", "2 later"),
+            ("a volume info /v\na after a 1 volume info /v", "2 of 1"),
         ] {
             assert_parsed(&rt, rt.alloc(), script.as_bytes(), want)?;
         }
@@ -58,8 +58,11 @@ mod tests {
                 "2 circle",
             ),
             ("a admin close\nb volume info /v", "1 later"),
-            ("a volume info /v\nb volume info /v", "2 later"),
+            ("a volume info /v\nb volume info /v", "2 of 2"),
             ("a volume info /v\na key put /v/b/k text x", "2 later"),
+            ("a key put /v/b/k fill 1 0\na key get /v/b/k", "2 of 1"),
+            ("a key list /v/b\na snapshot list /v/b", "2 later"),
+            ("a key get /v/b/.snapshot/s/k", "1 later"),
             (
                 "a volume create /v\na bucket create /v/b\na bucket list /v\n",
                 "3 of 1",

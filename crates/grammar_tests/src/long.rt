@@ -18,7 +18,7 @@ mod tests {
     #[test]
     fn sixty_four_clients(rt: HostRuntime) -> Result<(), Fail> {
         let mut script = clients(rt.alloc(), 64)?;
-        assert_parsed(&rt, rt.alloc(), script.as_slice(), "2 later")?;
+        assert_parsed(&rt, rt.alloc(), script.as_slice(), "64 of 64")?;
         script.extend_from_slice(b"c9 admin close\n#\nd admin close")?;
         assert_parsed(&rt, rt.alloc(), script.as_slice(), "67 many")?;
         script.extend_from_slice(b"s")?;
@@ -44,11 +44,11 @@ mod tests {
     #[test]
     fn a_zigzag_is_no_circle(rt: HostRuntime) -> Result<(), Fail> {
         let mut script = zigzag(rt.alloc())?;
-        assert_parsed(&rt, rt.alloc(), script.as_slice(), "1 later")?;
+        assert_parsed(&rt, rt.alloc(), script.as_slice(), "127 of 64")?;
         script.extend_from_slice(
             b"c0 after c63 2 volume info /v\nc63 after c63 2 volume info /v\n",
         )?;
-        assert_parsed(&rt, rt.alloc(), script.as_slice(), "1 later")?;
+        assert_parsed(&rt, rt.alloc(), script.as_slice(), "129 of 64")?;
         script.extend_from_slice(b"c31 after c0 3 volume info /v\nc0 after c31 3 volume info /v")?;
         assert_parsed(&rt, rt.alloc(), script.as_slice(), "130 circle")?;
         Ok(())

@@ -3,11 +3,12 @@
 #[cfg(test)]
 mod tests {
     use crate::hex::disk_with;
-    use crate::memory_run::{NEVER, runs, serves};
+    use crate::memory_run::{NEVER, RUNS, runs, serves};
     use oz_world::OutOfMemory;
     use std::process::Abort;
     use std::sync::Wait;
     use std::test::Fail;
+    use std::thread::Threads;
 
     /// The volume `vol1` with the bucket `bk1`, in a body of 30 bytes.
     const ONE_BUCKET: &str = "01 0000000000000001 01010004766f6c31 01020004766f6c310003626b31";
@@ -75,8 +76,8 @@ mod tests {
         ),
     ];
 
-    /// A run over a disk with these bodies finds it damaged at this place, and leaves it as it is.
-    fn is_refused_at<R: Wait + Abort + AllocGlobal>(
+    /// Runs over a disk with these bodies find it damaged at this place, and leave it as it is.
+    fn is_refused_at<R: Threads + Wait + Abort + Sync + AllocGlobal>(
         rt: &R,
         what: &str,
         bodies: &[&str],
@@ -85,11 +86,13 @@ mod tests {
         let alloc = rt.alloc();
         let disk = disk_with(alloc, bodies)?;
         let wanted = format!(in alloc; "damaged manager at {at}\n")?;
-        let left = runs(rt, "run,.", b"a volume create /vol3\n", &disk, NEVER)?;
-        let text = left.text.as_str();
-        assert!(rt; left.status == 6, "{what}: {text}");
-        assert!(rt; text == wanted.as_str(), "{what}: {text}");
-        assert!(rt; left.disk.as_slice() == disk.as_slice(), "{what}");
+        for words in RUNS {
+            let left = runs(rt, words, b"a volume create /vol3\n", &disk, NEVER)?;
+            let text = left.text.as_str();
+            assert!(rt; left.status == 6, "{what}: {text}");
+            assert!(rt; text == wanted.as_str(), "{what}: {text}");
+            assert!(rt; left.disk.as_slice() == disk.as_slice(), "{what}");
+        }
         Ok(())
     }
 
@@ -185,7 +188,7 @@ mod tests {
     ];
 
     /// The deletion of a bucket with such a body is told this, and is written only where it is told `OK`.
-    fn deletion_is_told<R: Wait + Abort + AllocGlobal>(
+    fn deletion_is_told<R: Threads + Wait + Abort + Sync + AllocGlobal>(
         rt: &R,
         body: &str,
         reply: &str,

@@ -9,6 +9,7 @@ mod tests {
     use std::process::Abort;
     use std::sync::Wait;
     use std::test::Fail;
+    use std::thread::Threads;
 
     #[test]
     fn a_volume_and_a_bucket_come_and_go(rt: HostRuntime) -> Result<(), Fail> {
@@ -132,7 +133,7 @@ mod tests {
     }
 
     /// A volume with so many buckets is made, and then one bucket more than it may have is asked for.
-    fn is_filled<R: Wait + Abort + AllocGlobal>(
+    fn is_filled<R: Threads + Wait + Abort + Sync + AllocGlobal>(
         rt: &R,
         most: u64,
         asked: u64,

@@ -2,25 +2,27 @@
 
 #[cfg(test)]
 mod tests {
-    use crate::memory_run::{NEVER, ONE, runs_past};
-    use oz_world::{Gate, Point};
-    use std::cell::Cell;
+    use crate::memory_run::{NEVER, ONE, RUNS, runs_past};
+    use oz_world::{Gate, OutOfMemory, Point};
+    use std::process::Abort;
     use std::sync::Wait;
+    use std::sync::atomic::{AtomicU64, Ordering};
     use std::test::Fail;
+    use std::thread::Threads;
 
     /// A gate that counts who passes it.
     #[derive(Drop)]
     struct CountingGate {
         /// The flusher, before it writes to the manager's journal.
-        flusher: Cell<u64>,
-        others: Cell<u64>,
+        flusher: AtomicU64,
+        others: AtomicU64,
     }
 
     impl CountingGate {
         fn new() -> CountingGate {
             CountingGate {
-                flusher: Cell::new(0),
-                others: Cell::new(0),
+                flusher: AtomicU64::new(0),
+                others: AtomicU64::new(0),
             }
         }
     }
@@ -32,31 +34,45 @@ mod tests {
             } else {
                 &self.others
             };
-            passes.set(passes.get().saturating_add(1));
+            passes.fetch_add(1, Ordering::SeqCst);
         }
     }
 
-    /// The flusher passes once before each write of a batch, and nobody else passes.
+    /// In a run with these words over a disk with one volume, the flusher passes so often, and nobody else does.
+    fn is_passed<R: Threads + Wait + Abort + Sync + AllocGlobal>(
+        rt: &R,
+        words: &str,
+        script: &str,
+        wanted: u64,
+    ) -> Result<(), OutOfMemory> {
+        let gate = CountingGate::new();
+        runs_past(rt, &gate, words, script.as_bytes(), &ONE, NEVER)?;
+        let flusher = gate.flusher.load(Ordering::SeqCst);
+        assert_eq!(rt; flusher, wanted, "{words} of {script:?}");
+        let others = gate.others.load(Ordering::SeqCst);
+        assert_eq!(rt; others, 0, "{words} of {script:?}");
+        Ok(())
+    }
+
+    /// The flusher passes once before each write of a batch, and each change of one client is a batch of its own.
     #[test]
     fn the_flusher_passes_once_a_batch(rt: HostRuntime) -> Result<(), Fail> {
-        for (words, script, wanted) in [
-            ("run,.", "", 0),
-            ("run,.", "a volume info /abc\n", 0),
-            ("run,.", "a volume create /vol1\n", 0),
-            ("run,.", "a volume create /abc\n", 1),
+        for (script, wanted) in [
+            ("", 0),
+            ("a volume info /abc\n", 0),
+            ("a volume create /vol1\n", 0),
+            ("a volume create /abc\n", 1),
             (
-                "run,.",
                 "a volume create /abc\na volume info /abc\na volume delete /abc\n",
                 2,
             ),
-            ("run", "a volume create /abc\n", 0),
-            ("run,.", "a volume create\n", 0),
+            ("a volume create\n", 0),
         ] {
-            let gate = CountingGate::new();
-            runs_past(&rt, &gate, words, script.as_bytes(), &ONE, NEVER)?;
-            assert_eq!(rt; gate.flusher.get(), wanted, "of {script:?}");
-            assert_eq!(rt; gate.others.get(), 0, "of {script:?}");
+            for words in RUNS {
+                is_passed(&rt, words, script, wanted)?;
+            }
         }
+        is_passed(&rt, "run", "a volume create /abc\n", 0)?;
         Ok(())
     }
 }

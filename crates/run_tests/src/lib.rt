@@ -14,8 +14,6 @@ mod limits;
 #[cfg(test)]
 mod memory_run;
 #[cfg(test)]
-mod report;
-#[cfg(test)]
 mod run;
 #[cfg(test)]
 mod script;

@@ -2,7 +2,7 @@
 
 #[cfg(test)]
 mod tests {
-    use crate::memory_run::{NEVER, runs};
+    use crate::memory_run::{NEVER, RUNS, runs};
     use oz_lines::MOST_LINES;
     use oz_names::{LONGEST_NAME, MOST_BUCKETS};
     use oz_world::OutOfMemory;
@@ -51,9 +51,11 @@ mod tests {
     #[test]
     fn the_longest_script_is_served(rt: HostRuntime) -> Result<(), Fail> {
         let (script, report) = longest(rt.alloc())?;
-        let left = runs(&rt, "run,.", script.as_bytes(), &[], NEVER)?;
-        assert_eq!(rt; left.status, 0);
-        assert!(rt; left.text.as_str() == report.as_str());
+        for words in RUNS {
+            let left = runs(&rt, words, script.as_bytes(), &[], NEVER)?;
+            assert_eq!(rt; left.status, 0, "{words}");
+            assert!(rt; left.text.as_str() == report.as_str(), "{words}");
+        }
         Ok(())
     }
 }

@@ -1,10 +1,18 @@
 //! Runs over streams and disks in memory.
 
-use oz_cluster::run::{Disks, run};
+use oz_cluster::{Disks, run};
 use oz_world::{Gate, MemoryDisk, MemorySink, MemorySource, OpenGate, OutOfMemory};
 use std::alloc::Global;
 use std::process::Abort;
 use std::sync::Wait;
+use std::thread::Threads;
+
+/// The words of runs by one worker, by four and by sixteen.
+pub const RUNS: [&str; 3] = [
+    "run,.,--workers,1",
+    "run,.,--workers,4",
+    "run,.,--workers,16",
+];
 
 /// The most bytes that a disk holds.
 const ROOM: u64 = 1_048_576;
@@ -52,7 +60,7 @@ fn disk_of(alloc: Global, bytes: &[u8], fails: u64) -> Result<MemoryDisk, OutOfM
 }
 
 /// What a run with these words leaves of a disk, where some calls fail.
-pub fn runs<R: Wait + AllocGlobal>(
+pub fn runs<R: Threads + Wait + Sync + AllocGlobal>(
     rt: &R,
     words: &str,
     script: &[u8],
@@ -63,7 +71,7 @@ pub fn runs<R: Wait + AllocGlobal>(
 }
 
 /// The same, where the run passes this gate.
-pub fn runs_past<R: Wait + AllocGlobal, G: Gate>(
+pub fn runs_past<R: Threads + Wait + Sync + AllocGlobal, G: Gate + Sync>(
     rt: &R,
     gate: &G,
     words: &str,
@@ -88,21 +96,28 @@ pub fn runs_past<R: Wait + AllocGlobal, G: Gate>(
     })
 }
 
-/// A run in which no call fails writes this. The answer is what the disk then holds.
-pub fn writes<R: Wait + Abort + AllocGlobal>(
+/// Runs in which no call fails write this, by however many workers, and end well. The answer is what the disk then holds.
+pub fn writes<R: Threads + Wait + Abort + Sync + AllocGlobal>(
     rt: &R,
     script: &str,
     disk: &[u8],
     wanted: &str,
 ) -> Result<Vec<u8>, OutOfMemory> {
-    let Left { status, text, disk } = runs(rt, "run,.", script.as_bytes(), disk, NEVER)?;
-    assert_eq!(rt; text.as_str(), wanted, "of {script:?}");
-    assert_eq!(rt; status, 0, "of {script:?}");
-    Ok(disk)
+    let mut kept: Option<Vec<u8>> = None;
+    for words in RUNS {
+        let Left { status, text, disk } = runs(rt, words, script.as_bytes(), disk, NEVER)?;
+        assert_eq!(rt; text.as_str(), wanted, "{words} of {script:?}");
+        assert_eq!(rt; status, 0, "{words} of {script:?}");
+        if let Some(before) = &kept {
+            assert!(rt; disk == *before, "{words} of {script:?}");
+        }
+        kept = Some(disk);
+    }
+    Ok(kept.unwrap_or(Vec::new(rt.alloc())))
 }
 
 /// A run with these words leaves this, where some calls fail: its status, its text and its disk.
-pub fn leaves<R: Wait + Abort + AllocGlobal>(
+pub fn leaves<R: Threads + Wait + Abort + Sync + AllocGlobal>(
     rt: &R,
     words: &str,
     script: &[u8],
@@ -110,15 +125,25 @@ pub fn leaves<R: Wait + Abort + AllocGlobal>(
     fails: FailingCalls,
     wanted: (u8, &str, &[u8]),
 ) -> Result<(), OutOfMemory> {
-    let alloc = rt.alloc();
     let (status, text, kept) = wanted;
-    let wanted = Left {
-        status,
-        text: String::from_str(alloc, text)?,
-        disk: kept.to_vec(alloc)?,
-    };
-    let found = runs(rt, words, script, disk, fails)?;
-    assert_eq!(rt; found, wanted);
+    let left = runs(rt, words, script, disk, fails)?;
+    assert_eq!(rt; left.status, status, "of {words}");
+    assert_eq!(rt; left.text.as_str(), text, "of {words}");
+    assert!(rt; left.disk.as_slice() == kept, "{words} leaves {disk:?}");
+    Ok(())
+}
+
+/// The same, by however many workers.
+pub fn all_leave<R: Threads + Wait + Abort + Sync + AllocGlobal>(
+    rt: &R,
+    script: &[u8],
+    disk: &[u8],
+    fails: FailingCalls,
+    wanted: (u8, &str, &[u8]),
+) -> Result<(), OutOfMemory> {
+    for words in RUNS {
+        leaves(rt, words, script, disk, fails, wanted)?;
+    }
     Ok(())
 }
 
@@ -136,9 +161,9 @@ fn report_of(alloc: Global, lines: &[(&str, &str, &str)]) -> Result<String, OutO
     Ok(text)
 }
 
-/// A run in which no call fails has these requests, replies and answers, one for each line of its script. The
-/// answer is what the disk then holds.
-pub fn serves<R: Wait + Abort + AllocGlobal>(
+/// Runs in which no call fails have these requests, replies and answers, one for each line of the script, by however
+/// many workers. The answer is what the disk then holds.
+pub fn serves<R: Threads + Wait + Abort + Sync + AllocGlobal>(
     rt: &R,
     script: &str,
     disk: &[u8],

@@ -2,11 +2,12 @@
 
 #[cfg(test)]
 mod tests {
-    use crate::memory_run::{FailingCalls, NEVER, ONE, leaves, runs, writes};
+    use crate::memory_run::{FailingCalls, NEVER, ONE, RUNS, all_leave, leaves, runs, writes};
     use oz_world::OutOfMemory;
     use std::process::Abort;
     use std::sync::Wait;
     use std::test::Fail;
+    use std::thread::Threads;
 
     #[test]
     fn an_empty_script_over_an_empty_disk(rt: HostRuntime) -> Result<(), Fail> {
@@ -75,7 +76,7 @@ mod tests {
     }
 
     /// A volume of this name is made, or the name is refused.
-    fn named<R: Wait + Abort + AllocGlobal>(
+    fn named<R: Threads + Wait + Abort + Sync + AllocGlobal>(
         rt: &R,
         name: &str,
         is_name: bool,
@@ -122,6 +123,10 @@ mod tests {
             ("run", "words 2\n"),
             ("run,", "words 2\n"),
             ("run,.,extra", "words 3\n"),
+            ("run,.,--workers", "words 4\n"),
+            ("run,.,--workers,0", "words 4\n"),
+            ("run,.,--workers,17", "words 4\n"),
+            ("run,.,--workers,4,extra", "words 5\n"),
             ("walk,.", "words 1\n"),
         ] {
             let script = b"a volume create /abc\n";
@@ -136,8 +141,19 @@ mod tests {
         for (script, text) in [
             ("a volume create v", "script 1 form\n"),
             ("a volume create /vol1\n\n#\nx\n", "script 4 form\n"),
-            ("a volume create /v\nb volume info /v\n", "script 2 later\n"),
-            ("a volume create /v\na key get /v/b/k\n", "script 2 later\n"),
+            ("a volume create /v\nb admin close\n", "script 2 later\n"),
+            (
+                "a volume create /v\na key put /v/b/k text abc\n",
+                "script 2 later\n",
+            ),
+            (
+                "a volume create /v\na key get /v/b/.snapshot/s01/k\n",
+                "script 2 later\n",
+            ),
+            (
+                "a snapshot create /v/b s01\na admin close\n",
+                "script 1 later\n",
+            ),
             (
                 "a after b 1 volume info /v\nb after a 1 volume info /v\n",
                 "script 1 circle\n",
@@ -145,8 +161,8 @@ mod tests {
             ("a after b 1 volume info /v\n", "script 1 after\n"),
         ] {
             let script = script.as_bytes();
-            leaves(&rt, "run,.", script, &[], NEVER, (1, text, &[]))?;
-            leaves(&rt, "run,.", script, &ONE, NEVER, (1, text, &ONE))?;
+            all_leave(&rt, script, &[], NEVER, (1, text, &[]))?;
+            all_leave(&rt, script, &ONE, NEVER, (1, text, &ONE))?;
         }
         Ok(())
     }
@@ -156,30 +172,16 @@ mod tests {
         let alloc = rt.alloc();
         let most = vec![in alloc; b'#'; 1_048_576]?;
         let wanted = (0, "story 1\nend 0 of 0\n", [0].as_slice());
-        leaves(&rt, "run,.", &most, &[], NEVER, wanted)?;
+        all_leave(&rt, &most, &[], NEVER, wanted)?;
         for size in [1_048_577, 1_048_578, 1_200_000] {
             let script = vec![in alloc; b'#'; size]?;
-            leaves(
-                &rt,
-                "run,.",
-                &script,
-                &[],
-                NEVER,
-                (1, "script 0 long\n", &[]),
-            )?;
+            all_leave(&rt, &script, &[], NEVER, (1, "script 0 long\n", &[]))?;
         }
         let mut script = Vec::new(alloc);
         for _ in 0..4_097 {
             script.extend_from_slice(b"a volume info /v\n")?;
         }
-        leaves(
-            &rt,
-            "run,.",
-            &script,
-            &[],
-            NEVER,
-            (1, "script 4097 many\n", &[]),
-        )?;
+        all_leave(&rt, &script, &[], NEVER, (1, "script 4097 many\n", &[]))?;
         Ok(())
     }
 
@@ -196,7 +198,7 @@ mod tests {
             (&ONE[..22], "damaged manager at 22\n"),
         ] {
             let script = b"a volume create /abc\n";
-            leaves(&rt, "run,.", script, disk, NEVER, (6, text, disk))?;
+            all_leave(&rt, script, disk, NEVER, (6, text, disk))?;
         }
         Ok(())
     }
@@ -209,15 +211,8 @@ mod tests {
                 ..NEVER
             };
             let script = b"a volume create /vol1\n";
-            leaves(&rt, "run,.", script, &[], fails, (3, "read fault\n", &[]))?;
-            leaves(
-                &rt,
-                "run,.",
-                b"x",
-                &[1, 0],
-                fails,
-                (3, "read fault\n", &[1, 0]),
-            )?;
+            all_leave(&rt, script, &[], fails, (3, "read fault\n", &[]))?;
+            all_leave(&rt, b"x", &[1, 0], fails, (3, "read fault\n", &[1, 0]))?;
             leaves(&rt, "run", script, &[], fails, (2, "words 2\n", &[]))?;
         }
         Ok(())
@@ -227,17 +222,17 @@ mod tests {
     fn a_sink_that_fails(rt: HostRuntime) -> Result<(), Fail> {
         let fails = FailingCalls { sink: 1, ..NEVER };
         let script = b"a volume create /vol1\n";
-        for (words, script, disk, status, kept) in [
-            ("run,.", script.as_slice(), [].as_slice(), 4, ONE.as_slice()),
-            ("run,.", b"", &ONE, 4, &ONE),
-            ("run", b"", &ONE, 2, &ONE),
-            ("run,.", b"x", &ONE, 1, &ONE),
-            ("run,.", b"", &[1, 0], 6, &[1, 0]),
+        for (script, disk, status, kept) in [
+            (script.as_slice(), [].as_slice(), 4, ONE.as_slice()),
+            (b"", &ONE, 4, &ONE),
+            (b"x", &ONE, 1, &ONE),
+            (b"", &[1, 0], 6, &[1, 0]),
         ] {
-            leaves(&rt, words, script, disk, fails, (status, "", kept))?;
+            all_leave(&rt, script, disk, fails, (status, "", kept))?;
         }
+        leaves(&rt, "run", b"", &ONE, fails, (2, "", &ONE))?;
         let both = FailingCalls { disk: 7, ..fails };
-        leaves(&rt, "run,.", script, &[], both, (4, "", &ONE))?;
+        all_leave(&rt, script, &[], both, (4, "", &ONE))?;
         Ok(())
     }
 
@@ -257,51 +252,54 @@ mod tests {
                 ..NEVER
             };
             let script = b"a volume create /vol1\n";
-            leaves(&rt, "run,.", script, disk, fails, (5, text, kept))?;
-            leaves(
-                &rt,
-                "run,.",
-                b"x",
-                disk,
-                fails,
-                (1, "script 1 form\n", disk),
-            )?;
+            all_leave(&rt, script, disk, fails, (5, text, kept))?;
+            all_leave(&rt, b"x", disk, fails, (1, "script 1 form\n", disk))?;
         }
+        Ok(())
+    }
+
+    /// What is printed where the manager's disk fails over the second line of the script in `fails_in_the_work`.
+    const HALTED: &str = "story 1\n\
+        d 1 1 1 InfoVolume VOLUME_NOT_FOUND\n\
+        t 1 1 VOLUME_NOT_FOUND\n\
+        d 1 2 1 CreateVolume OK\n\
+        h manager 1\n\
+        t 1 2 UNACKNOWLEDGED\n\
+        t 1 3 MANAGER_STOPPED\n\
+        end 3 of 3\n";
+
+    /// In a run with these words the call number `call` of the disk fails, and the next runs reply this of the volume.
+    fn fails_in_the_work<R: Threads + Wait + Abort + Sync + AllocGlobal>(
+        rt: &R,
+        words: &str,
+        call: u64,
+        reply: &str,
+    ) -> Result<(), OutOfMemory> {
+        let fails = FailingCalls {
+            disk: call,
+            ..NEVER
+        };
+        let script = b"a volume info /abc\na volume create /vol1\na volume info /vol1\n";
+        let left = runs(rt, words, script, &[], fails)?;
+        assert_eq!(rt; left.status, 5, "{words} at {call}");
+        assert_eq!(rt; left.text.as_str(), HALTED, "{words} at {call}");
+        let more = if reply == "OK" { " buckets 0" } else { "" };
+        let wanted = format!(in rt.alloc();
+            "story 1\nd 1 1 1 InfoVolume {reply}\nt 1 1 {reply}{more}\nend 1 of 1\n"
+        )?;
+        let again = writes(rt, "a volume info /vol1", &left.disk, wanted.as_str())?;
+        assert_eq!(rt; again.as_slice(), left.disk.as_slice(), "{words} at {call}");
         Ok(())
     }
 
     /// What was told `UNACKNOWLEDGED` may be there at the next run.
     #[test]
     fn a_disk_that_fails_in_the_work(rt: HostRuntime) -> Result<(), Fail> {
-        let alloc = rt.alloc();
-        let script = b"a volume info /abc\na volume create /vol1\na volume info /vol1\n";
-        let text = "story 1\n\
-            d 1 1 1 InfoVolume VOLUME_NOT_FOUND\n\
-            t 1 1 VOLUME_NOT_FOUND\n\
-            d 1 2 1 CreateVolume OK\n\
-            h manager 1\n\
-            t 1 2 UNACKNOWLEDGED\n\
-            t 1 3 MANAGER_STOPPED\n\
-            end 3 of 3\n";
-        for (call, reply) in [
-            (4, "VOLUME_NOT_FOUND"),
-            (5, "VOLUME_NOT_FOUND"),
-            (6, "VOLUME_NOT_FOUND"),
-            (7, "OK"),
-        ] {
-            let fails = FailingCalls {
-                disk: call,
-                ..NEVER
-            };
-            let left = runs(&rt, "run,.", script, &[], fails)?;
-            assert_eq!(&rt; left.status, 5, "at {call}");
-            assert_eq!(&rt; left.text.as_str(), text, "at {call}");
-            let more = if reply == "OK" { " buckets 0" } else { "" };
-            let wanted = format!(in alloc;
-                "story 1\nd 1 1 1 InfoVolume {reply}\nt 1 1 {reply}{more}\nend 1 of 1\n"
-            )?;
-            let again = writes(&rt, "a volume info /vol1", &left.disk, wanted.as_str())?;
-            assert_eq!(&rt; again.as_slice(), left.disk.as_slice(), "at {call}");
+        for words in RUNS {
+            fails_in_the_work(&rt, words, 4, "VOLUME_NOT_FOUND")?;
+            fails_in_the_work(&rt, words, 5, "VOLUME_NOT_FOUND")?;
+            fails_in_the_work(&rt, words, 6, "VOLUME_NOT_FOUND")?;
+            fails_in_the_work(&rt, words, 7, "OK")?;
         }
         Ok(())
     }

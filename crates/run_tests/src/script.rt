@@ -2,7 +2,7 @@
 
 #[cfg(test)]
 mod tests {
-    use oz_cluster::words::{Words, read_words};
+    use oz_cluster::{Words, read_words};
     use oz_names::{Code, stripe_of, volume_name};
     use std::test::Fail;
 
@@ -66,8 +66,9 @@ mod tests {
             ("run,.,extra", Err(3)),
             ("walk,.", Err(1)),
             ("Run,.", Err(1)),
-            ("run,.", Ok(Words::Run { dir: 1 })),
-            ("run,a b", Ok(Words::Run { dir: 1 })),
+            ("run,.", Ok(Words::Run { dir: 1, workers: 4 })),
+            ("run,a b", Ok(Words::Run { dir: 1, workers: 4 })),
+            ("run,.,--workers,1", Ok(Words::Run { dir: 1, workers: 1 })),
         ] {
             let mut words = Vec::new(rt.alloc());
             if !line.is_empty() {

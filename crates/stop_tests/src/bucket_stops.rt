@@ -3,13 +3,14 @@
 #[cfg(test)]
 mod tests {
     use crate::memory_run::{
-        FailingCalls, LAST_CALL, NEVER, WRITES, holds, runs, told_before, told_or_decided,
+        FailingCalls, LAST_CALL, NEVER, WORKERS, WRITES, holds, runs, told_before, told_or_decided,
     };
     use oz_world::{MemoryDisk, OutOfMemory};
     use std::alloc::Global;
     use std::process::Abort;
     use std::sync::Wait;
     use std::test::Fail;
+    use std::thread::Threads;
 
     /// Lines with a write each, the sixth with one that is refused besides.
     const STEPS: [&str; 10] = [
@@ -78,14 +79,14 @@ mod tests {
     }
 
     /// Whether these bytes are what so many steps leave, as their records and as the lists that a run finds.
-    fn is_front<R: Wait + AllocGlobal>(
+    fn is_front<R: Threads + Wait + Sync + AllocGlobal>(
         rt: &R,
         bytes: &[u8],
         steps: u64,
     ) -> Result<bool, OutOfMemory> {
         let alloc = rt.alloc();
-        let whole = runs(rt, &script_of(alloc, steps)?, &[], NEVER)?;
-        let found = runs(rt, ASKS, bytes, NEVER)?;
+        let whole = runs(rt, "1", &script_of(alloc, steps)?, &[], NEVER)?;
+        let found = runs(rt, "1", ASKS, bytes, NEVER)?;
         let text = report_of(alloc, steps)?;
         let is_listed = found.status == 0 && found.text.as_str() == text.as_str();
         Ok(is_listed && has_records(bytes, whole.disk.bytes()))
@@ -102,7 +103,7 @@ mod tests {
     }
 
     /// Whatever a stop leaves of a disk is what `least` steps or `most` steps leave.
-    fn keeps_a_front<R: Wait + Abort + AllocGlobal>(
+    fn keeps_a_front<R: Threads + Wait + Abort + Sync + AllocGlobal>(
         rt: &R,
         disk: &MemoryDisk,
         (least, most): (u64, u64),
@@ -116,20 +117,33 @@ mod tests {
         Ok(())
     }
 
-    /// A run over an empty disk, of which these calls fail, the first of them `call`, tells `OK` to what came before,
-    /// and every image of the disk keeps it.
-    fn stops<R: Wait + Abort + AllocGlobal>(
+    /// A run by so many workers over an empty disk, of which these calls fail, the first of them `call`, tells `OK` to
+    /// what came before, and every image of the disk keeps it.
+    fn stops_by<R: Threads + Wait + Abort + Sync + AllocGlobal>(
         rt: &R,
+        workers: &str,
         call: u64,
         disk: &[u64],
     ) -> Result<(), OutOfMemory> {
         let script = script_of(rt.alloc(), WRITES)?;
-        let left = runs(rt, &script, &[], FailingCalls { disk, ..NEVER })?;
+        let left = runs(rt, workers, &script, &[], FailingCalls { disk, ..NEVER })?;
         let told = told_before(call);
         let status = if call <= LAST_CALL { 5 } else { 0 };
         holds(rt, left.status == status, "status", call);
         holds(rt, count_of_ok(&left.told) == told, "told", call);
         keeps_a_front(rt, &left.disk, (told, told_or_decided(call)), call)
+    }
+
+    /// The same, by however many workers.
+    fn stops<R: Threads + Wait + Abort + Sync + AllocGlobal>(
+        rt: &R,
+        call: u64,
+        disk: &[u64],
+    ) -> Result<(), OutOfMemory> {
+        for workers in WORKERS {
+            stops_by(rt, workers, call, disk)?;
+        }
+        Ok(())
     }
 
     #[test]

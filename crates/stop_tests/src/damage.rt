@@ -2,12 +2,14 @@
 
 #[cfg(test)]
 mod tests {
-    use oz_cluster::run::{Disks, run};
+    use crate::memory_run::WORKERS;
+    use oz_cluster::{Disks, run};
     use oz_world::{MemoryDisk, MemorySink, MemorySource, OpenGate, OutOfMemory};
     use std::alloc::Global;
     use std::process::Abort;
     use std::sync::Wait;
     use std::test::Fail;
+    use std::thread::Threads;
 
     const ROOM: u64 = 4096;
 
@@ -204,12 +206,19 @@ mod tests {
         MemoryDisk::new(alloc, bytes.to_vec(alloc)?, Vec::new(alloc), ROOM)
     }
 
-    /// What a run of a script leaves of a manager's disk.
-    fn runs<R: Wait + AllocGlobal>(rt: &R, script: &str, disk: &[u8]) -> Result<Left, OutOfMemory> {
+    /// What a run of a script by so many workers leaves of a manager's disk.
+    fn runs<R: Threads + Wait + Sync + AllocGlobal>(
+        rt: &R,
+        workers: &str,
+        script: &str,
+        disk: &[u8],
+    ) -> Result<Left, OutOfMemory> {
         let alloc = rt.alloc();
         let words = vec![in alloc;
             String::from_str(alloc, "run")?,
             String::from_str(alloc, ".")?,
+            String::from_str(alloc, "--workers")?,
+            String::from_str(alloc, workers)?,
         ]?;
         let script = script.as_bytes().to_vec(alloc)?;
         let mut source = MemorySource::new(script, Vec::new(alloc));
@@ -259,14 +268,15 @@ mod tests {
         assert!(rt; it, "{what}, of {bytes:?}");
     }
 
-    /// A run of the empty script ends with this status, and writes this.
-    fn opens<R: Wait + Abort + AllocGlobal>(
+    /// A run of the empty script by so many workers ends with this status, and writes this.
+    fn opens<R: Threads + Wait + Abort + Sync + AllocGlobal>(
         rt: &R,
+        workers: &str,
         bytes: &[u8],
         status: u8,
         text: &str,
     ) -> Result<(), OutOfMemory> {
-        let left = runs(rt, "", bytes)?;
+        let left = runs(rt, workers, "", bytes)?;
         let kept = if bytes.len() < 2 { &[0] } else { bytes };
         holds(rt, left.status == status, "status", bytes);
         holds(rt, left.text.as_str() == text, "text", bytes);
@@ -274,13 +284,14 @@ mod tests {
         Ok(())
     }
 
-    /// A run asks about the volumes and makes those that weren't there, and all are there behind it.
-    fn asks<R: Wait + Abort + AllocGlobal>(
+    /// A run by so many workers asks about the volumes and makes those that weren't there, and all are there behind it.
+    fn asks<R: Threads + Wait + Abort + Sync + AllocGlobal>(
         rt: &R,
+        workers: &str,
         bytes: &[u8],
         kept: Kept,
     ) -> Result<(), OutOfMemory> {
-        let left = runs(rt, ASKS, bytes)?;
+        let left = runs(rt, workers, ASKS, bytes)?;
         let text = report_of(rt.alloc(), kept)?;
         let read = read_by_hand(&left.disk);
         holds(rt, left.status == 0, "status", bytes);
@@ -289,29 +300,43 @@ mod tests {
         Ok(())
     }
 
-    /// Runs over these bytes end as reading them by hand says.
-    fn ends_as_read<R: Wait + Abort + AllocGlobal>(
+    /// Runs by so many workers over these bytes end as reading them by hand says.
+    fn ends_by<R: Threads + Wait + Abort + Sync + AllocGlobal>(
         rt: &R,
+        workers: &str,
         bytes: &[u8],
     ) -> Result<(), OutOfMemory> {
         match read_by_hand(bytes) {
             Reading::Damaged(at) => {
                 let text = format!(in rt.alloc(); "damaged manager at {at}\n")?;
-                opens(rt, bytes, 6, text.as_str())
+                opens(rt, workers, bytes, 6, text.as_str())
             }
             Reading::Volumes(kept) => {
-                opens(rt, bytes, 0, "story 1\nend 0 of 0\n")?;
-                asks(rt, bytes, kept)
+                opens(rt, workers, bytes, 0, "story 1\nend 0 of 0\n")?;
+                asks(rt, workers, bytes, kept)
             }
         }
     }
 
+    /// The same, by however many workers.
+    fn ends_as_read<R: Threads + Wait + Abort + Sync + AllocGlobal>(
+        rt: &R,
+        bytes: &[u8],
+    ) -> Result<(), OutOfMemory> {
+        for workers in WORKERS {
+            ends_by(rt, workers, bytes)?;
+        }
+        Ok(())
+    }
+
     #[test]
     fn what_a_run_over_three_volumes_leaves(rt: HostRuntime) -> Result<(), Fail> {
-        let left = runs(&rt, MAKES_THREE, &[])?;
+        for workers in WORKERS {
+            let left = runs(&rt, workers, MAKES_THREE, &[])?;
+            holds(&rt, left.status == 0, "status", &[]);
+            holds(&rt, left.disk.as_slice() == THREE.as_slice(), "disk", &[]);
+        }
         let read = read_by_hand(&THREE);
-        holds(&rt, left.status == 0, "status", &[]);
-        holds(&rt, left.disk.as_slice() == THREE.as_slice(), "disk", &[]);
         holds(&rt, read == Reading::Volumes(FIRST_THREE), "three", &THREE);
         Ok(())
     }

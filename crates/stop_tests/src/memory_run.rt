@@ -1,13 +1,17 @@
 //! Runs over streams and disks in memory, and what a stop leaves of them.
 
-use oz_cluster::events::{Event, EventKind};
-use oz_cluster::run::{Disks, Ended, run};
+use oz_cluster::{Disks, Ended, run};
+use oz_core::{Event, EventKind};
 use oz_world::{MemoryDisk, MemorySink, MemorySource, OpenGate, OutOfMemory};
 use std::alloc::Global;
 use std::process::Abort;
 use std::sync::Wait;
+use std::thread::Threads;
 
 const ROOM: u64 = 4096;
+
+/// How many workers the runs have that are stopped.
+pub const WORKERS: [&str; 3] = ["1", "4", "16"];
 
 /// The numbers, from 1, of the calls that fail.
 #[derive(Clone, Copy)]
@@ -43,9 +47,10 @@ fn told_in(alloc: Global, story: &[Event]) -> Result<Vec<u16>, OutOfMemory> {
     Ok(told)
 }
 
-/// What a run of a script leaves of a manager's disk of these bytes, where some calls fail.
-pub fn runs<R: Wait + AllocGlobal>(
+/// What a run of a script by so many workers leaves of a manager's disk of these bytes, where some calls fail.
+pub fn runs<R: Threads + Wait + Sync + AllocGlobal>(
     rt: &R,
+    workers: &str,
     script: &[u8],
     disk: &[u8],
     fails: FailingCalls,
@@ -54,6 +59,8 @@ pub fn runs<R: Wait + AllocGlobal>(
     let words = vec![in alloc;
         String::from_str(alloc, "run")?,
         String::from_str(alloc, ".")?,
+        String::from_str(alloc, "--workers")?,
+        String::from_str(alloc, workers)?,
     ]?;
     let mut source = MemorySource::new(script.to_vec(alloc)?, fails.source.to_vec(alloc)?);
     let mut out = MemorySink::new(alloc, fails.sink.to_vec(alloc)?)?;
@@ -140,14 +147,14 @@ fn journal_of(alloc: Global, made: u64) -> Result<Vec<u8>, OutOfMemory> {
 
 /// Whether a run over these bytes finds the first volumes, `found`, and none of the others, and these
 /// bytes have no record of anything else.
-pub fn finds<R: Wait + AllocGlobal>(
+pub fn finds<R: Threads + Wait + Sync + AllocGlobal>(
     rt: &R,
     bytes: &[u8],
     found: u64,
     volumes: u64,
 ) -> Result<bool, OutOfMemory> {
     let alloc = rt.alloc();
-    let left = runs(rt, &lines(alloc, "info", volumes)?, bytes, NEVER)?;
+    let left = runs(rt, "1", &lines(alloc, "info", volumes)?, bytes, NEVER)?;
     let text = report_of(alloc, found, volumes)?;
     let is_empty = found == 0 && bytes.len() < 2;
     let holds_them = is_empty || bytes.starts_with(&journal_of(alloc, found)?);
@@ -155,7 +162,7 @@ pub fn finds<R: Wait + AllocGlobal>(
 }
 
 /// Whatever a stop leaves of a disk, the next run finds the first volumes, `least` to `most` of them.
-pub fn keeps<R: Wait + Abort + AllocGlobal>(
+pub fn keeps<R: Threads + Wait + Abort + Sync + AllocGlobal>(
     rt: &R,
     disk: &MemoryDisk,
     (least, most): (u64, u64),

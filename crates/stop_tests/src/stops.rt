@@ -3,14 +3,15 @@
 #[cfg(test)]
 mod tests {
     use crate::memory_run::{
-        FailingCalls, LAST_CALL, NEVER, WRITES, finds, holds, keeps, lines, runs, told_before,
-        told_or_decided,
+        FailingCalls, LAST_CALL, NEVER, WORKERS, WRITES, finds, holds, keeps, lines, runs,
+        told_before, told_or_decided,
     };
     use oz_world::OutOfMemory;
     use std::alloc::Global;
     use std::process::Abort;
     use std::sync::Wait;
     use std::test::Fail;
+    use std::thread::Threads;
 
     /// The numbers of the answers, where the manager halts behind so many lines.
     fn answers(alloc: Global, told: u64) -> Result<Vec<u16>, OutOfMemory> {
@@ -27,16 +28,17 @@ mod tests {
         Ok(answers)
     }
 
-    /// A run that makes ten volumes over an empty disk, of which these calls fail, the first of them `call`,
-    /// answers each line, and every image of the disk keeps what was told.
-    fn stops<R: Wait + Abort + AllocGlobal>(
+    /// A run by so many workers that makes ten volumes over an empty disk, of which these calls fail, the first of them
+    /// `call`, answers each line, and every image of the disk keeps what was told.
+    fn stops_by<R: Threads + Wait + Abort + Sync + AllocGlobal>(
         rt: &R,
+        workers: &str,
         call: u64,
         disk: &[u64],
     ) -> Result<(), OutOfMemory> {
         let alloc = rt.alloc();
         let script = lines(alloc, "create", WRITES)?;
-        let left = runs(rt, &script, &[], FailingCalls { disk, ..NEVER })?;
+        let left = runs(rt, workers, &script, &[], FailingCalls { disk, ..NEVER })?;
         let told = told_before(call);
         let wanted = if call < 4 {
             Vec::new(alloc)
@@ -47,6 +49,18 @@ mod tests {
         holds(rt, left.status == status, "status", call);
         holds(rt, left.told == wanted, "told", call);
         keeps(rt, &left.disk, (told, told_or_decided(call)), WRITES, call)
+    }
+
+    /// The same, by however many workers.
+    fn stops<R: Threads + Wait + Abort + Sync + AllocGlobal>(
+        rt: &R,
+        call: u64,
+        disk: &[u64],
+    ) -> Result<(), OutOfMemory> {
+        for workers in WORKERS {
+            stops_by(rt, workers, call, disk)?;
+        }
+        Ok(())
     }
 
     #[test]
@@ -70,24 +84,33 @@ mod tests {
         Ok(())
     }
 
+    /// A run by so many workers makes a volume, and the call number `call` of the disk fails: so many volumes are found
+    /// in the image of this choice.
+    fn leaves<R: Threads + Wait + Abort + Sync + AllocGlobal>(
+        rt: &R,
+        workers: &str,
+        (call, choice, found): (u64, u8, u64),
+    ) -> Result<(), OutOfMemory> {
+        let alloc = rt.alloc();
+        let script = lines(alloc, "create", 1)?;
+        let disk = &[call];
+        let left = runs(rt, workers, &script, &[], FailingCalls { disk, ..NEVER })?;
+        let bytes = left.disk.image(alloc, choice)?;
+        holds(rt, finds(rt, &bytes, found, 1)?, "what is found", call);
+        Ok(())
+    }
+
     /// A volume whose line was told `UNACKNOWLEDGED` is there where its gate was written and is kept, though it
     /// wasn't made stable.
     #[test]
     fn a_volume_that_was_not_acknowledged_may_be_there(rt: HostRuntime) -> Result<(), Fail> {
-        let alloc = rt.alloc();
-        let script = lines(alloc, "create", 1)?;
-        for (call, choice, found) in [
-            (4, 1, 0),
-            (5, 1, 0),
-            (6, 1, 0),
-            (7, 0, 0),
-            (7, 1, 1),
-            (7, 2, 0),
-        ] {
-            let disk = &[call];
-            let left = runs(&rt, &script, &[], FailingCalls { disk, ..NEVER })?;
-            let bytes = left.disk.image(alloc, choice)?;
-            holds(&rt, finds(&rt, &bytes, found, 1)?, "what is found", call);
+        for workers in WORKERS {
+            leaves(&rt, workers, (4, 1, 0))?;
+            leaves(&rt, workers, (5, 1, 0))?;
+            leaves(&rt, workers, (6, 1, 0))?;
+            leaves(&rt, workers, (7, 0, 0))?;
+            leaves(&rt, workers, (7, 1, 1))?;
+            leaves(&rt, workers, (7, 2, 0))?;
         }
         Ok(())
     }
@@ -131,13 +154,13 @@ mod tests {
         end 3 of 3\n";
 
     /// A run over these bytes finds the new volume or doesn't, and finds it if it was told `OK`. It finds no other.
-    fn finds_only_the_new<R: Wait + Abort + AllocGlobal>(
+    fn finds_only_the_new<R: Threads + Wait + Abort + Sync + AllocGlobal>(
         rt: &R,
         bytes: &[u8],
         is_told: bool,
         call: u64,
     ) -> Result<(), OutOfMemory> {
-        let left = runs(rt, ASKS, bytes, NEVER)?;
+        let left = runs(rt, "1", ASKS, bytes, NEVER)?;
         let is_new = left.text.as_str() == NEW;
         let is_none = left.text.as_str() == NONE && !is_told;
         holds(rt, left.status == 0, "status", call);
@@ -145,15 +168,16 @@ mod tests {
         Ok(())
     }
 
-    /// The new volume is made over a disk of these bytes, whose call number `call` fails.
-    fn writes_over<R: Wait + Abort + AllocGlobal>(
+    /// The new volume is made by so many workers over a disk of these bytes, whose call number `call` fails.
+    fn writes_over<R: Threads + Wait + Abort + Sync + AllocGlobal>(
         rt: &R,
+        workers: &str,
         old: &[u8],
         call: u64,
     ) -> Result<(), OutOfMemory> {
         let disk = &[call];
         let script = b"a volume create /va1\n";
-        let left = runs(rt, script, old, FailingCalls { disk, ..NEVER })?;
+        let left = runs(rt, workers, script, old, FailingCalls { disk, ..NEVER })?;
         let is_told = left.told.as_slice() == [0].as_slice();
         holds(rt, is_told == (7 < call), "told", call);
         for choice in 0..3 {
@@ -165,9 +189,11 @@ mod tests {
 
     #[test]
     fn an_old_record_behind_the_closed_gate_never_comes_back(rt: HostRuntime) -> Result<(), Fail> {
-        for old in [RECORD.as_slice(), &SHUT, &TWO] {
-            for call in 1..=8 {
-                writes_over(&rt, old, call)?;
+        for call in 1..=8 {
+            for workers in WORKERS {
+                writes_over(&rt, workers, &RECORD, call)?;
+                writes_over(&rt, workers, &SHUT, call)?;
+                writes_over(&rt, workers, &TWO, call)?;
             }
         }
         Ok(())

@@ -1,3 +1,3 @@
-# A script that is refused: today one client is served, and the third line has another.
+# A second client: its line waits until the first line of the other was told.
 a volume create /vol1
-b volume info /vol1
+b after a 1 volume info /vol1

@@ -3,9 +3,10 @@
 #[cfg(test)]
 mod tests {
     use crate::memory_run::{
-        FailingCalls, LAST_CALL, NEVER, WORKERS, WRITES, holds, runs, told_before, told_or_decided,
+        FailingCalls, LAST_CALL, Left, MORE_WORKERS, NEVER, WRITES, holds, images, runs,
+        told_before, told_or_decided,
     };
-    use oz_world::{MemoryDisk, OutOfMemory};
+    use oz_world::OutOfMemory;
     use std::alloc::Global;
     use std::process::Abort;
     use std::sync::Wait;
@@ -78,18 +79,31 @@ mod tests {
         }
     }
 
-    /// Whether these bytes are what so many steps leave, as their records and as the lists that a run finds.
-    fn is_front<R: Threads + Wait + Sync + AllocGlobal>(
-        rt: &R,
+    /// What each number of steps leaves of an empty disk where no call fails.
+    fn fronts<R: Threads + Wait + Sync + AllocGlobal>(rt: &R) -> Result<Vec<Vec<u8>>, OutOfMemory> {
+        let alloc = rt.alloc();
+        let mut fronts = Vec::new(alloc);
+        for steps in 0..=WRITES {
+            let whole = runs(rt, "1", &script_of(alloc, steps)?, &[], NEVER)?;
+            fronts.push(whole.disk.bytes().to_vec(alloc)?)?;
+        }
+        Ok(fronts)
+    }
+
+    /// Whether these bytes are what so many steps leave, as their records and as the lists that a run found.
+    fn is_front(
+        alloc: Global,
+        fronts: &[Vec<u8>],
         bytes: &[u8],
+        found: &Left,
         steps: u64,
     ) -> Result<bool, OutOfMemory> {
-        let alloc = rt.alloc();
-        let whole = runs(rt, "1", &script_of(alloc, steps)?, &[], NEVER)?;
-        let found = runs(rt, "1", ASKS, bytes, NEVER)?;
         let text = report_of(alloc, steps)?;
         let is_listed = found.status == 0 && found.text.as_str() == text.as_str();
-        Ok(is_listed && has_records(bytes, whole.disk.bytes()))
+        Ok(match fronts.get(steps as usize) {
+            Some(whole) => is_listed && has_records(bytes, whole),
+            None => false,
+        })
     }
 
     fn count_of_ok(told: &[u16]) -> u64 {
@@ -102,67 +116,80 @@ mod tests {
         count
     }
 
-    /// Whatever a stop leaves of a disk is what `least` steps or `most` steps leave.
-    fn keeps_a_front<R: Threads + Wait + Abort + Sync + AllocGlobal>(
+    /// Each of these disks is what `least` steps or `most` steps leave.
+    fn keep_a_front<R: Threads + Wait + Abort + Sync + AllocGlobal>(
         rt: &R,
-        disk: &MemoryDisk,
+        fronts: &[Vec<u8>],
+        images: &[Vec<u8>],
         (least, most): (u64, u64),
         call: u64,
     ) -> Result<(), OutOfMemory> {
-        for choice in 0..3 {
-            let bytes = disk.image(rt.alloc(), choice)?;
-            let is_kept = is_front(rt, &bytes, least)? || is_front(rt, &bytes, most)?;
+        let alloc = rt.alloc();
+        for bytes in images {
+            let found = runs(rt, "1", ASKS, bytes, NEVER)?;
+            let is_kept = is_front(alloc, fronts, bytes, &found, least)?
+                || is_front(alloc, fronts, bytes, &found, most)?;
             holds(rt, is_kept, "what is kept", call);
         }
         Ok(())
     }
 
     /// A run by so many workers over an empty disk, of which these calls fail, the first of them `call`, tells `OK` to
-    /// what came before, and every image of the disk keeps it.
-    fn stops_by<R: Threads + Wait + Abort + Sync + AllocGlobal>(
+    /// what came before. This is what a stop may leave of the disk.
+    fn left_by<R: Threads + Wait + Abort + Sync + AllocGlobal>(
         rt: &R,
         workers: &str,
         call: u64,
         disk: &[u64],
-    ) -> Result<(), OutOfMemory> {
+    ) -> Result<Vec<Vec<u8>>, OutOfMemory> {
         let script = script_of(rt.alloc(), WRITES)?;
         let left = runs(rt, workers, &script, &[], FailingCalls { disk, ..NEVER })?;
-        let told = told_before(call);
         let status = if call <= LAST_CALL { 5 } else { 0 };
         holds(rt, left.status == status, "status", call);
-        holds(rt, count_of_ok(&left.told) == told, "told", call);
-        keeps_a_front(rt, &left.disk, (told, told_or_decided(call)), call)
+        holds(
+            rt,
+            count_of_ok(&left.told) == told_before(call),
+            "told",
+            call,
+        );
+        images(rt.alloc(), &left.disk)
     }
 
-    /// The same, by however many workers.
+    /// However many workers there are, a stop may leave the same, and it keeps what was told.
     fn stops<R: Threads + Wait + Abort + Sync + AllocGlobal>(
         rt: &R,
+        fronts: &[Vec<u8>],
         call: u64,
         disk: &[u64],
     ) -> Result<(), OutOfMemory> {
-        for workers in WORKERS {
-            stops_by(rt, workers, call, disk)?;
+        let left = left_by(rt, "1", call, disk)?;
+        for workers in MORE_WORKERS {
+            let same = left_by(rt, workers, call, disk)?;
+            holds(rt, same == left, "the same images", call);
         }
-        Ok(())
+        let counts = (told_before(call), told_or_decided(call));
+        keep_a_front(rt, fronts, &left, counts, call)
     }
 
     #[test]
     fn buckets_on_a_disk_that_fails_from_a_call_on(rt: HostRuntime) -> Result<(), Fail> {
         let alloc = rt.alloc();
+        let fronts = fronts(&rt)?;
         for call in 1..=LAST_CALL + 1 {
             let mut fails = Vec::new(alloc);
             for later in call..=100 {
                 fails.push(later)?;
             }
-            stops(&rt, call, &fails)?;
+            stops(&rt, &fronts, call, &fails)?;
         }
         Ok(())
     }
 
     #[test]
     fn buckets_on_a_disk_that_fails_at_one_call(rt: HostRuntime) -> Result<(), Fail> {
+        let fronts = fronts(&rt)?;
         for call in 1..=LAST_CALL + 1 {
-            stops(&rt, call, &[call])?;
+            stops(&rt, &fronts, call, &[call])?;
         }
         Ok(())
     }

@@ -349,16 +349,43 @@ mod tests {
         Ok(())
     }
 
-    #[test]
-    fn every_byte_of_three_volumes(rt: HostRuntime) -> Result<(), Fail> {
+    /// Each byte in turn keeps the bits of the mask, and then these are turned: runs by so many workers end as reading it
+    /// by hand says.
+    fn every_byte<R: Threads + Wait + Abort + Sync + AllocGlobal>(
+        rt: &R,
+        workers: &str,
+        mask: u8,
+        turned: u8,
+    ) -> Result<(), OutOfMemory> {
         for place in 0..SIZE {
-            let byte = THREE[place];
-            for other in [0, 1, byte ^ 1, byte ^ 0xff] {
-                let mut bytes = THREE;
-                bytes[place] = other;
-                ends_as_read(&rt, &bytes)?;
-            }
+            let mut bytes = THREE;
+            bytes[place] = (bytes[place] & mask) ^ turned;
+            ends_by(rt, workers, &bytes)?;
         }
+        Ok(())
+    }
+
+    #[test]
+    fn every_byte_as_zero(rt: HostRuntime) -> Result<(), Fail> {
+        every_byte(&rt, "1", 0, 0)?;
+        Ok(())
+    }
+
+    #[test]
+    fn every_byte_as_one(rt: HostRuntime) -> Result<(), Fail> {
+        every_byte(&rt, "4", 0, 1)?;
+        Ok(())
+    }
+
+    #[test]
+    fn every_byte_with_its_last_bit_turned(rt: HostRuntime) -> Result<(), Fail> {
+        every_byte(&rt, "16", 255, 1)?;
+        Ok(())
+    }
+
+    #[test]
+    fn every_byte_with_all_its_bits_turned(rt: HostRuntime) -> Result<(), Fail> {
+        every_byte(&rt, "4", 255, 255)?;
         Ok(())
     }
 

@@ -13,6 +13,9 @@ const ROOM: u64 = 4096;
 /// How many workers the runs have that are stopped.
 pub const WORKERS: [&str; 3] = ["1", "4", "16"];
 
+/// The same but for one worker.
+pub const MORE_WORKERS: [&str; 2] = ["4", "16"];
+
 /// The numbers, from 1, of the calls that fail.
 #[derive(Clone, Copy)]
 pub struct FailingCalls<'a> {
@@ -161,21 +164,46 @@ pub fn finds<R: Threads + Wait + Sync + AllocGlobal>(
     Ok(left.status == 0 && left.text.as_str() == text.as_str() && holds_them)
 }
 
-/// Whatever a stop leaves of a disk, the next run finds the first volumes, `least` to `most` of them.
-pub fn keeps<R: Threads + Wait + Abort + Sync + AllocGlobal>(
+/// What a stop may leave of a disk, each once.
+pub fn images(alloc: Global, disk: &MemoryDisk) -> Result<Vec<Vec<u8>>, OutOfMemory> {
+    let mut images: Vec<Vec<u8>> = Vec::new(alloc);
+    for choice in 0..3 {
+        let bytes = disk.image(alloc, choice)?;
+        if !images
+            .iter()
+            .any(|image| image.as_slice() == bytes.as_slice())
+        {
+            images.push(bytes)?;
+        }
+    }
+    Ok(images)
+}
+
+/// A run over each of these disks finds the first volumes, `least` to `most` of them.
+pub fn keep<R: Threads + Wait + Abort + Sync + AllocGlobal>(
     rt: &R,
-    disk: &MemoryDisk,
+    images: &[Vec<u8>],
     (least, most): (u64, u64),
     volumes: u64,
     call: u64,
 ) -> Result<(), OutOfMemory> {
-    for choice in 0..3 {
-        let bytes = disk.image(rt.alloc(), choice)?;
+    for bytes in images {
         let mut found = false;
         for count in least..=most {
-            found |= finds(rt, &bytes, count, volumes)?;
+            found = found || finds(rt, bytes, count, volumes)?;
         }
         holds(rt, found, "what is kept", call);
     }
     Ok(())
+}
+
+/// Whatever a stop leaves of a disk, the next run finds the first volumes, `least` to `most` of them.
+pub fn keeps<R: Threads + Wait + Abort + Sync + AllocGlobal>(
+    rt: &R,
+    disk: &MemoryDisk,
+    counts: (u64, u64),
+    volumes: u64,
+    call: u64,
+) -> Result<(), OutOfMemory> {
+    keep(rt, &images(rt.alloc(), disk)?, counts, volumes, call)
 }

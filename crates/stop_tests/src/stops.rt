@@ -3,8 +3,8 @@
 #[cfg(test)]
 mod tests {
     use crate::memory_run::{
-        FailingCalls, LAST_CALL, NEVER, WORKERS, WRITES, finds, holds, keeps, lines, runs,
-        told_before, told_or_decided,
+        FailingCalls, LAST_CALL, MORE_WORKERS, NEVER, WORKERS, WRITES, finds, holds, images, keep,
+        lines, runs, told_before, told_or_decided,
     };
     use oz_world::OutOfMemory;
     use std::alloc::Global;
@@ -28,39 +28,41 @@ mod tests {
         Ok(answers)
     }
 
-    /// A run by so many workers that makes ten volumes over an empty disk, of which these calls fail, the first of them
-    /// `call`, answers each line, and every image of the disk keeps what was told.
-    fn stops_by<R: Threads + Wait + Abort + Sync + AllocGlobal>(
+    /// A run by so many workers makes ten volumes over an empty disk, of which these calls fail, the first of them
+    /// `call`, and answers each line. This is what a stop may leave of the disk.
+    fn left_by<R: Threads + Wait + Abort + Sync + AllocGlobal>(
         rt: &R,
         workers: &str,
         call: u64,
         disk: &[u64],
-    ) -> Result<(), OutOfMemory> {
+    ) -> Result<Vec<Vec<u8>>, OutOfMemory> {
         let alloc = rt.alloc();
         let script = lines(alloc, "create", WRITES)?;
         let left = runs(rt, workers, &script, &[], FailingCalls { disk, ..NEVER })?;
-        let told = told_before(call);
         let wanted = if call < 4 {
             Vec::new(alloc)
         } else {
-            answers(alloc, told)?
+            answers(alloc, told_before(call))?
         };
         let status = if call <= LAST_CALL { 5 } else { 0 };
         holds(rt, left.status == status, "status", call);
         holds(rt, left.told == wanted, "told", call);
-        keeps(rt, &left.disk, (told, told_or_decided(call)), WRITES, call)
+        images(alloc, &left.disk)
     }
 
-    /// The same, by however many workers.
+    /// However many workers there are, a stop may leave the same, and it keeps what was told.
     fn stops<R: Threads + Wait + Abort + Sync + AllocGlobal>(
         rt: &R,
         call: u64,
         disk: &[u64],
     ) -> Result<(), OutOfMemory> {
-        for workers in WORKERS {
-            stops_by(rt, workers, call, disk)?;
+        let left = left_by(rt, "1", call, disk)?;
+        for workers in MORE_WORKERS {
+            let same = left_by(rt, workers, call, disk)?;
+            holds(rt, same == left, "the same images", call);
         }
-        Ok(())
+        let counts = (told_before(call), told_or_decided(call));
+        keep(rt, &left, counts, WRITES, call)
     }
 
     #[test]

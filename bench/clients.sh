@@ -5,11 +5,11 @@
 #
 # Each figure is the median of ROUNDS runs (5), each over a fresh folder: in FOLDER (data), on a disk, or in MEMORY (/dev/shm).
 # What is compared stands side by side within each round. Printed are the file system, how busy the machine was, and
-#     length    a line of one client's script of 4,096 lines, as a part of one of 512 lines, over a folder in memory
+#     length    a line of one client's script of 4,096 lines, as a part of a line of one of 512, over a folder in memory
 #     clients   volumes a second that 64 clients make with 4 workers, as a part of those that one client makes, on the disk
 #     sqlite    volumes a second that 64 clients make with 4 workers, as a part of rows that SQLite commits, each by itself
 #     workers   what 4 workers take for 64 clients, as a part of what 1 takes, over a folder in memory
-#     memory    the greatest memory of a run of 4,096 lines, beside that of a run of none, in bytes a line
+#     memory    by how much the greatest memory of a run of 4,096 lines is above that of one of 256, in bytes a line
 # It needs Python 3 with its sqlite3.
 set -euo pipefail
 top=$(dirname "$(dirname "$(readlink -f "${BASH_SOURCE[0]}")")")
@@ -20,7 +20,7 @@ program=${OZONE_PROGRAM:-$top/crates/oz_main/out/oz_main}
 load=$(cut -d ' ' -f 1 /proc/loadavg)
 echo "file system $(stat -f -c %T "$folder"), load $load over $(nproc) processors, $rounds rounds"
 python3 - "$program" "$folder" "$memory" "$rounds" <<'PYTHON'
-import os, resource, shutil, sqlite3, statistics, subprocess, sys, tempfile, time
+import array, fcntl, os, shutil, sqlite3, statistics, subprocess, sys, tempfile, termios, time
 
 program, disk, memory, rounds = sys.argv[1], sys.argv[2], sys.argv[3], int(sys.argv[4])
 
@@ -31,7 +31,7 @@ def script(clients, lines):
 
 
 def run(text, where, workers):
-    """The seconds of a run, and its greatest memory in bytes."""
+    """The seconds of a run."""
     folder = tempfile.mkdtemp(prefix="clients.", dir=where)
     began = time.perf_counter()
     ran = subprocess.Popen([program, "run", folder, "--workers", str(workers)], stdin=subprocess.PIPE, stdout=subprocess.PIPE)
@@ -44,16 +44,22 @@ def run(text, where, workers):
 
 
 def greatest(text, where):
-    """The greatest memory of a run, in bytes."""
+    """The greatest memory of a run, in bytes, read while it waits for somebody to take its report."""
     folder = tempfile.mkdtemp(prefix="clients.", dir=where)
-    file = os.path.join(folder, "script")
-    with open(file, "wb") as it:
-        it.write(text)
-    code = ("import resource, subprocess, sys; subprocess.run([sys.argv[1], 'run', sys.argv[2]], stdin=open(sys.argv[3]),"
-            " stdout=subprocess.DEVNULL, check=True); print(resource.getrusage(resource.RUSAGE_CHILDREN).ru_maxrss)")
-    ran = subprocess.run([sys.executable, "-c", code, program, folder, file], stdout=subprocess.PIPE, check=True)
+    ran = subprocess.Popen([program, "run", folder], stdin=subprocess.PIPE, stdout=subprocess.PIPE)
+    room = fcntl.fcntl(ran.stdout, fcntl.F_SETPIPE_SZ, 4096)
+    ran.stdin.write(text)
+    ran.stdin.close()
+    waits = array.array("i", [0])
+    while waits[0] < room:
+        time.sleep(0.01)
+        fcntl.ioctl(ran.stdout, termios.FIONREAD, waits)
+    with open(f"/proc/{ran.pid}/status") as it:
+        high = next(line for line in it if line.startswith("VmHWM"))
+    ran.stdout.read()
+    ran.wait()
     shutil.rmtree(folder)
-    return int(ran.stdout) * 1024
+    return int(high.split()[1]) * 1024
 
 
 def sqlite(rows):
@@ -90,5 +96,5 @@ told("length", lengths)
 told("clients", clients)
 told("sqlite", rows)
 told("workers", workers)
-print(f"memory {(greatest(script(64, 4096), memory) - greatest(b'', memory)) / 4096:.0f}")
+print(f"memory {(greatest(script(64, 4096), memory) - greatest(script(64, 256), memory)) / 3840:.0f}")
 PYTHON

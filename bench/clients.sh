@@ -1,10 +1,11 @@
 #!/usr/bin/env bash
 # What many clients and workers make of a run: over a folder on a disk whose sync takes its time, and over one in memory.
 #
-# usage: bench/clients.sh [ROUNDS] [FOLDER] [MEMORY]
+# usage: bench/clients.sh [ROUNDS] [SYNC] [FOLDER] [MEMORY]
 #
 # Each figure is the median of ROUNDS runs (5), each over a fresh folder: in FOLDER (data), on a disk, or in MEMORY (/dev/shm).
-# What is compared stands side by side within each round. Printed are the file system, how busy the machine was, and
+# What is compared stands side by side within each round. With SYNC (0) each sync on the disk takes so many microseconds more, for
+# the program and for SQLite alike (`slow.c`, which gcc compiles). Printed are the file system, how busy the machine was, and
 #     length    a line of one client's script of 4,096 lines, as a part of a line of one of 512, over a folder in memory
 #     clients   volumes a second that 64 clients make with 4 workers, as a part of those that one client makes, on the disk
 #     sqlite    volumes a second that 64 clients make with 4 workers, as a part of rows that SQLite commits, each by itself
@@ -13,16 +14,30 @@
 # It needs Python 3 with its sqlite3.
 set -euo pipefail
 top=$(dirname "$(dirname "$(readlink -f "${BASH_SOURCE[0]}")")")
-rounds=${1:-5} folder=${2:-$top/data} memory=${3:-/dev/shm}
+rounds=${1:-5} sync=${2:-0} folder=${3:-$top/data} memory=${4:-/dev/shm}
+work=$(mktemp -d)
+trap 'rm -rf "$work"' EXIT
+gcc -O1 -shared -fPIC -o "$work/slow.so" "$top/bench/slow.c" -ldl
 [[ ${OZONE_PROGRAM:-} ]] || "$top/ozone" build
 program=${OZONE_PROGRAM:-$top/crates/oz_main/out/oz_main}
 
 load=$(cut -d ' ' -f 1 /proc/loadavg)
-echo "file system $(stat -f -c %T "$folder"), load $load over $(nproc) processors, $rounds rounds"
-python3 - "$program" "$folder" "$memory" "$rounds" <<'PYTHON'
-import array, fcntl, os, shutil, sqlite3, statistics, subprocess, sys, tempfile, termios, time
+echo "file system $(stat -f -c %T "$folder"), load $load over $(nproc) processors, $rounds rounds, syncs $sync microseconds longer"
+python3 - "$program" "$folder" "$memory" "$rounds" "$work/slow.so" "$sync" <<'PYTHON'
+import array, fcntl, os, shutil, statistics, subprocess, sys, tempfile, termios, time
 
 program, disk, memory, rounds = sys.argv[1], sys.argv[2], sys.argv[3], int(sys.argv[4])
+slow = dict(os.environ, LD_PRELOAD=sys.argv[5], SYNC=sys.argv[6])
+ROWS = """
+import sqlite3, sys, time
+store = sqlite3.connect(sys.argv[1], isolation_level=None)
+store.execute("pragma synchronous=full")
+store.execute("create table volume (name text primary key)")
+began = time.perf_counter()
+for number in range(int(sys.argv[2])):
+    store.execute("insert into volume values (?)", (f"vol{number}",))
+print(time.perf_counter() - began)
+"""
 
 
 def script(clients, lines):
@@ -34,7 +49,9 @@ def run(text, where, workers):
     """The seconds of a run."""
     folder = tempfile.mkdtemp(prefix="clients.", dir=where)
     began = time.perf_counter()
-    ran = subprocess.Popen([program, "run", folder, "--workers", str(workers)], stdin=subprocess.PIPE, stdout=subprocess.PIPE)
+    command = [program, "run", folder, "--workers", str(workers)]
+    environment = slow if where == disk else None
+    ran = subprocess.Popen(command, stdin=subprocess.PIPE, stdout=subprocess.PIPE, env=environment)
     report, _ = ran.communicate(text)
     took = time.perf_counter() - began
     shutil.rmtree(folder)
@@ -63,17 +80,12 @@ def greatest(text, where):
 
 
 def sqlite(rows):
+    """The seconds in which SQLite commits so many rows, each by itself."""
     folder = tempfile.mkdtemp(prefix="clients.", dir=disk)
-    store = sqlite3.connect(os.path.join(folder, "store"), isolation_level=None)
-    store.execute("pragma synchronous=full")
-    store.execute("create table volume (name text primary key)")
-    began = time.perf_counter()
-    for number in range(rows):
-        store.execute("insert into volume values (?)", (f"vol{number}",))
-    took = time.perf_counter() - began
-    store.close()
+    command = [sys.executable, "-c", ROWS, os.path.join(folder, "store"), str(rows)]
+    ran = subprocess.run(command, stdout=subprocess.PIPE, check=True, env=slow)
     shutil.rmtree(folder)
-    return took
+    return float(ran.stdout)
 
 
 def told(name, each, digits=2):

@@ -54,6 +54,12 @@ late_of story id r count late is =
     let there = subst (λ (o : Result ℕ AskFault). IfErr o (λ fault. (n : ℕ) × (fault ≡ faults.Stopped n) × IsLate story id n)) is late in
     subst (λ n. IsLate story id n) (same_count count there.0 there.1) there.2
 
+pub not_of_blocks : (story : List Event) (id : AskId) (r : Result ℕ AskFault)
+    → IfErr r (λ fault. (n : ℕ) × (fault ≡ faults.Stopped n) × IsLate story id n) → r ≡ Err faults.OtherBlocks → ⊥
+not_of_blocks story id r late is =
+    let there = subst (λ (o : Result ℕ AskFault). IfErr o (λ fault. (n : ℕ) × (fault ≡ faults.Stopped n) × IsLate story id n)) is late in
+    let stopped = there.1 in cc
+
 -- ---- an Ask that was found
 
 module _ (Coherent : Type 0) (opening : Opening) (bytes : OpeningBytes) (script : Script) (story : List Event) (coherent : Coherent)

@@ -1,5 +1,6 @@
 -- What an asker appends to the story, and why it may not.
-use Rattle.std.specs.Prelude.{◌≡◌, ◌⊎◌, ℕ, ◌≤◌, true, false, List, [], ◌∷◌, ◌++◌, None, Some, slice_get}
+use Rattle.std.specs.Prelude.{◌≡◌, ◌≢◌, ◌⊎◌, ℕ, ◌≤◌, true, false, List, [], ◌∷◌, ◌++◌, None, Some, slice_get}
+use Rattle.oz_buffer.specs.Courses.{times_said}
 use Rattle.oz_core.specs.declared.event.Event.{Event}
 use Rattle.oz_core.specs.declared.event.EventKind.TheVariants.{Ask}
 use Rattle.oz_core.specs.declared.event.Node.TheVariants.{Manager}
@@ -19,6 +20,11 @@ IsAskAt story place id request =
 abbrev pub MayAdd : ℕ → AskId → Request → List Event → List Event → Type 0
 MayAdd seat id request before after =
     (after ≡ before) ⊎ (after ≡ before ++ record { seat = seat; kind = Ask id request } ∷ [])
+
+-- Nothing that the id asked is undecided, and what was said of the blocks of its line is not so much.
+pub record IsSaidOtherwise (story : List Event) (id : AskId) (said : ℕ) : Type 0 where
+  pub decided : pending id story ≡ None
+  pub otherwise : times_said id.client id.line story ≢ said
 
 -- Nothing that the id asked is undecided, and the law doesn't let it ask this behind the story.
 pub record IsEarly (opening : Opening) (story : List Event) (seat : ℕ) (id : AskId) (request : Request) : Type 0 where

@@ -2,9 +2,10 @@
 
 ghost use Rattle.std.specs.Prelude.{◌≡◌, ◌≢◌, ◌↔◌, ◌+◌, ◌<◌, ℕ, [], List, true, false, None, Some, Err};
 ghost use Rattle.std.specs.Prelude.{is_some, slice_index, IfOk, IfErr, OnOk, OnErr, IfSome, IfNone, IsTrue};
-ghost use Rattle.oz_asker.specs.Asked.{IsAskAt, IsEarly, IsLate, MayAdd, MayAsk};
+ghost use Rattle.oz_asker.specs.Asked.{IsAskAt, IsEarly, IsLate, IsSaidOtherwise, MayAdd, MayAsk};
 ghost use Rattle.oz_asker.specs.declared.fault.AskFault.TheVariants as faults;
 ghost use Rattle.oz_buffer.specs.Buffer.{AllFollow, Follows};
+ghost use Rattle.oz_buffer.specs.Courses.{times_said};
 ghost use Rattle.oz_core.specs.declared.event.Event.{Event as AnyEvent};
 ghost use Rattle.oz_core.specs.declared.event.EventKind.TheVariants as events;
 ghost use Rattle.oz_core.specs.Asks.{is_script, pending};
@@ -29,7 +30,8 @@ use std::alloc::Global;
 use std::sync::Wait;
 
 /// Appends the Ask, unless one of the id stands undecided, and answers the place of the one or the other. `by` is the
-/// seat's number.
+/// seat's number, and `said` is how often something was said of the blocks of the id's line, as far as its worker knows:
+/// where none stands undecided that is compared first, then whether the law lets the id ask, and then room is made.
 pub fn put_ask<O: Opened, W: Wait>(
     rt: &W,
     alloc: Global,
@@ -38,6 +40,7 @@ pub fn put_ask<O: Opened, W: Wait>(
     by: u16,
     id: AskId,
     request: Request,
+    said: u64,
 ) -> Result<usize, AskFault>
     requires ready { IsReady (turn_id turn.now) by seat.old }
     requires seats { by < 64 }
@@ -49,6 +52,7 @@ pub fn put_ask<O: Opened, W: Wait>(
         → (other : AnyRequest) → pending id story ≡ Some other → other ≡ request }
     requires fits { O.coherent → (story : List AnyEvent) → BeginsWith story (seen_of seat.old)
         → AllFollow (Follows O.coherent O.opening O.bytes O.script) [] story
+        → times_said id.client id.line story ≡ said
         → AskIsEnabled O.opening story by id request
         → EventFits O.opening O.bytes O.script story (events.Ask id request) }
     ensures ready { IsReady (turn_id turn.now) by seat.new }
@@ -59,6 +63,9 @@ pub fn put_ask<O: Opened, W: Wait>(
     ensures ok { O.coherent → IfOk result (λ place. IsAskAt (seen_of seat.new) place id request) }
     ensures undecided { O.coherent → IfOk result (λ _. pending id (seen_of seat.new) ≡ Some request) }
     ensures in_time { IfOk result (λ _. asked_late id (seen_of seat.new) ≡ false) }
+    ensures other_blocks { result ≡ Err AskFault.OtherBlocks ↔ IsSaidOtherwise (seen_of seat.new) id said }
+    ensures unasked { result ≡ Err AskFault.OtherBlocks → mine_of seat.new ≡ mine_of seat.old }
+    ensures as_said { mine_of seat.new ≢ mine_of seat.old → times_said id.client id.line (seen_of seat.new) ≡ said }
     ensures early { result ≡ Err AskFault.Early → (mine_of seat.new ≡ mine_of seat.old)
         × (O.coherent → IsEarly O.opening (seen_of seat.new) by id request) }
     ensures stopped { (count : ℕ) → result ≡ Err (faults.Stopped count) → IsLate (seen_of seat.new) id count
@@ -73,7 +80,7 @@ pub fn put_ask<O: Opened, W: Wait>(
         turn.give_back(seat, ledger, held);
         return answer;
     }
-    if let Err(fault) = make_room(alloc, &mut ledger, by, id) {
+    if let Err(fault) = make_room(alloc, &mut ledger, by, id, said) {
         turn.give_back(seat, ledger, held);
         return Err(fault);
     }
@@ -101,12 +108,13 @@ fn undecided_ask<O: Opened>(ledger: &Ledger<O>, id: AskId) -> Option<usize>
     }
 }
 
-/// Makes room for an Ask, where the law lets a script's id ask.
+/// Makes room for an Ask, where so much was said of the blocks of its line, and the law lets a script's id ask.
 fn make_room<O: Opened>(
     alloc: Global,
     ledger: &mut Ledger<O>,
     by: u16,
     id: AskId,
+    said: u64,
 ) -> Result<(), AskFault>
     requires seat { by < 64 }
     requires script { is_script id ≡ true }
@@ -115,9 +123,14 @@ fn make_room<O: Opened>(
     ensures others { (n : ℕ) → n ≢ by → slice_index ledger.new.rooms n ≡ slice_index ledger.old.rooms n }
     ensures may { O.coherent → OnOk result (MayAsk O.opening ledger.old.story id) }
     ensures same { OnErr result (ledger.new ≡ ledger.old) }
+    ensures said { OnOk result (times_said id.client id.line ledger.old.story ≡ said) }
+    ensures other { result ≡ Err AskFault.OtherBlocks ↔ (times_said id.client id.line ledger.old.story ≢ said) }
     ensures early { O.coherent → result ≡ Err AskFault.Early → MayAsk O.opening ledger.old.story id → ⊥ }
     ensures running { IfErr result (λ fault. (count : ℕ) → fault ≢ faults.Stopped count) }
 {
+    if ledger.times_said(id.client, id.line) != said {
+        return Err(AskFault::OtherBlocks);
+    }
     if !may_ask(ledger, id) {
         return Err(AskFault::Early);
     }

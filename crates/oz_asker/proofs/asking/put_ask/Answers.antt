@@ -1,4 +1,5 @@
-use Rattle.std.proofs.Common.{◌≡◌, List, Err, refl, sym, ap, ◌∙◌, subst}
+use Rattle.std.proofs.Common.{◌≡◌, List, Some, Err, refl, sym, ap, ◌∙◌, subst}
+use Rattle.std.proofs.lemmas.Option.{none-some}
 use Rattle.oz_core.specs.declared.event.Event.{Event}
 use Rattle.oz_core.specs.declared.event.EventKind.TheVariants.{Ask}
 use Rattle.oz_core.specs.Asks.{pending}
@@ -8,7 +9,7 @@ use Rattle.oz_turn.specs.Seat.{seen_of}
 use Rattle.oz_asker.specs.Asked.{IsAskAt, IsLate}
 use Rattle.oz_asker.specs.declared.fault.AskFault.{AskFault}
 use Rattle.oz_asker.specs.declared.fault.AskFault.TheVariants as faults
-use Rattle.oz_asker.proofs.Standing.{if_ok_also, late_of, same_fault, found_pending, found_there, now_pending, now_there, may_enable, enabled_may}
+use Rattle.oz_asker.proofs.Standing.{if_ok_also, late_of, same_fault, found_pending, found_there, not_of_blocks, now_pending, now_there, may_enable, enabled_may}
 use Rattle.oz_asker.proofs.asking.put_ask.Goals as goal
 
 -- ---- an Ask that stood before
@@ -78,8 +79,17 @@ note-requires-clause-follows g c =
       of_seat = tt;
       enabled = λ coherent. subst (λ (l : List Event). AskIsEnabled O.opening l c.args.by c.args.id c.args.request) same (enabled coherent);
       fits = λ coherent. subst (λ (l : List Event). EventFits O.opening O.bytes O.script l (Ask c.args.id c.args.request)) same
-          (c.requires.fits coherent story took.begins c.all_follow.ensures (enabled coherent));
+          (c.requires.fits coherent story took.begins c.all_follow.ensures c.in_default-make_room.ensures.said (enabled coherent));
     }
+
+pub returns-clause-other_blocks : goal.returns-clause-other_blocks
+returns-clause-other_blocks g c =
+    let story = c.make_room.new.ledger.story in
+    let whole = c.give.ensures.seen ∙ c.note.ensures.story in
+    let asked : pending c.args.id (seen_of c.give.new.seat) ≡ Some c.args.request = ap (pending c.args.id) whole ∙ now_pending story c.args.by c.args.id c.args.request in (
+      λ is. absurd (not_of_blocks c.note.new.self.story c.args.id c.in_time-answer-2.result c.in_time-answer-2.ensures.err is),
+      λ other. absurd (none-some c.args.request (sym other.decided ∙ asked)),
+    )
 
 pub returns-clause-undecided : goal.returns-clause-undecided
 returns-clause-undecided g c coherent =

@@ -1,5 +1,5 @@
 use Rattle.oz_asker.specs.laws.Asks.{decided_as_asked}
-use Rattle.std.proofs.Common.{Some, List, ℕ, ◌≡◌, ap, sym, ◌∙◌}
+use Rattle.std.proofs.Common.{List, ap, sym, ◌∙◌}
 use Rattle.std.specs.Prelude.{slice_get}
 use Rattle.oz_core.specs.declared.event.Event.{Event}
 use Rattle.oz_asker.specs.laws.Once.{decided_beyond, index_of_decided}

@@ -1,5 +1,6 @@
 -- When a line may be told an answer, what is appended then, and what keeps it from being told.
 use Rattle.std.specs.Prelude.{◌≡◌, ◌≢◌, ℕ, ◌<◌, ◌≤◌, true, false, List, [], ◌∷◌, ◌++◌, Option, None, Some}
+use Rattle.oz_buffer.specs.Courses.{times_said}
 use Rattle.oz_core.specs.declared.event.Event.{Event}
 use Rattle.oz_core.specs.declared.event.EventKind.TheVariants.{Told}
 use Rattle.oz_core.specs.declared.event.Node.TheVariants.{Manager}
@@ -33,11 +34,13 @@ CauseStands opening story client line last answers.Unacknowledged =
 CauseStands opening story client line last answers.ManagerStopped = HadStopped story last
 CauseStands opening story client line last _ = Unit {0}
 
--- The line wasn't told, this is what it asked last, what the answer says of the manager's end holds, and it is in time.
-pub record MayTell (opening : Opening) (story : List Event) (client line : ℕ) (last : Option AskId) (answer : Answer)
-    : Type 0 where
+-- The line wasn't told, this is what it asked last, so often something was said of its blocks, what the answer says of the
+-- manager's end holds, and it is in time.
+pub record MayTell (opening : Opening) (story : List Event) (client line : ℕ) (last : Option AskId) (said : ℕ)
+    (answer : Answer) : Type 0 where
   pub untold : is_told client line story ≡ false
   pub asked : last_ask client line story ≡ last
+  pub as_said : times_said client line story ≡ said
   pub cause : CauseStands opening story client line last answer
   pub in_time : IsInTime opening story client line answer
 
@@ -45,26 +48,29 @@ abbrev pub told_event : ℕ → ℕ → ℕ → Answer → Event
 told_event seat client line answer = record { seat = seat; kind = Told client line answer }
 
 -- The story had come to a place where the line may be told this, and the seat appended that it is told.
-pub record IsTold (opening : Opening) (seat client line : ℕ) (last : Option AskId) (answer : Answer)
+pub record IsTold (opening : Opening) (seat client line : ℕ) (last : Option AskId) (said : ℕ) (answer : Answer)
     (seen mine seen_after mine_after : List Event) : Type 0 where
   pub before : List Event
   pub begins : BeginsWith before seen
-  pub may : MayTell opening before client line last answer
+  pub may : MayTell opening before client line last said answer
   pub story : seen_after ≡ before ++ told_event seat client line answer ∷ []
   pub given : mine_after ≡ mine ++ told_event seat client line answer ∷ []
 
--- the line wasn't told, and this is what it asked last
-abbrev pub IsAsKnown : List Event → ℕ → ℕ → Option AskId → Type 0
-IsAsKnown story client line last = (is_told client line story ≡ false) × (last_ask client line story ≡ last)
+-- the line wasn't told, this is what it asked last, and so often something was said of its blocks
+abbrev pub IsAsKnown : List Event → ℕ → ℕ → Option AskId → ℕ → Type 0
+IsAsKnown story client line last said =
+    (is_told client line story ≡ false) × (last_ask client line story ≡ last) × (times_said client line story ≡ said)
 
 -- What keeps a line from being told an answer. Each excludes the others, but for want of memory, which always may.
-abbrev pub KeepsUntold : Opening → List Event → ℕ → ℕ → Option AskId → Answer → Untold → Type 0
-KeepsUntold opening story client line last answer causes.Told = is_told client line story ≡ true
-KeepsUntold opening story client line last answer causes.OtherAsk =
+abbrev pub KeepsUntold : Opening → List Event → ℕ → ℕ → Option AskId → ℕ → Answer → Untold → Type 0
+KeepsUntold opening story client line last said answer causes.Told = is_told client line story ≡ true
+KeepsUntold opening story client line last said answer causes.OtherAsk =
     (is_told client line story ≡ false) × (last_ask client line story ≢ last)
-KeepsUntold opening story client line last answer causes.NotDue =
-    IsAsKnown story client line last × (CauseStands opening story client line last answer → ⊥)
-KeepsUntold opening story client line last answer causes.Unstable =
-    IsAsKnown story client line last × CauseStands opening story client line last answer
+KeepsUntold opening story client line last said answer causes.OtherBlocks =
+    (is_told client line story ≡ false) × (last_ask client line story ≡ last) × (times_said client line story ≢ said)
+KeepsUntold opening story client line last said answer causes.NotDue =
+    IsAsKnown story client line last said × (CauseStands opening story client line last answer → ⊥)
+KeepsUntold opening story client line last said answer causes.Unstable =
+    IsAsKnown story client line last said × CauseStands opening story client line last answer
     × SomeIsUnstable opening story client line × (IsInTime opening story client line answer → ⊥)
-KeepsUntold opening story client line last answer causes.OutOfMemory = Unit {0}
+KeepsUntold opening story client line last said answer causes.OutOfMemory = Unit {0}

@@ -37,23 +37,23 @@ pub fn what_started_stays()
 /// Where a line may be told its answer nothing but want of memory keeps it from being told.
 pub fn what_keeps_a_line_untold()
     ensures { (opening : AnyOpening) (story : List AnyEvent) (client line : ℕ) (last : Option AnyId)
-        (answer : AnyAnswer) (cause : AnyCause) → MayTell opening story client line last answer →
-        KeepsUntold opening story client line last answer cause → cause ≡ causes.OutOfMemory }
+        (said : ℕ) (answer : AnyAnswer) (cause : AnyCause) → MayTell opening story client line last said answer →
+        KeepsUntold opening story client line last said answer cause → cause ≡ causes.OutOfMemory }
 {}
 
 /// What a line is told of the manager's end is due. That the manager had stopped is due of a line that asked nothing
 /// where it drains.
 pub fn what_is_told_of_the_manager_is_due()
     ensures unacknowledged { (opening : AnyOpening) (bytes : OpeningBytes) (script : AnyScript) (story : List AnyEvent)
-        (line : AnyLine) (last : Option AnyId) →
-        MayTell opening story line.client line.number last answers.Unacknowledged →
+        (line : AnyLine) (last : Option AnyId) (said : ℕ) →
+        MayTell opening story line.client line.number last said answers.Unacknowledged →
         IsDue opening bytes script story line answers.Unacknowledged }
     ensures stopped { (opening : AnyOpening) (bytes : OpeningBytes) (script : AnyScript) (story : List AnyEvent)
-        (line : AnyLine) (id : AnyId) →
-        MayTell opening story line.client line.number (Some id) answers.ManagerStopped →
+        (line : AnyLine) (id : AnyId) (said : ℕ) →
+        MayTell opening story line.client line.number (Some id) said answers.ManagerStopped →
         IsDue opening bytes script story line answers.ManagerStopped }
     ensures drain { (opening : AnyOpening) (bytes : OpeningBytes) (script : AnyScript) (story : List AnyEvent)
-        (line : AnyLine) → line.command ≡ commands.Admin admin.Drain →
-        MayTell opening story line.client line.number None answers.ManagerStopped →
+        (line : AnyLine) (said : ℕ) → line.command ≡ commands.Admin admin.Drain →
+        MayTell opening story line.client line.number None said answers.ManagerStopped →
         IsDue opening bytes script story line answers.ManagerStopped }
 {}

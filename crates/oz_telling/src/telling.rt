@@ -21,7 +21,7 @@ use std::alloc::Global;
 use std::sync::Wait;
 
 /// Tells a line its answer where it may be told this, and hands the answer back where it may not. `last` is what the line
-/// asked last, as far as its worker knows, and `by` is the seat's number.
+/// asked last, and `said` how often something was said of its blocks, as far as its worker knows; `by` is the seat's number.
 pub fn tell<O: Opened, W: Wait>(
     rt: &W,
     alloc: Global,
@@ -31,6 +31,7 @@ pub fn tell<O: Opened, W: Wait>(
     client: u16,
     line: u16,
     last: Option<AskId>,
+    said: u64,
     answer: Answer,
 ) -> Result<(), (Answer, Untold)>
     requires ready { IsReady (turn_id turn.now) by seat.old }
@@ -38,22 +39,22 @@ pub fn tell<O: Opened, W: Wait>(
     requires of_line { IsLineSeat by }
     requires fits { O.coherent → (story : List AnyEvent) → BeginsWith story (seen_of seat.old)
         → AllFollow (Follows O.coherent O.opening O.bytes O.script) [] story
-        → MayTell O.opening story client line last answer
+        → MayTell O.opening story client line last said answer
         → EventFits O.opening O.bytes O.script story (events.Told client line answer) }
     ensures ready { IsReady (turn_id turn.now) by seat.new }
     ensures room { room_of seat.new ≡ room_of seat.old }
     ensures goes_on { BeginsWith (seen_of seat.new) (seen_of seat.old) }
     ensures follow { AllFollow (Follows O.coherent O.opening O.bytes O.script) [] (seen_of seat.new) }
-    ensures told { OnOk result (IsTold O.opening by client line last answer (seen_of seat.old) (mine_of seat.old)
+    ensures told { OnOk result (IsTold O.opening by client line last said answer (seen_of seat.old) (mine_of seat.old)
         (seen_of seat.new) (mine_of seat.new)) }
     ensures untold { OnErr result (mine_of seat.new ≡ mine_of seat.old) }
     ensures answer { IfErr result (λ refused. refused.0 ≡ answer) }
     ensures cause { IfErr result (λ refused.
-        KeepsUntold O.opening (seen_of seat.new) client line last answer refused.1) }
+        KeepsUntold O.opening (seen_of seat.new) client line last said answer refused.1) }
 {
     let (mut ledger, held) = turn.take(rt, seat);
     ledger.all_follow();
-    if let Err(cause) = make_room(alloc, &mut ledger, by, client, line, last, &answer) {
+    if let Err(cause) = make_room(alloc, &mut ledger, by, client, line, last, said, &answer) {
         turn.give_back(seat, ledger, held);
         return Err((answer, cause));
     }
@@ -76,17 +77,18 @@ fn make_room<O: Opened>(
     client: u16,
     line: u16,
     last: Option<AskId>,
+    said: u64,
     answer: &Answer,
 ) -> Result<(), Untold>
     requires seat { by < 64 }
     ensures story { ledger.new.story ≡ ledger.old.story }
     ensures room { OnOk result (slice_index ledger.new.rooms by ≡ slice_index ledger.old.rooms by + 1) }
     ensures others { (n : ℕ) → n ≢ by → slice_index ledger.new.rooms n ≡ slice_index ledger.old.rooms n }
-    ensures may { OnOk result (MayTell O.opening ledger.old.story client line last answer.now) }
+    ensures may { OnOk result (MayTell O.opening ledger.old.story client line last said answer.now) }
     ensures same { OnErr result (ledger.new ≡ ledger.old) }
-    ensures cause { IfErr result (λ cause. KeepsUntold O.opening ledger.old.story client line last answer.now cause) }
+    ensures cause { IfErr result (λ cause. KeepsUntold O.opening ledger.old.story client line last said answer.now cause) }
 {
-    may_tell(ledger, client, line, last, answer)?;
+    may_tell(ledger, client, line, last, said, answer)?;
     match ledger.reserve_notes(alloc, by, 1) {
         Ok(()) => Ok(()),
         Err(_error) => Err(Untold::OutOfMemory),
@@ -99,16 +101,20 @@ fn may_tell<O: Opened>(
     client: u16,
     line: u16,
     last: Option<AskId>,
+    said: u64,
     answer: &Answer,
 ) -> Result<(), Untold>
-    ensures may { OnOk result (MayTell O.opening ledger.now.story client line last answer.now) }
-    ensures cause { IfErr result (λ cause. KeepsUntold O.opening ledger.now.story client line last answer.now cause) }
+    ensures may { OnOk result (MayTell O.opening ledger.now.story client line last said answer.now) }
+    ensures cause { IfErr result (λ cause. KeepsUntold O.opening ledger.now.story client line last said answer.now cause) }
 {
     if ledger.is_told(client, line) {
         return Err(Untold::Told);
     }
     if ledger.last_ask(client, line) != last {
         return Err(Untold::OtherAsk);
+    }
+    if ledger.times_said(client, line) != said {
+        return Err(Untold::OtherBlocks);
     }
     if !cause_stands(ledger, client, line, last, answer) {
         return Err(Untold::NotDue);

@@ -5,8 +5,8 @@ use Rattle.oz_telling.specs.laws.Stopped.{stopped_due}
 use Rattle.oz_telling.proofs.laws.what_is_told_of_the_manager_is_due.Goals as goal
 
 pub returns-clause-stopped : goal.returns-clause-stopped
-returns-clause-stopped c opening bytes script story line id may = stopped_due story line line.command id may.asked may.cause
+returns-clause-stopped c opening bytes script story line id said may = stopped_due story line line.command id may.asked may.cause
 
 pub returns-clause-drain : goal.returns-clause-drain
-returns-clause-drain c opening bytes script story line drains may =
+returns-clause-drain c opening bytes script story line said drains may =
     subst (λ (command : Command). ManagerHadStopped story line command) (sym drains) may.cause

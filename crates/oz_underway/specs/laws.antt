@@ -8,6 +8,7 @@ pub mod Replies
 pub mod Blocks
 pub mod Order
 pub mod Contents
+pub mod Said
 pub mod Deciding
 pub mod UnderWay
 pub mod Labels

@@ -1,10 +1,11 @@
 //! What stays of a line that is under way.
 
-ghost use Rattle.std.specs.Prelude.{◌≡◌, ◌≢◌, ◌+◌, ◌==◌, ◌++◌, ◌∷◌, ℕ, [], List, Option, true, false, None, Some};
+ghost use Rattle.std.specs.Prelude.{◌≡◌, ◌≢◌, ◌+◌, ◌==◌, ◌++◌, ◌∷◌, ℕ, [], Bool, List, Option, true, false, None, Some};
 ghost use Rattle.std.specs.Prelude.{length, if◌then◌else◌, Contains};
 ghost use Rattle.std.specs.List.{list_all};
 ghost use Rattle.oz_asker.specs.Decided.{IsDecideAt};
 ghost use Rattle.oz_buffer.specs.Buffer.{AllFollow, Follows};
+ghost use Rattle.oz_buffer.specs.Courses.{times_said};
 ghost use Rattle.oz_client.specs.declared.progress.Progress.{Progress as AnyProgress};
 ghost use Rattle.oz_client.specs.declared.step.Got.TheVariants as gots;
 ghost use Rattle.oz_client.specs.declared.step.Got.{Got as AnyGot};
@@ -17,13 +18,16 @@ ghost use Rattle.oz_command.specs.declared.command.Command.{Command as AnyComman
 ghost use Rattle.oz_core.specs.declared.event.Event.{Event as AnyEvent};
 ghost use Rattle.oz_core.specs.declared.event.EventKind.TheVariants.{Ask, Told};
 ghost use Rattle.oz_core.specs.declared.limits.TheConstants.{SERVICE_CLIENT};
-ghost use Rattle.oz_core.specs.Asks.{asks_of, is_told, last_ask, pending};
-ghost use Rattle.oz_core.specs.Contents.{HasContent};
+ghost use Rattle.oz_core.specs.declared.event.PutRefusal.{PutRefusal as AnyPutRefusal};
+ghost use Rattle.oz_core.specs.Asks.{asks_of, is_of_line, is_told, last_ask, pending};
+ghost use Rattle.oz_core.specs.Contents.{HasContent, WasGranted, written_for};
 ghost use Rattle.oz_core.specs.Due.{IsDue};
 ghost use Rattle.oz_core.specs.Fits.{EventFits, Fits};
-ghost use Rattle.oz_core.specs.Law.{AskIsEnabled};
+ghost use Rattle.oz_core.specs.Law.{AskIsEnabled, puts};
 ghost use Rattle.oz_core.specs.Lines.{HasStarted};
-ghost use Rattle.oz_core.specs.Steps.{commit_step, is_open_at, opening_line, was_told_ok};
+ghost use Rattle.oz_core.specs.Steps.{GrantedBlock, commit_step, is_open_at, opening_line, refuses_so, was_told_ok};
+ghost use Rattle.oz_core.specs.Stories.{has_event};
+ghost use Rattle.oz_fields.specs.declared.block.Block.{Block as AnyBlock};
 ghost use Rattle.oz_fields.specs.declared.block.Piece.{Piece as AnyPiece};
 ghost use Rattle.oz_lines.specs.declared.script.Line.{Line as AnyLine};
 ghost use Rattle.oz_lines.specs.Numbered.{IsNumbered};
@@ -42,78 +46,99 @@ ghost use Rattle.oz_steps.specs.Lines.{IsLabel, commit_of_label};
 ghost use Rattle.oz_steps.specs.Requests.{request_by};
 ghost use Rattle.oz_turn.specs.Told.{BeginsWith};
 ghost use Rattle.oz_underway.specs.GoingOn.{FromHereOn};
-ghost use Rattle.oz_underway.specs.UnderWay.{IsLast, IsUnderWay, LabelStays, WhileAsked, times_asked};
+ghost use Rattle.oz_underway.specs.UnderWay.{IsLast, IsSaid, IsUnderWay, LabelStays, WhileStill, is_all_written, times_asked};
 
 use oz_buffer::Opened;
 
 /// A script's line that has started is under way, from its start on, with nothing that came back.
 pub fn a_line_begins<O: Opened>()
     ensures started { O.coherent → IsNumbered O.script → (seen : List AnyEvent) (line : AnyLine)
-        (command : AnyCommand) (nodes : ℕ) (label : Option AnyLabel) →
+        (command : AnyCommand) (said nodes : ℕ) (label : Option AnyLabel) →
         Contains O.script.lines line → line.command ≡ command →
         AllFollow (Follows O.coherent O.opening O.bytes O.script) [] seen → HasStarted seen line →
         IsLabel O.script seen line command label →
-        IsUnderWay O.coherent O.opening O.bytes O.script seen line 0 command (nothing_yet nodes label) }
-    ensures unasked { O.coherent → (seen : List AnyEvent) (line : AnyLine) (command : AnyCommand) (nodes : ℕ)
-        (label : Option AnyLabel) →
+        IsUnderWay O.coherent O.opening O.bytes O.script seen line 0 said command (nothing_yet nodes label) }
+    ensures unasked { O.coherent → (seen : List AnyEvent) (line : AnyLine) (command : AnyCommand)
+        (said nodes : ℕ) (label : Option AnyLabel) →
         Contains O.script.lines line → line.client ≢ SERVICE_CLIENT → line.command ≡ command →
         HasStarted seen line → asks_of line.client line.number seen ≡ [] →
         LabelStays O.coherent O.opening O.bytes O.script seen line command label →
-        IsUnderWay O.coherent O.opening O.bytes O.script seen line 0 command (nothing_yet nodes label) }
+        IsUnderWay O.coherent O.opening O.bytes O.script seen line 0 said command (nothing_yet nodes label) }
 {}
 
-/// A line that is under way is so in what is seen later.
+/// A line that is under way is so in what is seen later; and where all its blocks are written, whatever was said of them.
 pub fn a_line_stays_under_way<O: Opened>()
-    ensures { (seen later : List AnyEvent) (line : AnyLine) (asked : ℕ) (command : AnyCommand)
+    ensures later { (seen later : List AnyEvent) (line : AnyLine) (asked said : ℕ) (command : AnyCommand)
         (progress : AnyProgress) →
-        IsUnderWay O.coherent O.opening O.bytes O.script seen line asked command progress → BeginsWith later seen →
-        IsUnderWay O.coherent O.opening O.bytes O.script later line asked command progress }
+        IsUnderWay O.coherent O.opening O.bytes O.script seen line asked said command progress → BeginsWith later seen →
+        IsUnderWay O.coherent O.opening O.bytes O.script later line asked said command progress }
+    ensures written { (seen : List AnyEvent) (line : AnyLine) (asked said other : ℕ) (command : AnyCommand)
+        (progress : AnyProgress) → is_all_written progress ≡ true →
+        IsUnderWay O.coherent O.opening O.bytes O.script seen line asked said command progress →
+        IsUnderWay O.coherent O.opening O.bytes O.script seen line asked other command progress }
 {}
 
-/// What is asked next for a line is its next step, where the law lets it ask; and of that id nothing else is ever
-/// pending.
+/// As long as no more is said of a line's blocks, the blocks that were written for it stay, and so does who refused a
+/// block that it was granted, and who put it.
+pub fn written_blocks_stay<O: Opened>()
+    ensures written { (client line : ℕ) (seen story : List AnyEvent) → BeginsWith story seen →
+        times_said client line story ≡ times_said client line seen →
+        written_for client line story ≡ written_for client line seen }
+    ensures refused { (client line dn : ℕ) (counts : AnyPutRefusal → Bool) (grant : GrantedBlock)
+        (seen story : List AnyEvent) → is_of_line client line grant.id ≡ true → BeginsWith story seen →
+        times_said client line story ≡ times_said client line seen →
+        has_event (refuses_so counts grant dn) story ≡ has_event (refuses_so counts grant dn) seen }
+    ensures put { O.coherent → (client line dn : ℕ) (seen before : List AnyEvent) (id : AnyId) (block : AnyBlock) →
+        client ≢ SERVICE_CLIENT → is_of_line client line id ≡ true → WasGranted seen id block before →
+        FromHereOn O.coherent O.opening O.bytes O.script seen (λ story.
+        times_said client line story ≡ times_said client line seen →
+        has_event (puts dn block) story ≡ has_event (puts dn block) seen) }
+{}
+
+/// What is asked next for a line is its next step, as long as no more is said of its blocks, where the law lets it ask; and
+/// of that id nothing else is pending so long.
 pub fn what_is_asked_fits<O: Opened>()
-    ensures fits { O.coherent → (seen : List AnyEvent) (line : AnyLine) (asked seat : ℕ) (command : AnyCommand)
+    ensures fits { O.coherent → (seen : List AnyEvent) (line : AnyLine) (asked said seat : ℕ) (command : AnyCommand)
         (progress : AnyProgress) (got : AnyGot) (request : AnyRequest) (id : AnyId) →
-        IsUnderWay O.coherent O.opening O.bytes O.script seen line asked command progress →
+        IsUnderWay O.coherent O.opening O.bytes O.script seen line asked said command progress →
         IsStepEverywhere command progress got (steps.Ask request) →
         ((story : List AnyEvent) → HasIt O.opening O.bytes O.script story line command progress got) →
         id ≡ record { client = line.client; line = line.number; step = asked + 1 } →
-        FromHereOn O.coherent O.opening O.bytes O.script seen (λ story. AskIsEnabled O.opening story seat id request →
-        EventFits O.opening O.bytes O.script story (Ask id request)) }
-    ensures same { O.coherent → IsNumbered O.script → (seen : List AnyEvent) (line : AnyLine) (asked : ℕ)
+        FromHereOn O.coherent O.opening O.bytes O.script seen (λ story. IsSaid story line said progress →
+        AskIsEnabled O.opening story seat id request → EventFits O.opening O.bytes O.script story (Ask id request)) }
+    ensures same { O.coherent → IsNumbered O.script → (seen : List AnyEvent) (line : AnyLine) (asked said : ℕ)
         (command : AnyCommand) (progress : AnyProgress) (got : AnyGot) (request : AnyRequest) (id : AnyId) →
-        IsUnderWay O.coherent O.opening O.bytes O.script seen line asked command progress →
+        IsUnderWay O.coherent O.opening O.bytes O.script seen line asked said command progress →
         IsStepEverywhere command progress got (steps.Ask request) →
         ((story : List AnyEvent) → HasIt O.opening O.bytes O.script story line command progress got) →
         id ≡ record { client = line.client; line = line.number; step = asked + 1 } →
-        FromHereOn O.coherent O.opening O.bytes O.script seen (λ story. (other : AnyRequest) →
-        pending id story ≡ Some other → other ≡ request) }
+        FromHereOn O.coherent O.opening O.bytes O.script seen (λ story. IsSaid story line said progress →
+        (other : AnyRequest) → pending id story ≡ Some other → other ≡ request) }
 {}
 
 /// What was decided of a line's next Ask has come back to it, where that grants no block and each block that the line
-/// was granted before is written.
+/// was granted before is written, whatever is said of them by `now`.
 pub fn a_reply_comes<O: Opened>()
-    ensures { O.coherent → (seen later : List AnyEvent) (line : AnyLine) (asked place : ℕ) (command : AnyCommand)
-        (progress : AnyProgress) (reply : AnyReply) (id : AnyId) →
-        IsUnderWay O.coherent O.opening O.bytes O.script seen line asked command progress →
+    ensures { O.coherent → (seen later : List AnyEvent) (line : AnyLine) (asked said now place : ℕ)
+        (command : AnyCommand) (progress : AnyProgress) (reply : AnyReply) (id : AnyId) →
+        IsUnderWay O.coherent O.opening O.bytes O.script seen line asked said command progress →
         progress.came.writing ≡ None → progress.read ≡ [] →
         list_all has_fate_written progress.came.attempts ≡ true → granted_by reply ≡ None →
         BeginsWith later seen → AllFollow (Follows O.coherent O.opening O.bytes O.script) [] later →
         id ≡ record { client = line.client; line = line.number; step = asked + 1 } → IsDecideAt later place id reply →
-        IsUnderWay O.coherent O.opening O.bytes O.script later line (asked + 1) command
+        IsUnderWay O.coherent O.opening O.bytes O.script later line (asked + 1) now command
         (progress_after progress (gots.Reply reply)) }
 {}
 
-/// A piece of a key is read: what its block has, it has from then on.
+/// A piece of a key is read, while no more was said of the line's blocks: what its block has, it has from then on.
 pub fn a_piece_is_read<O: Opened>()
-    ensures { O.coherent → IsNumbered O.script → (seen later : List AnyEvent) (line : AnyLine) (asked : ℕ)
+    ensures { O.coherent → IsNumbered O.script → (seen later : List AnyEvent) (line : AnyLine) (asked said : ℕ)
         (command : AnyCommand) (progress : AnyProgress) (piece : AnyPiece) (content : List ℕ) →
-        IsUnderWay O.coherent O.opening O.bytes O.script seen line asked command progress →
-        IsReading command progress piece →
+        IsUnderWay O.coherent O.opening O.bytes O.script seen line asked said command progress →
+        IsReading command progress piece → IsSaid later line said progress →
         BeginsWith later seen → AllFollow (Follows O.coherent O.opening O.bytes O.script) [] later →
         HasContent O.opening O.bytes O.script later piece.block content →
-        IsUnderWay O.coherent O.opening O.bytes O.script later line asked command
+        IsUnderWay O.coherent O.opening O.bytes O.script later line asked said command
         (record progress { read = progress.read ++ content ∷ [] }) }
 {}
 
@@ -123,33 +148,34 @@ pub fn a_reply_grants_nothing()
         Answers namespace request reply → family_of request ≢ Allocation → granted_by reply ≡ None }
 {}
 
-/// What a line is to be told is due, as long as it asked no more: it is what the script leads to.
+/// What a line is to be told is due, as long as it asked no more and no more was said of its blocks: it is what the script
+/// leads to.
 pub fn what_is_told_is_due<O: Opened>()
-    ensures due { (seen : List AnyEvent) (line : AnyLine) (asked : ℕ) (command : AnyCommand) (progress : AnyProgress)
-        (got : AnyGot) (answer : AnyAnswer) →
-        IsUnderWay O.coherent O.opening O.bytes O.script seen line asked command progress →
+    ensures due { (seen : List AnyEvent) (line : AnyLine) (asked said : ℕ) (command : AnyCommand)
+        (progress : AnyProgress) (got : AnyGot) (answer : AnyAnswer) →
+        IsUnderWay O.coherent O.opening O.bytes O.script seen line asked said command progress →
         IsStepEverywhere command progress got (steps.Tell answer) →
-        WhileAsked O.coherent O.opening O.bytes O.script seen line asked (λ story.
+        WhileStill O.coherent O.opening O.bytes O.script seen line asked said progress (λ story.
         HasIt O.opening O.bytes O.script story line command progress got →
         IsDue O.opening O.bytes O.script story line answer) }
-    ensures fits { O.coherent → (seen : List AnyEvent) (line : AnyLine) (asked : ℕ) (command : AnyCommand)
+    ensures fits { O.coherent → (seen : List AnyEvent) (line : AnyLine) (asked said : ℕ) (command : AnyCommand)
         (progress : AnyProgress) (got : AnyGot) (answer : AnyAnswer) (last : Option AnyId) →
-        IsUnderWay O.coherent O.opening O.bytes O.script seen line asked command progress →
+        IsUnderWay O.coherent O.opening O.bytes O.script seen line asked said command progress →
         IsStepEverywhere command progress got (steps.Tell answer) → IsLast last asked →
         FromHereOn O.coherent O.opening O.bytes O.script seen (λ story.
-        last_ask line.client line.number story ≡ last →
+        last_ask line.client line.number story ≡ last → IsSaid story line said progress →
         HasIt O.opening O.bytes O.script story line command progress got →
         EventFits O.opening O.bytes O.script story (Told line.client line.number answer)) }
-    ensures given { (seen : List AnyEvent) (line : AnyLine) (asked : ℕ) (command : AnyCommand)
+    ensures given { (seen : List AnyEvent) (line : AnyLine) (asked said : ℕ) (command : AnyCommand)
         (progress : AnyProgress) (answer : AnyAnswer) →
-        IsUnderWay O.coherent O.opening O.bytes O.script seen line asked command progress →
+        IsUnderWay O.coherent O.opening O.bytes O.script seen line asked said command progress →
         FromHereOn O.coherent O.opening O.bytes O.script seen (λ story.
         IsDue O.opening O.bytes O.script story line answer →
         EventFits O.opening O.bytes O.script story (Told line.client line.number answer)) }
 {}
 
 /// A script's line asks with the steps 1, 2 and so on: its last Ask says how often it asked. As long as that stays, all
-/// its Asks do; and they stay once the line is told, or has no next step.
+/// its Asks do; and they stay once the line is told, or, as long as no more is said of its blocks, has no next step.
 pub fn asks_stay<O: Opened>()
     ensures counted { O.coherent → (client line : ℕ) (story : List AnyEvent) (id : AnyId) →
         client ≢ SERVICE_CLIENT → AllFollow (Follows O.coherent O.opening O.bytes O.script) [] story →
@@ -169,11 +195,12 @@ pub fn asks_stay<O: Opened>()
     ensures told { O.coherent → (client line : ℕ) (seen : List AnyEvent) → client ≢ SERVICE_CLIENT →
         is_told client line seen ≡ true → FromHereOn O.coherent O.opening O.bytes O.script seen (λ story.
         asks_of client line story ≡ asks_of client line seen) }
-    ensures idle { O.coherent → IsNumbered O.script → (seen : List AnyEvent) (line : AnyLine) (asked : ℕ)
+    ensures idle { O.coherent → IsNumbered O.script → (seen : List AnyEvent) (line : AnyLine) (asked said : ℕ)
         (command : AnyCommand) (progress : AnyProgress) →
-        IsUnderWay O.coherent O.opening O.bytes O.script seen line asked command progress →
+        IsUnderWay O.coherent O.opening O.bytes O.script seen line asked said command progress →
         request_by command progress.label progress.came ≡ None →
-        FromHereOn O.coherent O.opening O.bytes O.script seen (λ story. times_asked story line ≡ asked) }
+        FromHereOn O.coherent O.opening O.bytes O.script seen (λ story. IsSaid story line said progress →
+        times_asked story line ≡ asked) }
 {}
 
 /// Where each event follows, the whole story is that of the script: each client's lines were told in their order.
@@ -195,21 +222,22 @@ pub fn a_line_was_told()
         ≡ asks_of client number story }
 {}
 
-/// What a label stands for stays once the line that opened it was told, which it is once. For a later line that commits
+/// What a label stands for stays once the line that opened it was told, which it is once, as long as no more is said of its
+/// blocks; where they are all written that needn't be. For a later line that commits
 /// the label it is what that line left, if it was told `OK`, and else nothing; so it stays from the later line's start
 /// on. A label that no line opened stands for nothing, not even for that it isn't open.
 pub fn a_label_stays<O: Opened>()
-    ensures commit { O.coherent → (seen : List AnyEvent) (opened : AnyLine) (asked : ℕ) (command : AnyCommand)
+    ensures commit { O.coherent → (seen : List AnyEvent) (opened : AnyLine) (asked said : ℕ) (command : AnyCommand)
         (progress : AnyProgress) (label : AnyLabel) →
-        IsUnderWay O.coherent O.opening O.bytes O.script seen opened asked command progress →
+        IsUnderWay O.coherent O.opening O.bytes O.script seen opened asked said command progress →
         IsLeftEverywhere command progress label → times_asked seen opened ≡ asked → is_open_at seen opened ≡ true →
-        FromHereOn O.coherent O.opening O.bytes O.script seen (λ story.
+        FromHereOn O.coherent O.opening O.bytes O.script seen (λ story. IsSaid story opened said progress →
         commit_step story (Some opened) ≡ Some (commit_of_label label)) }
-    ensures ok { O.coherent → (seen : List AnyEvent) (opened line : AnyLine) (asked : ℕ) (command : AnyCommand)
+    ensures ok { O.coherent → (seen : List AnyEvent) (opened line : AnyLine) (asked said : ℕ) (command : AnyCommand)
         (progress : AnyProgress) (label : AnyLabel) (name : List ℕ) →
-        IsUnderWay O.coherent O.opening O.bytes O.script seen opened asked command progress →
+        IsUnderWay O.coherent O.opening O.bytes O.script seen opened asked said command progress →
         IsLeftEverywhere command progress label → times_asked seen opened ≡ asked → is_open_at seen opened ≡ true →
-        opening_line O.script line name ≡ Some opened →
+        is_all_written progress ≡ true → opening_line O.script line name ≡ Some opened →
         LabelStays O.coherent O.opening O.bytes O.script seen line (commands.KeyCommit name) (Some label) }
     ensures open { O.coherent → (seen : List AnyEvent) (opened : AnyLine) →
         is_told opened.client opened.number seen ≡ true →

@@ -51,7 +51,7 @@ module _ (Coherent : Type 0) (opening : Opening) (bytes : OpeningBytes) (script 
   abbrev Follow : List Event → Event → Type 0
   Follow = Follows Coherent opening bytes script
 
-  granted_still : (story seen : List Event) (id : AskId) (block : Block) (before : List Event) → is_script id ≡ true → Coherent → AllFollow Follow [] story
+  pub granted_still : (story seen : List Event) (id : AskId) (block : Block) (before : List Event) → is_script id ≡ true → Coherent → AllFollow Follow [] story
       → BeginsWith story seen → WasGranted seen id block before → WasGranted story id block before
   granted_still story seen id block before of_script coherent all begins was =
       kept_on Follow (λ front. WasGranted front id block before) story seen begins all

@@ -23,7 +23,7 @@ use Rattle.oz_client.specs.declared.progress.Progress.{Progress}
 use Rattle.oz_client.specs.Stories.{IsLeftEverywhere}
 use Rattle.oz_buffer.specs.Buffer.{AllFollow, Follows}
 use Rattle.oz_turn.specs.Told.{BeginsWith}
-use Rattle.oz_underway.specs.UnderWay.{IsUnderWay, times_asked}
+use Rattle.oz_underway.specs.UnderWay.{IsSaid, IsUnderWay, times_asked}
 use Rattle.oz_underway.specs.laws.Going.{begins_through}
 use Rattle.oz_underway.specs.laws.Told.{answers_now, asks_stop, told_once}
 
@@ -72,13 +72,13 @@ module _ (Coherent : Type 0) (opening : Opening) (bytes : OpeningBytes) (script 
       ap (λ (answers : List Answer). was_told_ok (last_in answers))
       (told_once Coherent opening bytes script opened.client opened.number story seen coherent all begins told)
 
-  pub commit_stays : (seen : List Event) (opened : Line) (asked : ℕ) (command : Command) (progress : Progress) (label : Label) → Coherent
-      → IsUnderWay Coherent opening bytes script seen opened asked command progress → IsLeftEverywhere command progress label
+  pub commit_stays : (seen : List Event) (opened : Line) (asked said : ℕ) (command : Command) (progress : Progress) (label : Label) → Coherent
+      → IsUnderWay Coherent opening bytes script seen opened asked said command progress → IsLeftEverywhere command progress label
       → times_asked seen opened ≡ asked → is_open_at seen opened ≡ true
       → (story : List Event) → BeginsWith story seen → AllFollow (Follows Coherent opening bytes script) [] story
-      → commit_step story (Some opened) ≡ Some (commit_of_label label)
-  commit_stays seen opened asked command progress label coherent way left so is story begins all =
+      → IsSaid story opened said progress → commit_step story (Some opened) ≡ Some (commit_of_label label)
+  commit_stays seen opened asked said command progress label coherent way left so is story begins all as_said =
       let told = open_was_told seen opened is in
       let asks = asks_stop Coherent opening bytes script opened.client opened.number story seen way.of_client coherent all begins told in
-      let at = way.has story (begins_through story seen way.since begins way.goes_on) all (ap length asks ∙ so) in
+      let at = way.has story (begins_through story seen way.since begins way.goes_on) all (ap length asks ∙ so) as_said in
       left opening script story opened at.of_line (open_still opened story seen coherent all begins told ∙ is)

@@ -2,18 +2,20 @@ use Rattle.std.proofs.Common.{◌∙◌, ap}
 use Rattle.oz_core.specs.Steps.{commit_step}
 use Rattle.oz_underway.specs.laws.Commits.{label_stays}
 use Rattle.oz_underway.specs.laws.Labels.{commit_stays, never_opened, no_label, open_still}
+use Rattle.oz_underway.specs.laws.Said.{said_of_written}
 use Rattle.oz_underway.proofs.laws.a_label_stays.Goals as goal
 
 pub returns-clause-commit : goal.returns-clause-commit
-returns-clause-commit g c coherent seen opened asked command progress label way left so is story begins all =
+returns-clause-commit g c coherent seen opened asked said command progress label way left so is story begins all as_said =
     let O = g.O.Opened in
-    commit_stays O.coherent O.opening O.bytes O.script seen opened asked command progress label coherent way left so is story begins all
+    commit_stays O.coherent O.opening O.bytes O.script seen opened asked said command progress label coherent way left so is story begins all as_said
 
 pub returns-clause-ok : goal.returns-clause-ok
-returns-clause-ok g c coherent seen opened line asked command progress label name way left so is its story begins all =
+returns-clause-ok g c coherent seen opened line asked said command progress label name way left so is written its story begins all =
     let O = g.O.Opened in
     ap (commit_step story) its
-    ∙ commit_stays O.coherent O.opening O.bytes O.script seen opened asked command progress label coherent way left so is story begins all
+    ∙ commit_stays O.coherent O.opening O.bytes O.script seen opened asked said command progress label coherent way left so is story begins all
+    (said_of_written story opened said progress written)
 
 pub returns-clause-open : goal.returns-clause-open
 returns-clause-open g c coherent seen opened told story begins all =

@@ -24,9 +24,9 @@ returns-clause-told g c coherent client line seen other told story begins all =
     asks_stop O.coherent O.opening O.bytes O.script client line story seen other coherent all begins told
 
 pub returns-clause-idle : goal.returns-clause-idle
-returns-clause-idle g c coherent numbered seen line asked command progress way idle story begins all =
+returns-clause-idle g c coherent numbered seen line asked said command progress way idle story begins all as_said =
     let O = g.O.Opened in
-    idle_asks O.coherent O.opening O.bytes O.script numbered seen line asked command progress coherent way idle story begins all
+    idle_asks O.coherent O.opening O.bytes O.script numbered seen line asked said command progress coherent way idle story begins all as_said
 
 pub returns-clause-times : goal.returns-clause-times
 returns-clause-times g c coherent client line asked story last other all of_last is =

@@ -36,6 +36,7 @@ one_err one other same = ap err_of same
 
 pub fault_stands : (story : List Event) (id : AskId) (request : Request) (fault : AskFault)
     → ((count : ℕ) → fault ≡ faults.Stopped count → (place : ℕ) × IsAskAt story place id request) → AskStands story id request (Err (refusal_of fault))
+fault_stands story id request faults.OtherBlocks stands = tt
 fault_stands story id request faults.Early stands = tt
 fault_stands story id request (faults.Stopped count) stands = stands count refl
 fault_stands story id request faults.OutOfMemory stands = tt
@@ -43,6 +44,7 @@ fault_stands story id request faults.OutOfMemory stands = tt
 -- where a refusal comes once the Ask stands
 pub refused_stands : (story : List Event) (id : AskId) (request : Request) (refusal : Refusal) → (place : ℕ) × IsAskAt story place id request
     → AskStands story id request (Err refusal)
+refused_stands story id request refusals.OtherBlocks stands = tt
 refused_stands story id request refusals.Early stands = tt
 refused_stands story id request (refusals.Stopped count) stands = stands
 refused_stands story id request (refusals.PoolEmpty stripe) stands = stands

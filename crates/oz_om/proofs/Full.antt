@@ -18,6 +18,7 @@ pub full_refused : (Coherent : Type 0) (opening : Opening) (story : List Event) 
     → (refusal : Refusal) → IsOfRoom refusal
     → ((held asked : ℕ) → refusal ≡ refusals.Later held asked → (held ≡ length (buffer_of story)) × (asked ≡ size) × (LARGEST_BUFFER < held + asked))
     → RefusalHolds Coherent opening story id refusal
+full_refused Coherent opening story id seat index reply batch in_time enabled size is refusals.OtherBlocks of later = of
 full_refused Coherent opening story id seat index reply batch in_time enabled size is refusals.Early of later = of
 full_refused Coherent opening story id seat index reply batch in_time enabled size is (refusals.Stopped count) of later = of
 full_refused Coherent opening story id seat index reply batch in_time enabled size is (refusals.PoolEmpty stripe) of later = absurd of

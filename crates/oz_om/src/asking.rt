@@ -1,10 +1,10 @@
 //! What the manager is asked.
 
 ghost use Rattle.std.specs.Prelude.{◌≡◌, ℕ, ◌<◌, List, [], true, false, Some, Err, IfOk, IfErr, IsSome};
-ghost use Rattle.oz_asker.specs.Asked.{IsEarly, IsLate, MayAdd};
+ghost use Rattle.oz_asker.specs.Asked.{IsEarly, IsLate, IsSaidOtherwise, MayAdd};
 ghost use Rattle.oz_asker.specs.Settled.{IsSettlement};
 ghost use Rattle.oz_buffer.specs.Buffer.{AllFollow, Follows};
-ghost use Rattle.oz_buffer.specs.Courses.{index_of};
+ghost use Rattle.oz_buffer.specs.Courses.{index_of, times_said};
 ghost use Rattle.oz_core.specs.declared.event.Event.{Event as AnyEvent};
 ghost use Rattle.oz_core.specs.declared.event.EventKind.TheVariants as events;
 ghost use Rattle.oz_core.specs.Asks.{is_script, pending};
@@ -38,7 +38,7 @@ impl<O: Opened, L: Loaded, R: Ring> Manager<Ledger<O>, O, L, R> {
     /// the request's volume, as one thread would. `by` is the number of the asking seat.
     ///
     /// Where an Ask of the id stands undecided, that is decided and no other is appended; the request has to be its
-    /// own.
+    /// own. Else `said` has to be how often something was said of the blocks of the id's line; that is compared first.
     pub fn ask<W: Wait>(
         &self,
         rt: &W,
@@ -48,6 +48,7 @@ impl<O: Opened, L: Loaded, R: Ring> Manager<Ledger<O>, O, L, R> {
         by: u16,
         id: AskId,
         request: Request,
+        said: u64,
     ) -> Result<Reply, Refusal>
         requires turn { turn_id turn.now ≡ R.turn }
         requires ready { IsReady R.turn by seat.old }
@@ -60,6 +61,7 @@ impl<O: Opened, L: Loaded, R: Ring> Manager<Ledger<O>, O, L, R> {
             → (other : AnyRequest) → pending id story ≡ Some other → other ≡ request }
         requires fits { O.coherent → (story : List AnyEvent) → BeginsWith story (seen_of seat.old)
             → AllFollow (Follows O.coherent O.opening O.bytes O.script) [] story
+            → times_said id.client id.line story ≡ said
             → AskIsEnabled O.opening story by id request
             → EventFits O.opening O.bytes O.script story (events.Ask id request) }
         ensures ready { IsReady R.turn by seat.new }
@@ -75,6 +77,8 @@ impl<O: Opened, L: Loaded, R: Ring> Manager<Ledger<O>, O, L, R> {
         ensures seen { IfOk result (λ reply. IsSome (index_of id (seen_of seat.new))) }
 
         // When each refusal comes, in the story that the seat has seen then, and what stands there.
+        ensures other_blocks { result ≡ Err Refusal.OtherBlocks → (mine_of seat.new ≡ mine_of seat.old)
+            × IsSaidOtherwise (seen_of seat.new) id said }
         ensures early { result ≡ Err Refusal.Early → (mine_of seat.new ≡ mine_of seat.old)
             × (O.coherent → IsEarly O.opening (seen_of seat.new) by id request) }
         ensures stopped { (count : ℕ) → result ≡ Err (refusals.Stopped count) → IsLate (seen_of seat.new) id count }
@@ -86,7 +90,7 @@ impl<O: Opened, L: Loaded, R: Ring> Manager<Ledger<O>, O, L, R> {
         ensures stands { O.coherent → AskStands (seen_of seat.new) id request result }
     {
         let stripe = stripe_of(request.volume());
-        let place = match put_ask(rt, alloc, turn, seat, by, id, request) {
+        let place = match put_ask(rt, alloc, turn, seat, by, id, request, said) {
             Ok(place) => place,
             Err(fault) => return Err(of_asker(fault)),
         };

@@ -11,6 +11,8 @@ use oz_fields::OutOfMemory;
 /// Why a request wasn't decided. After each of these nothing was decided.
 #[derive(Clone, Copy, Debug, PartialEq, Eq)]
 pub enum Refusal {
+    /// Something else was said of the blocks of the line than its worker knows. Nothing was appended.
+    OtherBlocks,
     /// The line may not ask this yet, or not any more. Nothing was appended.
     Early,
     /// The manager had halted before it was asked; its disks have failed so often.
@@ -35,12 +37,14 @@ impl From<OutOfMemory> for Refusal {
 
 /// How the asker's seat is refused.
 pub(crate) fn of_asker(fault: AskFault) -> Refusal
+    ensures other_blocks { result ≡ Refusal.OtherBlocks ↔ fault ≡ AskFault.OtherBlocks }
     ensures early { result ≡ Refusal.Early ↔ fault ≡ AskFault.Early }
     ensures stopped { (count : ℕ) → result ≡ refusals.Stopped count ↔ fault ≡ faults.Stopped count }
     ensures refused { IsOfStripe result → ⊥ }
     ensures is { result ≡ refusal_of fault }
 {
     match fault {
+        AskFault::OtherBlocks => Refusal::OtherBlocks,
         AskFault::Early => Refusal::Early,
         AskFault::Stopped { count } => Refusal::Stopped { count },
         AskFault::OutOfMemory => Refusal::OutOfMemory,

@@ -54,14 +54,14 @@ stopped_due opening story line asked last late (commands.Admin admin.Drain) =
     λ none. false≢true (sym (ap is_some none) ∙ late_means_halted (id_of line asked) story late)
 stopped_due opening story line asked last late command = (id_of line asked, last, late)
 
-end_due : (opening : Opening) (bytes : OpeningBytes) (script : Script) (story : List Event) (line : Line) (asked : ℕ) (answer : Answer) → IsOfEnd asked answer
-    → MayTell opening story line.client line.number (last_of line asked) answer → IsDue opening bytes script story line answer
-end_due opening bytes script story line asked answers.OutOfMemory of_end may = tt
-end_due opening bytes script story line asked answers.Unacknowledged of_end may = may.cause
-end_due opening bytes script story line asked answers.ManagerStopped of_end may =
+end_due : (opening : Opening) (bytes : OpeningBytes) (script : Script) (story : List Event) (line : Line) (asked : ℕ) (said : ℕ) (answer : Answer) → IsOfEnd asked answer
+    → MayTell opening story line.client line.number (last_of line asked) said answer → IsDue opening bytes script story line answer
+end_due opening bytes script story line asked said answers.OutOfMemory of_end may = tt
+end_due opening bytes script story line asked said answers.Unacknowledged of_end may = may.cause
+end_due opening bytes script story line asked said answers.ManagerStopped of_end may =
     let is = some_last line asked of_end in
     stopped_due opening story line asked (may.asked ∙ is) (subst (HadStopped story) is may.cause) line.command
-end_due opening bytes script story line asked answer of_end may = absurd of_end
+end_due opening bytes script story line asked said answer of_end may = absurd of_end
 
 module _ (Coherent : Type 0) (opening : Opening) (bytes : OpeningBytes) (script : Script) where
   pub told_stays : (story before : List Event) (seat : ℕ) (line : Line) (answer : Answer) → Coherent → AllFollow (Follows Coherent opening bytes script) [] story
@@ -74,13 +74,13 @@ module _ (Coherent : Type 0) (opening : Opening) (bytes : OpeningBytes) (script 
   end_fits : (seen : List Event) (line : Line) (asked : ℕ) (answer : Answer) → Coherent → IsStarted script seen line → IsOfEnd asked answer
       → MayBeTold Coherent opening bytes script seen line (last_of line asked) answer None
   end_fits seen line asked answer coherent begun of_end = record {
-    fits = λ story begins all may. record {
+    fits = λ story begins all said may. record {
       line = line;
       its = record { there = begun.there; of_client = refl; of_number = refl };
       started = started_still story seen line begins begun.started;
-      due = end_due opening bytes script story line asked answer of_end may;
+      due = end_due opening bytes script story line asked said answer of_end may;
     };
-    leaves = λ story begins all before seat from may behind.
+    leaves = λ story begins all before seat said from may behind.
         label_none story line line.command (told_stays story before seat line answer coherent all behind ∙ end_not_ok asked answer of_end);
   }
 

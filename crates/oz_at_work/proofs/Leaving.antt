@@ -66,12 +66,12 @@ label_left Coherent opening bytes script seen line opened name left does its has
 
 module _ (Coherent : Type 0) (opening : Opening) (bytes : OpeningBytes) (script : Script) (seen after mine mine_after : List Event) (work : WorkView) (seat : ℕ) (answer : Answer)
     (goes : BeginsWith after seen) (at_work : IsAtWork Coherent opening bytes script seen work) (is : work.next ≡ steps.Tell answer)
-    (told : IsTold opening seat work.line.client work.line.number (last_of work.line work.asked) answer seen mine after mine_after) where
+    (told : IsTold opening seat work.line.client work.line.number (last_of work.line work.asked) work.said answer seen mine after mine_after) where
   is_told_now : is_told work.line.client work.line.number after ≡ true
   is_told_now = subst (λ (l : List Event). is_told work.line.client work.line.number l ≡ true) (sym told.story) (told_now told.before seat work.line.client work.line.number answer)
 
-  untold_no_more : (story : List Event) (last : Option AskId) (other : Answer) → BeginsWith story after → MayTell opening story work.line.client work.line.number last other → ⊥
-  untold_no_more story last other begins may =
+  untold_no_more : (story : List Event) (last : Option AskId) (said : ℕ) (other : Answer) → BeginsWith story after → MayTell opening story work.line.client work.line.number last said other → ⊥
+  untold_no_more story last said other begins may =
       false≢true (sym may.untold ∙ told_still work.line.client work.line.number story after begins is_told_now)
 
   pub told_works : IsAtWork Coherent opening bytes script after (record work { next = steps.Tell answers.OutOfMemory })
@@ -79,8 +79,8 @@ module _ (Coherent : Type 0) (opening : Opening) (bytes : OpeningBytes) (script 
     begun = begun_still script after seen work.line goes at_work.begun;
     does = at_work.does;
     next = record {
-      fits = λ story begins all may. absurd (untold_no_more story _ _ begins may);
-      leaves = λ story begins all before by from may behind. absurd (untold_no_more before _ _ from may);
+      fits = λ story begins all said may. absurd (untold_no_more story _ said _ begins may);
+      leaves = λ story begins all before by said from may behind. absurd (untold_no_more before _ said _ from may);
     };
   }
 
@@ -89,6 +89,6 @@ module _ (Coherent : Type 0) (opening : Opening) (bytes : OpeningBytes) (script 
       let fit : MayBeTold Coherent opening bytes script seen work.line (last_of work.line work.asked) answer (left_of work) = subst (IsNextFit Coherent opening bytes script seen work) is at_work.next in
       record {
         told = is_told_now;
-        stays = λ story begins all. fit.leaves story (begins_through story after seen begins goes) all told.before seat told.begins told.may
+        stays = λ story begins all. fit.leaves story (begins_through story after seen begins goes) all told.before seat work.said told.begins told.may
             (subst (BeginsWith story) told.story begins);
       }

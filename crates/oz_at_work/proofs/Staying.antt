@@ -1,5 +1,7 @@
 -- What is known of a line stays in what is seen later.
-use Rattle.std.proofs.Common.{List}
+use Rattle.std.proofs.Common.{◌≡◌, ℕ, true, ◌&&◌, List, Option, is_none, ap, ◌∙◌}
+use Rattle.std.specs.List.{list_all}
+use Rattle.oz_client.specs.declared.progress.Progress.{Progress}
 use Rattle.oz_client.specs.declared.step.Step.{Step}
 use Rattle.oz_client.specs.declared.step.Step.TheVariants as steps
 use Rattle.oz_core.specs.declared.event.Event.{Event}
@@ -9,15 +11,17 @@ use Rattle.oz_lines.specs.declared.script.Line.{Line}
 use Rattle.oz_lines.specs.declared.script.Script.{Script}
 use Rattle.oz_requests.specs.declared.answer.Answer.{Answer}
 use Rattle.oz_requests.specs.declared.request.AskId.{AskId}
+use Rattle.oz_steps.specs.declared.came.Granted.{Granted}
 use Rattle.oz_steps.specs.declared.label.Label.{Label}
+use Rattle.oz_steps.specs.Grants.{has_fate_written}
 use Rattle.oz_turn.specs.Told.{BeginsWith}
 use Rattle.oz_underway.specs.GoingOn.{FromHereOn}
+use Rattle.oz_underway.specs.UnderWay.{is_all_written}
 use Rattle.oz_underway.specs.laws.Going.{begins_through}
 use Rattle.oz_underway.specs.laws.Starting.{started_still}
 use Rattle.oz_underway.specs.laws.Told.{told_still}
-use Rattle.oz_underway.specs.laws.UnderWay.{still_under_way}
-use Rattle.oz_at_work.specs.AtWork.{HasLeft, IsAtWork, IsNextFit, IsStarted, MayBegin, MayBeTold, WorkView}
-use Rattle.std.specs.Prelude.{Option}
+use Rattle.oz_underway.specs.laws.UnderWay.{still_under_way, whatever_said}
+use Rattle.oz_at_work.specs.AtWork.{HasLeft, HasRepliesAlone, IsAtWork, IsNextFit, IsStarted, MayBegin, MayBeTold, WorkView}
 
 pub begun_still : (script : Script) (later seen : List Event) (line : Line) → BeginsWith later seen → IsStarted script seen line → IsStarted script later line
 begun_still script later seen line begins begun = record {
@@ -25,6 +29,11 @@ begun_still script later seen line begins begun = record {
   there = begun.there;
   started = started_still later seen line begins begun.started;
 }
+
+none_unwritten : (progress : Progress) → HasRepliesAlone progress → is_all_written progress ≡ true
+none_unwritten progress alone =
+    ap (λ (w : Option Granted). is_none w && list_all has_fate_written progress.came.attempts) alone.unwritten
+    ∙ ap (list_all has_fate_written) alone.no_attempts
 
 module _ (Coherent : Type 0) (opening : Opening) (bytes : OpeningBytes) (script : Script) (later seen : List Event) (begins : BeginsWith later seen) where
   pub here_still : (Holds : List Event → Type 0) → FromHereOn Coherent opening bytes script seen Holds → FromHereOn Coherent opening bytes script later Holds
@@ -34,19 +43,40 @@ module _ (Coherent : Type 0) (opening : Opening) (bytes : OpeningBytes) (script 
       → MayBeTold Coherent opening bytes script seen line last answer left → MayBeTold Coherent opening bytes script later line last answer left
   told_fit_still line last answer left fit = record {
     fits = λ story goes all. fit.fits story (begins_through story later seen goes begins) all;
-    leaves = λ story goes all before seat from may behind.
-        fit.leaves story (begins_through story later seen goes begins) all before seat (begins_through before later seen from begins) may behind;
+    leaves = λ story goes all before seat said from may behind.
+        fit.leaves story (begins_through story later seen goes begins) all before seat said (begins_through before later seen from begins) may behind;
   }
 
   next_still : (work : WorkView) (step : Step) → IsNextFit Coherent opening bytes script seen work step → IsNextFit Coherent opening bytes script later work step
   next_still work (steps.Ask request) fit = record {
-    under_way = still_under_way Coherent opening bytes script later seen work.line work.asked work.line.command work.state.progress begins fit.under_way;
+    under_way = still_under_way Coherent opening bytes script later seen work.line work.asked work.said work.line.command work.state.progress begins fit.under_way;
     alone = fit.alone;
     fits = λ story goes all. fit.fits story (begins_through story later seen goes begins) all;
     same = λ story goes all. fit.same story (begins_through story later seen goes begins) all;
   }
   next_still work (steps.Tell answer) fit = told_fit_still work.line _ answer _ fit
   next_still work step fit = tt
+
+  -- whatever was said of its blocks, of which there are none
+  said_fit : (work : WorkView) (said : ℕ) (step : Step) → IsNextFit Coherent opening bytes script later work step
+      → IsNextFit Coherent opening bytes script later (record work { said = said }) step
+  said_fit work said (steps.Ask request) fit = record {
+    under_way = whatever_said Coherent opening bytes script later work.line work.asked work.said said work.line.command work.state.progress
+        (none_unwritten work.state.progress fit.alone) fit.under_way;
+    alone = fit.alone;
+    fits = fit.fits;
+    same = fit.same;
+  }
+  said_fit work said (steps.Tell answer) fit = record { fits = fit.fits; leaves = fit.leaves }
+  said_fit work said step fit = tt
+
+  pub said_still : (work : WorkView) (said : ℕ) → IsAtWork Coherent opening bytes script seen work
+      → IsAtWork Coherent opening bytes script later (record work { said = said })
+  said_still work said at_work = record {
+    begun = begun_still script later seen work.line begins at_work.begun;
+    does = at_work.does;
+    next = said_fit work said work.next (next_still work work.next at_work.next);
+  }
 
   pub work_still : (work : WorkView) → IsAtWork Coherent opening bytes script seen work → IsAtWork Coherent opening bytes script later work
   work_still work at_work = record {

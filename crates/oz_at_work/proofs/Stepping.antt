@@ -1,5 +1,5 @@
 -- What comes next by the steps of a line may come.
-use Rattle.std.proofs.Common.{◌≡◌, ℕ, ◌+◌, Bool, true, false, ◌||◌, cond, List, [], ◌∷◌, ◌++◌, length, Option, None, Some, refl, sym, ap, ◌∙◌, subst}
+use Rattle.std.proofs.Common.{◌≡◌, ℕ, ◌+◌, Bool, true, false, ◌||◌, ◌&&◌, is_none, cond, List, [], ◌∷◌, ◌++◌, length, Option, None, Some, refl, sym, ap, ◌∙◌, subst}
 use Rattle.std.proofs.lemmas.List.Folds.{list_any-append}
 use Rattle.std.proofs.lemmas.Option.{none-some}
 use Rattle.std.specs.List.{list_any, list_all}
@@ -30,6 +30,7 @@ use Rattle.oz_requests.specs.declared.request.Request.TheVariants as requests
 use Rattle.oz_requests.specs.declared.reply.Reply.{Reply}
 use Rattle.oz_requests.specs.declared.reply.Reply.TheVariants as replies
 use Rattle.oz_steps.specs.declared.came.Came.{Came}
+use Rattle.oz_steps.specs.declared.came.Granted.{Granted}
 use Rattle.oz_steps.specs.declared.label.Label.{Label}
 use Rattle.oz_steps.specs.Came.{granted_by}
 use Rattle.oz_steps.specs.Grants.{has_fate_written, written_blocks}
@@ -37,9 +38,10 @@ use Rattle.oz_steps.specs.Lines.{IsOf, commit_of_label}
 use Rattle.oz_steps.specs.Requests.{command_by, put_by, request_by}
 use Rattle.oz_telling.specs.Tells.{MayTell, told_event}
 use Rattle.oz_turn.specs.Told.{BeginsWith}
-use Rattle.oz_underway.specs.UnderWay.{IsUnderWay, times_asked}
+use Rattle.oz_underway.specs.UnderWay.{IsUnderWay, is_all_written, times_asked}
 use Rattle.oz_underway.specs.laws.Going.{begins_itself, begins_through, follow_before, none_more}
 use Rattle.oz_underway.specs.laws.Lasting.{last_of_times, times_of_last}
+use Rattle.oz_underway.specs.laws.Said.{said_of_written}
 use Rattle.oz_underway.specs.laws.Told.{asks_stop}
 use Rattle.oz_underway.specs.laws.UnderWay.{ask_fits, begins_started, pending_is_request, reply_comes, told_fits}
 use Rattle.oz_telling.specs.laws.Told.{told_now}
@@ -156,15 +158,15 @@ module _ (Coherent : Type 0) (opening : Opening) (bytes : OpeningBytes) (script 
   abbrev Follow : List Event → Event → Type 0
   Follow = Follows Coherent opening bytes script
 
-  module _ (seen : List Event) (line : Line) (asked : ℕ) (progress : Progress) (got : Got) (coherent : Coherent) (begun : IsStarted script seen line) (plain : IsPlain got)
-      (way : IsUnderWay Coherent opening bytes script seen line asked line.command progress) where
+  module _ (seen : List Event) (line : Line) (asked said : ℕ) (progress : Progress) (got : Got) (coherent : Coherent) (begun : IsStarted script seen line) (plain : IsPlain got)
+      (written : is_all_written progress ≡ true) (way : IsUnderWay Coherent opening bytes script seen line asked said line.command progress) where
     step_leaves : (answer : Answer) → IsNext line.command progress got (steps.Tell answer)
         → (IsNoCode (steps.Tell answer) → list_any is_code progress.came.replies ≡ false)
-        → (story : List Event) → BeginsWith story seen → AllFollow Follow [] story → (before : List Event) (seat : ℕ) → BeginsWith before seen
-        → MayTell opening before line.client line.number (last_of line asked) answer
+        → (story : List Event) → BeginsWith story seen → AllFollow Follow [] story → (before : List Event) (seat known : ℕ) → BeginsWith before seen
+        → MayTell opening before line.client line.number (last_of line asked) known answer
         → BeginsWith story (before ++ told_event seat line.client line.number answer ∷ [])
         → IsLabelOf story line line.command (left_by line.command progress.came (steps.Tell answer))
-    step_leaves answer next clean story goes all before seat from may behind =
+    step_leaves answer next clean story goes all before seat known from may behind =
         let event : Event = told_event seat line.client line.number answer in
         let told_all = follow_before Follow story (before ++ event ∷ []) behind all in
         let before_all = follow_before Follow (before ++ event ∷ []) before (event ∷ [], refl) told_all in
@@ -174,26 +176,26 @@ module _ (Coherent : Type 0) (opening : Opening) (bytes : OpeningBytes) (script 
         (told_now before seat line.client line.number answer) in
         let none = none_more (ask_id line.client line.number) before event (asks_of line.client line.number before) refl refl in
         let times : times_asked story line ≡ asked = ap length (stop ∙ none) ∙ so in
-        let at = way.has story (begins_through story seen way.since goes way.goes_on) all times in
+        let at = way.has story (begins_through story seen way.since goes way.goes_on) all times (said_of_written story line said progress written) in
         leaves_by opening script story line progress line.command got answer plain next clean at.of_line
         (told_stays Coherent opening bytes script story before seat line answer coherent all behind)
 
     pub next_fits : (state : LineState) (step : Step) → state.progress ≡ progress → state.left ≡ left_by line.command progress.came step
         → (IsNoCode step → HasRepliesAlone progress) → IsNext line.command progress got step → IsStepEverywhere line.command progress got step
-        → IsNextFit Coherent opening bytes script seen (record { line = line; state = state; asked = asked; next = step; is_cut = false }) step
+        → IsNextFit Coherent opening bytes script seen (record { line = line; state = state; asked = asked; said = said; next = step; is_cut = false }) step
     next_fits state (steps.Ask request) same left alone next everywhere =
-        subst (λ (p : Progress). IsNextAsk Coherent opening bytes script seen line asked request p) (sym same) (record {
+        subst (λ (p : Progress). IsNextAsk Coherent opening bytes script seen line asked said request p) (sym same) (record {
           under_way = way;
           alone = alone tt;
-          fits = λ story goes all seat enabled. ask_fits Coherent opening bytes script seen line asked line.command progress got request coherent way everywhere
-              (has_plain opening bytes script line line.command progress got plain) story seat goes all enabled;
-          same = λ story goes all. pending_is_request Coherent opening bytes script seen line asked line.command progress got request coherent way everywhere
-              (has_plain opening bytes script line line.command progress got plain) begun.numbered story goes all;
+          fits = λ story goes all seat enabled. ask_fits Coherent opening bytes script seen line asked said line.command progress got request coherent way everywhere
+              (has_plain opening bytes script line line.command progress got plain) story seat goes all (said_of_written story line said progress written) enabled;
+          same = λ story goes all. pending_is_request Coherent opening bytes script seen line asked said line.command progress got request coherent way everywhere
+              (has_plain opening bytes script line line.command progress got plain) begun.numbered story goes all (said_of_written story line said progress written);
         })
     next_fits state (steps.Tell answer) same left alone next everywhere =
         subst (MayBeTold Coherent opening bytes script seen line (last_of line asked) answer) (sym left) (record {
-          fits = λ story goes all may. told_fits Coherent opening bytes script seen line asked line.command progress got answer (last_of line asked) coherent way everywhere
-              (last_of_times line.client line.number asked) story goes all may.asked (has_plain opening bytes script line line.command progress got plain story);
+          fits = λ story goes all known may. told_fits Coherent opening bytes script seen line asked said line.command progress got answer (last_of line asked) coherent way everywhere
+              (last_of_times line.client line.number asked) story goes all may.asked (said_of_written story line said progress written) (has_plain opening bytes script line line.command progress got plain story);
           leaves = step_leaves answer next (λ other. (alone other).no_code);
         })
     next_fits state step same left alone next everywhere = tt
@@ -204,14 +206,14 @@ module _ (Coherent : Type 0) (opening : Opening) (bytes : OpeningBytes) (script 
       → AllFollow Follow [] seen
       → IsNext line.command (nothing_yet nodes label) gots.Start step → IsStepEverywhere line.command (nothing_yet nodes label) gots.Start step
       → IsAtWork Coherent opening bytes script seen
-      (record { line = line; state = state_after (state_before line.command nodes label) gots.Start step; asked = 0; next = step; is_cut = false })
+      (record { line = line; state = state_after (state_before line.command nodes label) gots.Start step; asked = 0; said = 0; next = step; is_cut = false })
   begin_works seen line nodes label step coherent may all next everywhere =
-      let way = begins_started Coherent opening bytes script may.begun.numbered seen line line.command nodes label coherent may.begun.there all may.begun.started refl
+      let way = begins_started Coherent opening bytes script may.begun.numbered seen line 0 line.command nodes label coherent may.begun.there all may.begun.started refl
       (may.labelled seen (begins_itself seen) all) in
       record {
         begun = may.begun;
         does = refl;
-        next = next_fits seen line 0 (nothing_yet nodes label) gots.Start coherent may.begun tt way
+        next = next_fits seen line 0 0 (nothing_yet nodes label) gots.Start coherent may.begun tt refl way
             (state_after (state_before line.command nodes label) gots.Start step) step refl refl
             (λ other. record { no_code = refl; no_attempts = refl; unwritten = refl; unread = refl }) next everywhere;
       }
@@ -220,12 +222,12 @@ module _ (Coherent : Type 0) (opening : Opening) (bytes : OpeningBytes) (script 
       → MayBegin Coherent opening bytes script seen line label → AllFollow Follow [] seen
       → before ≡ state_before line.command nodes label → after ≡ state_after before gots.Start step
       → IsNext before.command after.progress gots.Start step → IsStepEverywhere before.command after.progress gots.Start step
-      → IsAtWork Coherent opening bytes script seen (record { line = line; state = after; asked = 0; next = step; is_cut = false })
+      → IsAtWork Coherent opening bytes script seen (record { line = line; state = after; asked = 0; said = 0; next = step; is_cut = false })
   begin_so seen line nodes label before after step coherent may all is_before is_after next everywhere =
       let first : after ≡ state_after (state_before line.command nodes label) gots.Start step = is_after ∙ ap (λ (s : LineState). state_after s gots.Start step) is_before in
       let command : before.command ≡ line.command = ap (λ (s : LineState). s.command) is_before in
       let progress : after.progress ≡ nothing_yet nodes label = ap (λ (s : LineState). s.progress) first in
-      subst (λ (s : LineState). IsAtWork Coherent opening bytes script seen (record { line = line; state = s; asked = 0; next = step; is_cut = false })) (sym first)
+      subst (λ (s : LineState). IsAtWork Coherent opening bytes script seen (record { line = line; state = s; asked = 0; said = 0; next = step; is_cut = false })) (sym first)
       (begin_works seen line nodes label step coherent may all
       (subst (λ (p : Progress). IsNext line.command p gots.Start step) progress (subst (λ (c : Command). IsNext c after.progress gots.Start step) command next))
       (subst (λ (p : Progress). IsStepEverywhere line.command p gots.Start step) progress
@@ -234,7 +236,7 @@ module _ (Coherent : Type 0) (opening : Opening) (bytes : OpeningBytes) (script 
   -- ---- a reply comes
 
   asked_so : (seen : List Event) (work : WorkView) (step : Step) → IsAsking step → IsNextFit Coherent opening bytes script seen work step
-      → (request : Request) × IsNextAsk Coherent opening bytes script seen work.line work.asked request work.state.progress
+      → (request : Request) × IsNextAsk Coherent opening bytes script seen work.line work.asked work.said request work.state.progress
   asked_so seen work (steps.Ask request) asks fit = (request, fit)
   asked_so seen work step asks fit = absurd asks
 
@@ -252,12 +254,13 @@ module _ (Coherent : Type 0) (opening : Opening) (bytes : OpeningBytes) (script 
       let next_of : IsNext line.command after (gots.Reply reply) step = subst (λ (c : Command). IsNext c after (gots.Reply reply) step) at_work.does next in
       let so : IsStepEverywhere line.command after (gots.Reply reply) step = subst (λ (c : Command). IsStepEverywhere c after (gots.Reply reply) step) at_work.does everywhere in
       let written : list_all has_fate_written work.state.progress.came.attempts ≡ true = ap (list_all has_fate_written) fit.alone.no_attempts in
-      let way = reply_comes Coherent opening bytes script before later line work.asked line.command work.state.progress reply coherent fit.under_way
-      fit.alone.unwritten fit.alone.unread written none was.follow was.goes_on was.place was.decided in
+      let way = reply_comes Coherent opening bytes script before later line work.asked work.said line.command work.state.progress reply coherent fit.under_way
+      fit.alone.unwritten fit.alone.unread written none was.follow was.goes_on was.place work.said was.decided in
+      let now_written : is_all_written after ≡ true = ap (λ (w : Option Granted). is_none w && list_all has_fate_written work.state.progress.came.attempts) none ∙ written in
       record {
         begun = begun;
         does = at_work.does;
-        next = next_fits later line (work.asked + 1) after (gots.Reply reply) coherent begun tt way
+        next = next_fits later line (work.asked + 1) work.said after (gots.Reply reply) coherent begun tt now_written way
             (state_after work.state (gots.Reply reply) step) step refl (ap (λ (c : Command). left_by c after.came step) at_work.does)
             (λ other. alone_still work.state.progress reply fit.alone none (not_code line.command after reply step next_of other)) next_of so;
       }

@@ -30,11 +30,13 @@ use Rattle.oz_turn.specs.Told.{BeginsWith}
 use Rattle.oz_underway.specs.GoingOn.{FromHereOn}
 use Rattle.oz_underway.specs.UnderWay.{IsUnderWay, LabelStays}
 
--- A line, what came back to it, how often it has asked, what it does next, and whether that isn't of its steps.
+-- A line, what came back to it, how often it has asked, how often something was said of its blocks at its last look, what it
+-- does next, and whether that isn't of its steps.
 pub record WorkView : Type 0 where
   pub line : Line
   pub state : LineState
   pub asked : ℕ
+  pub said : ℕ
   pub next : Step
   pub is_cut : Bool
 
@@ -85,8 +87,8 @@ module _ (Coherent : Type 0) (opening : Opening) (bytes : OpeningBytes) (script 
     pub labelled : LabelStays Coherent opening bytes script seen line line.command label
 
   -- From here on the request is the line's next wherever the law lets it ask, and nothing else is asked by its id.
-  pub record IsNextAsk (line : Line) (asked : ℕ) (request : Request) (progress : Progress) : Type 0 where
-    pub under_way : IsUnderWay Coherent opening bytes script seen line asked line.command progress
+  pub record IsNextAsk (line : Line) (asked said : ℕ) (request : Request) (progress : Progress) : Type 0 where
+    pub under_way : IsUnderWay Coherent opening bytes script seen line asked said line.command progress
     pub alone : HasRepliesAlone progress
     pub fits : FromHereOn Coherent opening bytes script seen (λ story. (seat : ℕ)
         → AskIsEnabled opening story seat (id_of line (asked + 1)) request
@@ -96,17 +98,17 @@ module _ (Coherent : Type 0) (opening : Opening) (bytes : OpeningBytes) (script 
 
   -- From here on the answer is the line's wherever it may be told it, and once it is told this is what it left.
   pub record MayBeTold (line : Line) (last : Option AskId) (answer : Answer) (left : Option Label) : Type 0 where
-    pub fits : FromHereOn Coherent opening bytes script seen (λ story.
-        MayTell opening story line.client line.number last answer
+    pub fits : FromHereOn Coherent opening bytes script seen (λ story. (said : ℕ)
+        → MayTell opening story line.client line.number last said answer
         → EventFits opening bytes script story (Told line.client line.number answer))
-    pub leaves : FromHereOn Coherent opening bytes script seen (λ story. (before : List Event) (seat : ℕ)
-        → BeginsWith before seen → MayTell opening before line.client line.number last answer
+    pub leaves : FromHereOn Coherent opening bytes script seen (λ story. (before : List Event) (seat said : ℕ)
+        → BeginsWith before seen → MayTell opening before line.client line.number last said answer
         → BeginsWith story (before ++ told_event seat line.client line.number answer ∷ [])
         → IsLabelOf story line line.command left)
 
   -- What comes next may come, if it asks or ends the line. Of other steps nothing is said.
   abbrev pub IsNextFit : WorkView → Step → Type 0
-  IsNextFit work (steps.Ask request) = IsNextAsk work.line work.asked request work.state.progress
+  IsNextFit work (steps.Ask request) = IsNextAsk work.line work.asked work.said request work.state.progress
   IsNextFit work (steps.Tell answer) = MayBeTold work.line (last_of work.line work.asked) answer (left_of work)
   IsNextFit work step = Unit {0}
 

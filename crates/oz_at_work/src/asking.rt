@@ -54,7 +54,7 @@ impl<'s> LineAtWork<'s> {
             self.cut(self.asked, Answer::OutOfMemory);
             return Did::WentOn;
         };
-        match manager.ask(rt, alloc, turn, seat, by, id, request) {
+        match manager.ask(rt, alloc, turn, seat, by, id, request, self.said) {
             Ok(reply) => {
                 self.reply::<O>(alloc, id.step, reply);
                 Did::WentOn

@@ -16,6 +16,8 @@ pub struct LineAtWork<'s> {
     pub(crate) line: &'s Line,
     pub(crate) steps: LineSteps<'s>,
     pub(crate) asked: u16,
+    /// How often something was said of its blocks, at its last look.
+    pub(crate) said: u64,
     pub(crate) next: Step,
     /// Whether what comes next is not of its steps, but comes of want of memory or of the manager's end.
     pub(crate) is_cut: bool,
@@ -30,6 +32,7 @@ impl<'s> Model for LineAtWork<'s> {
       line = w.line.now;
       state = w.steps;
       asked = w.asked;
+      said = w.said;
       next = w.next;
       is_cut = w.is_cut;
     } };
@@ -51,6 +54,7 @@ impl<'s> LineAtWork<'s> {
             line: _,
             steps,
             asked: _,
+            said: _,
             next: _,
             is_cut,
         } = self;

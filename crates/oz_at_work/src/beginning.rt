@@ -38,6 +38,7 @@ impl<'s> LineAtWork<'s> {
             line,
             steps,
             asked: 0,
+            said: 0,
             next,
             is_cut: false,
         })

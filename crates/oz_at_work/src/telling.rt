@@ -83,7 +83,9 @@ impl<'s> LineAtWork<'s> {
             unreachable!()
         };
         let (client, line, last) = (self.line.client, self.line.number, self.last());
-        match tell(rt, alloc, turn, seat, by, client, line, last, answer) {
+        match tell(
+            rt, alloc, turn, seat, by, client, line, last, self.said, answer,
+        ) {
             Ok(()) => Did::Ended,
             Err((answer, cause)) => {
                 self.next = Step::Tell(answer);
@@ -92,7 +94,7 @@ impl<'s> LineAtWork<'s> {
         }
     }
 
-    /// What keeps the line from being told: what isn't stable is waited for, and where it asked once more than is
+    /// What keeps the line from being told: what isn't stable is waited for, what is said of its blocks is looked at, and where it asked once more than is
     /// known, as it may where memory ran out, it is told that there is none.
     fn put_off<O: Opened, W: Wait>(
         &mut self,
@@ -118,6 +120,7 @@ impl<'s> LineAtWork<'s> {
                 self.cut(asked, Answer::OutOfMemory);
                 Did::WentOn
             }
+            (Untold::OtherBlocks, _) => self.look_again(rt, turn, seat, by),
             (Untold::OutOfMemory, _) => Did::OutOfMemory,
             (Untold::Told | Untold::NotDue | Untold::OtherAsk, _) => Did::Waits,
         }

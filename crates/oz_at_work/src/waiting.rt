@@ -2,6 +2,7 @@
 
 ghost use Rattle.std.specs.Prelude.{◌≡◌, ◌≢◌, ◌≤◌};
 ghost use Rattle.oz_at_work.specs.AtWork.{HasGoneOn, IsAtWork};
+ghost use Rattle.oz_buffer.specs.Courses.{times_said};
 ghost use Rattle.oz_turn.specs.Seat.{IsReady, room_of, seen_of};
 ghost use Rattle.oz_turn.specs.Told.{BeginsWith};
 ghost use Rattle.oz_turn.specs.Turn.{turn_id};
@@ -11,7 +12,7 @@ use crate::outcome::Did;
 use oz_buffer::{Ledger, Opened};
 use oz_om::Refusal;
 use oz_requests::Answer;
-use oz_telling::{Settlement, settle_line};
+use oz_telling::{Settlement, settle_line, times_said};
 use oz_turn::{Seat, Turn};
 use std::sync::Wait;
 
@@ -38,6 +39,7 @@ impl<'s> LineAtWork<'s> {
         ensures unended { result ≢ Did.Ended }
     {
         match refusal {
+            Refusal::OtherBlocks => self.look_again(rt, turn, seat, by),
             Refusal::Early => self.wait(rt, turn, seat, by),
             Refusal::Later { .. } => self.wait_for_room(rt, turn, seat, by, step),
             Refusal::Stopped { .. } => {
@@ -53,6 +55,29 @@ impl<'s> LineAtWork<'s> {
                 Did::WentOn
             }
         }
+    }
+
+    /// Looks how often something was said of its blocks by now, and waits.
+    pub(crate) fn look_again<O: Opened, W: Wait>(
+        &mut self,
+        rt: &W,
+        turn: &Turn<Ledger<O>>,
+        seat: &mut Seat<Ledger<O>>,
+        by: u16,
+    ) -> Did
+        requires ready { IsReady (turn_id turn.now) by seat.old }
+        requires works { O.coherent → IsAtWork O.coherent O.opening O.bytes O.script (seen_of seat.old) self.old }
+        ensures ready { IsReady (turn_id turn.now) by seat.new }
+        ensures room { room_of seat.new ≡ room_of seat.old }
+        ensures goes_on { BeginsWith (seen_of seat.new) (seen_of seat.old) }
+        ensures works { O.coherent → IsAtWork O.coherent O.opening O.bytes O.script (seen_of seat.new) self.new }
+        ensures looked { self.new ≡ record self.old {
+          said = times_said self.old.line.client self.old.line.number (seen_of seat.new);
+        } }
+        ensures waits { result ≡ Did.Waits }
+    {
+        self.said = times_said(rt, turn, seat, by, self.line.client, self.line.number);
+        Did::Waits
     }
 
     /// Waits until all that was decided for the line is stable. Where that never will be it is told so next.

@@ -8,6 +8,7 @@ pub mod Holding
 pub mod Joining
 pub mod Journaling
 pub mod Listing
+pub mod Loaded
 pub mod Lowest
 pub mod Making
 pub mod Named

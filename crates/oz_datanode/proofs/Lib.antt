@@ -8,9 +8,11 @@ pub mod Holding
 pub mod Joining
 pub mod Journaling
 pub mod Listing
+pub mod Loaded
 pub mod Lowest
 pub mod Making
 pub mod Named
+pub mod Outcomes
 pub mod Pairing
 pub mod Parts
 pub mod Ranges

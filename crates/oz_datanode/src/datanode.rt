@@ -1,14 +1,18 @@
 //! A datanode over its two disks.
 
-ghost use Rattle.std.specs.Prelude.{◌≡◌, ℕ, List, true, false, length, Err, [], Some, IsSome, IfOk, IfErr, OnErr, IfSome};
+ghost use Rattle.std.specs.Prelude.{◌≡◌, ◌≤◌, ◌+◌, ◌⊎◌, ℕ, List, [], ◌∷◌, true, false, length, Err, Some, IsSome, IsSomeAnd};
+ghost use Rattle.std.specs.Prelude.{IfOk, IfErr, OnOk, OnErr, IfSome};
 ghost use Rattle.oz_block.specs.Blocks.{StandsFor, IsDamagedDisk};
+ghost use Rattle.oz_chunk.specs.Slots.{IsWithin};
 ghost use Rattle.oz_datanode.specs.Datanode.{Runs, IsLowestPast};
 ghost use Rattle.oz_datanode.specs.Pairs.{Content, HaveAll, NodeHolds};
 ghost use Rattle.oz_datanode.specs.declared.refusal.NodeRefusal.TheVariants as refusals;
-ghost use Rattle.oz_entries.specs.Node.{Node};
+ghost use Rattle.oz_entries.specs.Node.{Node, is_used};
 ghost use Rattle.oz_fields.specs.declared.block.Block.{Block};
-ghost use Rattle.oz_world.specs.Disk.{IsStable};
+ghost use Rattle.oz_journal.specs.Load.{IsLoadable, IsLeftAlone, loaded_at};
+ghost use Rattle.oz_world.specs.Disk.{Same, TellsAsBefore, IsStable};
 ghost use Rattle.oz_world.specs.Faults.{Rose};
+ghost use Rattle.oz_world.specs.Moments.{Elapses, Spans};
 
 use crate::disks::NodeDisks;
 use crate::fault::NodeFault;
@@ -53,8 +57,9 @@ impl<D: Disk> Datanode<D> {
     ghost use Rattle.oz_datanode.specs.Datanode.{node_in, meta_of, slots_of, is_halted, count_of};
     ghost use Rattle.oz_datanode.specs.Datanode.{meta_after, slots_after};
 
-    /// What the disks have. The journal is loaded first, and then the slots that its blocks use. Both disks come back
-    /// where it can't.
+    /// What the disks have. The journal is loaded first, and then the slots that its blocks use. Each is made stable
+    /// before it is read; where the journal has at most one byte it gets its closed gate, and nothing else is written.
+    /// Both disks come back where it can't.
     pub fn load(
         alloc: Global,
         id: u8,
@@ -64,6 +69,8 @@ impl<D: Disk> Datanode<D> {
         ensures stands { IfOk result (λ node. IfSome (D.told disks.meta) (λ bytes. StandsFor bytes (node_in node))) }
         ensures running { IfOk result (λ node. Runs D.faults node) }
         ensures written { IfOk result (λ node. node.shelf.written ≡ []) }
+        ensures within { IfOk result (λ node. IfSome (D.told disks.slots) (λ slots. (slot : ℕ) →
+            is_used (node_in node) slot ≡ true → IsWithin slot slots)) }
 
         // When each fault comes.
         ensures journal { IfErr result (λ refused. (offset : ℕ) → refused.1 ≡ NodeFault.Damaged false offset →
@@ -75,15 +82,47 @@ impl<D: Disk> Datanode<D> {
             Rose (D.faults disks.meta) (D.faults (meta_after result))) }
         ensures slots_disk { IfErr result (λ refused. refused.1 ≡ NodeFault.Disk true →
             Rose (D.faults disks.slots) (D.faults (slots_after result))) }
+        ensures meta_never_falls { D.faults disks.meta ≤ D.faults (meta_after result) }
+        ensures slots_never_falls { D.faults disks.slots ≤ D.faults (slots_after result) }
 
-        // What the disks tell afterwards.
+        // What the disks tell afterwards. That of the slots is as it was where the fault is the journal's.
+        ensures telling { TellsAsBefore (D.told disks.meta) (D.told (meta_after result)) }
+        ensures meta_contents { IfSome (D.told disks.meta) (λ bytes.
+            2 ≤ length bytes → D.told (meta_after result) ≡ Some bytes) }
+        ensures closed { IfSome (D.told disks.meta) (λ bytes.
+            length bytes ≤ 1 → OnOk result (D.told (meta_after result) ≡ Some (0 ∷ []))) }
         ensures contents { D.told (slots_after result) ≡ D.told disks.slots }
+        ensures slots_untouched { IfErr result (λ refused. (offset : ℕ) →
+            (refused.1 ≡ NodeFault.Disk false) ⊎ (refused.1 ≡ NodeFault.Damaged false offset) →
+            refused.0.slots ≡ disks.slots) }
+
+        // What a stop may leave of each.
+        ensures meta_ended { IfOk result (λ node. IfSome (D.told disks.meta) (λ bytes.
+            D.clock (meta_of node) ≡ loaded_at (D.clock disks.meta) bytes)) }
+        ensures meta_stable { IfOk result (λ node. (bytes : List ℕ) → D.told (meta_of node) ≡ Some bytes →
+            IsStable (D.image (meta_of node)) (D.clock (meta_of node)) bytes) }
+        ensures meta_time { Elapses (D.clock disks.meta) (D.clock (meta_after result)) (D.image disks.meta)
+            (D.image (meta_after result)) }
+        ensures meta_moments { IfSome (D.told disks.meta) (λ bytes.
+            IsLoadable bytes (D.image disks.meta (D.clock disks.meta)) →
+            Spans IsLeftAlone (D.clock disks.meta) (D.clock (meta_after result)) (D.image disks.meta)
+            (D.image (meta_after result))) }
+        ensures loadable { IfSome (D.told disks.meta) (λ bytes.
+            IsLoadable bytes (D.image disks.meta (D.clock disks.meta)) →
+            IsSomeAnd (D.told (meta_after result)) (λ after.
+            IsLoadable after (D.image (meta_after result) (D.clock (meta_after result))))) }
+        ensures slots_ended { IfOk result (λ node. D.clock (slots_of node) ≡ D.clock disks.slots + 1) }
+        ensures slots_stable { IfOk result (λ node. IfSome (D.told disks.slots)
+            (IsStable (D.image (slots_of node)) (D.clock (slots_of node)))) }
+        ensures slots_time { Spans Same (D.clock disks.slots) (D.clock (slots_after result)) (D.image disks.slots)
+            (D.image (slots_after result)) }
     {
         let NodeDisks { meta, slots } = disks;
         let blocks = match Blocks::load(alloc, meta) {
             Ok(blocks) => blocks,
             Err((meta, fault)) => return Err((NodeDisks { meta, slots }, journal_fault(fault))),
         };
+        blocks.uses_slots_of_rows();
         let Ok(used) = used_slots(alloc, &blocks) else {
             let meta = blocks.into_disk();
             return Err((NodeDisks { meta, slots }, NodeFault::OutOfMemory));

@@ -1,7 +1,7 @@
 //! The slots of a datanode, and what was written to them of blocks that aren't put yet.
 
 ghost use Rattle.std.specs.Prelude.{◌≡◌, ◌≤◌, ◌<◌, ◌⊎◌, [], ℕ, Bool, true, false, length, is_err};
-ghost use Rattle.std.specs.Prelude.{IfOk, IfErr, OnOk, OnErr, IfSome, Contains, IsTrue, ◌↔◌, slice_range, if◌then◌else◌, ◌||◌, ◌+◌, Err};
+ghost use Rattle.std.specs.Prelude.{IfOk, IfErr, OnOk, OnErr, IfSome, All, Contains, IsTrue, ◌↔◌, slice_range, if◌then◌else◌, ◌||◌, ◌+◌, Err};
 ghost use Rattle.oz_chunk.specs.Disk.{Syncs, Empties};
 ghost use Rattle.oz_chunk.specs.Slots.{start_of, IsWithin, IsLowestPast};
 ghost use Rattle.oz_chunk.specs.Taken.{is_taken, AllTakenBelow};
@@ -11,8 +11,9 @@ ghost use Rattle.oz_entries.specs.Held.{any_in};
 ghost use Rattle.oz_shelf.specs.Answers.{says_failed};
 ghost use Rattle.oz_shelf.specs.Shelf.{IsWritten, KeepsTold, AreSettled, Rests};
 ghost use Rattle.oz_shelf.specs.Written.{chunks_in, makes, row_of, written_of, written_besides};
-ghost use Rattle.oz_world.specs.Disk.{seen, Stands, TellsAsBefore};
+ghost use Rattle.oz_world.specs.Disk.{seen, Same, Stands, TellsAsBefore, IsStable};
 ghost use Rattle.oz_world.specs.Faults.{Rose, HasCause};
+ghost use Rattle.oz_world.specs.Moments.{Spans};
 
 use crate::written::{Which, Written, add, let_go, makes, take_out};
 use oz_chunk::{SlotFault, SlotFull, Slots};
@@ -50,7 +51,8 @@ impl<D: Disk> Model for Shelf<D> {
 impl<D: Disk> Shelf<D> {
     ghost use Rattle.oz_shelf.specs.Shelf.{disk_after};
 
-    /// The slots of a disk of which these are held, with nothing written. The disk comes back where it can't.
+    /// The slots of a disk of which these are held, with nothing written. It makes stable what the disk has, and writes
+    /// nothing. The disk comes back where it can't.
     pub fn load(alloc: Global, disk: D, held: &[u32]) -> Result<Shelf<D>, (D, SlotFault)>
         ensures rests { IfOk result (λ shelf. (used : ℕ → Bool) →
             ((slot : ℕ) → slot < SLOTS → IsTrue (used slot) ↔ Contains held.now slot) →
@@ -59,6 +61,8 @@ impl<D: Disk> Shelf<D> {
             (D.faults shelf.slots.disk))) }
         ensures running { IfOk result (λ shelf. shelf.failed ≡ false) }
         ensures written { IfOk result (λ shelf. shelf.written ≡ []) }
+        ensures within { IfOk result (λ shelf. IfSome (D.told disk) (λ bytes.
+            All (λ slot. IsWithin slot bytes) held.now)) }
 
         // When each fault comes.
         ensures past { IfErr result (λ refused. (offset : ℕ) → refused.1 ≡ SlotFault.Past offset →
@@ -67,8 +71,13 @@ impl<D: Disk> Shelf<D> {
             refused.1 ≡ SlotFault.Disk → Rose (D.faults disk) (D.faults refused.0)) }
         ensures never_falls { D.faults disk ≤ D.faults (disk_after result) }
 
-        // What the disk tells.
+        // What the disk tells, and what a stop may leave.
         ensures contents { D.told (disk_after result) ≡ D.told disk }
+        ensures stable { IfOk result (λ shelf. IfSome (D.told disk)
+            (IsStable (D.image shelf.slots.disk) (D.clock shelf.slots.disk))) }
+        ensures ended { IfOk result (λ shelf. D.clock shelf.slots.disk ≡ D.clock disk + 1) }
+        ensures time { Spans Same (D.clock disk) (D.clock (disk_after result)) (D.image disk)
+            (D.image (disk_after result)) }
     {
         match Slots::load(alloc, disk, held) {
             Ok(slots) => Ok(Shelf {

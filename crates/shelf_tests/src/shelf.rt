@@ -238,3 +238,67 @@ fn a_failed_write_is_told(rt: HostRuntime) -> Result<(), Fail> {
     holds(&rt, shelf.failed() && shelf.faults() == 1, "one fault");
     Ok(())
 }
+
+/// Two slots, each with other bytes.
+fn two_slots(alloc: Global) -> Result<Vec<u8>, OutOfMemory> {
+    let mut bytes = whole(alloc)?;
+    for _ in 0..16_384 {
+        bytes.push(8)?;
+    }
+    Ok(bytes)
+}
+
+/// A disk has these bytes, and so it has whenever it stops.
+fn leaves(
+    rt: &impl Abort,
+    alloc: Global,
+    disk: &MemoryDisk,
+    bytes: &[u8],
+) -> Result<(), OutOfMemory> {
+    holds(rt, disk.bytes() == bytes, "what it tells");
+    for choice in 0..3 {
+        let left = disk.image(alloc, choice)?;
+        holds(rt, left.as_slice() == bytes, "what a stop leaves");
+    }
+    Ok(())
+}
+
+/// Why slots aren't loaded from the disk of two, where these are held; it has what it had, and has failed so often.
+fn refused(
+    rt: &impl Abort,
+    alloc: Global,
+    fails: &[u64],
+    held: &[u32],
+    faults: u64,
+) -> Result<Option<SlotFault>, OutOfMemory> {
+    let bytes = two_slots(alloc)?;
+    let disk = MemoryDisk::new(
+        alloc,
+        two_slots(alloc)?,
+        fails.to_vec(alloc)?,
+        4 * SLOT_SIZE,
+    )?;
+    let (disk, fault) = match Shelf::load(alloc, disk, held) {
+        Ok(shelf) => (shelf.into_disk(), None),
+        Err((disk, fault)) => (disk, Some(fault)),
+    };
+    leaves(rt, alloc, &disk, &bytes)?;
+    holds(rt, disk.faults() == faults, "how often it failed");
+    Ok(fault)
+}
+
+/// The length and a sync, each of which fails once; and slots past the end, of which the lowest is told.
+#[test]
+fn a_load_leaves_what_the_disk_has(rt: HostRuntime) -> Result<(), Fail> {
+    let alloc = rt.alloc();
+    let held = [1, 0, 1];
+    holds(&rt, refused(&rt, alloc, &[], &held, 0)?.is_none(), "loaded");
+    for call in 1..3 {
+        let fault = refused(&rt, alloc, &[call], &held, 1)?;
+        holds(&rt, fault == Some(SlotFault::Disk), "the disk");
+    }
+    let fault = refused(&rt, alloc, &[], &[3, 0, 2, 5], 0)?;
+    let past = SlotFault::Past { offset: 32_768 };
+    holds(&rt, fault == Some(past), "the lowest past the end");
+    Ok(())
+}

@@ -1,24 +1,41 @@
 -- The words of the command line.
-use Rattle.std.specs.Prelude.{◌≡◌, ◌⊎◌, ℕ, ◌+◌, ◌-◌, ◌<◌, ◌≤◌, List, [], ◌∷◌, ◌++◌, Some, length, take, codes}
+use Rattle.std.specs.Prelude.{◌≡◌, ◌⊎◌, ℕ, ◌+◌, ◌-◌, ◌<◌, ◌≤◌, List, [], ◌∷◌, ◌++◌, Option, None, IsSome, unwrap_or}
+use Rattle.std.specs.Prelude.{length, take, codes}
 use Rattle.oz_command.specs.Numbers.{number_in}
-use Rattle.oz_words.specs.declared.words.TheConstants.{DEFAULT_WORKERS, MOST_WORKERS}
+use Rattle.oz_nodes.specs.declared.nodes.TheConstants.{FEWEST_NODES, MOST_NODES}
+use Rattle.oz_words.specs.declared.words.TheConstants.{DEFAULT_NODES, DEFAULT_WORKERS, MOST_WORKERS}
 use Rattle.oz_words.specs.declared.words.Words.{Words}
 use Rattle.oz_words.specs.declared.words.Words.TheVariants.{Run}
 
--- `run` and a folder, by the default; or with `--workers` and how many behind them
-abbrev pub IsRunWith : List (List ℕ) → ℕ → Type 0
-IsRunWith [] workers = ⊥
-IsRunWith (verb ∷ []) workers = ⊥
-IsRunWith (verb ∷ dir ∷ []) workers = (verb ≡ codes "run") × (0 < length dir) × (workers ≡ DEFAULT_WORKERS)
-IsRunWith (verb ∷ dir ∷ option ∷ []) workers = ⊥
-IsRunWith (verb ∷ dir ∷ option ∷ count ∷ []) workers =
-    (verb ≡ codes "run") × (0 < length dir) × (option ≡ codes "--workers") ×
-    (number_in 1 MOST_WORKERS count ≡ Some workers)
-IsRunWith (verb ∷ dir ∷ option ∷ count ∷ more ∷ rest) workers = ⊥
+-- this word is a number of least to most, and is what is said
+abbrev pub Says : ℕ → ℕ → List ℕ → Option ℕ → Type 0
+Says least most number said = IsSome said × (said ≡ number_in least most number)
 
--- a run by some number of workers
+-- options, each a name and a number: what they say of the datanodes and of the workers, each at most once
+abbrev pub AreOptions : List (List ℕ) → Option ℕ → Option ℕ → Type 0
+AreOptions [] nodes workers = (nodes ≡ None) × (workers ≡ None)
+AreOptions (name ∷ []) nodes workers = ⊥
+AreOptions (name ∷ number ∷ rest) nodes workers =
+    ((name ≡ codes "--nodes") × Says FEWEST_NODES MOST_NODES number nodes × AreOptions rest None workers) ⊎
+    ((name ≡ codes "--workers") × Says 1 MOST_WORKERS number workers × AreOptions rest nodes None)
+
+-- `run`, a folder and options that say this
+abbrev pub IsRunSaying : List (List ℕ) → Option ℕ → Option ℕ → Type 0
+IsRunSaying [] nodes workers = ⊥
+IsRunSaying (verb ∷ []) nodes workers = ⊥
+IsRunSaying (verb ∷ dir ∷ options) nodes workers = (verb ≡ codes "run") × (0 < length dir) × AreOptions options nodes workers
+
+-- a run over so many datanodes by so many workers, which are the defaults where the words don't say them
+pub record IsRunWith (words : List (List ℕ)) (nodes workers : ℕ) : Type 0 where
+  pub said_nodes : Option ℕ
+  pub said_workers : Option ℕ
+  pub said : IsRunSaying words said_nodes said_workers
+  pub nodes_are : nodes ≡ unwrap_or said_nodes DEFAULT_NODES
+  pub workers_are : workers ≡ unwrap_or said_workers DEFAULT_WORKERS
+
+-- a run over some datanodes by some workers
 abbrev pub IsRun : List (List ℕ) → Type 0
-IsRun words = (workers : ℕ) × IsRunWith words workers
+IsRun words = (nodes : ℕ) × (workers : ℕ) × IsRunWith words nodes workers
 
 -- with other words behind them, these are in the grammar
 abbrev pub BeginsRun : List (List ℕ) → Type 0
@@ -33,8 +50,9 @@ pub record IsFirstFault (words : List (List ℕ)) (place : ℕ) : Type 0 where
 
 -- what these words ask for: the folder is the second of them
 abbrev pub IsRead : List (List ℕ) → Words → Type 0
-IsRead words (Run dir workers) = (dir ≡ 1) × IsRunWith words workers
+IsRead words (Run dir nodes workers) = (dir ≡ 1) × IsRunWith words nodes workers
 
--- one worker or more, and not too many
-abbrev pub HasFewWorkers : Words → Type 0
-HasFewWorkers (Run dir workers) = (1 ≤ workers) × (workers ≤ MOST_WORKERS)
+-- as many datanodes and workers as a run may have
+abbrev pub IsWithinLimits : Words → Type 0
+IsWithinLimits (Run dir nodes workers) =
+    (FEWEST_NODES ≤ nodes) × (nodes ≤ MOST_NODES) × (1 ≤ workers) × (workers ≤ MOST_WORKERS)

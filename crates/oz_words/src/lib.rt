@@ -5,4 +5,4 @@ mod laws;
 mod words;
 
 pub use laws::{words_are_one_run, words_of_a_run_have_no_fault};
-pub use words::{DEFAULT_WORKERS, MOST_WORKERS, Words, read_words};
+pub use words::{DEFAULT_NODES, DEFAULT_WORKERS, MOST_WORKERS, Words, read_words};

@@ -12,6 +12,7 @@ pub mod Loaded
 pub mod Lowest
 pub mod Making
 pub mod Named
+pub mod Outcomes
 pub mod Pairing
 pub mod Parts
 pub mod Ranges

@@ -1,7 +1,8 @@
--- What is seen of a datanode, and what stops it.
-use Rattle.std.specs.Prelude.{◌≡◌, ℕ, ◌+◌, ◌-◌, ◌^◌, ◌<◌, ◌≤◌, min, Bool, true, ◌||◌, Option, None, Some, Result, Ok, Err, if◌then◌else◌}
-use Rattle.oz_block.specs.Blocks.{State as Blocks, node_in as node_in_blocks}
-use Rattle.oz_chunk.specs.Slots.{start_of, end_of}
+-- What is seen of a datanode, what stops it, and what its two disks stand for.
+use Rattle.std.specs.Prelude.{◌≡◌, ℕ, ◌+◌, ◌-◌, ◌^◌, ◌<◌, ◌≤◌, min, Bool, true, false, ◌||◌, List, length}
+use Rattle.std.specs.Prelude.{Option, None, Some, Result, Ok, Err, if◌then◌else◌}
+use Rattle.oz_block.specs.Blocks.{State as Blocks, node_in as node_in_blocks, StandsFor, IsDamagedDisk}
+use Rattle.oz_chunk.specs.Slots.{start_of, end_of, IsWithin}
 use Rattle.oz_entries.specs.Node.{Node, is_used}
 use Rattle.oz_datanode.specs.declared.disks.NodeDisks.{NodeDisks}
 use Rattle.oz_datanode.specs.declared.fault.NodeFault.{NodeFault}
@@ -48,6 +49,18 @@ pub record IsLowestPast (node : Node) (size : ℕ) (offset : ℕ) : Type 0 where
   pub past : size < end_of slot
   pub lowest : (other : ℕ) → is_used node other ≡ true → size < end_of other → slot ≤ other
   pub begins : offset ≡ start_of slot
+
+-- the journal stands for the node, and each slot that is in use lies within the disk of slots
+pub record BothStandFor (journal slots : List ℕ) (node : Node) : Type 0 where
+  pub stands : StandsFor journal node
+  pub within : (slot : ℕ) → is_used node slot ≡ true → IsWithin slot slots
+
+-- The disks can't be loaded: the journal is damaged at this place, or, where that of the slots is meant, it stands for a
+-- node of whose slots the lowest that passes the end begins there.
+abbrev pub AreDamaged : Bool → List ℕ → List ℕ → ℕ → Type 0
+AreDamaged false journal slots offset = IsDamagedDisk journal offset
+AreDamaged true journal slots offset =
+    (node : Node) × StandsFor journal node × IsLowestPast node (length slots) offset
 
 -- the disks after a load: those of the datanode, or those that come back
 abbrev pub meta_after : {D : Type 0} → Result (State D) (NodeDisks D × NodeFault) → D

@@ -19,5 +19,5 @@ mod writing;
 pub use datanode::Datanode;
 pub use disks::NodeDisks;
 pub use fault::NodeFault;
-pub use laws::parts_make_a_block;
+pub use laws::{parts_make_a_block, what_a_load_leaves_loads_alike, what_loads_is_not_damaged};
 pub use refusal::NodeRefusal;

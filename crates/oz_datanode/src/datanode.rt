@@ -78,6 +78,8 @@ impl<D: Disk> Datanode<D> {
         ensures past { IfErr result (λ refused. (offset : ℕ) → refused.1 ≡ NodeFault.Damaged true offset →
             IfSome (D.told disks.meta) (λ bytes. IfSome (D.told disks.slots) (λ slots.
             (node : Node) × StandsFor bytes node × IsLowestPast node (length slots) offset))) }
+        ensures journal_stands { IfErr result (λ refused. refused.1 ≡ NodeFault.Disk true →
+            IfSome (D.told disks.meta) (λ bytes. (node : Node) × StandsFor bytes node)) }
         ensures journal_disk { IfErr result (λ refused. refused.1 ≡ NodeFault.Disk false →
             Rose (D.faults disks.meta) (D.faults (meta_after result))) }
         ensures slots_disk { IfErr result (λ refused. refused.1 ≡ NodeFault.Disk true →

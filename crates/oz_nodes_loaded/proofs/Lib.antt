@@ -1,0 +1,8 @@
+mod Comparing
+mod Itself
+mod Loading
+mod Putting
+mod Refusing
+mod Saying
+mod Seen
+mod Standing

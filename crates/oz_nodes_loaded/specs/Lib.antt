@@ -1,0 +1,6 @@
+pub mod AllLoad
+pub mod Disks
+pub mod Ids
+pub mod Loads
+pub mod Refused
+pub mod Steps

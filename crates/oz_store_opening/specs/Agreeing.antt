@@ -1,0 +1,25 @@
+-- That the blocks of a store agree, which loading doesn't test.
+use Rattle.std.specs.Prelude.{◌≡◌, ℕ, true, List, [], length, Some, IsSome, Contains}
+use Rattle.std.specs.FinMap.{get}
+use Rattle.oz_core.specs.declared.opening.Opening.{Opening}
+use Rattle.oz_core.specs.Contents.{OpeningBytes}
+use Rattle.oz_core.specs.Nodes.{was_held}
+use Rattle.oz_core.specs.Pieces.{IsPieceIn}
+use Rattle.oz_core.specs.Scm.{members}
+use Rattle.oz_fields.specs.declared.block.Block.{Block}
+use Rattle.oz_fields.specs.declared.block.Piece.{Piece}
+use Rattle.oz_rows.specs.RowMaps.{Rows}
+use Rattle.oz_store.specs.Store.{IsInARow}
+
+-- A block that the manager's rows name lies in a container that was made. One that a datanode holds lies in a container of
+-- which it is a member, with the digests that were kept; all who hold it have the same bytes, as many as a key or a snapshot
+-- says.
+pub record BlocksAgree (all : Rows) (opening : Opening) (bytes : OpeningBytes) : Type 0 where
+  pub made : (block : Block) → IsInARow all block → IsSome (get opening.containers block.container)
+  pub placed : (block : Block) (dn : ℕ) → was_held opening dn block ≡ true
+      → Contains (members opening [] block.container) dn
+  pub digests_match : (block : Block) (dn : ℕ) → was_held opening dn block ≡ true → IsSome (bytes dn block)
+  pub alike : (block : Block) (dn other : ℕ) → was_held opening dn block ≡ true
+      → was_held opening other block ≡ true → bytes dn block ≡ bytes other block
+  pub whole : (piece : Piece) (dn : ℕ) (content : List ℕ) → IsPieceIn opening.namespace piece
+      → was_held opening dn piece.block ≡ true → bytes dn piece.block ≡ Some content → length content ≡ piece.length

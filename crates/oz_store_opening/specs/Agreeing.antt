@@ -1,11 +1,13 @@
 -- That the blocks of a store agree, which loading doesn't test.
-use Rattle.std.specs.Prelude.{◌≡◌, ℕ, true, List, [], length, Some, IsSome, Contains}
+use Rattle.std.specs.Prelude.{◌≡◌, ℕ, true, false, List, [], length, Some, IsSome, Contains}
 use Rattle.std.specs.FinMap.{get}
 use Rattle.oz_core.specs.declared.opening.Opening.{Opening}
 use Rattle.oz_core.specs.Contents.{OpeningBytes}
 use Rattle.oz_core.specs.Nodes.{was_held}
 use Rattle.oz_core.specs.Pieces.{IsPieceIn}
 use Rattle.oz_core.specs.Scm.{members}
+use Rattle.oz_datanode.specs.Datanode.{State as Datanode, node_in}
+use Rattle.oz_entries.specs.Node.{is_held}
 use Rattle.oz_fields.specs.declared.block.Block.{Block}
 use Rattle.oz_fields.specs.declared.block.Piece.{Piece}
 use Rattle.oz_rows.specs.RowMaps.{Rows}
@@ -23,3 +25,7 @@ pub record BlocksAgree (all : Rows) (opening : Opening) (bytes : OpeningBytes) :
       → was_held opening other block ≡ true → bytes dn block ≡ bytes other block
   pub whole : (piece : Piece) (dn : ℕ) (content : List ℕ) → IsPieceIn opening.namespace piece
       → was_held opening dn piece.block ≡ true → bytes dn piece.block ≡ Some content → length content ≡ piece.length
+
+-- a datanode holds no block
+abbrev pub HoldsNothing : {D : Type 0} → Datanode D → Type 0
+HoldsNothing node = (block : Block) → is_held (node_in node) block ≡ false

@@ -1,3 +1,7 @@
 -- Laws with their proofs, which proofs cite, those of other crates too. A reader has nothing to believe here.
 pub mod Held
+pub mod Named
+pub mod Containers
+pub mod Digests
+pub mod Empty
 pub mod Stores

@@ -1,10 +1,18 @@
 //! Laws of what loaded disks stand for together.
 
-ghost use Rattle.std.specs.Prelude.{◌≡◌, ◌<◌, ℕ, List, Some, IsSome, map};
+ghost use Rattle.std.specs.Prelude.{◌≡◌, ◌↔◌, ◌<◌, ℕ, List, [], None, Some, IsSome, All, not, map, option_map, slice_get};
+ghost use Rattle.std.specs.FinMap.{get};
 ghost use Rattle.oz_core.specs.Coherent.{IdsAreFresh, LogIsCoherent};
+ghost use Rattle.oz_core.specs.Contents.{OpeningBytes};
+ghost use Rattle.oz_core.specs.Nodes.{is_open, length_in, was_closed, was_held};
+ghost use Rattle.oz_core.specs.Stories.{first_in};
 ghost use Rattle.oz_datanode.specs.Datanode.{State as AnyDatanode, node_in};
+ghost use Rattle.oz_datanode.specs.Pairs.{HaveDigests, bytes_of};
+ghost use Rattle.oz_entries.specs.Build.{Makes};
+ghost use Rattle.oz_entries.specs.Node.{is_held};
+ghost use Rattle.oz_entries.specs.declared.row.BlockRow.{BlockRow as AnyRow};
 ghost use Rattle.oz_fields.specs.declared.block.Block.{Block as AnyBlock};
-ghost use Rattle.oz_grants.specs.Made.{Made};
+ghost use Rattle.oz_grants.specs.Made.{Made, begun, container_at};
 ghost use Rattle.oz_loaded.specs.Loads.{IsLoaded};
 ghost use Rattle.oz_loaded.specs.Unseated.{UnseatedView};
 ghost use Rattle.oz_namespace.specs.declared.namespace.Namespace.{Namespace as AnyNamespace};
@@ -14,8 +22,8 @@ ghost use Rattle.oz_rows.specs.RowMaps.{row_of};
 ghost use Rattle.oz_sound.specs.Sound.{IsSoundButRenames};
 ghost use Rattle.oz_sound.specs.StandsFor.{StandsFor};
 ghost use Rattle.oz_store.specs.Store.{IsInARow, IsStore, local_in};
-ghost use Rattle.oz_store_opening.specs.Agreeing.{BlocksAgree};
-ghost use Rattle.oz_store_opening.specs.Openings.{opening_bytes, opening_of};
+ghost use Rattle.oz_store_opening.specs.Agreeing.{BlocksAgree, HoldsNothing};
+ghost use Rattle.oz_store_opening.specs.Openings.{intact_bytes, opened_container, opened_node, opening_bytes, opening_of};
 ghost use Rattle.oz_world.specs.Disk.{seen};
 
 use oz_world::Disk;
@@ -55,3 +63,40 @@ pub fn all_disks_are_a_store<D: Disk>()
     oz_loaded::what_is_left_stands_in_deleted_rows();
     oz_store::what_is_reached_stands_in_a_row();
 }
+
+/// Where neither a row nor a datanode has a block the blocks agree, and their ids are below the first that is granted. So
+/// it is where nothing was written to the journals of datanodes yet.
+pub fn an_empty_store_agrees<D: Disk>()
+    ensures agree { (unseated : UnseatedView) (namespace : AnyNamespace) (made : Made) (nodes : List (AnyDatanode D))
+        (bytes : OpeningBytes) → All HoldsNothing nodes →
+        BlocksAgree (row_of []) (opening_of unseated namespace made nodes) bytes }
+    ensures below { (count : ℕ) (nodes : List (AnyDatanode D)) → All HoldsNothing nodes →
+        AreBelow 0 (map node_in nodes) (begun count).next_id }
+    ensures unwritten { (node : AnyDatanode D) → Makes [] (node_in node) → HoldsNothing node }
+{}
+
+/// An opening has the blocks of the datanodes, with their lengths, which of their replicas are closed, and the containers
+/// of the storage container manager.
+pub fn an_opening_has_what_was_loaded<D: Disk>()
+    ensures held { (unseated : UnseatedView) (namespace : AnyNamespace) (made : Made) (nodes : List (AnyDatanode D)) (dn : ℕ)
+        (node : AnyDatanode D) (block : AnyBlock) → slice_get nodes dn ≡ Some node →
+        was_held (opening_of unseated namespace made nodes) dn block ≡ is_held (node_in node) block }
+    ensures lengths { (node : AnyDatanode D) (block : AnyBlock) →
+        first_in (length_in block (opened_node node.blocks.held))
+        ≡ option_map (λ (row : AnyRow). row.length) ((node_in node).rows block) }
+    ensures closed { (unseated : UnseatedView) (namespace : AnyNamespace) (made : Made) (nodes : List (AnyDatanode D)) (dn : ℕ)
+        (node : AnyDatanode D) (container : ℕ) → slice_get nodes dn ≡ Some node →
+        was_closed (opening_of unseated namespace made nodes) dn container
+        ≡ not (is_open ((node_in node).states container)) }
+    ensures containers { (unseated : UnseatedView) (namespace : AnyNamespace) (made : Made) (nodes : List (AnyDatanode D))
+        (number : ℕ) → get (opening_of unseated namespace made nodes).containers number
+        ≡ option_map opened_container (container_at made.containers number) }
+{}
+
+/// The bytes of a block that a disk of slots has stand beside the opening where the digests that are kept are theirs, and
+/// only there.
+pub fn bytes_that_are_intact_have_their_digests()
+    ensures { (row : AnyRow) (slots content : List ℕ) →
+        (intact_bytes row slots ≡ Some content)
+        ↔ ((bytes_of row slots ≡ content) × HaveDigests row.length row.chunks slots) }
+{}

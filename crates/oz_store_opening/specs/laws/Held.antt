@@ -14,11 +14,11 @@ use Rattle.oz_fields.specs.declared.block.Block.{Block}
 use Rattle.oz_fields.specs.declared.block.Piece.{Piece}
 use Rattle.oz_store_opening.specs.Openings.{opened_node, pieces_of}
 
-or_left : (a b : Bool) → a ≡ true → (a || b) ≡ true
+pub or_left : (a b : Bool) → a ≡ true → (a || b) ≡ true
 or_left true b e = refl
 or_left false b e = absurd (false≢true e)
 
-or_right : (a b : Bool) → b ≡ true → (a || b) ≡ true
+pub or_right : (a b : Bool) → b ≡ true → (a || b) ≡ true
 or_right true b e = refl
 or_right false b e = e
 
@@ -29,7 +29,7 @@ same_test false true to from = from refl
 same_test false false to from = refl
 
 -- two tests of a block are one
-turned : (a b : Block) → is_block a b ≡ true → b ≡ a
+pub turned : (a b : Block) → is_block a b ≡ true → b ≡ a
 turned a b e = same_block b a e
 
 own : (a : Block) → is_block a a ≡ true
@@ -37,7 +37,7 @@ own a = itself a
 
 -- ---- of some blocks those that are held
 
-abbrev with_length : Block → BlockRow → Piece
+abbrev pub with_length : Block → BlockRow → Piece
 with_length block row = record { block = block; length = row.length }
 
 module _ (node : Node) (block : Block) where
@@ -80,7 +80,7 @@ module _ (node : Node) (block : Block) where
       held_next other (pieces_of node blocks) blocks (node.rows other) refl (is_block block other) refl held (held_listed blocks held) among
 
 -- a row that is found stands under the block
-abbrev blocks_in : List (Block × Option BlockRow) → List Block
+abbrev pub blocks_in : List (Block × Option BlockRow) → List Block
 blocks_in rows = map (λ (entry : Block × Option BlockRow). entry.0) rows
 
 row_next : (block first : Block) (row : Option BlockRow) (rows : List (Block × Option BlockRow)) (t : Bool) → is_eq (block_order block first) ≡ t
@@ -93,7 +93,7 @@ row_next block first row rows true same others e =
 row_next block first row rows false same others e =
     or_right (is_block block first) (list_any (λ (other : Block). is_block block other) (blocks_in rows)) (others e)
 
-row_listed : (rows : List (Block × Option BlockRow)) (block : Block) → is_some (row_of rows block) ≡ true
+pub row_listed : (rows : List (Block × Option BlockRow)) (block : Block) → is_some (row_of rows block) ≡ true
     → list_any (λ (other : Block). is_block block other) (blocks_in rows) ≡ true
 row_listed [] block is = absurd (false≢true is)
 row_listed (entry ∷ rows) block is = row_next block entry.0 entry.1 rows (is_eq (block_order block entry.0)) refl (row_listed rows block) is

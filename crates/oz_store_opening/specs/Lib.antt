@@ -1,3 +1,4 @@
 pub mod Openings
 pub mod Agreeing
+pub mod Same
 pub mod laws

@@ -1,6 +1,8 @@
 -- Laws with their proofs, which proofs cite, those of other crates too. A reader has nothing to believe here.
 pub mod Held
 pub mod Named
+pub mod Same
+pub mod One
 pub mod Containers
 pub mod Digests
 pub mod Empty

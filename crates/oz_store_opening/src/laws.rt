@@ -8,24 +8,32 @@ ghost use Rattle.oz_core.specs.Nodes.{is_open, length_in, was_closed, was_held};
 ghost use Rattle.oz_core.specs.Stories.{first_in};
 ghost use Rattle.oz_datanode.specs.Datanode.{State as AnyDatanode, node_in};
 ghost use Rattle.oz_datanode.specs.Pairs.{HaveDigests, bytes_of};
+ghost use Rattle.oz_datanode.specs.declared.disks.NodeDisks.{NodeDisks};
 ghost use Rattle.oz_entries.specs.Build.{Makes};
 ghost use Rattle.oz_entries.specs.Node.{is_held};
 ghost use Rattle.oz_entries.specs.declared.row.BlockRow.{BlockRow as AnyRow};
 ghost use Rattle.oz_fields.specs.declared.block.Block.{Block as AnyBlock};
 ghost use Rattle.oz_grants.specs.Made.{Made, begun, container_at};
+ghost use Rattle.oz_journal.specs.Grammar.{IsJournal};
 ghost use Rattle.oz_loaded.specs.Loads.{IsLoaded};
 ghost use Rattle.oz_loaded.specs.Unseated.{UnseatedView};
 ghost use Rattle.oz_namespace.specs.declared.namespace.Namespace.{Namespace as AnyNamespace};
 ghost use Rattle.oz_nodes_loaded.specs.Ids.{AreBelow};
+ghost use Rattle.oz_nodes_loaded.specs.Loads.{AreNodesFrom, IsScmFrom};
 ghost use Rattle.oz_rows.specs.declared.key.RowKey.{RowKey as AnyKey};
 ghost use Rattle.oz_rows.specs.RowMaps.{row_of};
+ghost use Rattle.oz_scm.specs.Scm.{State as AnyScm};
 ghost use Rattle.oz_sound.specs.Sound.{IsSoundButRenames};
 ghost use Rattle.oz_sound.specs.StandsFor.{StandsFor};
 ghost use Rattle.oz_store.specs.Store.{IsInARow, IsStore, local_in};
 ghost use Rattle.oz_store_opening.specs.Agreeing.{BlocksAgree, HoldsNothing};
 ghost use Rattle.oz_store_opening.specs.Openings.{intact_bytes, opened_container, opened_node, opening_bytes, opening_of};
+ghost use Rattle.oz_store_opening.specs.Same.{SayTheSame};
 ghost use Rattle.oz_world.specs.Disk.{seen};
 
+use oz_block::a_disk_stands_for_one_node;
+use oz_loaded::a_disk_loads_as_one_thing;
+use oz_scm::a_disk_stands_for_one_thing;
 use oz_world::Disk;
 
 /// Where the ids that were loaded are below the next one, no id that a row, its key or a datanode has is granted again,
@@ -92,6 +100,29 @@ pub fn an_opening_has_what_was_loaded<D: Disk>()
         (number : ℕ) → get (opening_of unseated namespace made nodes).containers number
         ≡ option_map opened_container (container_at made.containers number) }
 {}
+
+/// Disks that tell their bytes are loaded as one opening: of the manager one last index, one greatest id and the same blocks
+/// that are left, of the storage container manager one thing, and of the datanodes what says the same.
+pub fn disks_have_one_opening<D: Disk>()
+    ensures manager { (bytes : List ℕ) (bodies others : List (List ℕ)) (unseated other : UnseatedView) →
+        IsJournal bytes bodies → IsLoaded bodies unseated → IsJournal bytes others → IsLoaded others other →
+        (unseated.last_index ≡ other.last_index) × (unseated.greatest_id ≡ other.greatest_id)
+        × (unseated.left ≡ other.left) }
+    ensures scm { (given : ℕ) (disk : D) (scm other : AnyScm D) →
+        let see = (λ (d : D). seen (D.told d) (D.clock d) (D.image d) (D.faults d)) in
+        IsSome (D.told disk) → IsScmFrom see given disk scm → IsScmFrom see given disk other → scm.made ≡ other.made }
+    ensures nodes { (all : List (NodeDisks D)) (nodes others : List (AnyDatanode D)) (unseated : UnseatedView)
+        (namespace : AnyNamespace) (made : Made) →
+        let see = (λ (d : D). seen (D.told d) (D.clock d) (D.image d) (D.faults d)) in
+        All (λ (disks : NodeDisks D). IsSome (D.told disks.meta)) all →
+        AreNodesFrom see 0 all nodes → AreNodesFrom see 0 all others →
+        SayTheSame (opening_of unseated namespace made nodes) (opening_of unseated namespace made others)
+        (opening_bytes see nodes) (opening_bytes see others) }
+{
+    a_disk_stands_for_one_node();
+    a_disk_stands_for_one_thing();
+    a_disk_loads_as_one_thing();
+}
 
 /// The bytes of a block that a disk of slots has stand beside the opening where the digests that are kept are theirs, and
 /// only there.

@@ -1,4 +1,4 @@
-//! The disks of a run.
+//! The names of disks.
 
 /// Which disk it is. A datanode goes by its number, from 0.
 #[derive(Clone, Copy, Debug, PartialEq, Eq)]

@@ -1,0 +1,12 @@
+//! The storage container manager behind a lock, with its seat of the turn: its events say what it does.
+#![tactic(auto)]
+
+mod cell;
+mod granting;
+mod laws;
+mod noting;
+mod tracking;
+
+pub use cell::ScmCell;
+pub use laws::{a_datanode_alone_tells_that_it_runs, the_scm_alone_tells};
+pub use oz_scm::{Grant, GrantFault, Scm};

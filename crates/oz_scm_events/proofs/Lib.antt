@@ -1,2 +1,6 @@
 mod Own
 mod Telling
+mod Made
+mod Ups
+mod Kept
+mod Enabled

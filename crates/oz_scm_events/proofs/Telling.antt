@@ -1,8 +1,8 @@
 -- By the law some kinds of event are of the storage container manager's seat alone, and some of a datanode's, so their own
 -- events tell all of them.
 use Rattle.std.specs.Prelude.{true, false, Bool, ◌==◌, ◌&&◌, map, is_none}
-use Rattle.std.specs.List.{AllByRecursion, range_with_len}
-use Rattle.std.proofs.Common.{◌≡◌, ℕ, List, [], ◌∷◌, Option, None, Some, length, refl, sym, ap, ◌∙◌, cond, funext}
+use Rattle.std.specs.List.{range_with_len}
+use Rattle.std.proofs.Common.{◌≡◌, ℕ, List, [], Option, None, Some, length, refl, sym, ap, ◌∙◌, cond}
 use Rattle.std.proofs.lemmas.Bool.{false≢true, eqb-true}
 use Rattle.oz_buffer.specs.Buffer.{AllFollow, Follows}
 use Rattle.oz_buffer.specs.laws.Following.{follow-all}
@@ -110,7 +110,7 @@ module _ (Coherent : Type 0) (opening : Opening) (bytes : OpeningBytes) (script 
   up_own dn = made_by_own scm_seat of_scm (λ up kind. newer (up_or_down dn kind) up) (not_up dn) true story scm_all
 
   pub ups_own : ups opening story ≡ ups opening (own scm_seat of_scm story)
-  ups_own = ap (λ (up : ℕ → Bool). map up (range_with_len 0 (length opening.nodes))) (funext up_own)
+  ups_own i = map (λ dn. up_own dn i) (range_with_len 0 (length opening.nodes))
 
   pub halt_own : halt_of Scm story ≡ halt_of Scm (own scm_seat of_scm story)
   halt_own = made_by_own scm_seat of_scm (λ halt kind. newer (halt_count Scm kind) halt) no_halt None story scm_all

@@ -4,3 +4,4 @@ mod Made
 mod Ups
 mod Kept
 mod Enabled
+mod Needed

@@ -32,6 +32,9 @@ of_scm (Down dn) = true
 of_scm (Halt Scm count) = true
 of_scm _ = false
 
+abbrev pub scm_gives_it : Event → Type 0
+scm_gives_it event = IsIts scm_seat of_scm event
+
 scm_gives : (opening : Opening) (story : List Event) (seat : ℕ) (kind : EventKind) → KindIsEnabled opening story seat kind → of_scm kind ≡ true → seat ≡ scm_seat
 scm_gives opening story seat (Grant stripe container pipeline first count) may is = may.of_scm
 scm_gives opening story seat (Closed container state) may is = may.of_scm
@@ -97,7 +100,7 @@ module _ (Coherent : Type 0) (opening : Opening) (bytes : OpeningBytes) (script 
   its_all seat is_its gives =
       follow-all (Follows Coherent opening bytes script) (IsIts seat is_its) [] story (λ front event may. gives front event.seat event.kind (may.enabled coherent)) all
 
-  scm_all : AreIts scm_seat of_scm story
+  pub scm_all : AreIts scm_seat of_scm story
   scm_all = its_all scm_seat of_scm (scm_gives opening)
 
   pub next_own : next_id opening story ≡ next_id opening (own scm_seat of_scm story)

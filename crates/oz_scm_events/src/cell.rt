@@ -83,9 +83,8 @@ impl<D: Disk, O: Opened, R: Ring> ScmCell<D, Ledger<O>, O, R> {
         requires turn { turn_id turn.now ≡ R.turn }
         requires ready { IsReady R.turn (number_of seat.old) seat.old }
 
-        // It is as it was, and has seen the same.
+        // It is as it was, but for what it has seen.
         ensures same { (self.new.scm ≡ self.old.scm) × (self.new.mine ≡ self.old.mine) }
-        ensures seen { self.new.seen ≡ seen_of seat.new }
         ensures goes_on { BeginsWith self.new.seen self.old.seen }
 
         // In what the other seat has seen then, the events of this one are all that it gave.

@@ -1,6 +1,6 @@
 //! What the storage container manager grants, and tells.
 
-ghost use Rattle.std.specs.Prelude.{◌≡◌, ◌≢◌, ◌<◌, ℕ, List, [], Contains, Err, IfErr, IsSome};
+ghost use Rattle.std.specs.Prelude.{◌≡◌, ◌≢◌, ◌<◌, ℕ, List, [], true, Contains, Err, IfErr, IsSome};
 ghost use Rattle.std.specs.FinMap.{get};
 ghost use Rattle.oz_buffer.specs.Buffer.{AllFollow, Follows};
 ghost use Rattle.oz_core.specs.declared.event.Event.{Event as AnyEvent};
@@ -8,7 +8,7 @@ ghost use Rattle.oz_core.specs.Law.{IsNeeded};
 ghost use Rattle.oz_core.specs.Scm.{containers};
 ghost use Rattle.oz_core.specs.Seats.{scm_seat};
 ghost use Rattle.oz_names.specs.declared.limits.TheConstants.{STRIPES};
-ghost use Rattle.oz_scm.specs.declared.fault.GrantFault.TheVariants.{OutOfMemory as NoMemory};
+ghost use Rattle.oz_scm.specs.declared.fault.GrantFault.TheVariants.{OutOfMemory as NoMemory, Stopped};
 ghost use Rattle.oz_scm.specs.Grants.{Grants};
 ghost use Rattle.oz_scm_events.specs.Granted.{IsRefusal, own_after, told_of};
 ghost use Rattle.oz_turn.specs.Seat.{IsReady, mine_of, number_of, room_of, seen_of};
@@ -63,6 +63,8 @@ impl<D: Disk, O: Opened, R: Ring> ScmCell<D, Ledger<O>, O, R> {
             (seen (D.told self.new.scm.disk) (D.clock self.new.scm.disk) (D.image self.new.scm.disk)
             (D.faults self.new.scm.disk))
             result }
+        ensures halted { self.old.scm.stopped ≡ true → (self.new.scm ≡ self.old.scm)
+            × (result ≡ Err (Stopped (D.faults self.old.scm.disk))) }
         ensures own { self.new.mine ≡ own_after self.old.scm.stopped stripe self.old.mine result }
         ensures refused { IfErr result (IsRefusal O.opening self.new.mine exclude.now) }
         ensures no_memory { result ≡ Err NoMemory → self.new.scm ≡ self.old.scm }
@@ -109,6 +111,8 @@ impl<D: Disk, O: Opened, R: Ring> ScmCell<D, Ledger<O>, O, R> {
             (seen (D.told self.new.scm.disk) (D.clock self.new.scm.disk) (D.image self.new.scm.disk)
             (D.faults self.new.scm.disk))
             result }
+        ensures halted { self.old.scm.stopped ≡ true → (self.new.scm ≡ self.old.scm)
+            × (result ≡ Err (Stopped (D.faults self.old.scm.disk))) }
         ensures own { self.new.mine ≡ own_after self.old.scm.stopped stripe self.old.mine result }
         ensures refused { IfErr result (IsRefusal O.opening self.new.mine exclude.now) }
         ensures no_memory { result ≡ Err NoMemory → self.new.scm ≡ self.old.scm }

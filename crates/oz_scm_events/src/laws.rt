@@ -1,4 +1,4 @@
-//! Whose events alone tell what a story makes of the storage container manager and of datanodes.
+//! Whose events alone tell what a story makes of the storage container manager and of datanodes, and what follows from it.
 
 ghost use Rattle.std.specs.Prelude.{◌≡◌, ℕ, List, []};
 ghost use Rattle.oz_buffer.specs.Buffer.{AllFollow, Follows};
@@ -8,7 +8,11 @@ ghost use Rattle.oz_core.specs.Manager.{halt_of};
 ghost use Rattle.oz_core.specs.Nodes.{is_running};
 ghost use Rattle.oz_core.specs.Scm.{containers, is_up, next_id, ups};
 ghost use Rattle.oz_core.specs.Seats.{datanode_seat, scm_seat};
-ghost use Rattle.oz_turn.specs.Told.{own_entries};
+ghost use Rattle.oz_core.specs.Law.{IsNeeded};
+ghost use Rattle.oz_requests.specs.declared.request.Exclude.{Exclude as AnyExclude};
+ghost use Rattle.oz_scm.specs.declared.fault.GrantFault.{GrantFault as AnyFault};
+ghost use Rattle.oz_scm_events.specs.Granted.{IsRefusal};
+ghost use Rattle.oz_turn.specs.Told.{own_entries, BeginsWith};
 
 use oz_buffer::Opened;
 
@@ -37,4 +41,21 @@ pub fn a_datanode_alone_tells_that_it_runs<O: Opened>()
     ensures { (story : List AnyEvent) (dn : ℕ) → O.coherent →
         AllFollow (Follows O.coherent O.opening O.bytes O.script) [] story →
         is_running dn story ≡ is_running dn (own_entries (λ event. event.seat) (datanode_seat dn) story) }
+{}
+
+/// What a stripe needs it needs until it is granted more: in each story that goes on from one in which it does, with no
+/// further event of the storage container manager.
+pub fn a_need_stays_until_a_grant<O: Opened>()
+    ensures { (story seen : List AnyEvent) (stripe container pipeline : ℕ) → O.coherent →
+        AllFollow (Follows O.coherent O.opening O.bytes O.script) [] story → BeginsWith story seen →
+        own_entries (λ event. event.seat) scm_seat story ≡ own_entries (λ event. event.seat) scm_seat seen →
+        IsNeeded O.opening seen stripe container pipeline → IsNeeded O.opening story stripe container pipeline }
+{}
+
+/// What a refusal says of the events of the storage container manager's seat it says of the whole story.
+pub fn a_refusal_is_of_the_story<O: Opened>()
+    ensures { (story : List AnyEvent) (exclude : AnyExclude) (fault : AnyFault) → O.coherent →
+        AllFollow (Follows O.coherent O.opening O.bytes O.script) [] story →
+        IsRefusal O.opening (own_entries (λ event. event.seat) scm_seat story) exclude fault →
+        IsRefusal O.opening story exclude fault }
 {}

@@ -8,5 +8,8 @@ mod noting;
 mod tracking;
 
 pub use cell::ScmCell;
-pub use laws::{a_datanode_alone_tells_that_it_runs, the_scm_alone_tells};
+pub use laws::{
+    a_datanode_alone_tells_that_it_runs, a_need_stays_until_a_grant, a_refusal_is_of_the_story,
+    the_scm_alone_tells,
+};
 pub use oz_scm::{Grant, GrantFault, Scm};

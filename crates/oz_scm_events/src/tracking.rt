@@ -3,7 +3,6 @@
 ghost use Rattle.std.specs.Prelude.{◌≡◌, ◌<◌, [], length, slice_set, OnErr, OnOk};
 ghost use Rattle.oz_buffer.specs.Buffer.{AllFollow, Follows};
 ghost use Rattle.oz_core.specs.Nodes.{is_running};
-ghost use Rattle.oz_core.specs.Scm.{is_up};
 ghost use Rattle.oz_core.specs.Seats.{datanode_seat, scm_seat};
 ghost use Rattle.oz_scm_events.specs.Tracked.{IsTracked, up_event};
 ghost use Rattle.oz_turn.specs.Seat.{IsReady, mine_of, room_of, seen_of};
@@ -37,7 +36,6 @@ impl<D: Disk, O: Opened, R: Ring> ScmCell<D, Ledger<O>, O, R> {
         requires there { dn < length O.opening.nodes }
         requires ready { IsReady R.turn (datanode_seat dn) seat.old }
         requires runs { is_running dn (mine_of seat.old) ≡ up }
-        ensures up { OnOk result (is_up dn self.new.mine ≡ up) }
         ensures own { IsTracked dn up self.old.mine self.new.mine result }
         ensures scm { OnOk result (self.new.scm ≡ record self.old.scm { up = slice_set self.old.scm.up dn up }) }
         ensures same { OnErr result (self.new.scm ≡ self.old.scm) }
@@ -68,7 +66,6 @@ impl<D: Disk, O: Opened, R: Ring> ScmCell<D, Ledger<O>, O, R> {
         requires there { dn < length O.opening.nodes }
         requires ready { IsReady R.turn (datanode_seat dn) seat.old }
         requires runs { is_running dn (mine_of seat.old) ≡ up }
-        ensures up { OnOk result (is_up dn self.new.mine ≡ up) }
         ensures own { IsTracked dn up self.old.mine self.new.mine result }
         ensures scm { OnOk result (self.new.scm ≡ record self.old.scm { up = slice_set self.old.scm.up dn up }) }
         ensures same { OnErr result (self.new.scm ≡ self.old.scm) }

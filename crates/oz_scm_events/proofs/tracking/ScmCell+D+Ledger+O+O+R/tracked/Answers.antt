@@ -6,20 +6,18 @@ use Rattle.oz_scm_events.specs.Granted.{by_scm}
 use Rattle.oz_scm_events.specs.Tracked.{up_event}
 use Rattle.oz_scm_events.proofs.Enabled.{up_follows_as}
 use Rattle.oz_scm_events.proofs.Kept.{among_ups, begins_as, begins_then, kept_seen, kept_tracked, not_before, set_same, so_before, tracked_as}
-use Rattle.oz_scm_events.proofs.Ups.{is_so}
 use Rattle.oz_turn.specs.Seat.{mine_of, number_of, seen_of, IsReady}
 use Rattle.oz_scm_events.proofs.tracking.ScmCell+D+Ledger+O+O+R.tracked.Goals as goal
 
 pub is_up-requires : goal.is_up-requires
 is_up-requires g c = among_ups g.O.Opened.opening c.self.inside.scm _ _ _ c.self.invariant.1 c.args.dn c.requires.there
 
-pub returns-then-is_up-up-clause-up : goal.returns-then-is_up-up-clause-up
-returns-then-is_up-up-clause-up g c =
-    subst (λ v. is_up c.args.dn v.mine ≡ c.args.up) c.self.view_is
-    (so_before g.O.Opened.opening c.self.inside.scm _ _ _ c.self.invariant.1 c.args.dn c.requires.there c.is_up.result c.args.up c.is_up.ensures c.if-is_up-up.true)
-
 pub returns-then-is_up-up-clause-own : goal.returns-then-is_up-up-clause-own
-returns-then-is_up-up-clause-own g c = (returns-then-is_up-up-clause-up g c, refl)
+returns-then-is_up-up-clause-own g c = (
+  subst (λ v. is_up c.args.dn v.mine ≡ c.args.up) c.self.view_is
+      (so_before g.O.Opened.opening c.self.inside.scm _ _ _ c.self.invariant.1 c.args.dn c.requires.there c.is_up.result c.args.up c.is_up.ensures c.if-is_up-up.true),
+  refl,
+)
 
 pub returns-then-is_up-up-clause-scm : goal.returns-then-is_up-up-clause-scm
 returns-then-is_up-up-clause-scm g c =
@@ -51,14 +49,8 @@ invariant_of-self-2 g c =
     let kept = kept_seen O.opening c.self.inside.scm _ _ _ (seen_of before) (mine_of before) c.self.invariant.1 own.mine own.known in (
       subst (λ t. IsReady t scm_seat seat) c.requires.turn c.tell.ensures.ready,
       kept_tracked O.opening c.self.inside.scm _ (seen_of before) (mine_of before) kept c.args.dn c.requires.there c.args.up c.set_up.new.self (seen_of seat) (mine_of seat) _ c.set_up.ensures
-      (ap (λ s. g.D.Disk.faults s.disk) c.set_up.ensures) (tracked_as (mine_of before) (mine_of seat) c.args.dn c.args.up c.up_event.result c.up_event.ensures c.tell.ensures.mine) c.tell.ensures.known,
+          (ap (λ s. g.D.Disk.faults s.disk) c.set_up.ensures) (tracked_as (mine_of before) (mine_of seat) c.args.dn c.args.up c.up_event.result c.up_event.ensures c.tell.ensures.mine) c.tell.ensures.known,
     )
-
-pub returns-clause-up : goal.returns-clause-up
-returns-clause-up g c =
-    let before = c.reserve.new.seat in
-    let told = tracked_as (mine_of before) (mine_of c.tell.new.seat) c.args.dn c.args.up c.up_event.result c.up_event.ensures c.tell.ensures.mine in
-    ap (is_up c.args.dn) told ∙ is_so (mine_of before) c.args.dn c.args.up
 
 pub returns-clause-own : goal.returns-clause-own
 returns-clause-own g c =

@@ -29,7 +29,8 @@ use std::sync::Wait;
 
 impl<D: Disk, O: Opened, R: Ring> ScmCell<D, Ledger<O>, O, R> {
     /// Grants the ids that are due to a stripe, which is one of the sixteen, and appends the Grant. Where the disk fails
-    /// it appends a Halt, and grants no more.
+    /// it appends a Halt with the disk's count of faults, and answers Stopped with that count, now and ever after. Every
+    /// other error leaves its disk and its events as they were: memory for the event is there before the disk is written.
     ///
     /// `seat` is that of who asks for the stripe. The caller answers for it that the stripe needs the grant, in each
     /// story that goes on from what that seat has seen by no event of its own and with no other event of this one: which

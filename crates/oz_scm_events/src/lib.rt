@@ -1,4 +1,5 @@
-//! The storage container manager behind a lock, with its seat of the turn: its events say what it does.
+//! The storage container manager behind a lock, with its seat of the turn: its events say what it does. Each is appended
+//! while the lock is held, once what it names is stable.
 #![tactic(auto)]
 
 mod cell;

@@ -20,7 +20,7 @@ use std::sync::Wait;
 
 impl<D: Disk, O: Opened, R: Ring> ScmCell<D, Ledger<O>, O, R> {
     /// Takes a datanode for up, which runs, or for down, which doesn't run; and answers whether it was taken for the
-    /// other before. Then it appends an Up or a Down, and where it wasn't nothing.
+    /// other before. Then it appends an Up or a Down, and where it wasn't nothing. Without memory nothing changes.
     ///
     /// `seat` is the datanode's, whose own events tell whether it runs. Who calls holds the datanode's lock.
     pub fn track<W: Wait>(

@@ -5,3 +5,4 @@ pub mod Holding
 pub mod Moving
 pub mod Following
 pub mod Leading
+pub mod Noted

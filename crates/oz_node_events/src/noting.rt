@@ -113,6 +113,7 @@ impl<'a, D: Disk, O: Opened, R: Ring, W: Wait> Noter<D, NodeSeat<Ledger<O>, O, R
     }
 
     fn note(&mut self, kept: &mut NodeSeat<Ledger<O>, O, R>, note: Note) {
+        kept.is_kept();
         let kind = kind_of(self.id, self.first, note);
         kept.note(self.rt, self.turn, self.seat, kind);
     }

@@ -6,3 +6,4 @@ pub mod Moving
 pub mod Following
 pub mod Leading
 pub mod Noted
+pub mod Lasting

@@ -41,7 +41,7 @@ pub not_halted : (h : Bool) (count : ℕ) (rest : Option ℕ) → cond h (Some c
 not_halted true count rest none = absurd cc
 not_halted false count rest none = refl
 
-not_stopped : (h s : Bool) (count : ℕ) → cond h (Some count) (cond s (Some 0) None) ≡ None → s ≡ false
+pub not_stopped : (h s : Bool) (count : ℕ) → cond h (Some count) (cond s (Some 0) None) ≡ None → s ≡ false
 not_stopped true s count none = absurd cc
 not_stopped false true count none = absurd cc
 not_stopped false false count none = refl

@@ -1,6 +1,7 @@
 -- What a note comes to for the noter and for the seat.
 use Rattle.std.proofs.Common.{◌≡◌, ℕ, ◌+◌, true, ◌==◌, List, [], ◌∷◌, ◌++◌, length, eq-eqb, refl, sym, ap, ◌∙◌, subst, append_assoc, append-nil, length-append, arith}
 use Rattle.std.proofs.Common.{Option}
+use Rattle.std.specs.Borrow.{GName}
 use Rattle.oz_buffer.specs.Buffer.{AllFollow, Follows}
 use Rattle.oz_core.specs.declared.event.Event.{Event}
 use Rattle.oz_core.specs.declared.event.EventKind.{EventKind}
@@ -149,7 +150,18 @@ appended_begins event seen other after told_so =
     (begins_through (told_so.before ++ event ∷ []) told_so.before other (event ∷ [], refl) told_so.begins_other)
 
 pub noted_as : (inside before after : NotingView) (note : Note) → inside ≡ before
-    → after ≡ record { reference = inside.reference; seen = after.seen; id = inside.id; first = inside.first; subject = inside.subject }
+    → after ≡ record { reference = inside.reference; by = inside.by; seen = after.seen; mine = inside.mine; room = inside.room; id = inside.id; first = inside.first; subject = inside.subject }
     → AreTold inside.id inside.first (note ∷ []) inside.seen after.seen → IsNotedBy before (note ∷ []) after
 noted_as inside before after note is same told =
     subst (λ (v : NotingView). IsNotedBy v (note ∷ []) after) is (record { same = same; told = told })
+
+abbrev as_noting : GName → ℕ → List Event → List Event → ℕ → AskId → ℕ → Subject → NotingView
+as_noting reference by seen mine room id first subject =
+    record { reference = reference; by = by; seen = seen; mine = mine; room = room; id = id; first = first; subject = subject }
+
+pub same_noting : (reference : GName) (seen : List Event) (id : AskId) (first : ℕ) (subject : Subject) {one other : ℕ} {mine given : List Event} {room places : ℕ}
+    → one ≡ other → mine ≡ given → room ≡ places
+    → as_noting reference one seen mine room id first subject
+    ≡ as_noting reference other seen given places id first subject
+same_noting reference seen id first subject by mine room =
+    λ i. record { reference = reference; by = by i; seen = seen; mine = mine i; room = room i; id = id; first = first; subject = subject }

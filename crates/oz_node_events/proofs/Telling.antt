@@ -153,3 +153,9 @@ module _ (Coherent : Type 0) (opening : Opening) (bytes : OpeningBytes) (script 
   closed_more coherent container before more all none =
       told_more Follow dn (closed_after dn container) (was_closed opening dn container)
       (λ front event may not. closed_away opening front dn container event.seat event.kind (may.enabled coherent) not) more before all none
+
+  pub closed_own : Coherent → (container : ℕ) (story : List Event) → AllFollow Follow [] story
+      → is_closed opening story dn container ≡ is_closed opening (events_of dn story) dn container
+  closed_own coherent container story all =
+      told_own Follow dn (closed_after dn container) (was_closed opening dn container)
+      (λ front event may not. closed_away opening front dn container event.seat event.kind (may.enabled coherent) not) story all

@@ -7,7 +7,7 @@ use Rattle.oz_core.specs.declared.opening.Opening.{Opening}
 use Rattle.oz_core.specs.declared.opening.Unretired.{Unretired}
 use Rattle.oz_core.specs.Contents.{OpeningBytes}
 use Rattle.oz_core.specs.Manager.{halt_of}
-use Rattle.oz_core.specs.Nodes.{holds, is_closed, length_of, stopped_or_started}
+use Rattle.oz_core.specs.Nodes.{holds, is_closed, length_of, stopped_or_started, was_closed, was_held}
 use Rattle.oz_core.specs.Seats.{datanode_seat}
 use Rattle.oz_core.specs.Stories.{last_told}
 use Rattle.oz_datanode.specs.Datanode.{State, count_of, is_halted, node_in}
@@ -56,6 +56,13 @@ pub record StandsFor {D : Type 0} (faults : D → ℕ) (Coherent : Type 0) (open
       → length_of opening view.seen block ≡ Some row.length
   pub closed : Coherent → (container : ℕ)
       → is_closed opening view.seen view.dn container ≡ not (is_open ((node_in node).states container))
+
+-- a datanode holds what the opening says of its disks
+pub record IsAsOpened {D : Type 0} (opening : Opening) (node : State D) : Type 0 where
+  pub held : (block : Block) → was_held opening node.id block ≡ is_held (node_in node) block
+  pub whole : (block : Block) (row : BlockRow) → (node_in node).rows block ≡ Some row
+      → length_of opening [] block ≡ Some row.length
+  pub closed : (container : ℕ) → was_closed opening node.id container ≡ not (is_open ((node_in node).states container))
 
 -- An event was appended behind what two seats had seen, and more has come since.
 pub record IsAppended (event : Event) (seen other after : List Event) : Type 0 where

@@ -71,11 +71,14 @@ pub record AreTold (id : AskId) (first : ℕ) (said : List Note) (seen later : L
   pub goes_on : later ≡ seen ++ since
   pub told : StandIn (map (event_of id first) said) since
 
--- What contracts see of a noter: the reference to the seat of who works for the line, what that seat has seen, the ask, the
--- place of the piece in the line's data, and what is noted of.
+-- What contracts see of a noter: the reference to the seat of who works for the line, that seat's number, what it has seen, the
+-- events that it gave and its room; the ask, the place of the piece in the line's data, and what is noted of.
 pub record NotingView : Type 0 where
   pub reference : GName
+  pub by : ℕ
   pub seen : List Event
+  pub mine : List Event
+  pub room : ℕ
   pub id : AskId
   pub first : ℕ
   pub subject : Subject

@@ -4,11 +4,16 @@ ghost use Rattle.std.specs.Prelude.{◌≡◌, ℕ, [], true, List, Option};
 ghost use Rattle.oz_buffer.specs.Buffer.{AllFollow, Follows};
 ghost use Rattle.oz_core.specs.declared.event.Event.{Event as AnyEvent};
 ghost use Rattle.oz_core.specs.declared.event.PutRefusal.{PutRefusal as AnyRefusal};
+ghost use Rattle.oz_core.specs.declared.event.Node.TheVariants.{Datanode};
 ghost use Rattle.oz_core.specs.Asks.{is_script};
 ghost use Rattle.oz_core.specs.Coherent.{IsCoherent};
+ghost use Rattle.oz_core.specs.Manager.{halt_of};
+ghost use Rattle.oz_core.specs.Nodes.{is_closed, stopped_or_started};
+ghost use Rattle.oz_core.specs.Stories.{last_told};
+ghost use Rattle.oz_datanode.specs.Datanode.{Runs, State as AnyNode};
 ghost use Rattle.oz_lines.specs.Numbered.{IsNumbered};
 ghost use Rattle.oz_node_events.specs.Answers.{AnswersStand};
-ghost use Rattle.oz_node_events.specs.NodeSeat.{StandsFor};
+ghost use Rattle.oz_node_events.specs.NodeSeat.{IsAsOpened, IsKept, SeatView, StandsFor, events_of};
 ghost use Rattle.oz_node_events.specs.Noting.{AreTold, MayNote};
 ghost use Rattle.oz_replicas.specs.Notes.{Subject};
 ghost use Rattle.oz_replicas.specs.Writing.{AllAnswered};
@@ -21,6 +26,30 @@ use oz_buffer::{Ledger, Opened};
 use oz_replicas::Noter;
 use oz_turn::Ring;
 use oz_world::Disk;
+
+/// A datanode that was loaded, and holds what the opening says, has a seat that stands for it before it gave an event.
+pub fn a_loaded_datanode_stands<D: Disk, O: Opened>()
+    ensures { (node : AnyNode D) → Runs D.faults node → (O.coherent → IsAsOpened O.opening node) →
+        StandsFor D.faults O.coherent O.opening (record { dn = node.id; seen = []; mine = []; room = 0 }) node }
+{}
+
+/// The events of a datanode's seat alone tell whether it halted, whether a line stopped it and which replicas are closed. It
+/// stands for its datanode in each story that goes on by events of others.
+pub fn its_seat_alone_tells<D: Disk, O: Opened>()
+    ensures halt { (story : List AnyEvent) (dn : ℕ) → AllFollow (Follows O.coherent O.opening O.bytes O.script) [] story →
+        halt_of (Datanode dn) story ≡ halt_of (Datanode dn) (events_of dn story) }
+    ensures line { O.coherent → (story : List AnyEvent) (dn : ℕ) →
+        AllFollow (Follows O.coherent O.opening O.bytes O.script) [] story →
+        last_told (stopped_or_started dn) true story ≡ last_told (stopped_or_started dn) true (events_of dn story) }
+    ensures closed { O.coherent → (story : List AnyEvent) (dn container : ℕ) →
+        AllFollow (Follows O.coherent O.opening O.bytes O.script) [] story →
+        is_closed O.opening story dn container ≡ is_closed O.opening (events_of dn story) dn container }
+    ensures stands { (view : SeatView) (node : AnyNode D) (story : List AnyEvent) →
+        IsKept O.coherent O.opening O.bytes O.script view → StandsFor D.faults O.coherent O.opening view node →
+        BeginsWith story view.seen → AllFollow (Follows O.coherent O.opening O.bytes O.script) [] story →
+        events_of view.dn story ≡ view.mine →
+        StandsFor D.faults O.coherent O.opening (record view { seen = story }) node }
+{}
 
 /// What a script's ask has to know so that something may be noted for it stays so, in each story that goes on.
 pub fn what_may_be_noted_stays<O: Opened>()

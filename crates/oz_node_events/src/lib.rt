@@ -8,6 +8,8 @@ mod laws;
 mod noting;
 mod seat;
 
-pub use laws::{each_answer_is_in_the_story, what_may_be_noted_stays};
+pub use laws::{
+    a_loaded_datanode_stands, each_answer_is_in_the_story, its_seat_alone_tells, what_may_be_noted_stays,
+};
 pub use noting::Noting;
 pub use seat::NodeSeat;

@@ -2,7 +2,7 @@
 
 ghost use Rattle.std.specs.Prelude.{◌≡◌, None};
 ghost use Rattle.oz_node_events.specs.Noting.{IsNoting};
-ghost use Rattle.oz_turn.specs.Seat.{seen_of, taken_of, turn_of};
+ghost use Rattle.oz_turn.specs.Seat.{IsReady, mine_of, number_of, room_of, seen_of, taken_of, turn_of};
 ghost use Rattle.oz_turn.specs.Turn.{turn_id};
 
 use crate::events::kind_of;
@@ -37,14 +37,17 @@ pub struct Noting<'a, D: Disk, T: Told<Entry = Event>, O: Opened, R: Ring, W: Wa
 impl<'a, D: Disk, T: Told<Entry = Event>, O: Opened, R: Ring, W: Wait> Model for Noting<'a, D, T, O, R, W> {
     ghost use Rattle.std.specs.Prelude.{◌≡◌, None};
     ghost use Rattle.oz_node_events.specs.Noting.{IsNoting, NotingView};
-    ghost use Rattle.oz_turn.specs.Seat.{seen_of, taken_of, turn_of};
+    ghost use Rattle.oz_turn.specs.Seat.{mine_of, number_of, room_of, seen_of, taken_of, turn_of};
     ghost use Rattle.oz_turn.specs.Turn.{turn_id};
 
     ghost Value = { NotingView };
 
     ghost view = { λ n. record {
       reference = n.seat.ghost_name;
+      by = number_of n.seat.now;
       seen = seen_of n.seat.now;
+      mine = mine_of n.seat.now;
+      room = room_of n.seat.now;
       id = n.id;
       first = n.first;
       subject = record { block = n.block; members = n.members; bytes = n.bytes.now };
@@ -76,7 +79,10 @@ impl<'a, D: Disk, T: Told<Entry = Event>, O: Opened, R: Ring, W: Wait> Noting<'a
             (record { block = block; members = members; bytes = bytes.now }) (seen_of seat.old) }
         ensures { result ≡ record {
           reference = seat.entry.ghost_name;
+          by = number_of seat.old;
           seen = seen_of seat.old;
+          mine = mine_of seat.old;
+          room = room_of seat.old;
           id = id;
           first = first;
           subject = record { block = block; members = members; bytes = bytes.now };
@@ -94,6 +100,28 @@ impl<'a, D: Disk, T: Told<Entry = Event>, O: Opened, R: Ring, W: Wait> Noting<'a
             bytes,
             of: PhantomData,
         }
+    }
+
+    /// The seat, which has seen all that was noted.
+    pub fn into_seat(self) -> &'a mut Seat<T>
+        ensures same_reference { result.ghost_name ≡ self.entry.reference }
+        ensures ready { IsReady R.turn self.entry.by result.now }
+        ensures events { (seen_of result.now ≡ self.entry.seen) × (mine_of result.now ≡ self.entry.mine) }
+        ensures room { room_of result.now ≡ self.entry.room }
+    {
+        let Noting {
+            rt: _,
+            alloc: _,
+            turn: _,
+            seat,
+            id: _,
+            first: _,
+            block: _,
+            members: _,
+            bytes: _,
+            of: _,
+        } = self;
+        seat
     }
 }
 

@@ -44,7 +44,7 @@ told_joined id other first place before after a b c same at one two =
 pub noted_joined : (first second third : NotingView) (before after : List Note) → IsNotedBy first before second
     → IsNotedBy second after third → IsNotedBy first (before ++ after) third
 noted_joined first second third before after one two = record {
-  same = two.same ∙ ap (λ (v : NotingView). record { reference = v.reference; seen = third.seen; id = v.id; first = v.first; subject = v.subject }) one.same;
+  same = two.same ∙ ap (λ (v : NotingView). record { reference = v.reference; by = v.by; seen = third.seen; mine = v.mine; room = v.room; id = v.id; first = v.first; subject = v.subject }) one.same;
   told = told_joined first.id second.id first.first second.first before after first.seen second.seen third.seen
       (ap (λ (v : NotingView). v.id) one.same) (ap (λ (v : NotingView). v.first) one.same) one.told two.told;
 }

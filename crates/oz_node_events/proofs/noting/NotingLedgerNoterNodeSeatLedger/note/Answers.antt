@@ -4,11 +4,11 @@ use Rattle.oz_core.specs.declared.event.Event.{Event}
 use Rattle.oz_core.specs.declared.event.EventKind.{EventKind}
 use Rattle.oz_core.specs.Seats.{datanode_seat}
 use Rattle.oz_replicas.specs.Notes.{Subject, Leads}
-use Rattle.oz_turn.specs.Seat.{seen_of}
+use Rattle.oz_turn.specs.Seat.{mine_of, number_of, room_of, seen_of}
 use Rattle.oz_turn.specs.Told.{BeginsWith}
 use Rattle.oz_node_events.specs.NodeSeat.{IsAppended}
 use Rattle.oz_node_events.specs.Noting.{AreTold, NotingView, event_of}
-use Rattle.oz_node_events.proofs.Noted.{appended_begins, noted_follows, noted_stands, noted_as, noted_told, noting_later}
+use Rattle.oz_node_events.proofs.Noted.{appended_begins, same_noting, noted_follows, noted_stands, noted_as, noted_told, noting_later}
 use Rattle.oz_node_events.proofs.noting.NotingLedgerNoterNodeSeatLedger.note.Goals as goal
 
 pub note-requires-clause-follows : goal.note-requires-clause-follows
@@ -51,9 +51,10 @@ returns-clause-noted g c =
     let told_so = subst (λ (k : EventKind). IsAppended (record { seat = datanode_seat c.args.kept.now.dn; kind = k }) c.args.kept.now.seen (seen_of inside.seat.now) c.note.new.self.seen) c.kind_of-kind.ensures.kind note.told in
     let told = noted_told O.coherent O.opening O.bytes O.script D.told D.clock D.image D.faults inside.id inside.first subject (seen_of inside.seat.now) c.self.invariant.3
     c.args.kept.now c.is_kept.ensures c.args.note happened.0 happened.1.0 happened.1.1.0 leads c.note.new.self.seen told_so in
-    let before : NotingView = record { reference = inside.seat.ghost_name; seen = seen_of inside.seat.now; id = inside.id; first = inside.first; subject = subject } in
-    let after : NotingView = record { reference = inside.seat.ghost_name; seen = seen_of c.note.new.other; id = inside.id; first = inside.first; subject = subject } in
-    noted_as before c.args.self.now after c.args.note c.self.view_is refl
+    let before : NotingView = record { reference = inside.seat.ghost_name; by = number_of inside.seat.now; seen = seen_of inside.seat.now; mine = mine_of inside.seat.now; room = room_of inside.seat.now; id = inside.id; first = inside.first; subject = subject } in
+    let after : NotingView = record { reference = inside.seat.ghost_name; by = number_of c.note.new.other; seen = seen_of c.note.new.other; mine = mine_of c.note.new.other; room = room_of c.note.new.other; id = inside.id; first = inside.first; subject = subject } in
+    noted_as before c.args.self.now after c.args.note c.self.view_is
+    (same_noting inside.seat.ghost_name (seen_of c.note.new.other) inside.id inside.first subject note.other.1 note.other_mine note.other_room)
     (subst (λ l. AreTold inside.id inside.first (c.args.note ∷ []) (seen_of inside.seat.now) l) (sym note.other_seen) told)
 
 pub returns-clause-stands : goal.returns-clause-stands

@@ -62,7 +62,12 @@ pub fn what_may_be_noted_stays<O: Opened>()
 
 /// Once all members of a block have answered, each answer stands in the story that a noter for the ask has seen by then:
 /// whichever noter it is whose notes are told in what it sees.
-pub fn each_answer_is_in_the_story<D: Disk, O: Opened, R: Ring, N: Noter<D, NodeSeat<Ledger<O>, O, R>>>()
+pub fn each_answer_is_in_the_story<
+    D: Disk,
+    O: Opened,
+    R: Ring,
+    N: Noter<D, NodeSeat<Ledger<O>, O, R>>,
+>()
     ensures { (seen : N → List AnyEvent) (id : AnyId) (first : ℕ) (subject : Subject) (members : List ℕ)
         (answers : List (Option AnyRefusal)) (before after : N) →
         ((one other : N) (said : List AnyNote) → N.noted one said other → AreTold id first said (seen one) (seen other)) →

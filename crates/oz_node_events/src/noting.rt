@@ -34,7 +34,8 @@ pub struct Noting<'a, D: Disk, T: Told<Entry = Event>, O: Opened, R: Ring, W: Wa
     of: PhantomData<(D, O, R)>,
 }
 
-impl<'a, D: Disk, T: Told<Entry = Event>, O: Opened, R: Ring, W: Wait> Model for Noting<'a, D, T, O, R, W> {
+impl<'a, D: Disk, T: Told<Entry = Event>, O: Opened, R: Ring, W: Wait> Model
+    for Noting<'a, D, T, O, R, W> {
     ghost use Rattle.std.specs.Prelude.{◌≡◌, None};
     ghost use Rattle.oz_node_events.specs.Noting.{IsNoting, NotingView};
     ghost use Rattle.oz_turn.specs.Seat.{mine_of, number_of, room_of, seen_of, taken_of, turn_of};

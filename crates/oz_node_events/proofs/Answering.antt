@@ -4,7 +4,7 @@ use Rattle.std.proofs.Math.Bool.{or-true}
 use Rattle.std.proofs.lemmas.Bool.{and_from, or_left}
 use Rattle.std.proofs.lemmas.List.Elements.{Contains-append_left, Contains-append_right}
 use Rattle.std.proofs.lemmas.List.Folds.{list_any-append}
-use Rattle.std.specs.Prelude.{length, map}
+use Rattle.std.specs.Prelude.{length, map, take}
 use Rattle.oz_core.specs.declared.event.Event.{Event}
 use Rattle.oz_core.specs.declared.event.EventKind.{EventKind}
 use Rattle.oz_core.specs.declared.event.PutRefusal.{PutRefusal}
@@ -17,7 +17,8 @@ use Rattle.oz_datanode.specs.Datanode.{State}
 use Rattle.oz_fields.specs.declared.block.Block.{Block}
 use Rattle.oz_replicas.specs.Notes.{Subject}
 use Rattle.oz_replicas.specs.Outcomes.{HasAlready}
-use Rattle.oz_replicas.specs.Writing.{Answered, AllAnswered, ComesWith}
+use Rattle.oz_replicas.specs.Reading.{IsFirstGiven, ReadsShort}
+use Rattle.oz_replicas.specs.Writing.{Answered, AllAnswered, ComesWith, StopsShort}
 use Rattle.oz_replicas.specs.declared.note.Note.{Note}
 use Rattle.oz_replicas.specs.declared.note.Note.TheVariants as notes
 use Rattle.oz_requests.specs.declared.request.AskId.{AskId}
@@ -25,7 +26,7 @@ use Rattle.oz_turn.specs.Told.{BeginsWith}
 use Rattle.oz_world.specs.Disk.{Images}
 use Rattle.oz_node_events.specs.Answers.{AnswerStands, AnswersStand, HadIt}
 use Rattle.oz_node_events.specs.NodeSeat.{SeatView, StandsFor}
-use Rattle.oz_node_events.specs.Noting.{AreTold, StandIn, event_of}
+use Rattle.oz_node_events.specs.Noting.{AreTold, IsNotedBy, IsSameNoter, NotingView, StandIn, event_of}
 
 -- ---- an event that stands in a story
 
@@ -105,11 +106,58 @@ module _ (Coherent : Type 0) (opening : Opening) (id : AskId) (block : Block) wh
 
 -- ---- all members
 
-module _ {D N : Type 0} (told : D → Option (List ℕ)) (clock : D → ℕ) (image : D → Images) (faults : D → ℕ) (Coherent : Type 0) (opening : Opening)
-    (noted : N → List Note → N → Type 0) (seen : N → List Event) (id : AskId) (first : ℕ) (subject : Subject)
-    (tells : (one other : N) (said : List Note) → noted one said other → AreTold id first said (seen one) (seen other)) where
+same_told : (id other : AskId) (first place : ℕ) (said : List Note) (seen later : List Event) → other ≡ id → place ≡ first
+    → AreTold other place said seen later → AreTold id first said seen later
+same_told id other first place said seen later same at told =
+    subst (λ (i : AskId). AreTold i first said seen later) same (subst (λ (n : ℕ). AreTold other n said seen later) at told)
+
+-- a noter is as it was, but for what it has seen, and that goes on
+pub same_itself : (one : NotingView) → IsSameNoter one one
+same_itself one = record { same = refl; goes_on = ([], sym (append-nil one.seen)) }
+
+same_through : (one two three : NotingView) → IsSameNoter one two → IsSameNoter two three → IsSameNoter one three
+same_through one two three first then = record {
+  same = then.same ∙ ap (λ (v : NotingView). record { reference = v.reference; by = v.by; seen = three.seen; mine = v.mine; room = v.room; id = v.id; first = v.first; subject = v.subject }) first.same;
+  goes_on = (
+    first.goes_on.0 ++ then.goes_on.0,
+    then.goes_on.1 ∙ (ap (λ l. l ++ then.goes_on.0) first.goes_on.1 ∙ append_assoc one.seen first.goes_on.0 then.goes_on.0),
+  );
+}
+
+same_by : (one other : NotingView) (said : List Note) → IsNotedBy one said other → IsSameNoter one other
+same_by one other said so = record { same = so.same; goes_on = (so.told.since, so.told.goes_on) }
+
+module _ {D : Type 0} (told : D → Option (List ℕ)) (clock : D → ℕ) (image : D → Images) (faults : D → ℕ) (Coherent : Type 0) (opening : Opening)
+    (subject : Subject) where
   abbrev Stands : SeatView → State D → Type 0
   Stands = StandsFor faults Coherent opening
+
+  pub all_same : (members : List ℕ) (answers : List (Option PutRefusal)) (before after : NotingView)
+      → AllAnswered told clock image faults (StandsFor faults Coherent opening) IsNotedBy subject members answers before after → IsSameNoter before after
+  all_same [] [] before after all = subst (IsSameNoter before) (sym all) (same_itself before)
+  all_same [] (answer ∷ answers) before after all = absurd all
+  all_same (dn ∷ members) [] before after all = absurd all
+  all_same (dn ∷ members) (answer ∷ answers) before after all =
+      same_through before all.0 after (same_by before all.0 all.1.0.said all.1.0.told_so) (all_same members answers all.0 after all.1.1)
+
+  pub short_same : (members : List ℕ) (before after : NotingView)
+      → StopsShort told clock image faults (StandsFor faults Coherent opening) IsNotedBy subject members before after → IsSameNoter before after
+  short_same members before after short =
+      same_through before short.reached after (all_same (take (length short.answers) members) short.answers before short.reached short.all) (same_by short.reached after [] short.none)
+
+  pub given_same : (size : ℕ) (members : List ℕ) (given : Option (List ℕ)) (before after : NotingView)
+      → IsFirstGiven told clock image faults (StandsFor faults Coherent opening) IsNotedBy subject size members given before after → IsSameNoter before after
+  given_same size [] given before after first = subst (IsSameNoter before) (sym first.1) (same_itself before)
+  given_same size (dn ∷ members) given before after first =
+      ⊎_elim
+      (λ gave. same_by before after gave.1.1.said gave.1.1.told_so)
+      (λ none. same_through before none.0 after (same_by before none.0 none.1.0.said none.1.0.told_so) (given_same size members given none.0 after none.1.1))
+      first
+
+  pub reads_short_same : (size : ℕ) (members : List ℕ) (before after : NotingView)
+      → ReadsShort told clock image faults (StandsFor faults Coherent opening) IsNotedBy subject size members before after → IsSameNoter before after
+  reads_short_same size members before after short =
+      same_through before short.reached after (given_same size (take short.count members) None before short.reached short.none_gave) (same_by short.reached after [] short.none)
 
   held_before : (dn : ℕ) (node : State D) (value : SeatView) → node.id ≡ dn → StandsFor faults Coherent opening value node
       → HasAlready faults subject.block node → HadIt Coherent opening subject.block dn
@@ -121,39 +169,25 @@ module _ {D N : Type 0} (told : D → Option (List ℕ)) (clock : D → ℕ) (im
         ∙ (stood.held coherent subject.block ∙ has.held);
   }
 
-  -- the story goes on from one to the next
-  goes_on : (one other : N) (said : List Note) → noted one said other → BeginsWith (seen other) (seen one)
-  goes_on one other said so = let is = tells one other said so in (is.since, is.goes_on)
-
-  one_stands : (dn : ℕ) (answer : Option PutRefusal) (before after : N) → Answered told clock image faults Stands noted subject dn answer before after
-      → AnswerStands Coherent opening id subject.block (seen after) dn answer
-  one_stands dn answer before after so =
-      let is = tells before after so.said so.told_so in
+  one_stands : (id : AskId) (first dn : ℕ) (answer : Option PutRefusal) (before after : NotingView) → before.id ≡ id → before.first ≡ first
+      → Answered told clock image faults (StandsFor faults Coherent opening) IsNotedBy subject dn answer before after → AnswerStands Coherent opening id subject.block after.seen dn answer
+  one_stands id first dn answer before after its at so =
+      let is = same_told id before.id first before.first so.said before.seen after.seen its at so.told_so.told in
       let comes = subst (λ (n : ℕ). ComesWith n subject.block (length subject.bytes) answer so.said) so.member so.answers.noted_so in
       subst (λ (l : List Event). AnswerStands Coherent opening id subject.block l dn answer) (sym is.goes_on)
-      (stands_behind Coherent opening id subject.block (seen before) is.since dn answer
+      (stands_behind Coherent opening id subject.block before.seen is.since dn answer
       (answer_told Coherent opening id subject.block dn (length subject.bytes) first answer so.said is.since comes is.told
       (λ none. held_before dn so.old so.kept.0 so.member so.kept.1 (so.answers.already none))))
 
-  all_go_on : (members : List ℕ) (answers : List (Option PutRefusal)) (before after : N)
-      → AllAnswered told clock image faults Stands noted subject members answers before after → (more : List Event) × (seen after ≡ seen before ++ more)
-  all_go_on [] [] before after all = ([], ap seen all ∙ sym (append-nil (seen before)))
-  all_go_on [] (answer ∷ answers) before after all = absurd all
-  all_go_on (dn ∷ members) [] before after all = absurd all
-  all_go_on (dn ∷ members) (answer ∷ answers) before after all =
-      let one = tells before all.0 all.1.0.said all.1.0.told_so in
-      let rest = all_go_on members answers all.0 after all.1.1 in
-      (one.since ++ rest.0, rest.1 ∙ (ap (λ l. l ++ rest.0) one.goes_on ∙ append_assoc (seen before) one.since rest.0))
-
-  pub answers_stand : (members : List ℕ) (answers : List (Option PutRefusal)) (before after : N)
-      → AllAnswered told clock image faults Stands noted subject members answers before after
-      → AnswersStand Coherent opening id subject.block (seen after) members answers
-  answers_stand [] [] before after all = tt
-  answers_stand [] (answer ∷ answers) before after all = absurd all
-  answers_stand (dn ∷ members) [] before after all = absurd all
-  answers_stand (dn ∷ members) (answer ∷ answers) before after all =
-      let rest = all_go_on members answers all.0 after all.1.1 in (
+  pub answers_stand : (id : AskId) (first : ℕ) (members : List ℕ) (answers : List (Option PutRefusal)) (before after : NotingView) → before.id ≡ id → before.first ≡ first
+      → AllAnswered told clock image faults (StandsFor faults Coherent opening) IsNotedBy subject members answers before after
+      → AnswersStand Coherent opening id subject.block after.seen members answers
+  answers_stand id first [] [] before after its at all = tt
+  answers_stand id first [] (answer ∷ answers) before after its at all = absurd all
+  answers_stand id first (dn ∷ members) [] before after its at all = absurd all
+  answers_stand id first (dn ∷ members) (answer ∷ answers) before after its at all =
+      let rest = (all_same members answers all.0 after all.1.1).goes_on in (
         subst (λ (l : List Event). AnswerStands Coherent opening id subject.block l dn answer) (sym rest.1)
-            (stands_later Coherent opening id subject.block (seen all.0) rest.0 dn answer (one_stands dn answer before all.0 all.1.0)),
-        answers_stand members answers all.0 after all.1.1,
+            (stands_later Coherent opening id subject.block all.0.seen rest.0 dn answer (one_stands id first dn answer before all.0 its at all.1.0)),
+        answers_stand id first members answers all.0 after (ap (λ (v : NotingView). v.id) all.1.0.told_so.same ∙ its) (ap (λ (v : NotingView). v.first) all.1.0.told_so.same ∙ at) all.1.1,
       )

@@ -96,3 +96,8 @@ pub record IsNoting {D : Type 0} (faults : D → ℕ) (Coherent : Type 0) (openi
 pub record IsNotedBy (before : NotingView) (said : List Note) (after : NotingView) : Type 0 where
   pub same : after ≡ record before { seen = after.seen }
   pub told : AreTold before.id before.first said before.seen after.seen
+
+-- a noter is the same but for what it has seen, and that goes on from what it had seen
+pub record IsSameNoter (before after : NotingView) : Type 0 where
+  pub same : after ≡ record before { seen = after.seen }
+  pub goes_on : BeginsWith after.seen before.seen

@@ -14,17 +14,14 @@ ghost use Rattle.oz_datanode.specs.Datanode.{Runs, State as AnyNode};
 ghost use Rattle.oz_lines.specs.Numbered.{IsNumbered};
 ghost use Rattle.oz_node_events.specs.Answers.{AnswersStand};
 ghost use Rattle.oz_node_events.specs.NodeSeat.{IsAsOpened, IsKept, SeatView, StandsFor, events_of};
-ghost use Rattle.oz_node_events.specs.Noting.{AreTold, MayNote};
+ghost use Rattle.oz_node_events.specs.Noting.{IsNotedBy, IsSameNoter, MayNote, NotingView};
 ghost use Rattle.oz_replicas.specs.Notes.{Subject};
-ghost use Rattle.oz_replicas.specs.Writing.{AllAnswered};
-ghost use Rattle.oz_replicas.specs.declared.note.Note.{Note as AnyNote};
+ghost use Rattle.oz_replicas.specs.Reading.{IsFirstGiven, ReadsShort};
+ghost use Rattle.oz_replicas.specs.Writing.{AllAnswered, StopsShort};
 ghost use Rattle.oz_requests.specs.declared.request.AskId.{AskId as AnyId};
 ghost use Rattle.oz_turn.specs.Told.{BeginsWith};
 
-use crate::seat::NodeSeat;
-use oz_buffer::{Ledger, Opened};
-use oz_replicas::Noter;
-use oz_turn::Ring;
+use oz_buffer::Opened;
 use oz_world::Disk;
 
 /// A datanode that was loaded, and holds what the opening says, has a seat that stands for it before it gave an event.
@@ -60,18 +57,26 @@ pub fn what_may_be_noted_stays<O: Opened>()
         MayNote O.opening O.bytes O.script id first subject story }
 {}
 
-/// Once all members of a block have answered, each answer stands in the story that a noter for the ask has seen by then:
-/// whichever noter it is whose notes are told in what it sees.
-pub fn each_answer_is_in_the_story<
-    D: Disk,
-    O: Opened,
-    R: Ring,
-    N: Noter<D, NodeSeat<Ledger<O>, O, R>>,
->()
-    ensures { (seen : N → List AnyEvent) (id : AnyId) (first : ℕ) (subject : Subject) (members : List ℕ)
-        (answers : List (Option AnyRefusal)) (before after : N) →
-        ((one other : N) (said : List AnyNote) → N.noted one said other → AreTold id first said (seen one) (seen other)) →
-        AllAnswered D.told D.clock D.image D.faults (StandsFor D.faults O.coherent O.opening) N.noted subject members
+/// Once all members of a block have answered, each answer stands in the story that the noter's seat has seen by then.
+pub fn each_answer_is_in_the_story<D: Disk, O: Opened>()
+    ensures { (subject : Subject) (members : List ℕ) (answers : List (Option AnyRefusal)) (before after : NotingView) →
+        AllAnswered D.told D.clock D.image D.faults (StandsFor D.faults O.coherent O.opening) IsNotedBy subject members
         answers before after →
-        AnswersStand O.coherent O.opening id subject.block (seen after) members answers }
+        AnswersStand O.coherent O.opening before.id subject.block after.seen members answers }
+{}
+
+/// Whatever comes of a block, the noter is the same afterwards, and its seat has seen what it had seen, and more.
+pub fn a_noter_stays_the_same<D: Disk, O: Opened>()
+    ensures written { (subject : Subject) (members : List ℕ) (answers : List (Option AnyRefusal)) (before after : NotingView) →
+        AllAnswered D.told D.clock D.image D.faults (StandsFor D.faults O.coherent O.opening) IsNotedBy subject members
+        answers before after → IsSameNoter before after }
+    ensures unwritten { (subject : Subject) (members : List ℕ) (before after : NotingView) →
+        StopsShort D.told D.clock D.image D.faults (StandsFor D.faults O.coherent O.opening) IsNotedBy subject members
+        before after → IsSameNoter before after }
+    ensures read { (subject : Subject) (size : ℕ) (members : List ℕ) (given : Option (List ℕ)) (before after : NotingView) →
+        IsFirstGiven D.told D.clock D.image D.faults (StandsFor D.faults O.coherent O.opening) IsNotedBy subject size members
+        given before after → IsSameNoter before after }
+    ensures unread { (subject : Subject) (size : ℕ) (members : List ℕ) (before after : NotingView) →
+        ReadsShort D.told D.clock D.image D.faults (StandsFor D.faults O.coherent O.opening) IsNotedBy subject size members
+        before after → IsSameNoter before after }
 {}

@@ -9,8 +9,8 @@ mod noting;
 mod seat;
 
 pub use laws::{
-    a_loaded_datanode_stands, each_answer_is_in_the_story, its_seat_alone_tells,
-    what_may_be_noted_stays,
+    a_loaded_datanode_stands, a_noter_stays_the_same, each_answer_is_in_the_story,
+    its_seat_alone_tells, what_may_be_noted_stays,
 };
 pub use noting::Noting;
 pub use seat::NodeSeat;

@@ -1,6 +1,7 @@
 //! What holds of all datanodes whose rows are what a story says.
 
 ghost use Rattle.std.specs.Prelude.{◌≤◌, ℕ, List, Ok, length};
+ghost use Rattle.oz_block.specs.Blocks.{StandsFor};
 ghost use Rattle.oz_block.specs.Changes.{Changes, Wipes};
 ghost use Rattle.oz_core.specs.declared.event.Event.{Event as AnyEvent};
 ghost use Rattle.oz_core.specs.declared.opening.Opening.{Opening as AnyOpening};
@@ -8,7 +9,7 @@ ghost use Rattle.oz_core.specs.Law.{IsFull};
 ghost use Rattle.oz_datanode.specs.Copying.{Copies};
 ghost use Rattle.oz_datanode.specs.Datanode.{State as NodeState, Runs, node_in};
 ghost use Rattle.oz_datanode.specs.Pairs.{journal_seen};
-ghost use Rattle.oz_entries.specs.Node.{MayFollow};
+ghost use Rattle.oz_entries.specs.Node.{MayFollow, Node};
 ghost use Rattle.oz_entries.specs.declared.entry.Entry.{Entry as AnyEntry};
 ghost use Rattle.oz_fields.specs.declared.block.Block.{Block as AnyBlock};
 ghost use Rattle.oz_fields.specs.declared.block.TheConstants.{LONGEST_PIECE};
@@ -33,9 +34,10 @@ pub fn a_filled_datanode_is_full<D: Disk>()
     slots_are_taken_by_blocks_or_chunks();
 }
 
-/// While the journal of a datanode stands for what it holds, each block has its slots. It does so behind a put or a copy of a
+/// Where a journal stands for what a datanode holds each block has its slots. It stands for it still behind a put or a copy of a
 /// block, behind another change that may follow, and behind a wipe.
 pub fn a_journal_keeps_slots_apart<D: Disk>()
+    ensures loaded { (bytes : List ℕ) (node : Node) → StandsFor bytes node → BlocksHaveSlots node }
     ensures apart { (node : NodeState D) → JournalStands D.told node → BlocksHaveSlots (node_in node) }
     ensures put { (block : AnyBlock) (bytes : List ℕ) (old new : NodeState D) → Runs D.faults old →
         JournalStands D.told old → Copies D.told D.clock D.image D.faults block bytes old new →

@@ -6,8 +6,10 @@ use Rattle.std.proofs.lemmas.List.Kept.{AllPairs-filter}
 use Rattle.std.proofs.lemmas.Map.Keys.{IsDistinct-cons}
 use Rattle.std.proofs.lemmas.Map.Made.{AllPairs-from_IsDistinct, IsDistinct-from_AllPairs, is_member-Decides, is_member-filter}
 use Rattle.std.specs.Set.{is_member}
+use Rattle.oz_container.specs.declared.state.State.{State}
+use Rattle.oz_container.specs.declared.state.State.TheVariants as states
 use Rattle.oz_entries.specs.Build.{MakesFrom}
-use Rattle.oz_entries.specs.Node.{Node, HaveFreeSlots, MayFollow, RowFits, after_entry, empty_node, is_held, is_in, is_same_block, names, or_slot, with_row, without}
+use Rattle.oz_entries.specs.Node.{Node, HaveFreeSlots, MayFollow, RowFits, after_entry, empty_node, is_held, is_in, is_same_block, names, or_slot, with_number, with_row, with_state, without}
 use Rattle.oz_entries.specs.declared.entry.Entry.{Entry}
 use Rattle.oz_entries.specs.declared.entry.Entry.TheVariants.{Put, SetState, Apply, Drop}
 use Rattle.oz_entries.specs.declared.row.BlockRow.{BlockRow}
@@ -123,6 +125,24 @@ have_without is_gone node has = record {
   sound = sound_without is_gone node has.sound;
 }
 
+-- the same rows
+with_states : (node : Node) (states : ℕ → State) (greatest : ℕ → ℕ) → BlocksHaveSlots node → BlocksHaveSlots (record node { states = states; greatest = greatest })
+with_states node states greatest has = record {
+  blocks = has.blocks;
+  held = record { apart = has.held.apart; each = has.held.each };
+  fit = has.fit;
+  sound = has.sound;
+}
+
+pub slots_with_state : (container : ℕ) (state : State) (node : Node) → BlocksHaveSlots node → BlocksHaveSlots (with_state container state node)
+slots_with_state container state node has = with_states node (with_state container state node).states node.greatest has
+
+pub slots_without : (container number : ℕ) (is_gone : Block → Bool) (node : Node) → BlocksHaveSlots node → BlocksHaveSlots (with_number container number (without is_gone node))
+slots_without container number is_gone node has = with_states (without is_gone node) node.states (with_number container number (without is_gone node)).greatest (have_without is_gone node has)
+
+pub slots_dropped : (container : ℕ) (is_gone : Block → Bool) (node : Node) → BlocksHaveSlots node → BlocksHaveSlots (with_state container states.Deleted (without is_gone node))
+slots_dropped container is_gone node has = slots_with_state container states.Deleted (without is_gone node) (have_without is_gone node has)
+
 pub slots_after : (node : Node) (entry : Entry) → BlocksHaveSlots node → MayFollow node entry → BlocksHaveSlots (after_entry entry node)
 unfolding RowsFit
 slots_after node (Put block row) has follows = record {
@@ -131,28 +151,9 @@ slots_after node (Put block row) has follows = record {
   fit = fit_with block row node has.fit (fits_anyway _ row follows.3);
   sound = sound_with block row node has.sound (none_of (node.rows block) follows.2) follows.3.chunks;
 }
-slots_after node (SetState container state) has follows = record {
-  blocks = has.blocks;
-  held = record { apart = has.held.apart; each = has.held.each };
-  fit = has.fit;
-  sound = has.sound;
-}
-slots_after node (Apply txn) has follows =
-    let left = have_without (names txn) node has in
-    record {
-      blocks = left.blocks;
-      held = record { apart = left.held.apart; each = left.held.each };
-      fit = left.fit;
-      sound = left.sound;
-    }
-slots_after node (Drop container) has follows =
-    let left = have_without (is_in container) node has in
-    record {
-      blocks = left.blocks;
-      held = record { apart = left.held.apart; each = left.held.each };
-      fit = left.fit;
-      sound = left.sound;
-    }
+slots_after node (SetState container state) has follows = slots_with_state container state node has
+slots_after node (Apply txn) has follows = slots_without txn.container txn.number (names txn) node has
+slots_after node (Drop container) has follows = slots_dropped container (is_in container) node has
 
 pub slots_made : (bodies : List (List ℕ)) (before after : Node) → BlocksHaveSlots before → MakesFrom before bodies after → BlocksHaveSlots after
 unfolding MakesFrom

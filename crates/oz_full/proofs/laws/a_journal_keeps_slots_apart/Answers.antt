@@ -2,6 +2,9 @@ use Rattle.oz_datanode.specs.Datanode.{meta_of}
 use Rattle.oz_full.specs.laws.Journal.{change_stands, put_stands, stands_apart, wipe_stands}
 use Rattle.oz_full.proofs.laws.a_journal_keeps_slots_apart.Goals as goal
 
+pub returns-clause-loaded : goal.returns-clause-loaded
+returns-clause-loaded g c = λ bytes node stands. c.blocks_have_slots_of_their_own.ensures.made stands.0 node stands.2
+
 pub returns-clause-apart : goal.returns-clause-apart
 returns-clause-apart g c = λ node stands. stands_apart g.D.Disk.told g.D.Disk.clock g.D.Disk.image g.D.Disk.faults c.blocks_have_slots_of_their_own.ensures.made node stands
 

@@ -10,4 +10,6 @@ mod ledgers;
 #[cfg(test)]
 mod longest;
 #[cfg(test)]
+mod saying;
+#[cfg(test)]
 mod store;

@@ -1,5 +1,6 @@
 //! Runs of scripts over threads, streams in memory and a disk in memory.
 
+use nodes_in_memory::nodes_for;
 use oz_cluster::{Disks, Ended, run};
 use oz_core::Event;
 use oz_world::{Gate, MemoryDisk, MemorySink, MemorySource, OpenGate, OutOfMemory};
@@ -47,8 +48,8 @@ pub fn runs_past<R: Threads + Wait + Sync + AllocGlobal, G: Gate + Sync>(
     let mut out = MemorySink::new(alloc, Vec::new(alloc))?;
     let disks = Disks {
         manager: MemoryDisk::new(alloc, disk.to_vec(alloc)?, fails.to_vec(alloc)?, ROOM)?,
-        scm: MemoryDisk::new(alloc, Vec::new(alloc), Vec::new(alloc), 0)?,
-        nodes: Vec::new(alloc),
+        scm: MemoryDisk::new(alloc, Vec::new(alloc), Vec::new(alloc), ROOM)?,
+        nodes: nodes_for(alloc, &words, &[], None)?,
     };
     let Ended {
         status,

@@ -1,9 +1,26 @@
-//! Datanodes over disks in memory.
+//! Datanodes over disks in memory, and what such disks have.
 
 use crate::asking::Node;
 use oz_datanode::{Datanode, NodeDisks, NodeFault};
 use oz_world::{MemoryDisk, OutOfMemory};
 use std::alloc::Global;
+
+/// The journal of a datanode that put `abc` in slot 0 as block (1, 1), with the SHA-256 that its standard has of it.
+pub const JOURNAL: [u8; 64] = [
+    1, 0, 0, 0, 0x3a, 1, 0, 0, 0, 0, 0, 0, 0, 1, 0, 0, 0, 0, 0, 0, 0, 1, 0, 0, 0, 3, 1, 0, 0, 0, 0,
+    0xba, 0x78, 0x16, 0xbf, 0x8f, 0x01, 0xcf, 0xea, 0x41, 0x41, 0x40, 0xde, 0x5d, 0xae, 0x22, 0x23,
+    0xb0, 0x03, 0x61, 0xa3, 0x96, 0x17, 0x7a, 0x9c, 0xb4, 0x10, 0xff, 0x61, 0xf2, 0x00, 0x15, 0xad,
+    0,
+];
+
+/// A slot that begins with these bytes.
+pub fn slot_of(alloc: Global, bytes: &[u8]) -> Result<Vec<u8>, OutOfMemory> {
+    let mut slot = Vec::from_slice(alloc, bytes)?;
+    for _ in bytes.len()..16_384 {
+        slot.push(0)?;
+    }
+    Ok(slot)
+}
 
 /// The call that fails, and so would the one behind it: its number on the journal's disk, or on the disk of slots.
 #[derive(Clone, Copy)]
@@ -29,7 +46,7 @@ fn on_slots(alloc: Global, fails: Fails) -> Result<Vec<u64>, OutOfMemory> {
 }
 
 /// Two disks with these bytes, that of the slots with so much room.
-fn disks_of(
+pub fn disks_of(
     alloc: Global,
     journal: Vec<u8>,
     slots: Vec<u8>,

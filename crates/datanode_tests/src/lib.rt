@@ -1,4 +1,5 @@
-//! Tests of a datanode: each call with each answer, disks that fail at each call, and what a stop leaves of both.
+//! Tests of a datanode: each call with each answer, disks that fail at each call, what a load leaves of both, and what a
+//! stop does.
 #![tactic(auto)]
 
 #[cfg(test)]
@@ -11,6 +12,8 @@ mod disks;
 mod failing;
 #[cfg(test)]
 mod full;
+#[cfg(test)]
+mod loading;
 #[cfg(test)]
 mod words;
 #[cfg(test)]

@@ -2,20 +2,12 @@
 
 use crate::asking::{Node, goes, holds};
 use crate::blocks::{CONTAINER, block};
-use crate::disks::{Fails, bytes_of_both, fresh, loaded};
+use crate::disks::{Fails, JOURNAL, bytes_of_both, fresh, loaded, slot_of};
 use oz_container::State;
 use oz_datanode::NodeRefusal;
 use std::alloc::Global;
 use std::process::Abort;
 use std::test::Fail;
-
-/// The journal of a datanode that put `abc` in slot 0 as block (1, 1), with the SHA-256 that its standard has of it.
-const JOURNAL: [u8; 64] = [
-    1, 0, 0, 0, 0x3a, 1, 0, 0, 0, 0, 0, 0, 0, 1, 0, 0, 0, 0, 0, 0, 0, 1, 0, 0, 0, 3, 1, 0, 0, 0, 0,
-    0xba, 0x78, 0x16, 0xbf, 0x8f, 0x01, 0xcf, 0xea, 0x41, 0x41, 0x40, 0xde, 0x5d, 0xae, 0x22, 0x23,
-    0xb0, 0x03, 0x61, 0xa3, 0x96, 0x17, 0x7a, 0x9c, 0xb4, 0x10, 0xff, 0x61, 0xf2, 0x00, 0x15, 0xad,
-    0,
-];
 
 fn tells(rt: &impl Abort, alloc: Global, lines: &str) -> Result<Node, Fail> {
     let Ok(mut node) = fresh(alloc, Fails::None) else {
@@ -54,15 +46,6 @@ const CHANGED: [u8; 32] = [
     0x11, 0xf9, 0x95, 0x63, 0x54, 0x83, 0xd6, 0x3d, 0x73, 0x61, 0x1c, 0x51, 0x4d, 0xba, 0x73, 0x4e,
     0x51, 0xe4, 0x5a, 0x04, 0xab, 0x45, 0xb7, 0xf2, 0x9c, 0xbb, 0x1e, 0xe0, 0x31, 0x27, 0x74, 0x8f,
 ];
-
-/// A slot that begins with these bytes.
-fn slot_of(alloc: Global, bytes: &[u8]) -> Result<Vec<u8>, Fail> {
-    let mut slot = Vec::from_slice(alloc, bytes)?;
-    for _ in bytes.len()..16_384 {
-        slot.push(0)?;
-    }
-    Ok(slot)
-}
 
 /// The block is told to be bad, with both digests, and the datanode goes on.
 fn is_bad(rt: &impl Abort, alloc: Global, node: &mut Node) -> Result<(), Fail> {

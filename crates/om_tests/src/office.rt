@@ -75,7 +75,7 @@ fn four<R: Ring>(alloc: Global, seats: &mut Vec<Seat<Book>>) -> Result<Vec<Worke
     Ok(workers)
 }
 
-/// A line of the worker's client asks.
+/// A line of the worker's client asks, of whose blocks nothing was said.
 pub fn ask<R: Ring, W: Wait>(
     rt: &W,
     alloc: Global,
@@ -88,13 +88,30 @@ pub fn ask<R: Ring, W: Wait>(
     requires turn { turn_id turn.now ≡ R.turn }
     requires decided { is_decided request ≡ true }
 {
+    ask_knowing(rt, alloc, turn, office, worker, line, request, 0)
+}
+
+/// The same, where the worker knows that so much was said of its blocks.
+pub fn ask_knowing<R: Ring, W: Wait>(
+    rt: &W,
+    alloc: Global,
+    turn: &Turn<Book>,
+    office: &Office<R>,
+    worker: &mut Worker<R>,
+    line: u16,
+    request: Request,
+    said: u64,
+) -> Result<Said, Refusal>
+    requires turn { turn_id turn.now ≡ R.turn }
+    requires decided { is_decided request ≡ true }
+{
     let id = AskId {
         client: worker.number,
         line,
         step: 1,
     };
     let by = worker.number;
-    match office.ask(rt, alloc, turn, &mut worker.seat, by, id, request) {
+    match office.ask(rt, alloc, turn, &mut worker.seat, by, id, request, said) {
         Ok(reply) => Ok(shown(&reply)),
         Err(refusal) => Err(refusal),
     }

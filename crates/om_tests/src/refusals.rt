@@ -4,8 +4,8 @@ ghost use Rattle.std.specs.Prelude.{◌≡◌, vec_len};
 ghost use Rattle.oz_turn.specs.Seat.{AreNewSeats};
 ghost use Rattle.oz_turn.specs.Turn.{turn_id};
 
-use crate::office::{Desk, asks_again, flush, opened, story};
-use crate::requests::{Kind, Said};
+use crate::office::{Desk, ask_knowing, asks_again, flush, opened, story};
+use crate::requests::{Kind, Said, request};
 use crate::store::{Book, Office, Worker, holds, made};
 use crate::stories::asks_in;
 use oz_om::Refusal;
@@ -53,6 +53,22 @@ fn ask_again<R: Ring, W: Wait + Abort>(
     holds(rt, told == empty, "still none");
 }
 
+/// Who knows that something was said of its blocks, of which nothing was said, asks nothing.
+fn ask_otherwise<R: Ring, W: Wait + Abort>(
+    rt: &W,
+    alloc: Global,
+    turn: &Turn<Book>,
+    office: &Office<R>,
+    worker: &mut Worker<R>,
+) -> Result<(), Fail>
+    requires turn { turn_id turn.now ≡ R.turn }
+{
+    let info = request(alloc, Kind::InfoVolume, 1)?;
+    let told = ask_knowing(rt, alloc, turn, office, worker, 6, info, 1);
+    holds(rt, told == Err(Refusal::OtherBlocks), "nothing was said");
+    Ok(())
+}
+
 /// Once the manager has halted it decides nothing.
 fn halt<R: Ring, W: Wait + Abort>(
     rt: &W,
@@ -87,6 +103,7 @@ fn refuse<R: Ring, W: Wait + Abort>(
     };
     begin(rt, alloc, turn, &office, &mut worker);
     ask_again(rt, alloc, turn, &office, &mut worker);
+    ask_otherwise(rt, alloc, turn, &office, &mut worker)?;
     let told = story(rt, alloc, turn, &mut worker)?;
     holds(rt, asks_in(&told) == 4, "each once");
     halt(rt, alloc, turn, &office, &mut worker, &mut desk);

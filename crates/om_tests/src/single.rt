@@ -70,7 +70,7 @@ fn settle_behind_a_flush<R: Ring, W: Wait>(
         line: 300,
         step: 1,
     };
-    let Ok(_) = office.ask(rt, alloc, turn, &mut worker.seat, by, id, request) else {
+    let Ok(_) = office.ask(rt, alloc, turn, &mut worker.seat, by, id, request, 0) else {
         return false;
     };
     let before = office.settle(rt, turn, &mut worker.seat, by, id);

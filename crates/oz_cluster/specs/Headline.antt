@@ -1,12 +1,12 @@
 -- What a run promises of the story that it prints, and of its disks.
-use Rattle.std.specs.Prelude.{◌≡◌, ◌≢◌, ◌⊎◌, ℕ, Bool, List, Option}
-use Rattle.oz_cluster.specs.declared.top.Disks.{Disks}
+use Rattle.std.specs.Prelude.{◌≡◌, ◌≢◌, ◌⊎◌, ℕ, Bool, List, length, Option}
 use Rattle.oz_cluster.specs.Disks.{disks_of_run}
 use Rattle.oz_cluster.specs.Stopped.{IsScriptOf, IsStopped}
 use Rattle.oz_cluster.specs.Streams.{IsReadThrough}
 use Rattle.oz_core.specs.declared.event.Event.{Event}
 use Rattle.oz_core.specs.Fits.{AllAreTold}
-use Rattle.oz_disk_run.specs.RunOver.{IsRunOver}
+use Rattle.oz_disk_run.specs.declared.disks.Disks.{Disks}
+use Rattle.oz_disk_run.specs.StoreRun.{IsStoreRun}
 use Rattle.oz_headline.specs.declared.status.Status.{Status}
 use Rattle.oz_headline.specs.declared.status.Status.TheVariants.{OutOfMemory}
 use Rattle.oz_headline.specs.Counts.{AreToldAsMany}
@@ -23,38 +23,34 @@ use Rattle.oz_sound.specs.StandsFor.{StandsFor}
 use Rattle.oz_words.specs.Words.{IsRunWith}
 use Rattle.oz_world.specs.Disk.{Seen}
 
--- how many datanodes a run has
-abbrev pub node_count : ℕ
-node_count = 3
-
 module _ {D : Type 0} (see : D → Seen) (words : List (List ℕ)) (left left_after : Option (List ℕ))
     (before after : Disks D) (held_before held_after : Option (List ℕ)) (sink_rose : Type 0) (story : List Event) where
-  -- A run of a script over disks, of which it touches the manager's alone. What it wrote is the report of its story, in
-  -- which each line is told unless memory ran out. Where the rows of that disk stand for a namespace, and are sound but for
-  -- what renamed rows say, the story is one history from there.
+  -- A run of a script over disks, all of which it loads, and of which it writes to the manager's alone. What it wrote is
+  -- the report of its story, in which each line is told unless memory ran out. Where the rows of that disk stand for a
+  -- namespace, and are sound but for what renamed rows say, the story is one history from there.
   pub record IsOneRun (status : Status) : Type 0 where
     pub script : Script
     pub workers : ℕ
-    pub given : IsRunWith words workers
+    pub given : IsRunWith words (length before.nodes.items) workers
     pub parsed : IsScriptOf left script
     pub read : IsReadThrough left left_after
     pub stopped : Bool
     pub all_told : Bool
     -- what was loaded, and what became of it
-    pub over : IsRunOver see script node_count before.manager after.manager stopped story all_told
+    pub store : IsStoreRun see script before after stopped story all_told
     pub printed : IsPrinted status script story held_before held_after sink_rose
     pub ended : StatusNamesHalts status story
     pub told : status ≢ OutOfMemory → AreToldAsMany script story
-    pub halted : HaltsAreNamed (disks_of_run see before after over.faults over.first stopped) story
-    pub headline : (namespace : Namespace) → StandsFor (row_of over.loaded.all) namespace
-        → IsSoundButRenames (row_of over.loaded.all)
-        → Headline (opening_over over.unseated namespace node_count) no_bytes script
-        (disks_of_run see before after over.faults over.first stopped) story
+    pub halted : HaltsAreNamed (disks_of_run see before after store.over.faults store.over.first stopped) story
+    pub headline : (namespace : Namespace) → StandsFor (row_of store.over.loaded.all) namespace
+        → IsSoundButRenames (row_of store.over.loaded.all)
+        → Headline (opening_over store.over.unseated namespace (length before.nodes.items)) no_bytes script
+        (disks_of_run see before after store.over.faults store.over.first stopped) story
         × (status ≢ OutOfMemory → AllAreTold script story)
 
   -- A run was stopped before its work, and says why; or it worked, and its story is one history.
   abbrev pub RunEnds : Type 0 → ℕ → Type 0
   RunEnds source_rose number =
       (status : Status) × (number ≡ status_number status)
-      × (IsStopped words left left_after (see before.manager) (see after.manager) source_rose held_before held_after
-      sink_rose story status ⊎ IsOneRun status)
+      × (IsStopped see words left left_after before after source_rose held_before held_after sink_rose story status
+      ⊎ IsOneRun status)

@@ -2,5 +2,6 @@ pub mod Texts
 pub mod Streams
 pub mod Stopped
 pub mod Disks
+pub mod Wrong
 pub mod Headline
 pub mod StatusCauses

@@ -1,5 +1,10 @@
 -- What is written in place of a report where the work didn't begin.
 use Rattle.std.specs.Prelude.{ℕ, List, ◌++◌, codes, decimal}
+use Rattle.oz_headline.specs.Printed.{memory_fault}
+use Rattle.oz_nodes_loaded.specs.declared.disk_name.DiskName.{DiskName}
+use Rattle.oz_nodes_loaded.specs.declared.disk_name.DiskName.TheVariants.{Manager, Scm, Meta, Slots}
+use Rattle.oz_nodes_loaded.specs.declared.fault.StoreFault.{StoreFault}
+use Rattle.oz_nodes_loaded.specs.declared.fault.StoreFault.TheVariants as store
 
 -- the words are wrong at this place, from 1
 abbrev pub words_fault : ℕ → List ℕ
@@ -9,13 +14,21 @@ words_fault place = codes "words " ++ decimal place ++ codes "\n"
 abbrev pub script_fault : ℕ → List ℕ → List ℕ
 script_fault line cause = codes "script " ++ decimal line ++ codes " " ++ cause ++ codes "\n"
 
--- the manager's disk is damaged at this offset
-abbrev pub damaged_manager : ℕ → List ℕ
-damaged_manager offset = codes "damaged manager at " ++ decimal offset ++ codes "\n"
+-- the disks by their names
+abbrev pub disk_text : DiskName → List ℕ
+disk_text Manager = codes "manager"
+disk_text Scm = codes "scm"
+disk_text (Meta dn) = codes "dn" ++ decimal dn ++ codes ".meta"
+disk_text (Slots dn) = codes "dn" ++ decimal dn ++ codes ".slots"
 
--- it failed while it was loaded
-abbrev pub disk_fault : List ℕ
-disk_fault = codes "disk manager fault\n"
+-- A disk failed while it was loaded, or is damaged at this offset; the storage container manager's names another number
+-- of datanodes than was given; or an id that was seen isn't below the next.
+abbrev pub store_text : StoreFault → List ℕ
+store_text (store.Disk name) = codes "disk " ++ disk_text name ++ codes " fault\n"
+store_text (store.Damaged name offset) = codes "damaged " ++ disk_text name ++ codes " at " ++ decimal offset ++ codes "\n"
+store_text (store.Nodes recorded given) = codes "nodes " ++ decimal recorded ++ codes " " ++ decimal given ++ codes "\n"
+store_text (store.Ids next seen) = codes "ids " ++ decimal next ++ codes " " ++ decimal seen ++ codes "\n"
+store_text store.OutOfMemory = memory_fault
 
 -- the script couldn't be read
 abbrev pub read_fault : List ℕ

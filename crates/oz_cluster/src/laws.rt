@@ -1,8 +1,10 @@
 //! What a run comes to that nothing disturbs, and what an empty disk opens as.
 
 ghost use Rattle.std.specs.Prelude.{◌≡◌, ◌⊎◌, ◌≤◌, ℕ, List, Some, length};
-ghost use Rattle.oz_cluster.specs.StatusCauses.{IsLoadedOf, StatusCauses};
+ghost use Rattle.oz_cluster.specs.Disks.{ADiskRose};
+ghost use Rattle.oz_cluster.specs.StatusCauses.{StatusCauses, StoreLoads};
 ghost use Rattle.oz_cluster.specs.Stopped.{IsScript};
+ghost use Rattle.oz_disk_run.specs.declared.disks.Disks.{Disks};
 ghost use Rattle.oz_journal.specs.Grammar.{IsJournal};
 ghost use Rattle.oz_loaded.specs.Loads.{IsLoaded};
 ghost use Rattle.oz_loaded.specs.Unseated.{UnseatedView};
@@ -11,23 +13,27 @@ ghost use Rattle.oz_rows.specs.RowMaps.{row_of};
 ghost use Rattle.oz_sound.specs.Sound.{IsSoundButRenames};
 ghost use Rattle.oz_sound.specs.StandsFor.{StandsFor};
 ghost use Rattle.oz_words.specs.Words.{IsRun};
+ghost use Rattle.oz_world.specs.Disk.{seen};
 ghost use Rattle.oz_world.specs.Faults.{Rose};
 
 use oz_build::bodies_make_one_thing;
 use oz_loaded::a_disk_loads_as_one_thing;
+use oz_nodes_loaded::what_loads_is_not_refused;
 use oz_store::an_empty_store_is_one;
 use oz_words::words_of_a_run_have_no_fault;
+use oz_world::Disk;
 
-/// Words and a script in their grammars, a manager's disk that loads, and no count of faults that rises: so a run is done,
-/// or there was no memory. The source has to tell its text, and the disk its bytes.
-pub fn a_run_that_nothing_disturbs_is_done()
-    ensures { (words : List (List ℕ)) (text bytes : List ℕ) (source source_after sink sink_after disk disk_after : ℕ)
-        (status : ℕ) → StatusCauses words (Some text) (Some bytes) (Rose source source_after) (Rose sink sink_after)
-        (Rose disk disk_after) status → IsRun words → IsScript (Some text) → IsLoadedOf bytes →
-        (Rose source source_after → ⊥) → (Rose sink sink_after → ⊥) → (Rose disk disk_after → ⊥) →
-        (status ≡ 0) ⊎ (status ≡ 7) }
+/// Words and a script in their grammars, disks that load and whose ids aren't granted again, and no count of faults that
+/// rises: so a run is done, or there was no memory. The source has to tell its text, and the disks their bytes.
+pub fn a_run_that_nothing_disturbs_is_done<D: Disk>()
+    ensures { (words : List (List ℕ)) (text : List ℕ) (before after : Disks D) (source source_after sink sink_after : ℕ)
+        (status : ℕ) → (let see = (λ (d : D). seen (D.told d) (D.clock d) (D.image d) (D.faults d)) in
+        StatusCauses see words (Some text) before after (Rose source source_after) (Rose sink sink_after) status →
+        IsRun words → IsScript (Some text) → StoreLoads see before → (Rose source source_after → ⊥) →
+        (Rose sink sink_after → ⊥) → (ADiskRose see before after → ⊥) → (status ≡ 0) ⊎ (status ≡ 7)) }
 {
     a_disk_loads_as_one_thing();
+    what_loads_is_not_refused::<D>();
     words_of_a_run_have_no_fault();
 }
 

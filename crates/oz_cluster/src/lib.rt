@@ -8,6 +8,8 @@ mod texts;
 mod top;
 
 pub use laws::{a_run_that_nothing_disturbs_is_done, an_empty_disk_opens_as_nothing};
+pub use oz_datanode::NodeDisks;
+pub use oz_disk_run::Disks;
 pub use oz_headline::Status;
 pub use oz_words::{Words, read_words};
-pub use top::{Disks, Ended, NodeDisks, run};
+pub use top::{Ended, run};

@@ -1,12 +1,13 @@
 //! What stops a run before its work, and how the run says so.
 
-ghost use Rattle.std.specs.Prelude.{◌≡◌, ◌⊎◌, ◌≤◌, ℕ, List as Items, Option, None, map, IfOk, IfErr};
+ghost use Rattle.std.specs.Prelude.{◌≡◌, ◌⊎◌, ◌≤◌, None, map, IfOk, IfErr};
 ghost use Rattle.std.specs.String.{string_bytes};
 ghost use Rattle.oz_world.specs.Faults.{Rose};
 ghost use Rattle.oz_cluster.specs.declared.stop.Stop.{Stop};
-ghost use Rattle.oz_cluster.specs.Stopped.{IsScriptOf, IsSo, Reads, status_of, text_of};
+ghost use Rattle.oz_cluster.specs.Stopped.{IsScriptOf, IsSo, Reads, status_of, status_of_store, text_of};
 ghost use Rattle.oz_headline.specs.Printed.{Says};
 ghost use Rattle.oz_lines.specs.Numbered.{IsNumbered};
+ghost use Rattle.oz_nodes.specs.declared.nodes.TheConstants.{FEWEST_NODES, MOST_NODES};
 ghost use Rattle.oz_cluster.specs.Streams.{script_limit, TakesUpTo, IsReadThrough};
 ghost use Rattle.oz_words.specs.Words.{IsRun, IsRunWith};
 
@@ -16,6 +17,7 @@ use oz_draft::{Cause, ScriptFault};
 use oz_fields::OutOfMemory;
 use oz_headline::Status;
 use oz_lines::Script;
+use oz_nodes_loaded::StoreFault;
 use oz_script::parse;
 use oz_words::{Words, read_words};
 use oz_world::{Sink, Source};
@@ -29,9 +31,8 @@ pub enum Stop {
     Read,
     /// The first line with a fault, from 1, and 0 for the script as a whole.
     Script { line: u64, cause: Cause },
-    Disk,
-    /// The place on the manager's disk, in bytes.
-    Damaged { offset: u64 },
+    /// The disks weren't loaded.
+    Store { fault: StoreFault },
     OutOfMemory,
 }
 
@@ -44,8 +45,7 @@ impl Stop {
             Stop::Script { .. } => Status::Script,
             Stop::Words { .. } => Status::Words,
             Stop::Read => Status::Read,
-            Stop::Disk => Status::Disk,
-            Stop::Damaged { .. } => Status::Damaged,
+            Stop::Store { fault } => store_status(fault),
             Stop::OutOfMemory => Status::OutOfMemory,
         }
     }
@@ -58,10 +58,22 @@ impl Stop {
             Stop::Script { line, cause } => texts::script_text(alloc, line, cause.text()),
             Stop::Words { place } => texts::words_text(alloc, place),
             Stop::Read => Vec::from_slice(alloc, texts::read_fault_text().as_bytes()),
-            Stop::Disk => Vec::from_slice(alloc, texts::disk_fault_text().as_bytes()),
-            Stop::Damaged { offset } => texts::damaged_text(alloc, offset),
+            Stop::Store { fault } => texts::store_text(alloc, fault),
             Stop::OutOfMemory => Vec::from_slice(alloc, texts::out_of_memory_text().as_bytes()),
         }
+    }
+}
+
+/// How a run ends whose disks weren't loaded.
+fn store_status(fault: StoreFault) -> Status
+    ensures { result ≡ status_of_store fault }
+{
+    match fault {
+        StoreFault::Disk { .. } => Status::Disk,
+        StoreFault::Damaged { .. } | StoreFault::Nodes { .. } | StoreFault::Ids { .. } => {
+            Status::Damaged
+        }
+        StoreFault::OutOfMemory => Status::OutOfMemory,
     }
 }
 
@@ -94,18 +106,19 @@ pub fn say_stop<K: Sink>(alloc: Global, out: &mut K, stop: Stop) -> Status
 #[derive(Drop)]
 pub struct Begun {
     pub script: Script,
+    pub nodes: u8,
     pub workers: u8,
 }
 
 /// Reads the words, and then the script to its end.
 pub fn begin<S: Source>(alloc: Global, words: &[String], source: &mut S) -> Result<Begun, Stop>
-    ensures words { IfOk result (λ begun. IsRunWith (map string_bytes words.now) begun.workers) }
+    ensures words { IfOk result (λ begun. IsRunWith (map string_bytes words.now) begun.nodes begun.workers) }
+    ensures nodes { IfOk result (λ begun. (FEWEST_NODES ≤ begun.nodes) × (begun.nodes ≤ MOST_NODES)) }
     ensures few { IfOk result (λ begun. (1 ≤ begun.workers) × (begun.workers ≤ 16)) }
     ensures script { IfOk result (λ begun. IsScriptOf (S.left source.old) begun.script) }
     ensures numbered { IfOk result (λ begun. IsNumbered begun.script) }
-    ensures so { IfErr result (λ stop. (disk : Option (Items ℕ)) →
-        IsSo (map string_bytes words.now) (S.left source.old) disk (Rose (S.faults source.old) (S.faults source.new))
-        ⊥ stop) }
+    ensures so { IfErr result (λ stop. IsSo (map string_bytes words.now) (S.left source.old)
+        (Rose (S.faults source.old) (S.faults source.new)) (λ fault. ⊥) stop) }
     ensures through { IfOk result (λ _. IsReadThrough (S.left source.old) (S.left source.new)) }
     ensures reads { IfErr result (λ stop. Reads stop (S.left source.old) (S.left source.new)) }
     ensures taken { TakesUpTo script_limit (S.left source.old) (S.left source.new) }
@@ -114,8 +127,8 @@ pub fn begin<S: Source>(alloc: Global, words: &[String], source: &mut S) -> Resu
     ensures unread { (IsRun (map string_bytes words.now) → ⊥) → source.new ≡ source.old }
     ensures never_falls { S.faults source.old ≤ S.faults source.new }
 {
-    let workers = match read_words(words) {
-        Ok(Words::Run { workers, .. }) => workers,
+    let (nodes, workers) = match read_words(words) {
+        Ok(Words::Run { nodes, workers, .. }) => (nodes, workers),
         Err(place) => return Err(Stop::Words { place }),
     };
     let text = match read_script(alloc, source) {
@@ -124,7 +137,11 @@ pub fn begin<S: Source>(alloc: Global, words: &[String], source: &mut S) -> Resu
         Err(ReadFault::OutOfMemory) => return Err(Stop::OutOfMemory),
     };
     match parse(alloc, &text) {
-        Ok(script) => Ok(Begun { script, workers }),
+        Ok(script) => Ok(Begun {
+            script,
+            nodes,
+            workers,
+        }),
         Err(ScriptFault::At { line, cause }) => Err(Stop::Script { line, cause }),
         Err(ScriptFault::OutOfMemory) => Err(Stop::OutOfMemory),
     }

@@ -1,10 +1,12 @@
 //! The texts that a run writes where its work didn't begin, or no memory is found.
 
 ghost use Rattle.std.specs.Prelude.{◌≡◌, IfOk};
-ghost use Rattle.oz_cluster.specs.Texts.{damaged_manager, disk_fault, read_fault, script_fault, words_fault};
+ghost use Rattle.std.specs.String.{string_bytes};
+ghost use Rattle.oz_cluster.specs.Texts.{disk_text, read_fault, script_fault, store_text as text_of_fault, words_fault};
 ghost use Rattle.oz_headline.specs.Printed.{memory_fault};
 
 use oz_fields::OutOfMemory;
+use oz_nodes_loaded::{DiskName, StoreFault};
 use std::alloc::Global;
 
 /// The words are wrong at this place, counted from 1.
@@ -23,19 +25,36 @@ pub fn script_text(alloc: Global, line: u64, cause: &str) -> Result<Vec<u8>, Out
     Ok(text.into_bytes())
 }
 
-/// The manager's disk isn't of its form from this byte on.
-pub fn damaged_text(alloc: Global, offset: u64) -> Result<Vec<u8>, OutOfMemory>
-    ensures { IfOk result (λ text. text.items ≡ damaged_manager offset) }
+/// The name of a disk.
+fn name_text(alloc: Global, name: DiskName) -> Result<String, OutOfMemory>
+    ensures { IfOk result (λ text. string_bytes text ≡ disk_text name) }
 {
-    let text = format!(in alloc; "damaged manager at {offset}\n")?;
-    Ok(text.into_bytes())
+    match name {
+        DiskName::Manager => String::from_str(alloc, "manager"),
+        DiskName::Scm => String::from_str(alloc, "scm"),
+        DiskName::Meta(dn) => format!(in alloc; "dn{dn}.meta"),
+        DiskName::Slots(dn) => format!(in alloc; "dn{dn}.slots"),
+    }
 }
 
-/// The manager's disk failed while it was loaded.
-pub fn disk_fault_text() -> &'static str
-    ensures { result.now ≡ disk_fault }
+/// Why the disks weren't loaded.
+pub fn store_text(alloc: Global, fault: StoreFault) -> Result<Vec<u8>, OutOfMemory>
+    ensures { IfOk result (λ text. text.items ≡ text_of_fault fault) }
 {
-    "disk manager fault\n"
+    let text = match fault {
+        StoreFault::Disk { name } => {
+            let name = name_text(alloc, name)?;
+            format!(in alloc; "disk {name} fault\n")?
+        }
+        StoreFault::Damaged { name, offset } => {
+            let name = name_text(alloc, name)?;
+            format!(in alloc; "damaged {name} at {offset}\n")?
+        }
+        StoreFault::Nodes { recorded, given } => format!(in alloc; "nodes {recorded} {given}\n")?,
+        StoreFault::Ids { next, seen } => format!(in alloc; "ids {next} {seen}\n")?,
+        StoreFault::OutOfMemory => String::from_str(alloc, out_of_memory_text())?,
+    };
+    Ok(text.into_bytes())
 }
 
 /// The script couldn't be read.

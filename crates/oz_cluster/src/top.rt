@@ -1,51 +1,32 @@
 //! The top call.
 
-ghost use Rattle.std.specs.Prelude.{◌≡◌, ◌⊎◌, ◌≤◌, ℕ, [], map, false, true};
+ghost use Rattle.std.specs.Prelude.{◌≡◌, ◌⊎◌, ◌≤◌, ℕ, [], map, false, true, length};
 ghost use Rattle.std.specs.String.{string_bytes};
 ghost use Rattle.oz_cluster.specs.Headline.{RunEnds};
 ghost use Rattle.oz_cluster.specs.StatusCauses.{StatusCauses};
-ghost use Rattle.oz_cluster.specs.Stopped.{as_stop};
 ghost use Rattle.oz_cluster.specs.Streams.{TakesUpTo, script_limit};
 ghost use Rattle.oz_headline.specs.Printed.{IsPrinted};
 ghost use Rattle.oz_headline.specs.Statuses.{status_number};
-ghost use Rattle.oz_words.specs.Words.{IsRun};
+ghost use Rattle.oz_words.specs.Words.{IsRun, IsRunWith};
 ghost use Rattle.oz_world.specs.Disk.{seen};
 ghost use Rattle.oz_world.specs.Faults.{Rose};
 
 use crate::stop::{Begun, Stop, begin, say, say_stop};
 use crate::streams::write_all;
 use crate::texts;
+use oz_block::a_disk_stands_for_one_node;
 use oz_core::Event;
-use oz_disk_run::run_over_disk;
+use oz_disk_run::{Disks, RefusedStore, StoreRan, run_over_disks};
 use oz_headline::{Status, all_are_told_by_count};
-use oz_journal::LoadFault;
 use oz_lines::Script;
 use oz_loaded::a_disk_loads_as_one_thing;
 use oz_report::text;
-use oz_running::Ran;
+use oz_scm::a_disk_stands_for_one_thing;
 use oz_words::words_of_a_run_have_no_fault;
 use oz_world::{Disk, Gate, Sink, Source};
 use std::alloc::Global;
 use std::sync::Wait;
 use std::thread::Threads;
-
-/// How many datanodes a run has.
-const NODE_COUNT: u8 = 3;
-
-/// The disks of a datanode.
-#[derive(Drop)]
-pub struct NodeDisks<D> {
-    pub meta: D,
-    pub slots: D,
-}
-
-/// The disks of a run.
-#[derive(Drop)]
-pub struct Disks<D> {
-    pub manager: D,
-    pub scm: D,
-    pub nodes: Vec<NodeDisks<D>>,
-}
 
 /// What a run leaves: the program's status, what happened, and the disks.
 #[derive(Drop)]
@@ -53,16 +34,6 @@ pub struct Ended<D> {
     pub status: u8,
     pub story: Vec<Event>,
     pub disks: Disks<D>,
-}
-
-fn stop_of(fault: LoadFault) -> Stop
-    ensures { result ≡ as_stop fault }
-{
-    match fault {
-        LoadFault::Disk => Stop::Disk,
-        LoadFault::Damaged { offset } => Stop::Damaged { offset },
-        LoadFault::OutOfMemory => Stop::OutOfMemory,
-    }
 }
 
 /// Writes the report of a story, and answers how a run ends whose work went so.
@@ -110,7 +81,7 @@ fn ended_early<D>(alloc: Global, status: Status, disks: Disks<D>) -> Ended<D>
 
 /// Runs a script over disks: its lines are asked, decided, made stable and told by as many threads as the words say, those of
 /// one client one after another, and at last the report of all that happened is written. Statuses and texts stand in
-/// docs/SCRIPT.md. It waits for other threads.
+/// docs/SCRIPT.md. Where the words are in their grammar there are as many datanodes as they say. It waits for other threads.
 pub fn run<W: Threads + Wait + Sync, S: Source, K: Sink, D: Disk + Send, G: Gate + Sync>(
     rt: &W,
     alloc: Global,
@@ -120,59 +91,51 @@ pub fn run<W: Threads + Wait + Sync, S: Source, K: Sink, D: Disk + Send, G: Gate
     disks: Disks<D>,
     gate: &G,
 ) -> Ended<D>
+    requires nodes { (nodes workers : ℕ) → IsRunWith (map string_bytes words.now) nodes workers →
+        length disks.nodes.items ≡ nodes }
     ensures one_run { RunEnds (λ disk. seen (D.told disk) (D.clock disk) (D.image disk) (D.faults disk))
         (map string_bytes words.now) (S.left source.old) (S.left source.new) disks result.disks
         (K.held out.old) (K.held out.new) (Rose (K.faults out.old) (K.faults out.new)) result.story.items
         (Rose (S.faults source.old) (S.faults source.new)) result.status }
-    ensures causes { StatusCauses (map string_bytes words.now) (S.left source.old) (D.told disks.manager)
+    ensures causes { StatusCauses (λ disk. seen (D.told disk) (D.clock disk) (D.image disk) (D.faults disk))
+        (map string_bytes words.now) (S.left source.old) disks result.disks
         (Rose (S.faults source.old) (S.faults source.new))
-        (Rose (K.faults out.old) (K.faults out.new))
-        (Rose (D.faults disks.manager) (D.faults result.disks.manager)) result.status }
+        (Rose (K.faults out.old) (K.faults out.new)) result.status }
     ensures taken { TakesUpTo script_limit (S.left source.old) (S.left source.new) }
 
     // Wrong words leave the source as it is.
     ensures unread { (IsRun (map string_bytes words.now) → ⊥) → source.new ≡ source.old }
-
-    // Nothing touches the disks of the SCM and of the datanodes yet.
-    ensures scm { result.disks.scm ≡ disks.scm }
-    ensures nodes { result.disks.nodes ≡ disks.nodes }
 {
     a_disk_loads_as_one_thing();
+    a_disk_stands_for_one_node();
+    a_disk_stands_for_one_thing();
     all_are_told_by_count();
     words_of_a_run_have_no_fault();
-    let Begun { script, workers } = match begin(alloc, words, source) {
+    let Begun {
+        script,
+        nodes: _,
+        workers,
+    } = match begin(alloc, words, source) {
         Ok(begun) => begun,
         Err(stop) => return ended_early(alloc, say_stop(alloc, out, stop), disks),
     };
-    let Disks {
-        manager,
-        scm,
-        nodes,
-    } = disks;
-    let ran = match run_over_disk(rt, alloc, gate, &script, manager, workers, NODE_COUNT) {
+    let ran = match run_over_disks(rt, alloc, gate, &script, disks, workers) {
         Ok(ran) => ran,
-        Err((manager, fault)) => {
-            let disks = Disks {
-                manager,
-                scm,
-                nodes,
-            };
-            return ended_early(alloc, say_stop(alloc, out, stop_of(fault)), disks);
+        Err(RefusedStore { disks, fault }) => {
+            let stop = Stop::Store { fault };
+            return ended_early(alloc, say_stop(alloc, out, stop), disks);
         }
     };
-    let Ran {
+    let StoreRan {
         story,
-        journal,
+        stopped,
         all_told,
+        disks,
     } = ran;
-    let status = finish(alloc, out, &script, &story, all_told, journal.stopped());
+    let status = finish(alloc, out, &script, &story, all_told, stopped);
     Ended {
         status: status.number(),
         story,
-        disks: Disks {
-            manager: journal.into_disk(),
-            scm,
-            nodes,
-        },
+        disks,
     }
 }

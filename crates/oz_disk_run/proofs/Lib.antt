@@ -1,3 +1,4 @@
+mod Coming
 mod Bodies
 mod History
 mod Opened

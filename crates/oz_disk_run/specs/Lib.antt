@@ -1,3 +1,7 @@
+pub mod Disks
+pub mod Refused
 pub mod RunOver
 pub mod Shown
+pub mod StoreRun
 pub mod Told
+pub mod laws

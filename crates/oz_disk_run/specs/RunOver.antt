@@ -4,11 +4,11 @@ use Rattle.std.specs.Prelude.{Result, Ok, Err, if◌then◌else◌}
 use Rattle.oz_core.specs.declared.event.Event.{Event}
 use Rattle.oz_core.specs.declared.opening.Opening.{Opening}
 use Rattle.oz_core.specs.Manager.{durable_index}
-use Rattle.oz_headline.specs.declared.disks.DiskName.{DiskName}
-use Rattle.oz_headline.specs.declared.disks.DiskName.TheVariants.{Manager}
+use Rattle.oz_nodes_loaded.specs.declared.disk_name.DiskName.{DiskName}
+use Rattle.oz_nodes_loaded.specs.declared.disk_name.DiskName.TheVariants.{Manager}
 use Rattle.oz_headline.specs.declared.status.Status.TheVariants.{Disk, Done}
 use Rattle.oz_headline.specs.Counts.{AreToldAsMany}
-use Rattle.oz_headline.specs.Disks.{manager_disk, untouched_disks}
+use Rattle.oz_headline.specs.Disks.{manager_disk, loaded_disks}
 use Rattle.oz_headline.specs.Halts.{HaltsAreNamed, StatusNamesHalts}
 use Rattle.oz_headline.specs.Headline.{Headline}
 use Rattle.oz_journal.specs.declared.load_fault.LoadFault.{LoadFault}
@@ -48,9 +48,9 @@ module _ {D : Type 0} (see : D → Seen) (script : Script) where
   -- what it was before the run and is after it, and whether a write of it has failed in between.
   pub record IsOneHistory (opening : Opening) (faults first : ℕ) (before after : D) (stopped : Bool)
       (story : List Event) : Type 0 where
-    pub headline : (others : List (DiskName × D)) → All (λ other. other.0 ≢ Manager) others
+    pub headline : (others : List (DiskName × (D × D))) → All (λ other. other.0 ≢ Manager) others
         → Headline opening no_bytes script
-        (manager_disk faults first stopped (see before) (see after) ∷ untouched_disks see others) story
+        (manager_disk faults first stopped (see before) (see after) ∷ loaded_disks see others) story
     -- A stop at any moment from then on leaves a journal that opens as the store after a first part of the story, with
     -- all that was flushed by that moment.
     pub stops : IsSome (see before).told → (moment : ℕ) (left : List ℕ) → first ≤ moment → moment ≤ (see after).clock
@@ -79,9 +79,9 @@ module _ {D : Type 0} (see : D → Seen) (script : Script) where
         → IsSoundButRenames (row_of loaded.all)
         → IsOneHistory (opening_over unseated namespace nodes) faults first before after stopped story
     -- Whatever the rows are, each Halt is named, and there is one exactly where a write failed.
-    pub halted : (others : List (DiskName × D)) → All (λ other. other.0 ≢ Manager) others
+    pub halted : (others : List (DiskName × (D × D))) → All (λ other. other.0 ≢ Manager) others
         → HaltsAreNamed
-        (manager_disk faults first stopped (see before) (see after) ∷ untouched_disks see others) story
+        (manager_disk faults first stopped (see before) (see after) ∷ loaded_disks see others) story
     pub status : StatusNamesHalts (if stopped then Disk else Done) story
     pub counted : (all_told ≡ true) ↔ AreToldAsMany script story
     -- What a stop left while the disk was loaded stands.

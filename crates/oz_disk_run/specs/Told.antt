@@ -4,10 +4,10 @@ use Rattle.oz_core.specs.declared.event.Event.{Event}
 use Rattle.oz_core.specs.declared.opening.Opening.{Opening}
 use Rattle.oz_core.specs.Contents.{OpeningBytes}
 use Rattle.oz_core.specs.Manager.{durable_index, swapped_index}
-use Rattle.oz_headline.specs.declared.disks.DiskName.{DiskName}
-use Rattle.oz_headline.specs.declared.disks.DiskName.TheVariants.{Manager}
+use Rattle.oz_nodes_loaded.specs.declared.disk_name.DiskName.{DiskName}
+use Rattle.oz_nodes_loaded.specs.declared.disk_name.DiskName.TheVariants.{Manager}
 use Rattle.oz_headline.specs.declared.status.Status.TheVariants.{Disk, Done}
-use Rattle.oz_headline.specs.Disks.{manager_disk, untouched_disks}
+use Rattle.oz_headline.specs.Disks.{manager_disk, loaded_disks}
 use Rattle.oz_headline.specs.Halts.{HaltsAreNamed, StatusNamesHalts}
 use Rattle.oz_headline.specs.Headline.{Headline}
 use Rattle.oz_journal.specs.Grammar.{IsJournal}
@@ -30,11 +30,11 @@ module _ {D : Type 0} (see : D → Seen) (Coherent : Type 0) (opening : Opening)
   -- what a run of so many seats leaves, whatever disks it doesn't touch
   pub record IsTold (seats : ℕ) (story : List Event) (stopped : Bool) (after : D) (all_told : Bool) : Type 0 where
     pub run : IsRun Coherent opening bytes bodies script begun loaded seats story stopped (see after) all_told
-    pub headline : Coherent → (before : D) (others : List (DiskName × D)) → All (λ other. other.0 ≢ Manager) others
+    pub headline : Coherent → (before : D) (others : List (DiskName × (D × D))) → All (λ other. other.0 ≢ Manager) others
         → Headline opening bytes script
-        (manager_disk begun.faults begun.clock stopped (see before) (see after) ∷ untouched_disks see others) story
-    pub halted : (before : D) (others : List (DiskName × D)) → All (λ other. other.0 ≢ Manager) others
+        (manager_disk begun.faults begun.clock stopped (see before) (see after) ∷ loaded_disks see others) story
+    pub halted : (before : D) (others : List (DiskName × (D × D))) → All (λ other. other.0 ≢ Manager) others
         → HaltsAreNamed
-        (manager_disk begun.faults begun.clock stopped (see before) (see after) ∷ untouched_disks see others) story
+        (manager_disk begun.faults begun.clock stopped (see before) (see after) ∷ loaded_disks see others) story
     pub status : StatusNamesHalts (if stopped then Disk else Done) story
     pub all_flushed : Coherent → stopped ≡ false → swapped_index opening story ≡ durable_index opening story

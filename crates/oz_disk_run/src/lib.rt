@@ -1,8 +1,10 @@
-//! A run of a script over the manager's disk: it is loaded, and the lines run on threads over what was loaded.
+//! A run of a script over the disks of a store: they are loaded, and the lines run on threads over what was loaded.
 #![tactic(auto)]
 
+mod disks;
 mod loaded;
 mod over;
 mod told;
 
-pub use over::run_over_disk;
+pub use disks::{Disks, RefusedStore};
+pub use over::{StoreRan, run_over_disks};

@@ -1,20 +1,21 @@
-//! A run over the manager's disk.
+//! A run over the disks of a store.
 
-ghost use Rattle.std.specs.Prelude.{◌≡◌, ◌≤◌, ℕ, List, length, Some, IfOk, IfErr, IfSome, IsSomeAnd};
-ghost use Rattle.oz_disk_run.specs.RunOver.{IsRunOver, disk_after};
-ghost use Rattle.oz_journal.specs.Load.{IsLeftAlone, IsLoadable};
+ghost use Rattle.std.specs.Prelude.{◌≡◌, ◌≤◌, length, IfOk, IfErr};
+ghost use Rattle.oz_disk_run.specs.Refused.{AreAtMostLoaded, IsRefusedFor, store_fault_of};
+ghost use Rattle.oz_disk_run.specs.StoreRun.{IsStoreRun};
 ghost use Rattle.oz_lines.specs.Numbered.{IsNumbered};
-ghost use Rattle.oz_loaded.specs.Loads.{IsDamagedDisk};
 ghost use Rattle.oz_nodes.specs.declared.nodes.TheConstants.{FEWEST_NODES, MOST_NODES};
-ghost use Rattle.oz_world.specs.Disk.{seen, TellsAsBefore};
-ghost use Rattle.oz_world.specs.Faults.{Rose};
-ghost use Rattle.oz_world.specs.Moments.{Elapses, Spans};
+ghost use Rattle.oz_world.specs.Disk.{seen};
 
+use crate::disks::{Disks, RefusedStore};
 use crate::loaded::run_loaded;
+use oz_core::Event;
+use oz_datanode::NodeDisks;
 use oz_effects::a_batch_makes_a_body;
 use oz_journal::LoadFault;
 use oz_lines::Script;
 use oz_loaded::{load, the_parts_are_the_whole};
+use oz_nodes_loaded::{DiskName, LoadedNodes, RefusedNodes, StoreFault, load_nodes};
 use oz_opening::the_managers_disk_alone_is_a_store;
 use oz_running::Ran;
 use oz_standing::parts_show_their_namespace;
@@ -23,57 +24,125 @@ use std::alloc::Global;
 use std::sync::Wait;
 use std::thread::Threads;
 
-/// Runs the lines of a script over the manager's disk, by so many workers and a flusher on threads, and then by this
-/// thread what they leave. It is `Damaged` where the disk has no journal whose bodies make rows, at the first place
-/// that is bad; `Disk` where a call of the disk failed while it was loaded; and `OutOfMemory` where memory ran out
-/// before the work. The disk comes back then as loading left it, and nothing else was done.
-pub fn run_over_disk<D: Disk + Send, W: Threads + Wait + Sync, G: Gate + Sync>(
+/// What a run leaves: what happened in it, whether a write of the manager's disk failed, whether all lines were told, and
+/// the disks.
+#[derive(Drop)]
+pub struct StoreRan<D> {
+    pub story: Vec<Event>,
+    pub stopped: bool,
+    pub all_told: bool,
+    pub disks: Disks<D>,
+}
+
+/// Runs the lines of a script over the disks of a store, by so many workers and a flusher on threads, and then by this
+/// thread what they leave. First all disks are loaded: the manager's, the storage container manager's, and of each
+/// datanode its journal and its slots; and no block id on one of them may be granted again. Where one of this can't be
+/// had, or memory ran out before the work, the disks come back as loading left them, and nothing else was done.
+pub fn run_over_disks<D: Disk + Send, W: Threads + Wait + Sync, G: Gate + Sync>(
     rt: &W,
     alloc: Global,
     gate: &G,
     script: &Script,
-    disk: D,
+    disks: Disks<D>,
     workers: u8,
-    nodes: u8,
-) -> Result<Ran<D>, (D, LoadFault)>
+) -> Result<StoreRan<D>, RefusedStore<D>>
     requires numbered { IsNumbered script.now }
     requires some { 1 ≤ workers }
     requires few { workers ≤ 16 }
-    requires least { FEWEST_NODES ≤ nodes }
-    requires most { nodes ≤ MOST_NODES }
+    requires least { FEWEST_NODES ≤ length disks.nodes.items }
+    requires most { length disks.nodes.items ≤ MOST_NODES }
     ensures ran { IfOk result (λ ran. let see = (λ (d : D). seen (D.told d) (D.clock d) (D.image d) (D.faults d)) in
-        IsRunOver see script.now nodes disk ran.journal.disk ran.journal.stopped ran.story.items ran.all_told) }
-
-    // When each fault comes.
-    ensures damaged { IfErr result (λ refused. (offset : ℕ) → refused.1 ≡ LoadFault.Damaged offset →
-        IfSome (D.told disk) (λ bytes. IsDamagedDisk bytes offset)) }
-    ensures disk { IfErr result (λ refused.
-        refused.1 ≡ LoadFault.Disk → Rose (D.faults disk) (D.faults refused.0)) }
-    ensures never_falls { D.faults disk ≤ D.faults (disk_after result) }
-
-    // What the disk tells that comes back, and what a stop may leave of it.
-    ensures telling { TellsAsBefore (D.told disk) (D.told (disk_after result)) }
-    ensures contents { IfErr result (λ refused. IfSome (D.told disk) (λ bytes.
-        2 ≤ length bytes → D.told refused.0 ≡ Some bytes)) }
-    ensures time { Elapses (D.clock disk) (D.clock (disk_after result)) (D.image disk)
-        (D.image (disk_after result)) }
-    ensures moments { IfErr result (λ refused. IfSome (D.told disk) (λ bytes.
-        IsLoadable bytes (D.image disk (D.clock disk)) →
-        Spans IsLeftAlone (D.clock disk) (D.clock refused.0) (D.image disk) (D.image refused.0))) }
-    ensures loadable { IfErr result (λ refused. IfSome (D.told disk) (λ bytes.
-        IsLoadable bytes (D.image disk (D.clock disk)) →
-        IsSomeAnd (D.told refused.0) (λ after. IsLoadable after (D.image refused.0 (D.clock refused.0))))) }
+        IsStoreRun see script.now disks ran.disks ran.stopped ran.story.items ran.all_told) }
+    ensures refused { IfErr result (λ refused. let see = (λ (d : D). seen (D.told d) (D.clock d) (D.image d) (D.faults d)) in
+        IsRefusedFor see disks refused.disks refused.fault) }
+    ensures spared { IfErr result (λ refused. let see = (λ (d : D). seen (D.told d) (D.clock d) (D.image d) (D.faults d)) in
+        AreAtMostLoaded see disks refused.disks) }
 {
     a_batch_makes_a_body();
     the_parts_are_the_whole();
     parts_show_their_namespace();
     the_managers_disk_alone_is_a_store();
-    let (unseated, flusher) = match load(alloc, disk) {
+    let count = disks.nodes.len() as u8;
+    let Disks {
+        manager,
+        scm,
+        nodes,
+    } = disks;
+    let (unseated, flusher) = match load(alloc, manager) {
         Ok(loaded) => loaded,
-        Err((disk, fault)) => return Err((disk, fault)),
+        Err((manager, fault)) => {
+            return Err(refused(manager, scm, nodes, fault_of(fault)));
+        }
     };
-    match run_loaded(rt, alloc, gate, script, unseated, flusher, workers, nodes) {
-        Ok(ran) => Ok(ran),
-        Err((journal, _)) => Err((journal.into_disk(), LoadFault::OutOfMemory)),
+    let loaded = match load_nodes(alloc, scm, nodes, unseated.greatest_id()) {
+        Ok(loaded) => loaded,
+        Err(RefusedNodes { scm, nodes, fault }) => {
+            return Err(refused(flusher.into_journal().into_disk(), scm, nodes, fault));
+        }
+    };
+    let ran = run_loaded(rt, alloc, gate, script, unseated, flusher, workers, count);
+    let (scm, nodes) = loaded.into_disks();
+    match ran {
+        Ok(ran) => Ok(ran_over(ran, scm, nodes)),
+        Err((journal, _)) => Err(refused(journal.into_disk(), scm, nodes, StoreFault::OutOfMemory)),
+    }
+}
+
+/// A fault of the manager's disk.
+fn fault_of(fault: LoadFault) -> StoreFault
+    ensures { result ≡ store_fault_of fault }
+{
+    match fault {
+        LoadFault::Disk => StoreFault::Disk {
+            name: DiskName::Manager,
+        },
+        LoadFault::Damaged { offset } => StoreFault::Damaged {
+            name: DiskName::Manager,
+            offset,
+        },
+        LoadFault::OutOfMemory => StoreFault::OutOfMemory,
+    }
+}
+
+/// The disks of a run that didn't come to its work.
+fn refused<D>(manager: D, scm: D, nodes: Vec<NodeDisks<D>>, fault: StoreFault) -> RefusedStore<D>
+    ensures manager { result.disks.manager ≡ manager }
+    ensures scm { result.disks.scm ≡ scm }
+    ensures nodes { result.disks.nodes ≡ nodes }
+    ensures fault { result.fault ≡ fault }
+{
+    RefusedStore {
+        disks: Disks {
+            manager,
+            scm,
+            nodes,
+        },
+        fault,
+    }
+}
+
+/// What a run leaves of the manager's disk, and the others.
+fn ran_over<D: Disk>(ran: Ran<D>, scm: D, nodes: Vec<NodeDisks<D>>) -> StoreRan<D>
+    ensures story { result.story ≡ ran.story }
+    ensures stopped { result.stopped ≡ ran.journal.stopped }
+    ensures all_told { result.all_told ≡ ran.all_told }
+    ensures manager { result.disks.manager ≡ ran.journal.disk }
+    ensures scm { result.disks.scm ≡ scm }
+    ensures nodes { result.disks.nodes ≡ nodes }
+{
+    let Ran {
+        story,
+        journal,
+        all_told,
+    } = ran;
+    StoreRan {
+        story,
+        stopped: journal.stopped(),
+        all_told,
+        disks: Disks {
+            manager: journal.into_disk(),
+            scm,
+            nodes,
+        },
     }
 }

@@ -1,18 +1,13 @@
 -- Who was told as many lines as it has was told all of them.
-use Rattle.std.proofs.Common.{◌≡◌, ⊎_elim, ℕ, suc, ◌+◌, ◌≤◌, ◌<◌, Bool, true, false, ◌==◌, cond, List, [], ◌∷◌, ◌++◌, map, filter, length, take, get_or, Option, None, Some, is_some, All, refl, sym, ap, ◌∙◌, append-nil, length-append, arith}
-use mir.Val.{bool_byte}
+use Rattle.std.proofs.Common.{◌≡◌, ⊎_elim, ℕ, suc, ◌≤◌, ◌<◌, Bool, true, false, ◌==◌, cond, List, [], ◌∷◌, ◌++◌, map, filter, length, All, refl, sym, ap, ◌∙◌, append-nil, length-append, arith}
 use Rattle.std.proofs.lemmas.Bool.{cases_lt, eqb-true}
-use Rattle.std.proofs.lemmas.List.{length-map, take_more}
-use Rattle.std.proofs.lemmas.List.Elements.{filter_map-append}
-use Rattle.std.proofs.lemmas.List.Sums.{length-filter, sum_by_push}
-use Rattle.std.specs.List.{cons_option}
 use Rattle.oz_core.specs.declared.event.Event.{Event}
 use Rattle.oz_core.specs.declared.opening.Opening.{Opening}
 use Rattle.oz_core.specs.Contents.{OpeningBytes}
-use Rattle.oz_core.specs.Fits.{AllAreTold, Fits, line_numbers, told_line, told_lines}
+use Rattle.oz_core.specs.Fits.{AllAreTold, Fits, line_numbers, told_lines}
 use Rattle.oz_lines.specs.declared.script.Line.{Line}
 use Rattle.oz_lines.specs.declared.script.Script.{Script}
-use Rattle.oz_lines.specs.Numbered.{AreNumbered, IsNumbered, lines_of}
+use Rattle.oz_lines.specs.Numbered.{AreNumbered, IsNumbered}
 use Rattle.oz_headline.specs.Counts.{AreToldAsMany, IsClient}
 
 nothing_in : {X : Type 0} (l : List X) → length l ≡ 0 → l ≡ []

@@ -21,9 +21,9 @@ use Rattle.oz_nodes.specs.declared.nodes.TheConstants.{MOST_NODES}
 use Rattle.oz_turn.specs.Told.{own_entries}
 use Rattle.oz_world.specs.Disk.{Seen}
 use Rattle.oz_world.specs.Faults.{Rose}
-use Rattle.oz_headline.specs.declared.disks.DiskName.{DiskName}
-use Rattle.oz_headline.specs.declared.disks.DiskName.TheVariants as names
-use Rattle.oz_headline.specs.Disks.{RunDisk, faults_after, has_stopped, is_of, manager_disk, of_node, together, untouched_disk, untouched_disks}
+use Rattle.oz_nodes_loaded.specs.declared.disk_name.DiskName.{DiskName}
+use Rattle.oz_nodes_loaded.specs.declared.disk_name.DiskName.TheVariants as names
+use Rattle.oz_headline.specs.Disks.{RunDisk, faults_after, has_stopped, is_of, manager_disk, of_node, together, loaded_disk, loaded_disks}
 use Rattle.oz_headline.specs.declared.status.Status.TheVariants.{Done, Disk}
 use Rattle.oz_headline.specs.Halts.{HaltIsNamed, HaltsAreNamed, OthersAreSilent, StatusNamesHalts}
 
@@ -97,14 +97,14 @@ managers_own opening (event ∷ story) first all = by (event.seat == flusher_sea
         ap (λ (o : Option (Option ℕ)). last_told (halt_count Manager) (newer o first) story) none
         ∙ (rest first ∙ ap (last_told (halt_count Manager) first) (sym (own_test flusher_seat event story false apart)))
 
--- ---- the disks that aren't touched
+-- ---- the disks that are only loaded
 
 module _ {D : Type 0} (see : D → Seen) where
-  none_stopped : (node : Node) (others : List (DiskName × D)) → has_stopped node (untouched_disks see others) ≡ false
+  none_stopped : (node : Node) (others : List (DiskName × (D × D))) → has_stopped node (loaded_disks see others) ≡ false
   none_stopped node [] = refl
   none_stopped node (other ∷ others) = by (is_of node other.0) (none_stopped node others)
     where
-      by : (t : Bool) → has_stopped node (untouched_disks see others) ≡ false → ((t && false) || has_stopped node (untouched_disks see others)) ≡ false
+      by : (t : Bool) → has_stopped node (loaded_disks see others) ≡ false → ((t && false) || has_stopped node (loaded_disks see others)) ≡ false
       by true rest = rest
       by false rest = rest
 
@@ -114,23 +114,23 @@ module _ {D : Type 0} (see : D → Seen) where
   not_managers (names.Meta dn) apart = refl
   not_managers (names.Slots dn) apart = refl
 
-  none_managers : (count : RunDisk → ℕ) (others : List (DiskName × D)) → All (λ (other : DiskName × D). other.0 ≢ names.Manager) others → of_node count Manager (untouched_disks see others) ≡ []
+  none_managers : (count : RunDisk → ℕ) (others : List (DiskName × (D × D))) → All (λ (other : DiskName × (D × D)). other.0 ≢ names.Manager) others → of_node count Manager (loaded_disks see others) ≡ []
   none_managers count [] apart = refl
   none_managers count (other ∷ others) apart =
-      ap (λ (t : Bool). cond t (count (untouched_disk other.0 (see other.1)) ∷ of_node count Manager (untouched_disks see others)) (of_node count Manager (untouched_disks see others)))
+      ap (λ (t : Bool). cond t (count (loaded_disk other.0 (see other.1.0) (see other.1.1)) ∷ of_node count Manager (loaded_disks see others)) (of_node count Manager (loaded_disks see others)))
       (not_managers other.0 (apart 0 other (omega arith)))
       ∙ none_managers count others (λ k d lt. apart (suc k) d (omega (arith, lt)))
 
 -- ---- each node's
 
-module _ (opening : Opening) (story mine : List Event) {D : Type 0} (see : D → Seen) (others : List (DiskName × D)) (faults first : ℕ) (stopped : Bool) (before after : Seen) where
+module _ (opening : Opening) (story mine : List Event) {D : Type 0} (see : D → Seen) (others : List (DiskName × (D × D))) (faults first : ℕ) (stopped : Bool) (before after : Seen) where
   abbrev all_disks : List RunDisk
-  all_disks = manager_disk faults first stopped before after ∷ untouched_disks see others
+  all_disks = manager_disk faults first stopped before after ∷ loaded_disks see others
 
   managers_stopped : has_stopped Manager all_disks ≡ stopped
   managers_stopped = ap (λ (t : Bool). stopped || t) (none_stopped see Manager others) ∙ or-false stopped
 
-  managers_count : (count : RunDisk → ℕ) → All (λ (other : DiskName × D). other.0 ≢ names.Manager) others
+  managers_count : (count : RunDisk → ℕ) → All (λ (other : DiskName × (D × D)). other.0 ≢ names.Manager) others
       → together (of_node count Manager all_disks) ≡ count (manager_disk faults first stopped before after)
   managers_count count apart = ap (λ (l : List ℕ). together (count (manager_disk faults first stopped before after) ∷ l)) (none_managers see count others apart)
 
@@ -139,7 +139,7 @@ module _ (opening : Opening) (story mine : List Event) {D : Type 0} (see : D →
   others_stopped Scm apart = none_stopped see Scm others
   others_stopped (Datanode dn) apart = none_stopped see (Datanode dn) others
 
-  pub halts_named : AreOfTheirSeats opening story → OthersAreSilent opening story → All (λ (other : DiskName × D). other.0 ≢ names.Manager) others
+  pub halts_named : AreOfTheirSeats opening story → OthersAreSilent opening story → All (λ (other : DiskName × (D × D)). other.0 ≢ names.Manager) others
       → own flusher_seat story ≡ mine → halt_of Manager mine ≡ (if stopped then Some after.faults else None) → (stopped ≡ true → Rose faults after.faults) → HaltsAreNamed all_disks story
   halts_named all silent apart flushers halt rose = named
     where

@@ -2,8 +2,8 @@
 use Rattle.std.specs.Prelude.{ℕ, Bool, false, ◌==◌, ◌||◌, ◌&&◌, true, List, [], ◌∷◌, if◌then◌else◌, min, ◌+◌, ◌-◌, ◌^◌}
 use Rattle.oz_core.specs.declared.event.Node.{Node}
 use Rattle.oz_core.specs.declared.event.Node.TheVariants as node
-use Rattle.oz_headline.specs.declared.disks.DiskName.{DiskName}
-use Rattle.oz_headline.specs.declared.disks.DiskName.TheVariants as disk
+use Rattle.oz_nodes_loaded.specs.declared.disk_name.DiskName.{DiskName}
+use Rattle.oz_nodes_loaded.specs.declared.disk_name.DiskName.TheVariants as disk
 use Rattle.oz_world.specs.Disk.{Seen}
 
 -- What is seen of one disk as the run begins and at its end; how often it had failed once it was loaded; and whether a
@@ -64,17 +64,17 @@ manager_disk faults first stopped before after = record {
   after = after;
 }
 
--- disks that the run doesn't touch, each with its name
-abbrev pub untouched_disk : DiskName → Seen → RunDisk
-untouched_disk name disk = record {
+-- disks that the run loads and then doesn't touch, each with its name, as it was before and as it is then
+abbrev pub loaded_disk : DiskName → Seen → Seen → RunDisk
+loaded_disk name before after = record {
   name = name;
-  before = disk;
-  faults = disk.faults;
-  first = disk.clock;
+  before = before;
+  faults = after.faults;
+  first = after.clock;
   stopped = false;
-  after = disk;
+  after = after;
 }
 
-abbrev pub untouched_disks : {D : Type 0} → (D → Seen) → List (DiskName × D) → List RunDisk
-untouched_disks see [] = []
-untouched_disks see (disk ∷ disks) = untouched_disk disk.0 (see disk.1) ∷ untouched_disks see disks
+abbrev pub loaded_disks : {D : Type 0} → (D → Seen) → List (DiskName × (D × D)) → List RunDisk
+loaded_disks see [] = []
+loaded_disks see (disk ∷ disks) = loaded_disk disk.0 (see disk.1.0) (see disk.1.1) ∷ loaded_disks see disks

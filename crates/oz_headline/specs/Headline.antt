@@ -6,8 +6,8 @@ use Rattle.oz_core.specs.declared.opening.Opening.{Opening}
 use Rattle.oz_core.specs.Contents.{OpeningBytes}
 use Rattle.oz_core.specs.Fits.{Fits}
 use Rattle.oz_core.specs.Law.{IsLegal}
-use Rattle.oz_headline.specs.declared.disks.DiskName.{DiskName}
-use Rattle.oz_headline.specs.declared.disks.DiskName.TheVariants.{Manager}
+use Rattle.oz_nodes_loaded.specs.declared.disk_name.DiskName.{DiskName}
+use Rattle.oz_nodes_loaded.specs.declared.disk_name.DiskName.TheVariants.{Manager}
 use Rattle.oz_headline.specs.Disks.{RunDisk, OfEach}
 use Rattle.oz_headline.specs.History.{RepliesAreOneThreads, AllAreInTurn, ToldIsStable, AllAreBy}
 

@@ -6,7 +6,7 @@ ghost use Rattle.oz_core.specs.declared.event.Event.{Event as AnyEvent};
 ghost use Rattle.oz_core.specs.declared.opening.Opening.{Opening as AnyOpening};
 ghost use Rattle.oz_core.specs.Seats.{scm_seat, stripe_seat};
 ghost use Rattle.oz_flushing.specs.Kept.{IsKept};
-ghost use Rattle.oz_headline.specs.Disks.{manager_disk, untouched_disks};
+ghost use Rattle.oz_headline.specs.Disks.{manager_disk, loaded_disks};
 ghost use Rattle.oz_headline.specs.Halts.{HaltsAreNamed, OthersAreSilent, StatusNamesHalts};
 ghost use Rattle.oz_headline.specs.Headline.{Headline};
 ghost use Rattle.oz_lines.specs.Numbered.{IsNumbered};
@@ -14,24 +14,24 @@ ghost use Rattle.oz_nodes.specs.declared.nodes.TheConstants.{MOST_NODES};
 ghost use Rattle.oz_turn.specs.Told.{own_entries};
 ghost use Rattle.oz_world.specs.Disk.{seen as seen_disk};
 
-use crate::disks::DiskName;
 use crate::status::Status;
 use oz_buffer::Opened;
 use oz_flushing::{Mounted, the_flusher_alone_tells};
+use oz_nodes_loaded::DiskName;
 use oz_underway::lines_are_told_in_order;
 use oz_world::Disk;
 
 /// Where the disks agree, the story that the turn told of a script keeps the headline: by what the flusher keeps of it
-/// and of the manager's disk. `begun` is that disk as the run began, and the run doesn't touch the others.
+/// and of the manager's disk. `begun` is that disk as the run began, and the run only loads the others.
 pub fn the_story_keeps_the_headline<D: Disk, O: Opened, M: Mounted>()
     ensures { O.coherent → IsNumbered O.script →
-        (begun disk : D) (others : List (DiskName × D)) (stopped : Bool) (mine story : List AnyEvent) →
+        (begun disk : D) (others : List (DiskName × (D × D))) (stopped : Bool) (mine story : List AnyEvent) →
         AllFollow (Follows O.coherent O.opening O.bytes O.script) [] story →
         All (λ other. other.0 ≢ DiskName.Manager) others →
         (let see = (λ (d : D). seen_disk (D.told d) (D.clock d) (D.image d) (D.faults d)) in
         IsKept O.coherent O.opening O.bodies M.disk stopped story mine (see disk) →
         Headline O.opening O.bytes O.script
-        (manager_disk M.disk.faults M.disk.clock stopped (see begun) (see disk) ∷ untouched_disks see others) story) }
+        (manager_disk M.disk.faults M.disk.clock stopped (see begun) (see disk) ∷ loaded_disks see others) story) }
 {
     lines_are_told_in_order::<O>();
     the_flusher_alone_tells::<O>();
@@ -40,17 +40,17 @@ pub fn the_story_keeps_the_headline<D: Disk, O: Opened, M: Mounted>()
 /// Whatever the disks had, each Halt is named, where no node but the manager gave an event: so it is where the seats of
 /// the nodes gave none.
 pub fn halts_are_named<D: Disk, O: Opened, M: Mounted>()
-    ensures named { (begun disk : D) (others : List (DiskName × D)) (stopped : Bool) (mine story : List AnyEvent) →
+    ensures named { (begun disk : D) (others : List (DiskName × (D × D))) (stopped : Bool) (mine story : List AnyEvent) →
         AllFollow (Follows O.coherent O.opening O.bytes O.script) [] story → OthersAreSilent O.opening story →
         All (λ other. other.0 ≢ DiskName.Manager) others →
         (let see = (λ (d : D). seen_disk (D.told d) (D.clock d) (D.image d) (D.faults d)) in
         IsKept O.coherent O.opening O.bodies M.disk stopped story mine (see disk) →
         HaltsAreNamed
-        (manager_disk M.disk.faults M.disk.clock stopped (see begun) (see disk) ∷ untouched_disks see others) story) }
-    ensures status { (begun disk : D) (others : List (DiskName × D)) (stopped : Bool) (story : List AnyEvent) →
+        (manager_disk M.disk.faults M.disk.clock stopped (see begun) (see disk) ∷ loaded_disks see others) story) }
+    ensures status { (begun disk : D) (others : List (DiskName × (D × D))) (stopped : Bool) (story : List AnyEvent) →
         (let see = (λ (d : D). seen_disk (D.told d) (D.clock d) (D.image d) (D.faults d)) in
         HaltsAreNamed
-        (manager_disk M.disk.faults M.disk.clock stopped (see begun) (see disk) ∷ untouched_disks see others) story →
+        (manager_disk M.disk.faults M.disk.clock stopped (see begun) (see disk) ∷ loaded_disks see others) story →
         StatusNamesHalts (if stopped then Status.Disk else Status.Done) story) }
     ensures silent { (story : List AnyEvent) → length O.opening.nodes ≤ MOST_NODES →
         ((seat : ℕ) → scm_seat ≤ seat → seat < stripe_seat 0 →

@@ -1,9 +1,9 @@
 //! `ozone`, the program: its words, real files for disks, and the standard streams.
 #![tactic(auto)]
 
-ghost use Rattle.std.specs.Prelude.{◌≡◌, ◌≤◌, map};
+ghost use Rattle.std.specs.Prelude.{◌≡◌, ◌≤◌, ℕ, map, vec_len};
 ghost use Rattle.std.specs.String.{string_bytes};
-ghost use Rattle.oz_words.specs.Words.{IsRun};
+ghost use Rattle.oz_words.specs.Words.{IsRun, IsRunWith};
 
 mod arguments;
 mod file_disk;
@@ -22,9 +22,11 @@ use std::sync::Wait;
 use std::thread::Threads;
 use streams::{StdinSource, StdoutSink, take_closed_streams};
 
-const HELP: &str = "usage: ozone run DIR [--workers N]
+const HELP: &str = "usage: ozone run DIR [--nodes N] [--workers N]
 Runs the script on standard input over the disks in the folder DIR, and prints the report.
-DIR must be there. N threads, 1 to 16 and 4 if nothing is said, serve the clients of the script.
+DIR must be there. The options may stand in either order. --nodes says how many datanodes
+there are, 3 to 16, and 3 if nothing is said; --workers how many threads serve the clients
+of the script, 1 to 16, and 4 if nothing is said.
 ";
 
 const VERSION: &str = "ozone 0.1.0
@@ -39,6 +41,8 @@ fn serve<D: Disk + Drop + Send, R: Threads + Wait + Sync>(
     stdout: Stdout,
     disks: Disks<D>,
 ) -> (u8, Disks<D>)
+    requires nodes { (nodes workers : ℕ) → IsRunWith (map string_bytes words.now) nodes workers →
+        vec_len disks.nodes ≡ nodes }
     ensures known { result.0 ≤ 7 }
     ensures refused { result.0 ≡ 2 → IsRun (map string_bytes words.now) → ⊥ }
     ensures served { result.0 ≡ 0 → IsRun (map string_bytes words.now) }

@@ -5,7 +5,7 @@ use Rattle.oz_datanode.specs.Datanode.{State as Datanode}
 use Rattle.oz_datanode.specs.declared.disks.NodeDisks.{NodeDisks}
 use Rattle.oz_scm.specs.Scm.{State as Scm}
 use Rattle.oz_world.specs.Disk.{Seen}
-use Rattle.oz_nodes_loaded.specs.declared.fault.NodesFault.{NodesFault}
+use Rattle.oz_nodes_loaded.specs.declared.fault.StoreFault.{StoreFault}
 use Rattle.oz_nodes_loaded.specs.Disks.{LeavesNode, LeavesScm}
 use Rattle.oz_nodes_loaded.specs.Loads.{AreNodesFrom, IsScmFrom}
 use Rattle.oz_nodes_loaded.specs.Refused.{IsSo, ScmCameBack}
@@ -22,7 +22,7 @@ err_so P Q (Ok x) is then = is
 err_so P Q (Err e) is then = then e is
 
 module _ {D : Type 0} (see : D → Seen) (greatest : ℕ) (disk : D) (nodes : List (NodeDisks D)) (scm : Scm D)
-    (from : IsScmFrom see (length nodes) disk scm) (disk_left : D) (nodes_left : List (NodeDisks D)) (fault : NodesFault) where
+    (from : IsScmFrom see (length nodes) disk scm) (disk_left : D) (nodes_left : List (NodeDisks D)) (fault : StoreFault) where
   abbrev pub came_back : disk_left ≡ scm.disk → ScmCameBack see (length nodes) disk disk_left
   came_back same = record { scm = scm; loaded = from; disk = same }
 

@@ -5,13 +5,13 @@ use Rattle.oz_datanode.specs.declared.disks.NodeDisks.{NodeDisks}
 use Rattle.oz_journal.specs.Load.{IsLeftAlone}
 use Rattle.oz_world.specs.Disk.{Images, Seen, Same, Stands, seen}
 use Rattle.oz_world.specs.laws.Moments.{stands_span}
-use Rattle.oz_nodes_loaded.specs.Disks.{LeavesMeta, LeavesNode, LeavesSlots}
+use Rattle.oz_nodes_loaded.specs.Disks.{LeavesJournal, LeavesNode, LeavesSlots}
 
 no_time : (clock : ℕ) (image : Images) → Stands clock clock image image
 no_time clock image = record { moment = refl; images = λ t bytes. (λ h. h, λ h. h) }
 
 meta_seen : (told : Option (List ℕ)) (clock : ℕ) (image : Images) (faults : ℕ)
-    → LeavesMeta (seen told clock image faults) (seen told clock image faults)
+    → LeavesJournal (seen told clock image faults) (seen told clock image faults)
 meta_seen None clock image faults = record {
   telling = (λ h. h, λ h. h);
   contents = tt;
@@ -37,7 +37,7 @@ slots_seen told clock image faults = record {
   moments = stands_span Same clock clock image image (no_time clock image);
 }
 
-pub meta_itself : (disk : Seen) → LeavesMeta disk disk
+pub meta_itself : (disk : Seen) → LeavesJournal disk disk
 meta_itself disk = meta_seen disk.told disk.clock disk.image disk.faults
 
 pub slots_itself : (disk : Seen) → LeavesSlots disk disk

@@ -5,7 +5,7 @@ use Rattle.oz_datanode.specs.Datanode.{State}
 use Rattle.oz_datanode.specs.declared.disks.NodeDisks.{NodeDisks}
 use Rattle.oz_datanode.specs.declared.fault.NodeFault.{NodeFault}
 use Rattle.oz_world.specs.Disk.{Seen}
-use Rattle.oz_nodes_loaded.specs.declared.fault.NodesFault.{NodesFault}
+use Rattle.oz_nodes_loaded.specs.declared.fault.StoreFault.{StoreFault}
 use Rattle.oz_nodes_loaded.specs.Disks.{LeavesNode}
 use Rattle.oz_nodes_loaded.specs.Loads.{disks_in}
 use Rattle.oz_nodes_loaded.specs.Steps.{EndsWith, Says, named}
@@ -20,7 +20,7 @@ module _ {D : Type 0} (see : D → Seen) where
       is ∙ ap (λ (l : List (NodeDisks D)). map disks_in loaded ++ l) (ap (λ (l : List (NodeDisks D)). reverse l) was ∙ last_first rest left)
 
   pub ends_with : (all behind rest put after : List (NodeDisks D)) (loaded : List (State D)) (own left : NodeDisks D) (dn : ℕ)
-      (fault : NodeFault) (whole : NodesFault) → Loading see all behind loaded → behind ≡ rest ++ own ∷ [] → put ≡ rest ++ left ∷ []
+      (fault : NodeFault) (whole : StoreFault) → Loading see all behind loaded → behind ≡ rest ++ own ∷ [] → put ≡ rest ++ left ∷ []
       → after ≡ map disks_in loaded ++ reverse put → dn ≡ length loaded → whole ≡ named dn fault → Says see fault own left
       → EndsWith see whole all after
   ends_with all behind rest put after loaded own left dn fault whole so was put_is after_is number names says = record {

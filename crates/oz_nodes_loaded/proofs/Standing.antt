@@ -6,15 +6,15 @@ use Rattle.oz_datanode.specs.Datanode.{State as Datanode, AreDamaged, BothStandF
 use Rattle.oz_datanode.specs.declared.disks.NodeDisks.{NodeDisks}
 use Rattle.oz_entries.specs.Node.{Node}
 use Rattle.oz_grants.specs.Made.{Made}
-use Rattle.oz_headline.specs.declared.disks.DiskName.TheVariants as disk
+use Rattle.oz_nodes_loaded.specs.declared.disk_name.DiskName.TheVariants as disk
 use Rattle.oz_scm.specs.Scm.{StandsFor, IsOfNodes, IsDamagedDisk as IsDamagedScm}
 use Rattle.oz_world.specs.Disk.{Seen}
 use Rattle.oz_nodes_loaded.specs.AllLoad.{AllLoad, NodeStands, is_of_bytes}
 use Rattle.oz_nodes_loaded.specs.Ids.{IsSeen}
 use Rattle.oz_nodes_loaded.specs.Loads.{AreNodesFrom}
 use Rattle.oz_nodes_loaded.specs.Refused.{IdsDisagree, IsSo}
-use Rattle.oz_nodes_loaded.specs.declared.fault.NodesFault.{NodesFault}
-use Rattle.oz_nodes_loaded.specs.declared.fault.NodesFault.TheVariants.{Disk, Damaged, Nodes, Ids, OutOfMemory}
+use Rattle.oz_nodes_loaded.specs.declared.fault.StoreFault.{StoreFault}
+use Rattle.oz_nodes_loaded.specs.declared.fault.StoreFault.TheVariants.{Disk, Damaged, Nodes, Ids, OutOfMemory}
 
 -- both are told, and what is told of the first one holds
 both : {A : Type 0} {P Q : A → Type 0} {R : Type 0} (told : Option A) → IsSomeAnd told P → IfSome told Q
@@ -98,7 +98,7 @@ module _ {D : Type 0} (see : D → Seen)
         let next_is : next ≡ all.made.next_id = not.is_next ∙ ap (λ (m : Made). m.next_id) made in
         omega (arith, below, next_is, not.not_below)
 
-    pub none_of_bytes : (scm_left : D) (nodes_left : List (NodeDisks D)) (fault : NodesFault)
+    pub none_of_bytes : (scm_left : D) (nodes_left : List (NodeDisks D)) (fault : StoreFault)
         → IsSo see greatest scm nodes scm_left nodes_left fault → is_of_bytes fault ≡ false
     none_of_bytes scm_left nodes_left (Disk name) so = refl
     none_of_bytes scm_left nodes_left OutOfMemory so = refl

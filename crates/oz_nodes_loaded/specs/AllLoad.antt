@@ -7,8 +7,8 @@ use Rattle.oz_entries.specs.Node.{Node}
 use Rattle.oz_grants.specs.Made.{Made}
 use Rattle.oz_scm.specs.Scm.{StandsFor}
 use Rattle.oz_world.specs.Disk.{Seen}
-use Rattle.oz_nodes_loaded.specs.declared.fault.NodesFault.{NodesFault}
-use Rattle.oz_nodes_loaded.specs.declared.fault.NodesFault.TheVariants.{Disk, Damaged, Nodes, Ids, OutOfMemory}
+use Rattle.oz_nodes_loaded.specs.declared.fault.StoreFault.{StoreFault}
+use Rattle.oz_nodes_loaded.specs.declared.fault.StoreFault.TheVariants.{Disk, Damaged, Nodes, Ids, OutOfMemory}
 use Rattle.oz_nodes_loaded.specs.Ids.{AreBelow}
 
 module _ {D : Type 0} (see : D → Seen) where
@@ -27,7 +27,7 @@ module _ {D : Type 0} (see : D → Seen) where
     pub below : AreBelow greatest held made.next_id
 
 -- the fault is in what the disks have
-abbrev pub is_of_bytes : NodesFault → Bool
+abbrev pub is_of_bytes : StoreFault → Bool
 is_of_bytes (Disk name) = false
 is_of_bytes (Damaged name offset) = true
 is_of_bytes (Nodes recorded given) = true

@@ -19,9 +19,9 @@ pub record LeavesScm (given : ℕ) (before after : Seen) : Type 0 where
   pub moments : IfSome before.told (λ bytes. IsLoadable bytes (before.image before.clock)
       → Spans (StandsStill given) before.clock after.clock before.image after.image)
 
--- The journal of a datanode. A stop leaves what one would have left before, or at most one byte in the place of at most
+-- A journal. A stop leaves what one would have left before, or at most one byte in the place of at most
 -- one, and so it can be loaded again.
-pub record LeavesMeta (before after : Seen) : Type 0 where
+pub record LeavesJournal (before after : Seen) : Type 0 where
   pub telling : TellsAsBefore before.told after.told
   pub contents : KeepsBytes before.told after.told
   pub never_falls : before.faults ≤ after.faults
@@ -40,4 +40,4 @@ pub record LeavesSlots (before after : Seen) : Type 0 where
 -- both disks of a datanode
 abbrev pub LeavesNode : {D : Type 0} → (D → Seen) → NodeDisks D → NodeDisks D → Type 0
 LeavesNode see before after =
-    LeavesMeta (see before.meta) (see after.meta) × LeavesSlots (see before.slots) (see after.slots)
+    LeavesJournal (see before.meta) (see after.meta) × LeavesSlots (see before.slots) (see after.slots)

@@ -9,7 +9,7 @@ use Rattle.oz_journal.specs.Grammar.{IsJournal, TellsBodies}
 use Rattle.oz_journal.specs.Load.{loaded_at}
 use Rattle.oz_scm.specs.Scm.{State as Scm, StandsFor, or_first}
 use Rattle.oz_world.specs.Disk.{Seen, IsStable}
-use Rattle.oz_nodes_loaded.specs.Disks.{LeavesScm, LeavesMeta, LeavesSlots}
+use Rattle.oz_nodes_loaded.specs.Disks.{LeavesScm, LeavesJournal, LeavesSlots}
 
 -- the disks of a datanode
 abbrev pub disks_in : {D : Type 0} → Datanode D → NodeDisks D
@@ -45,7 +45,7 @@ module _ {D : Type 0} (see : D → Seen) where
         → IsStable (see (meta_of node)).image (see (meta_of node)).clock bytes
     pub slots_ended : (see (slots_of node)).clock ≡ (see disks.slots).clock + 1
     pub slots_stable : IfSome (see disks.slots).told (IsStable (see (slots_of node)).image (see (slots_of node)).clock)
-    pub meta : LeavesMeta (see disks.meta) (see (meta_of node))
+    pub meta : LeavesJournal (see disks.meta) (see (meta_of node))
     pub slots : LeavesSlots (see disks.slots) (see (slots_of node))
 
   -- so it is of each datanode, from this number on

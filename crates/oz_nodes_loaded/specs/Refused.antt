@@ -4,12 +4,12 @@ use Rattle.oz_block.specs.Blocks.{StandsFor, IsDamagedDisk}
 use Rattle.oz_datanode.specs.declared.disks.NodeDisks.{NodeDisks}
 use Rattle.oz_datanode.specs.Datanode.{State as Datanode, AreDamaged, node_in}
 use Rattle.oz_entries.specs.Node.{Node}
-use Rattle.oz_headline.specs.declared.disks.DiskName.TheVariants as disk
+use Rattle.oz_nodes_loaded.specs.declared.disk_name.DiskName.TheVariants as disk
 use Rattle.oz_scm.specs.Scm.{State as Scm, IsOfNodes, IsDamagedDisk as IsDamagedScm}
 use Rattle.oz_world.specs.Disk.{Seen}
 use Rattle.oz_world.specs.Faults.{Rose}
-use Rattle.oz_nodes_loaded.specs.declared.fault.NodesFault.{NodesFault}
-use Rattle.oz_nodes_loaded.specs.declared.fault.NodesFault.TheVariants.{Disk, Damaged, Nodes, Ids, OutOfMemory}
+use Rattle.oz_nodes_loaded.specs.declared.fault.StoreFault.{StoreFault}
+use Rattle.oz_nodes_loaded.specs.declared.fault.StoreFault.TheVariants.{Disk, Damaged, Nodes, Ids, OutOfMemory}
 use Rattle.oz_nodes_loaded.specs.Disks.{KeepsBytes}
 use Rattle.oz_nodes_loaded.specs.Ids.{IsGreatestSeen}
 use Rattle.oz_nodes_loaded.specs.Loads.{IsScmFrom, AreNodesFrom, disks_in}
@@ -65,7 +65,7 @@ module _ {D : Type 0} (see : D → Seen) where
 
   -- What is so where this fault comes, of the disks as they were and as they came back. Those of the datanodes weren't
   -- touched where the storage container manager's is at fault.
-  abbrev pub IsSo : ℕ → D → List (NodeDisks D) → D → List (NodeDisks D) → NodesFault → Type 0
+  abbrev pub IsSo : ℕ → D → List (NodeDisks D) → D → List (NodeDisks D) → StoreFault → Type 0
   IsSo greatest scm nodes scm_left nodes_left (Disk disk.Manager) = ⊥
   IsSo greatest scm nodes scm_left nodes_left (Disk disk.Scm) =
       Rose (see scm).faults (see scm_left).faults × (nodes_left ≡ nodes)

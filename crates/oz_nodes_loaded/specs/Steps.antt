@@ -4,21 +4,21 @@ use Rattle.oz_datanode.specs.Datanode.{State as Datanode, node_in}
 use Rattle.oz_datanode.specs.declared.disks.NodeDisks.{NodeDisks}
 use Rattle.oz_datanode.specs.declared.fault.NodeFault.{NodeFault}
 use Rattle.oz_datanode.specs.declared.fault.NodeFault.TheVariants as node
-use Rattle.oz_headline.specs.declared.disks.DiskName.{DiskName}
-use Rattle.oz_headline.specs.declared.disks.DiskName.TheVariants as disk
+use Rattle.oz_nodes_loaded.specs.declared.disk_name.DiskName.{DiskName}
+use Rattle.oz_nodes_loaded.specs.declared.disk_name.DiskName.TheVariants as disk
 use Rattle.oz_scm.specs.declared.fault.ScmFault.{ScmFault}
 use Rattle.oz_scm.specs.declared.fault.ScmFault.TheVariants as scm
 use Rattle.oz_scm.specs.Scm.{State as Scm, IsOfNodes, IsDamagedDisk}
 use Rattle.oz_world.specs.Disk.{Seen}
 use Rattle.oz_world.specs.Faults.{Rose}
 use Rattle.oz_nodes_loaded.specs.Disks.{KeepsBytes}
-use Rattle.oz_nodes_loaded.specs.declared.fault.NodesFault.{NodesFault}
-use Rattle.oz_nodes_loaded.specs.declared.fault.NodesFault.TheVariants as all
+use Rattle.oz_nodes_loaded.specs.declared.fault.StoreFault.{StoreFault}
+use Rattle.oz_nodes_loaded.specs.declared.fault.StoreFault.TheVariants as all
 use Rattle.oz_nodes_loaded.specs.Ids.{AreBelow, IsGreatestSeen}
 use Rattle.oz_nodes_loaded.specs.Loads.{disks_in}
 use Rattle.oz_nodes_loaded.specs.Refused.{EndsAt, MetaFailed, MetaIsDamaged, SlotsFailed, SlotsAreDamaged}
 
-abbrev pub scm_fault_of : ScmFault → NodesFault
+abbrev pub scm_fault_of : ScmFault → StoreFault
 scm_fault_of scm.Disk = all.Disk disk.Scm
 scm_fault_of (scm.Damaged offset) = all.Damaged disk.Scm offset
 scm_fault_of (scm.Nodes recorded given) = all.Nodes recorded given
@@ -29,7 +29,7 @@ name_of dn false = disk.Meta dn
 name_of dn true = disk.Slots dn
 
 -- a fault of the datanode of this number
-abbrev pub named : ℕ → NodeFault → NodesFault
+abbrev pub named : ℕ → NodeFault → StoreFault
 named dn (node.Disk slots) = all.Disk (name_of dn slots)
 named dn (node.Damaged slots offset) = all.Damaged (name_of dn slots) offset
 named dn node.OutOfMemory = all.OutOfMemory
@@ -43,7 +43,7 @@ ScmSays count (scm.Nodes recorded given) before after =
     (given ≡ count) × (recorded ≢ given) × IfSome before.told (IsOfNodes recorded) × KeepsBytes before.told after.told
 ScmSays count scm.OutOfMemory before after = Unit {0}
 
-pub record IsOfScm (count : ℕ) (fault : NodesFault) (before after : Seen) : Type 0 where
+pub record IsOfScm (count : ℕ) (fault : StoreFault) (before after : Seen) : Type 0 where
   pub fault_of : ScmFault
   pub is : fault ≡ scm_fault_of fault_of
   pub says : ScmSays count fault_of before after
@@ -57,13 +57,13 @@ module _ {D : Type 0} (see : D → Seen) where
   Says (node.Damaged true offset) own left = SlotsAreDamaged see offset own left
   Says node.OutOfMemory own left = Unit {0}
 
-  pub record IsOfNode (dn : ℕ) (fault : NodesFault) (own left : NodeDisks D) : Type 0 where
+  pub record IsOfNode (dn : ℕ) (fault : StoreFault) (own left : NodeDisks D) : Type 0 where
     pub fault_of : NodeFault
     pub is : fault ≡ named dn fault_of
     pub says : Says fault_of own left
 
   -- a datanode wasn't loaded
-  pub record EndsWith (fault : NodesFault) (before after : List (NodeDisks D)) : Type 0 where
+  pub record EndsWith (fault : StoreFault) (before after : List (NodeDisks D)) : Type 0 where
     pub dn : ℕ
     pub fault_of : NodeFault
     pub is : fault ≡ named dn fault_of
@@ -77,7 +77,7 @@ module _ {D : Type 0} (greatest : ℕ) (scm : Scm D) (nodes : List (Datanode D))
     pub below : AreBelow greatest (map node_in nodes) scm.made.next_id
 
   -- one isn't, and the disks come back
-  pub record Disagrees (scm_left : D) (nodes_left : List (NodeDisks D)) (fault : NodesFault) : Type 0 where
+  pub record Disagrees (scm_left : D) (nodes_left : List (NodeDisks D)) (fault : StoreFault) : Type 0 where
     pub id : ℕ
     pub is : fault ≡ all.Ids scm.made.next_id id
     pub is_greatest : IsGreatestSeen greatest (map node_in nodes) id

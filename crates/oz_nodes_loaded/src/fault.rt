@@ -3,13 +3,13 @@
 ghost use Rattle.std.specs.Prelude.{◌≡◌};
 ghost use Rattle.oz_nodes_loaded.specs.Steps.{name_of, named, scm_fault_of};
 
+use crate::disk_name::DiskName;
 use oz_datanode::NodeFault;
-use oz_headline::DiskName;
 use oz_scm::ScmFault;
 
-/// Why the storage container manager and the datanodes weren't loaded.
+/// Why the disks of a store weren't loaded: the manager's, the storage container manager's or a datanode's.
 #[derive(Clone, Copy, Debug, PartialEq, Eq)]
-pub enum NodesFault {
+pub enum StoreFault {
     /// A disk failed while it was loaded.
     Disk { name: DiskName },
     /// What a disk has isn't of its form. The offset is the place of the first bad field; on a disk of slots it is the
@@ -24,35 +24,35 @@ pub enum NodesFault {
 }
 
 /// A fault of the storage container manager's disk.
-pub(crate) fn of_scm(fault: ScmFault) -> NodesFault
+pub(crate) fn of_scm(fault: ScmFault) -> StoreFault
     ensures { result ≡ scm_fault_of fault }
 {
     match fault {
-        ScmFault::Disk => NodesFault::Disk {
+        ScmFault::Disk => StoreFault::Disk {
             name: DiskName::Scm,
         },
-        ScmFault::Damaged { offset } => NodesFault::Damaged {
+        ScmFault::Damaged { offset } => StoreFault::Damaged {
             name: DiskName::Scm,
             offset,
         },
-        ScmFault::Nodes { recorded, given } => NodesFault::Nodes { recorded, given },
-        ScmFault::OutOfMemory => NodesFault::OutOfMemory,
+        ScmFault::Nodes { recorded, given } => StoreFault::Nodes { recorded, given },
+        ScmFault::OutOfMemory => StoreFault::OutOfMemory,
     }
 }
 
 /// A fault of the datanode that has this number.
-pub(crate) fn of_node(dn: u8, fault: NodeFault) -> NodesFault
+pub(crate) fn of_node(dn: u8, fault: NodeFault) -> StoreFault
     ensures { result ≡ named dn fault }
 {
     match fault {
-        NodeFault::Disk { slots } => NodesFault::Disk {
+        NodeFault::Disk { slots } => StoreFault::Disk {
             name: disk_name(dn, slots),
         },
-        NodeFault::Damaged { slots, offset } => NodesFault::Damaged {
+        NodeFault::Damaged { slots, offset } => StoreFault::Damaged {
             name: disk_name(dn, slots),
             offset,
         },
-        NodeFault::OutOfMemory => NodesFault::OutOfMemory,
+        NodeFault::OutOfMemory => StoreFault::OutOfMemory,
     }
 }
 

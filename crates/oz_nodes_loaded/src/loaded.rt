@@ -3,7 +3,7 @@
 ghost use Rattle.std.specs.Prelude.{◌≡◌, ◌+◌, ◌≤◌, ◌++◌, [], map, length, reverse, vec_len, vec_capacity};
 ghost use Rattle.oz_nodes_loaded.specs.Loads.{disks_in};
 
-use crate::fault::NodesFault;
+use crate::fault::StoreFault;
 use oz_datanode::{Datanode, NodeDisks};
 use oz_scm::Scm;
 use oz_world::Disk;
@@ -24,7 +24,7 @@ pub struct LoadedNodes<D: Disk> {
 pub struct RefusedNodes<D> {
     pub scm: D,
     pub nodes: Vec<NodeDisks<D>>,
-    pub fault: NodesFault,
+    pub fault: StoreFault,
 }
 
 impl<D: Disk> LoadedNodes<D> {

@@ -11,7 +11,7 @@ ghost use Rattle.oz_nodes_loaded.specs.Refused.{IsSo};
 ghost use Rattle.oz_nodes_loaded.specs.Steps.{Agrees, Disagrees, EndsWith, IsOfNode, IsOfScm};
 ghost use Rattle.oz_world.specs.Disk.{seen};
 
-use crate::fault::{NodesFault, of_node, of_scm};
+use crate::fault::{StoreFault, of_node, of_scm};
 use crate::ids::greatest_seen;
 use crate::loaded::{LoadedNodes, RefusedNodes, disks_of, put_back};
 use oz_datanode::{Datanode, NodeDisks};
@@ -59,7 +59,7 @@ pub fn load_nodes<D: Disk>(
         return Err(RefusedNodes {
             scm: scm.into_disk(),
             nodes,
-            fault: NodesFault::OutOfMemory,
+            fault: StoreFault::OutOfMemory,
         });
     };
     match load_datanodes(alloc, room, nodes) {
@@ -73,7 +73,7 @@ pub fn load_nodes<D: Disk>(
 }
 
 /// Loads the storage container manager.
-fn load_scm<D: Disk>(alloc: Global, disk: D, given: u8) -> Result<Scm<D>, (D, NodesFault)>
+fn load_scm<D: Disk>(alloc: Global, disk: D, given: u8) -> Result<Scm<D>, (D, StoreFault)>
     requires least { FEWEST_NODES ≤ given }
     requires most { given ≤ MOST_NODES }
     ensures scm { IfOk result (λ scm.
@@ -97,7 +97,7 @@ fn load_datanodes<D: Disk>(
     alloc: Global,
     room: Vec<Datanode<D>>,
     nodes: Vec<NodeDisks<D>>,
-) -> Result<(Vec<Datanode<D>>, Vec<NodeDisks<D>>), (Vec<NodeDisks<D>>, NodesFault)>
+) -> Result<(Vec<Datanode<D>>, Vec<NodeDisks<D>>), (Vec<NodeDisks<D>>, StoreFault)>
     requires empty { room.items ≡ [] }
     requires enough { vec_len nodes ≤ vec_capacity room }
     requires few { vec_len nodes ≤ MOST_NODES }
@@ -133,7 +133,7 @@ fn load_one<D: Disk>(
     alloc: Global,
     dn: u8,
     disks: NodeDisks<D>,
-) -> Result<Datanode<D>, (NodeDisks<D>, NodesFault)>
+) -> Result<Datanode<D>, (NodeDisks<D>, StoreFault)>
     ensures node { IfOk result (λ node.
         let see = (λ (d : D). seen (D.told d) (D.clock d) (D.image d) (D.faults d)) in
         IsNodeFrom see dn disks node) }
@@ -171,6 +171,6 @@ fn compared<D: Disk>(
     Err(RefusedNodes {
         scm: scm.into_disk(),
         nodes: disks_of(nodes, room),
-        fault: NodesFault::Ids { next, seen },
+        fault: StoreFault::Ids { next, seen },
     })
 }

@@ -5,7 +5,7 @@ use Rattle.oz_core.specs.declared.event.PutRefusal.TheVariants as refusals
 use Rattle.oz_datanode.specs.Datanode.{State, stop_of}
 use Rattle.oz_fields.specs.declared.block.Block.{Block}
 use Rattle.oz_world.specs.Disk.{Images}
-use Rattle.oz_replicas.specs.Notes.{Subject, IsMember, Leads, Goes}
+use Rattle.oz_replicas.specs.Notes.{Subject, IsMember, IsPiece, Leads, Goes}
 use Rattle.oz_replicas.specs.Outcomes.{HasAlready, IsPut, IsReason, Halts, FindsBad}
 use Rattle.oz_replicas.specs.Reading.{IsLost}
 use Rattle.oz_replicas.specs.Stays.{Stays}
@@ -15,9 +15,9 @@ use Rattle.oz_replicas.specs.declared.note.Note.TheVariants as notes
 use Rattle.oz_replicas.proofs.Staying.{stays_itself, halted_stop}
 
 module _ {D : Type 0} (told : D → Option (List ℕ)) (clock : D → ℕ) (image : D → Images) (faults : D → ℕ) (subject : Subject) where
-  pub leads_put : (dn : ℕ) (block : Block) (size : ℕ) (bytes : List ℕ) (before new : State D) → subject.block ≡ block → subject.bytes ≡ bytes → IsMember subject dn before → size ≡ length bytes → IsPut told clock image faults block bytes before new → Leads told clock image faults subject (notes.Put dn block size) before new
-  leads_put dn block size bytes before new own its member whole put =
-      (member, sym own, whole ∙ sym (ap (λ (l : List ℕ). length l) its), subst (λ (b : Block). IsPut told clock image faults b subject.bytes before new) (sym own) (subst (λ (l : List ℕ). IsPut told clock image faults block l before new) (sym its) put))
+  pub leads_put : (dn : ℕ) (block : Block) (size : ℕ) (bytes : List ℕ) (before new : State D) → subject.block ≡ block → subject.bytes ≡ bytes → IsMember subject dn before → size ≡ length bytes → IsPiece bytes → IsPut told clock image faults block bytes before new → Leads told clock image faults subject (notes.Put dn block size) before new
+  leads_put dn block size bytes before new own its member whole piece put =
+      (member, sym own, whole ∙ sym (ap (λ (l : List ℕ). length l) its), subst IsPiece (sym its) piece, subst (λ (b : Block). IsPut told clock image faults b subject.bytes before new) (sym own) (subst (λ (l : List ℕ). IsPut told clock image faults block l before new) (sym its) put))
 
   pub leads_refused : (dn : ℕ) (block : Block) (bytes : List ℕ) (refusal : PutRefusal) (node : State D) → subject.block ≡ block → subject.bytes ≡ bytes → IsMember subject dn node → IsReason faults block bytes node refusal → Leads told clock image faults subject (notes.Refused dn block refusal) node node
   leads_refused dn block bytes refusal node own its member reason =

@@ -1,7 +1,8 @@
 -- What each note says of a datanode.
-use Rattle.std.specs.Prelude.{◌≡◌, ℕ, List, [], ◌∷◌, length, Contains, Option}
+use Rattle.std.specs.Prelude.{◌≡◌, ℕ, ◌≤◌, List, [], ◌∷◌, length, Contains, Option}
 use Rattle.oz_datanode.specs.Datanode.{State}
 use Rattle.oz_fields.specs.declared.block.Block.{Block}
+use Rattle.oz_fields.specs.declared.block.TheConstants.{LONGEST_PIECE}
 use Rattle.oz_replicas.specs.Outcomes.{IsPut, IsReason, Halts, FindsBad}
 use Rattle.oz_replicas.specs.Stays.{Stays}
 use Rattle.oz_replicas.specs.declared.note.Note.{Note}
@@ -19,11 +20,16 @@ pub record IsMember {D : Type 0} (subject : Subject) (dn : ℕ) (node : State D)
   pub member : Contains subject.members dn
   pub its : dn ≡ node.id
 
+-- There is something to put, and no more than a piece has.
+pub record IsPiece (bytes : List ℕ) : Type 0 where
+  pub least : 1 ≤ length bytes
+  pub most : length bytes ≤ LONGEST_PIECE
+
 -- Between the two a datanode did what the note says, and nothing else that is noted.
 abbrev pub Leads : {D : Type 0} → (D → Option (List ℕ)) → (D → ℕ) → (D → Images) → (D → ℕ) → Subject → Note → State D
     → State D → Type 0
 Leads told clock image faults subject (notes.Put dn block size) old new =
-    IsMember subject dn old × (block ≡ subject.block) × (size ≡ length subject.bytes)
+    IsMember subject dn old × (block ≡ subject.block) × (size ≡ length subject.bytes) × IsPiece subject.bytes
     × IsPut told clock image faults subject.block subject.bytes old new
 Leads told clock image faults subject (notes.Refused dn block refusal) old new =
     IsMember subject dn old × (block ≡ subject.block)

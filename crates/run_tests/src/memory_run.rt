@@ -1,5 +1,6 @@
 //! Runs over streams and disks in memory.
 
+use nodes_in_memory::nodes_for;
 use oz_cluster::{Disks, run};
 use oz_world::{Gate, MemoryDisk, MemorySink, MemorySource, OpenGate, OutOfMemory};
 use std::alloc::Global;
@@ -86,7 +87,7 @@ pub fn runs_past<R: Threads + Wait + Sync + AllocGlobal, G: Gate + Sync>(
     let disks = Disks {
         manager: disk_of(alloc, disk, fails.disk)?,
         scm: disk_of(alloc, &[], 0)?,
-        nodes: Vec::new(alloc),
+        nodes: nodes_for(alloc, &words, &[], None)?,
     };
     let ended = run(rt, alloc, &words, &mut source, &mut out, disks, gate);
     Ok(Left {

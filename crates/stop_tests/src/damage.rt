@@ -3,6 +3,7 @@
 #[cfg(test)]
 mod tests {
     use crate::memory_run::WORKERS;
+    use nodes_in_memory::nodes_for;
     use oz_cluster::{Disks, run};
     use oz_world::{MemoryDisk, MemorySink, MemorySource, OpenGate, OutOfMemory};
     use std::alloc::Global;
@@ -226,7 +227,7 @@ mod tests {
         let disks = Disks {
             manager: disk_of(alloc, disk)?,
             scm: disk_of(alloc, &[])?,
-            nodes: Vec::new(alloc),
+            nodes: nodes_for(alloc, &words, &[], None)?,
         };
         let ended = run(rt, alloc, &words, &mut source, &mut out, disks, &OpenGate);
         Ok(Left {

@@ -1,5 +1,6 @@
 //! Runs over streams and disks in memory, and what a stop leaves of them.
 
+use nodes_in_memory::nodes_for;
 use oz_cluster::{Disks, Ended, run};
 use oz_core::{Event, EventKind};
 use oz_world::{MemoryDisk, MemorySink, MemorySource, OpenGate, OutOfMemory};
@@ -69,8 +70,8 @@ pub fn runs<R: Threads + Wait + Sync + AllocGlobal>(
     let mut out = MemorySink::new(alloc, fails.sink.to_vec(alloc)?)?;
     let disks = Disks {
         manager: MemoryDisk::new(alloc, disk.to_vec(alloc)?, fails.disk.to_vec(alloc)?, ROOM)?,
-        scm: MemoryDisk::new(alloc, Vec::new(alloc), Vec::new(alloc), 0)?,
-        nodes: Vec::new(alloc),
+        scm: MemoryDisk::new(alloc, Vec::new(alloc), Vec::new(alloc), ROOM)?,
+        nodes: nodes_for(alloc, &words, &[], None)?,
     };
     let Ended {
         status,

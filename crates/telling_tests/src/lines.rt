@@ -4,13 +4,15 @@ ghost use Rattle.std.specs.Prelude.{◌≡◌, ◌≤◌, vec_len};
 ghost use Rattle.oz_turn.specs.Seat.{AreReady};
 ghost use Rattle.oz_turn.specs.Turn.{turn_id};
 
-use crate::store::{Book, ask, decide, first_id, flush, flusher, holds, made};
+use crate::store::{
+    Book, ask, ask_knowing, decide, first_id, flush, flusher, holds, made, say_wrote,
+};
 use oz_asker::AskFault;
 use oz_command::{AdminCommand, Command};
 use oz_flusher::Flusher;
 use oz_lines::Line;
 use oz_requests::{Answer, AskId, Values};
-use oz_telling::{Settlement, Untold, has_started, settle_line, tell};
+use oz_telling::{Settlement, Untold, has_started, settle_line, tell, times_said};
 use oz_turn::{Seat, Turn, seats_stay_ready};
 use oz_world::MemoryDisk;
 use std::alloc::Global;
@@ -18,7 +20,7 @@ use std::process::Abort;
 use std::sync::Wait;
 use std::test::Fail;
 
-/// A line of the client 1 is told, by what it asked last.
+/// A line of the client 1 is told, by what it asked last, of whose blocks nothing was said.
 fn told_last<R: Wait>(
     rt: &R,
     alloc: Global,
@@ -33,8 +35,38 @@ fn told_last<R: Wait>(
     ensures count { vec_len seats.new ≡ 3 }
     ensures ready { AreReady (turn_id turn.now) seats.new.items }
 {
+    told_knowing(rt, alloc, turn, seats, line, last, 0, answer)
+}
+
+/// The same, where its worker knows that so much was said of its blocks.
+fn told_knowing<R: Wait>(
+    rt: &R,
+    alloc: Global,
+    turn: &Turn<Book>,
+    seats: &mut Vec<Seat<Book>>,
+    line: u16,
+    last: Option<AskId>,
+    said: u64,
+    answer: Answer,
+) -> Result<(), Untold>
+    requires count { vec_len seats.old ≡ 3 }
+    requires ready { AreReady (turn_id turn.now) seats.old.items }
+    ensures count { vec_len seats.new ≡ 3 }
+    ensures ready { AreReady (turn_id turn.now) seats.new.items }
+{
     seats_stay_ready::<Book>();
-    match tell(rt, alloc, turn, &mut seats[2], 2, 1, line, last, answer) {
+    match tell(
+        rt,
+        alloc,
+        turn,
+        &mut seats[2],
+        2,
+        1,
+        line,
+        last,
+        said,
+        answer,
+    ) {
         Ok(()) => Ok(()),
         Err((_answer, cause)) => Err(cause),
     }
@@ -196,6 +228,38 @@ fn want_of_memory_is_told_at_any_time(rt: HostRuntime) -> Result<(), Fail> {
     begin(&rt, alloc, &turn, &mut seats)?;
     let made = told(&rt, alloc, &turn, &mut seats, 1, Answer::OutOfMemory);
     holds(&rt, made.is_ok(), "told before the flush");
+    Ok(())
+}
+
+/// How often something was said of a line's blocks.
+fn said<R: Wait>(rt: &R, turn: &Turn<Book>, seats: &mut Vec<Seat<Book>>, line: u16) -> u64
+    requires count { vec_len seats.old ≡ 3 }
+    requires ready { AreReady (turn_id turn.now) seats.old.items }
+    ensures count { vec_len seats.new ≡ 3 }
+    ensures ready { AreReady (turn_id turn.now) seats.new.items }
+{
+    seats_stay_ready::<Book>();
+    times_said(rt, turn, &mut seats[2], 2, 1, line)
+}
+
+#[test]
+fn who_knows_another_count_neither_asks_nor_is_told(rt: HostRuntime) -> Result<(), Fail> {
+    let alloc = rt.alloc();
+    let (turn, mut seats) = made(alloc)?;
+    say_wrote(&rt, alloc, &turn, &mut seats, 1)?;
+    holds(&rt, said(&rt, &turn, &mut seats, 1) == 1, "said once");
+    let asked = ask(&rt, alloc, &turn, &mut seats, 1);
+    holds(&rt, asked == Err(AskFault::OtherBlocks), "not asked");
+    let asked = ask_knowing(&rt, alloc, &turn, &mut seats, 1, 1);
+    holds(&rt, asked.is_ok(), "asked");
+    let asked = ask(&rt, alloc, &turn, &mut seats, 1);
+    holds(&rt, asked.is_ok(), "its ask stands undecided");
+    let memory = Answer::OutOfMemory;
+    let other = told(&rt, alloc, &turn, &mut seats, 1, memory);
+    holds(&rt, other == Err(Untold::OtherBlocks), "not told");
+    let (last, memory) = (Some(first_id(1)), Answer::OutOfMemory);
+    let it = told_knowing(&rt, alloc, &turn, &mut seats, 1, last, 1, memory);
+    holds(&rt, it.is_ok(), "told");
     Ok(())
 }
 

@@ -6,9 +6,9 @@ ghost use Rattle.oz_turn.specs.Seat.{AreReady, IsReady};
 ghost use Rattle.oz_turn.specs.Turn.{turn_id};
 
 use oz_asker::{AskFault, put_ask};
-use oz_buffer::{Ledger, Opened, Ready, Reserve, a_reserve_is_room_enough};
+use oz_buffer::{Ledger, Opened, OutOfMemory, Ready, Reserve, a_reserve_is_room_enough};
 use oz_core::{Event, EventKind};
-use oz_fields::{List, Name};
+use oz_fields::{Block, List, Name};
 use oz_flusher::Flusher;
 use oz_journal::Journal;
 use oz_requests::{AskId, Reply, Request};
@@ -101,7 +101,7 @@ pub fn flush<R: Wait>(
         .is_ok()
 }
 
-/// A line asks for a volume.
+/// A line asks for a volume, of whose blocks nothing was said.
 pub fn ask<R: Wait>(
     rt: &R,
     alloc: Global,
@@ -114,15 +114,77 @@ pub fn ask<R: Wait>(
     ensures count { vec_len seats.new ≡ 3 }
     ensures ready { AreReady (turn_id turn.now) seats.new.items }
 {
+    ask_knowing(rt, alloc, turn, seats, line, 0)
+}
+
+/// A line asks for a volume, where its worker knows that so much was said of its blocks.
+pub fn ask_knowing<R: Wait>(
+    rt: &R,
+    alloc: Global,
+    turn: &Turn<Book>,
+    seats: &mut Vec<Seat<Book>>,
+    line: u16,
+    said: u64,
+) -> Result<(), AskFault>
+    requires count { vec_len seats.old ≡ 3 }
+    requires ready { AreReady (turn_id turn.now) seats.old.items }
+    ensures count { vec_len seats.new ≡ 3 }
+    ensures ready { AreReady (turn_id turn.now) seats.new.items }
+{
     seats_stay_ready::<Book>();
     let Ok(volume) = Name::copy(alloc, b"vol") else {
         return Err(AskFault::OutOfMemory);
     };
     let (id, request) = (first_id(line), Request::CreateVolume { volume });
-    match put_ask(rt, alloc, turn, &mut seats[2], 2, id, request) {
+    match put_ask(rt, alloc, turn, &mut seats[2], 2, id, request, said) {
         Ok(_place) => Ok(()),
         Err(fault) => Err(fault),
     }
+}
+
+/// Its worker says that a block is written for a line.
+pub fn say_wrote<R: Wait>(
+    rt: &R,
+    alloc: Global,
+    turn: &Turn<Book>,
+    seats: &mut Vec<Seat<Book>>,
+    line: u16,
+) -> Result<(), OutOfMemory>
+    requires count { vec_len seats.old ≡ 3 }
+    requires ready { AreReady (turn_id turn.now) seats.old.items }
+    ensures count { vec_len seats.new ≡ 3 }
+    ensures ready { AreReady (turn_id turn.now) seats.new.items }
+{
+    seats_stay_ready::<Book>();
+    say_wrote_by(rt, alloc, turn, &mut seats[2], line)
+}
+
+fn say_wrote_by<R: Wait>(
+    rt: &R,
+    alloc: Global,
+    turn: &Turn<Book>,
+    seat: &mut Seat<Book>,
+    line: u16,
+) -> Result<(), OutOfMemory>
+    requires { IsReady (turn_id turn.now) 2 seat.old }
+    ensures { IsReady (turn_id turn.now) 2 seat.new }
+{
+    let (mut ledger, held) = turn.take(rt, seat);
+    if let Err(refused) = ledger.reserve_notes(alloc, 2, 1) {
+        turn.give_back(seat, ledger, held);
+        return Err(refused);
+    }
+    let block = Block {
+        container: 1,
+        local: 1,
+    };
+    let kind = EventKind::Wrote {
+        block,
+        id: first_id(line),
+    };
+    ledger.note(Event { seat: 2, kind });
+    turn.give(seat, ledger, held);
+    Ok(())
 }
 
 fn decide_of(line: u16, index: u64, batch: Vec<u8>) -> Event

@@ -1,0 +1,11 @@
+use Rattle.oz_node_events.proofs.Own.{kept_new}
+use Rattle.oz_node_events.proofs.seat.NodeSeat.make.Goals as goal
+
+pub invariant_of-result : goal.invariant_of-result
+invariant_of-result g c =
+    let O = g.O.Opened in
+    let r = c.requires in (
+      r.seat.ready,
+      r.seat.room,
+      kept_new O.coherent O.opening O.bytes O.script c.args.dn _ _ r.few r.there r.numbered r.seat.seen r.seat.mine,
+    )

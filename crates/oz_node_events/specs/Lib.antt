@@ -1,0 +1,4 @@
+pub mod NodeSeat
+pub mod Noting
+pub mod Answers
+pub mod laws

@@ -1,0 +1,31 @@
+-- A datanode at which nothing happened that is noted.
+use Rattle.std.proofs.Common.{◌≡◌, ℕ, Bool, true, false, cond, List, Option, None, Some, refl, sym, ap, ◌∙◌}
+use Rattle.std.specs.Prelude.{not}
+use Rattle.oz_core.specs.declared.opening.Opening.{Opening}
+use Rattle.oz_datanode.specs.Datanode.{State, count_of, is_halted}
+use Rattle.oz_datanode.specs.Writing.{is_open}
+use Rattle.oz_entries.specs.Node.{Node, is_held}
+use Rattle.oz_replicas.specs.Stays.{Stays}
+use Rattle.oz_world.specs.Disk.{Images}
+use Rattle.oz_node_events.specs.NodeSeat.{SeatView, StandsFor}
+
+same_count : (a b : Bool) (m n : ℕ) (x y : Option ℕ) → b ≡ a → cond b (Some n) x ≡ cond a (Some m) y
+    → cond a (Some m) None ≡ cond b (Some n) None
+same_count true true m n x y same stop = sym stop
+same_count true false m n x y same stop = absurd cc
+same_count false true m n x y same stop = absurd cc
+same_count false false m n x y same stop = refl
+
+pub stands_still : {D : Type 0} (told : D → Option (List ℕ)) (clock : D → ℕ) (image : D → Images) (faults : D → ℕ)
+    (Coherent : Type 0) (opening : Opening) (view : SeatView) (old new : State D)
+    → Stays told clock image faults old new → StandsFor faults Coherent opening view old
+    → StandsFor faults Coherent opening view new
+stands_still told clock image faults Coherent opening view old new same stood = record {
+  number = same.id ∙ stood.number;
+  halt = stood.halt ∙ same_count (is_halted old) (is_halted new) (count_of faults old) (count_of faults new) _ _ same.halted same.stop;
+  line = stood.line ∙ sym (ap not same.line);
+  held = λ coherent block. stood.held coherent block ∙ sym (ap (λ (n : Node). is_held n block) same.node);
+  whole = λ coherent block row is. stood.whole coherent block row (sym (ap (λ (n : Node). n.rows block) same.node) ∙ is);
+  closed = λ coherent container. stood.closed coherent container
+      ∙ sym (ap (λ (n : Node). not (is_open (n.states container))) same.node);
+}

@@ -1,0 +1,82 @@
+//! What holds of the notes of an ask.
+
+ghost use Rattle.std.specs.Prelude.{◌≡◌, ℕ, [], true, List, Option};
+ghost use Rattle.oz_buffer.specs.Buffer.{AllFollow, Follows};
+ghost use Rattle.oz_core.specs.declared.event.Event.{Event as AnyEvent};
+ghost use Rattle.oz_core.specs.declared.event.PutRefusal.{PutRefusal as AnyRefusal};
+ghost use Rattle.oz_core.specs.declared.event.Node.TheVariants.{Datanode};
+ghost use Rattle.oz_core.specs.Asks.{is_script};
+ghost use Rattle.oz_core.specs.Coherent.{IsCoherent};
+ghost use Rattle.oz_core.specs.Manager.{halt_of};
+ghost use Rattle.oz_core.specs.Nodes.{is_closed, stopped_or_started};
+ghost use Rattle.oz_core.specs.Stories.{last_told};
+ghost use Rattle.oz_datanode.specs.Datanode.{Runs, State as AnyNode};
+ghost use Rattle.oz_lines.specs.Numbered.{IsNumbered};
+ghost use Rattle.oz_node_events.specs.Answers.{AnswersStand};
+ghost use Rattle.oz_node_events.specs.NodeSeat.{IsAsOpened, IsKept, SeatView, StandsFor, events_of};
+ghost use Rattle.oz_node_events.specs.Noting.{IsNotedBy, IsSameNoter, MayNote, NotingView};
+ghost use Rattle.oz_replicas.specs.Notes.{Subject};
+ghost use Rattle.oz_replicas.specs.Reading.{IsFirstGiven, ReadsShort};
+ghost use Rattle.oz_replicas.specs.Writing.{AllAnswered, StopsShort};
+ghost use Rattle.oz_requests.specs.declared.request.AskId.{AskId as AnyId};
+ghost use Rattle.oz_turn.specs.Told.{BeginsWith};
+
+use oz_buffer::Opened;
+use oz_world::Disk;
+
+/// A datanode that was loaded, and holds what the opening says, has a seat that stands for it before it gave an event.
+pub fn a_loaded_datanode_stands<D: Disk, O: Opened>()
+    ensures { (node : AnyNode D) → Runs D.faults node → (O.coherent → IsAsOpened O.opening node) →
+        StandsFor D.faults O.coherent O.opening (record { dn = node.id; seen = []; mine = []; room = 0 }) node }
+{}
+
+/// The events of a datanode's seat alone tell whether it halted, whether a line stopped it and which replicas are closed. It
+/// stands for its datanode in each story that goes on by events of others.
+pub fn its_seat_alone_tells<D: Disk, O: Opened>()
+    ensures halt { (story : List AnyEvent) (dn : ℕ) → AllFollow (Follows O.coherent O.opening O.bytes O.script) [] story →
+        halt_of (Datanode dn) story ≡ halt_of (Datanode dn) (events_of dn story) }
+    ensures line { O.coherent → (story : List AnyEvent) (dn : ℕ) →
+        AllFollow (Follows O.coherent O.opening O.bytes O.script) [] story →
+        last_told (stopped_or_started dn) true story ≡ last_told (stopped_or_started dn) true (events_of dn story) }
+    ensures closed { O.coherent → (story : List AnyEvent) (dn container : ℕ) →
+        AllFollow (Follows O.coherent O.opening O.bytes O.script) [] story →
+        is_closed O.opening story dn container ≡ is_closed O.opening (events_of dn story) dn container }
+    ensures stands { (view : SeatView) (node : AnyNode D) (story : List AnyEvent) →
+        IsKept O.coherent O.opening O.bytes O.script view → StandsFor D.faults O.coherent O.opening view node →
+        BeginsWith story view.seen → AllFollow (Follows O.coherent O.opening O.bytes O.script) [] story →
+        events_of view.dn story ≡ view.mine →
+        StandsFor D.faults O.coherent O.opening (record view { seen = story }) node }
+{}
+
+/// What a script's ask has to know so that something may be noted for it stays so, in each story that goes on.
+pub fn what_may_be_noted_stays<O: Opened>()
+    ensures { O.coherent → IsCoherent O.opening O.bytes → IsNumbered O.script → (seen story : List AnyEvent) (id : AnyId)
+        (first : ℕ) (subject : Subject) →
+        is_script id ≡ true → MayNote O.opening O.bytes O.script id first subject seen → BeginsWith story seen →
+        AllFollow (Follows O.coherent O.opening O.bytes O.script) [] story →
+        MayNote O.opening O.bytes O.script id first subject story }
+{}
+
+/// Once all members of a block have answered, each answer stands in the story that the noter's seat has seen by then.
+pub fn each_answer_is_in_the_story<D: Disk, O: Opened>()
+    ensures { (subject : Subject) (members : List ℕ) (answers : List (Option AnyRefusal)) (before after : NotingView) →
+        AllAnswered D.told D.clock D.image D.faults (StandsFor D.faults O.coherent O.opening) IsNotedBy subject members
+        answers before after →
+        AnswersStand O.coherent O.opening before.id subject.block after.seen members answers }
+{}
+
+/// Whatever comes of a block, the noter is the same afterwards, and its seat has seen what it had seen, and more.
+pub fn a_noter_stays_the_same<D: Disk, O: Opened>()
+    ensures written { (subject : Subject) (members : List ℕ) (answers : List (Option AnyRefusal)) (before after : NotingView) →
+        AllAnswered D.told D.clock D.image D.faults (StandsFor D.faults O.coherent O.opening) IsNotedBy subject members
+        answers before after → IsSameNoter before after }
+    ensures unwritten { (subject : Subject) (members : List ℕ) (before after : NotingView) →
+        StopsShort D.told D.clock D.image D.faults (StandsFor D.faults O.coherent O.opening) IsNotedBy subject members
+        before after → IsSameNoter before after }
+    ensures read { (subject : Subject) (size : ℕ) (members : List ℕ) (given : Option (List ℕ)) (before after : NotingView) →
+        IsFirstGiven D.told D.clock D.image D.faults (StandsFor D.faults O.coherent O.opening) IsNotedBy subject size members
+        given before after → IsSameNoter before after }
+    ensures unread { (subject : Subject) (size : ℕ) (members : List ℕ) (before after : NotingView) →
+        ReadsShort D.told D.clock D.image D.faults (StandsFor D.faults O.coherent O.opening) IsNotedBy subject size members
+        before after → IsSameNoter before after }
+{}

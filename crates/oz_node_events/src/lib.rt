@@ -1,0 +1,16 @@
+//! What datanodes do with blocks, told in the story: the seat that is kept beside a datanode, and a noter whose notes it
+//! appends.
+#![tactic(auto)]
+
+mod appending;
+mod events;
+mod laws;
+mod noting;
+mod seat;
+
+pub use laws::{
+    a_loaded_datanode_stands, a_noter_stays_the_same, each_answer_is_in_the_story,
+    its_seat_alone_tells, what_may_be_noted_stays,
+};
+pub use noting::Noting;
+pub use seat::NodeSeat;

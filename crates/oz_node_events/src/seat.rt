@@ -1,0 +1,167 @@
+//! The seat of a datanode, which is kept beside it.
+
+ghost use Rattle.std.specs.Prelude.{◌≡◌, ◌+◌, ◌<◌, ◌≤◌, ◌++◌, ◌∷◌, [], List, length, None, OnOk, OnErr};
+ghost use Rattle.oz_buffer.specs.Buffer.{AllFollow, Follows, IsNote};
+ghost use Rattle.oz_core.specs.declared.event.Event.{Event as AnyEvent};
+ghost use Rattle.oz_core.specs.Seats.{datanode_seat};
+ghost use Rattle.oz_nodes.specs.declared.nodes.TheConstants.{MOST_NODES};
+ghost use Rattle.oz_node_events.specs.NodeSeat.{IsAppended, IsKept, NumbersAreOld, events_of};
+ghost use Rattle.oz_turn.specs.Seat.{IsNewSeat, IsReady, IsSameSeat, mine_of, room_of, seen_of, taken_of, turn_of};
+ghost use Rattle.oz_turn.specs.Told.{BeginsWith};
+ghost use Rattle.oz_turn.specs.Turn.{turn_id};
+
+use crate::appending::{append, reserve, show};
+use oz_buffer::{Ledger, Opened};
+use oz_core::{Event, EventKind};
+use oz_fields::OutOfMemory;
+use oz_replicas::Kept;
+use oz_turn::{Ring, Seat, Told, Turn};
+use oz_world::Disk;
+use std::alloc::Global;
+use std::marker::{Model, PhantomData};
+use std::sync::Wait;
+
+/// The seat of datanode 0. Those of the others follow it.
+const FIRST_DATANODE_SEAT: u16 = 4;
+
+/// How many notes a seat is made ready for.
+const NOTES: u32 = 2;
+
+/// The seat of a datanode. It stands for the datanode that is what the story makes of it.
+#[derive(Drop)]
+pub struct NodeSeat<T: Told<Entry = Event>, O: Opened, R: Ring> {
+    dn: u8,
+    room: u32,
+    seat: Seat<T>,
+    of: PhantomData<(O, R)>,
+}
+
+impl<T: Told<Entry = Event>, O: Opened, R: Ring> Model for NodeSeat<T, O, R> {
+    ghost use Rattle.std.specs.Prelude.{◌≡◌};
+    ghost use Rattle.oz_core.specs.Seats.{datanode_seat};
+    ghost use Rattle.oz_node_events.specs.NodeSeat.{IsKept, SeatView};
+    ghost use Rattle.oz_turn.specs.Seat.{IsReady, mine_of, room_of, seen_of};
+
+    ghost Value = { SeatView };
+
+    ghost view = { λ s. record { dn = s.dn; seen = seen_of s.seat; mine = mine_of s.seat; room = s.room } };
+
+    ghost invariant = { λ s. IsReady R.turn (datanode_seat s.dn) s.seat × (room_of s.seat ≡ s.room)
+        × IsKept O.coherent O.opening O.bytes O.script
+        (record { dn = s.dn; seen = seen_of s.seat; mine = mine_of s.seat; room = s.room }) };
+}
+
+impl<D: Disk, T: Told<Entry = Event>, O: Opened, R: Ring> Kept<D> for NodeSeat<T, O, R> {
+    ghost use Rattle.oz_node_events.specs.NodeSeat.{StandsFor};
+    ghost use Rattle.oz_node_events.specs.laws.Standing.{stands_still};
+
+    ghost stands = { λ kept node. StandsFor D.faults O.coherent O.opening kept node };
+
+    ghost room = { λ kept. kept.room };
+
+    ghost stays = { λ kept old new same stood.
+        stands_still D.told D.clock D.image D.faults O.coherent O.opening kept old new same stood };
+}
+
+impl<T: Told<Entry = Event>, O: Opened, R: Ring> NodeSeat<T, O, R> {
+    /// The seat of this datanode before it gave an event. It takes no memory.
+    pub fn make(dn: u8, seat: Seat<T>) -> NodeSeat<T, O, R>
+        requires few { dn < MOST_NODES }
+        requires there { dn < length O.opening.nodes }
+        requires numbered { O.coherent → NumbersAreOld O.opening }
+        requires seat { IsNewSeat R.turn (datanode_seat dn) seat }
+        ensures { result ≡ record { dn = dn; seen = []; mine = []; room = 0 } }
+    {
+        NodeSeat {
+            dn,
+            room: 0,
+            seat,
+            of: PhantomData,
+        }
+    }
+
+    /// What holds of every one. It does nothing when it runs.
+    pub fn is_kept(&self)
+        ensures { IsKept O.coherent O.opening O.bytes O.script self.now }
+    {
+        let _dn = self.dn;
+    }
+
+    /// The seat itself. It takes no memory.
+    pub fn into_seat(self) -> Seat<T>
+        ensures ready { IsReady R.turn (datanode_seat self.dn) result }
+        ensures events { (seen_of result ≡ self.seen) × (mine_of result ≡ self.mine) }
+        ensures kept { IsKept O.coherent O.opening O.bytes O.script self }
+    {
+        let NodeSeat {
+            dn: _,
+            room: _,
+            seat,
+            of: _,
+        } = self;
+        seat
+    }
+}
+
+impl<O: Opened, R: Ring> NodeSeat<Ledger<O>, O, R> {
+    /// Has room for two notes, so that noting takes no memory.
+    pub(crate) fn ready<W: Wait>(
+        &mut self,
+        rt: &W,
+        alloc: Global,
+        turn: &Turn<Ledger<O>>,
+    ) -> Result<(), OutOfMemory>
+        requires { turn_id turn.now ≡ R.turn }
+        ensures number { self.new.dn ≡ self.old.dn }
+        ensures room { OnOk result (2 ≤ self.new.room) }
+        ensures lacks { OnErr result (self.new.room ≡ self.old.room) }
+        ensures goes_on { BeginsWith self.new.seen self.old.seen }
+        ensures mine { self.new.mine ≡ self.old.mine }
+        ensures kept { IsKept O.coherent O.opening O.bytes O.script self.new }
+        ensures kept_before { IsKept O.coherent O.opening O.bytes O.script self.old }
+    {
+        if self.room >= NOTES {
+            return Ok(());
+        }
+        let by = FIRST_DATANODE_SEAT + u16::from(self.dn);
+        reserve(rt, alloc, turn, &mut self.seat, by, NOTES - self.room)?;
+        self.room = NOTES;
+        Ok(())
+    }
+
+    /// Appends an event of the datanode. Another seat sees it, and all that the datanode's has seen.
+    pub(crate) fn note<W: Wait>(
+        &mut self,
+        rt: &W,
+        turn: &Turn<Ledger<O>>,
+        other: &mut Seat<Ledger<O>>,
+        kind: EventKind,
+    )
+        requires turn { turn_id turn.now ≡ R.turn }
+        requires other_turn { turn_of other.old ≡ R.turn }
+        requires other_free { taken_of other.old ≡ None }
+        requires room { 1 ≤ self.old.room }
+        requires kind { IsNote kind }
+        requires follows { (story : List AnyEvent) → BeginsWith story self.old.seen → BeginsWith story (seen_of other.old)
+            → AllFollow (Follows O.coherent O.opening O.bytes O.script) [] story
+            → events_of self.old.dn story ≡ self.old.mine
+            → Follows O.coherent O.opening O.bytes O.script story (record { seat = datanode_seat self.old.dn; kind = kind }) }
+        ensures number { self.new.dn ≡ self.old.dn }
+        ensures room { self.new.room + 1 ≡ self.old.room }
+        ensures told { IsAppended (record { seat = datanode_seat self.old.dn; kind = kind }) self.old.seen (seen_of other.old)
+            self.new.seen }
+        ensures mine { self.new.mine ≡ self.old.mine ++ record { seat = datanode_seat self.old.dn; kind = kind } ∷ [] }
+        ensures kept { IsKept O.coherent O.opening O.bytes O.script self.new }
+        ensures kept_before { IsKept O.coherent O.opening O.bytes O.script self.old }
+        ensures other { IsSameSeat other.old other.new }
+        ensures other_free { taken_of other.new ≡ None }
+        ensures other_seen { seen_of other.new ≡ self.new.seen }
+        ensures other_mine { mine_of other.new ≡ mine_of other.old }
+        ensures other_room { room_of other.new ≡ room_of other.old }
+    {
+        let by = FIRST_DATANODE_SEAT + u16::from(self.dn);
+        append(rt, turn, &mut self.seat, other, by, kind);
+        show(rt, turn, &mut self.seat, other, by);
+        self.room -= 1;
+    }
+}

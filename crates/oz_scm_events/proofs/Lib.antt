@@ -1,0 +1,7 @@
+mod Own
+mod Telling
+mod Made
+mod Ups
+mod Kept
+mod Enabled
+mod Needed

@@ -1,0 +1,100 @@
+//! The storage container manager with its seat.
+
+ghost use Rattle.std.specs.Prelude.{◌≡◌, [], length, replicate, true, false};
+ghost use Rattle.oz_buffer.specs.Buffer.{AllFollow, Follows};
+ghost use Rattle.oz_core.specs.Seats.{scm_seat};
+ghost use Rattle.oz_scm_events.specs.Kept.{AreContainers, IsKept};
+ghost use Rattle.oz_turn.specs.Seat.{IsNewSeat, IsReady, mine_of, number_of, room_of, seen_of};
+ghost use Rattle.oz_turn.specs.Told.{own_entries, BeginsWith};
+ghost use Rattle.oz_turn.specs.Turn.{turn_id};
+
+use crate::noting::show;
+use oz_buffer::{Ledger, Opened};
+use oz_core::Event;
+use oz_scm::Scm;
+use oz_turn::{Ring, Seat, Told, Turn};
+use oz_world::Disk;
+use std::marker::{Model, PhantomData};
+use std::sync::Wait;
+
+/// The storage container manager of a run, and its seat. That it stands for what its own events make of the opening is
+/// kept by the type, so that it can be said of a value that comes out of a lock.
+#[derive(Drop)]
+pub struct ScmCell<D: Disk, T: Told<Entry = Event>, O: Opened, R: Ring> {
+    pub(crate) scm: Scm<D>,
+    pub(crate) seat: Seat<T>,
+    of: PhantomData<(O, R)>,
+}
+
+impl<D: Disk, T: Told<Entry = Event>, O: Opened, R: Ring> Model for ScmCell<D, T, O, R> {
+    ghost use Rattle.oz_core.specs.Seats.{scm_seat};
+    ghost use Rattle.oz_scm_events.specs.Kept.{ScmView, IsKept};
+    ghost use Rattle.oz_turn.specs.Seat.{IsReady, mine_of, seen_of};
+
+    ghost Value = { ScmView D };
+
+    ghost view = { λ cell. record { scm = cell.scm; seen = seen_of cell.seat; mine = mine_of cell.seat } };
+
+    ghost invariant = { λ cell. IsReady R.turn scm_seat cell.seat
+        × IsKept O.opening cell.scm (D.faults cell.scm.disk) (seen_of cell.seat) (mine_of cell.seat) };
+}
+
+impl<D: Disk, T: Told<Entry = Event>, O: Opened, R: Ring> ScmCell<D, T, O, R> {
+    /// One that was loaded, and stands for the opening. It takes no memory.
+    pub fn make(scm: Scm<D>, seat: Seat<T>) -> ScmCell<D, T, O, R>
+        requires running { scm.stopped ≡ false }
+        requires nodes { scm.made.nodes ≡ length O.opening.nodes }
+        requires next { scm.made.next_id ≡ O.opening.next_id }
+        requires containers { AreContainers scm.made.containers O.opening.containers }
+        requires up { scm.up ≡ replicate (length O.opening.nodes) true }
+        requires seat { IsNewSeat R.turn scm_seat seat }
+        ensures { result ≡ record { scm = scm; seen = []; mine = [] } }
+    {
+        ScmCell {
+            scm,
+            seat,
+            of: PhantomData,
+        }
+    }
+
+    /// What holds of every one. It does nothing when it runs.
+    pub fn is_kept(&self)
+        ensures { IsKept O.opening self.now.scm (D.faults self.now.scm.disk) self.now.seen self.now.mine }
+    {
+        let _count = self.scm.faults();
+    }
+
+    /// The storage container manager and the seat. It takes no memory.
+    pub fn into_parts(self) -> (Scm<D>, Seat<T>)
+        ensures scm { result.0 ≡ self.scm }
+        ensures ready { IsReady R.turn scm_seat result.1 }
+        ensures events { (seen_of result.1 ≡ self.seen) × (mine_of result.1 ≡ self.mine) }
+        ensures kept { IsKept O.opening result.0 (D.faults result.0.disk) (seen_of result.1) (mine_of result.1) }
+    {
+        let ScmCell { scm, seat, of: _ } = self;
+        (scm, seat)
+    }
+}
+
+impl<D: Disk, O: Opened, R: Ring> ScmCell<D, Ledger<O>, O, R> {
+    /// Lets another seat see all that happened until now. Until the lock is given back no event of this one follows: so
+    /// who looks whether a stripe has a block left passes over none of its Grants.
+    pub fn show<W: Wait>(&mut self, rt: &W, turn: &Turn<Ledger<O>>, seat: &mut Seat<Ledger<O>>)
+        requires turn { turn_id turn.now ≡ R.turn }
+        requires ready { IsReady R.turn (number_of seat.old) seat.old }
+
+        // It is as it was, but for what it has seen.
+        ensures same { (self.new.scm ≡ self.old.scm) × (self.new.mine ≡ self.old.mine) }
+        ensures goes_on { BeginsWith self.new.seen self.old.seen }
+
+        // In what the other seat has seen then, the events of this one are all that it gave.
+        ensures shown { own_entries (λ event. event.seat) scm_seat (seen_of seat.new) ≡ self.new.mine }
+        ensures follow { AllFollow (Follows O.coherent O.opening O.bytes O.script) [] (seen_of seat.new) }
+        ensures ready { IsReady R.turn (number_of seat.old) seat.new }
+        ensures begins { BeginsWith (seen_of seat.new) (seen_of seat.old) }
+        ensures mine { mine_of seat.new ≡ mine_of seat.old }
+        ensures room { room_of seat.new ≡ room_of seat.old }
+    {
+        show(rt, turn, &mut self.seat, seat);
+    }
+}

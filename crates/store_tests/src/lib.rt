@@ -1,0 +1,14 @@
+//! Tests of runs over all disks of a store: what a first run writes to each, each disk that fails at each call of its
+//! loading, disks that are damaged, and disks that don't agree.
+#![tactic(auto)]
+
+#[cfg(test)]
+mod agreeing;
+#[cfg(test)]
+mod damage;
+#[cfg(test)]
+mod failing;
+#[cfg(test)]
+mod first;
+#[cfg(test)]
+mod store;

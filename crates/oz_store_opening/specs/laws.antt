@@ -3,6 +3,7 @@ pub mod Held
 pub mod Named
 pub mod Same
 pub mod One
+pub mod Lengths
 pub mod Containers
 pub mod Digests
 pub mod Empty

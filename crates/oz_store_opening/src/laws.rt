@@ -4,7 +4,7 @@ ghost use Rattle.std.specs.Prelude.{◌≡◌, ◌↔◌, ◌<◌, ℕ, List, []
 ghost use Rattle.std.specs.FinMap.{get};
 ghost use Rattle.oz_core.specs.Coherent.{IdsAreFresh, LogIsCoherent};
 ghost use Rattle.oz_core.specs.Contents.{OpeningBytes};
-ghost use Rattle.oz_core.specs.Nodes.{is_open, length_in, was_closed, was_held};
+ghost use Rattle.oz_core.specs.Nodes.{is_open, length_in, length_of, was_closed, was_held};
 ghost use Rattle.oz_core.specs.Stories.{first_in};
 ghost use Rattle.oz_datanode.specs.Datanode.{State as AnyDatanode, node_in};
 ghost use Rattle.oz_datanode.specs.Pairs.{HaveDigests, bytes_of};
@@ -21,7 +21,7 @@ ghost use Rattle.oz_namespace.specs.declared.namespace.Namespace.{Namespace as A
 ghost use Rattle.oz_nodes_loaded.specs.Ids.{AreBelow};
 ghost use Rattle.oz_nodes_loaded.specs.Loads.{AreNodesFrom, IsScmFrom};
 ghost use Rattle.oz_rows.specs.declared.key.RowKey.{RowKey as AnyKey};
-ghost use Rattle.oz_rows.specs.RowMaps.{row_of};
+ghost use Rattle.oz_rows.specs.RowMaps.{Rows as AnyRows, row_of};
 ghost use Rattle.oz_scm.specs.Scm.{State as AnyScm};
 ghost use Rattle.oz_sound.specs.Sound.{IsSoundButRenames};
 ghost use Rattle.oz_sound.specs.StandsFor.{StandsFor};
@@ -32,6 +32,7 @@ ghost use Rattle.oz_store_opening.specs.Same.{SayTheSame};
 ghost use Rattle.oz_world.specs.Disk.{seen};
 
 use oz_block::a_disk_stands_for_one_node;
+use oz_filled::blocks_have_slots_of_their_own;
 use oz_loaded::a_disk_loads_as_one_thing;
 use oz_scm::a_disk_stands_for_one_thing;
 use oz_world::Disk;
@@ -100,6 +101,20 @@ pub fn an_opening_has_what_was_loaded<D: Disk>()
         (number : ℕ) → get (opening_of unseated namespace made nodes).containers number
         ≡ option_map opened_container (container_at made.containers number) }
 {}
+
+/// Where the blocks agree, and the journals of all datanodes told their bytes as they were loaded, an opening has the length
+/// of a block that each datanode's row says.
+pub fn each_row_has_the_length_of_its_block<D: Disk>()
+    ensures { (all : AnyRows) (unseated : UnseatedView) (namespace : AnyNamespace) (made : Made) (disks : List (NodeDisks D))
+        (nodes : List (AnyDatanode D)) (dn : ℕ) (node : AnyDatanode D) (block : AnyBlock) (row : AnyRow) →
+        let see = (λ (d : D). seen (D.told d) (D.clock d) (D.image d) (D.faults d)) in
+        All (λ (own : NodeDisks D). IsSome (D.told own.meta)) disks → AreNodesFrom see 0 disks nodes →
+        BlocksAgree all (opening_of unseated namespace made nodes) (opening_bytes see nodes) →
+        slice_get nodes dn ≡ Some node → (node_in node).rows block ≡ Some row →
+        length_of (opening_of unseated namespace made nodes) [] block ≡ Some row.length }
+{
+    blocks_have_slots_of_their_own();
+}
 
 /// Disks that tell their bytes are loaded as one opening: of the manager one last index, one greatest id and the same blocks
 /// that are left, of the storage container manager one thing, and of the datanodes what says the same.

@@ -41,11 +41,11 @@ closed_by_nodes (node ∷ nodes) zero container = closed_as node.blocks.held con
 closed_by_nodes (node ∷ nodes) (suc dn) container = closed_by_nodes nodes dn container
 
 -- the length of the first row that a block has
-pub or_next : Option BlockRow → Option ℕ → Option ℕ
+abbrev pub or_next : Option BlockRow → Option ℕ → Option ℕ
 or_next None next = next
 or_next (Some row) next = Some row.length
 
-pub first_row : Block → List Node → Option ℕ
+abbrev pub first_row : Block → List Node → Option ℕ
 first_row block [] = None
 first_row block (node ∷ nodes) = or_next (node.rows block) (first_row block nodes)
 
@@ -54,7 +54,6 @@ first_more [] rest length is = absurd cc
 first_more (x ∷ xs) rest length is = is
 
 pub lengths_by_nodes : {D : Type 0} (nodes : List (Datanode D)) (block : Block) → first_in (flat_map (length_in block) (opened nodes) ++ []) ≡ first_row block (map node_in nodes)
-unfolding first_row or_next
 lengths_by_nodes [] block = refl
 lengths_by_nodes (node ∷ nodes) block = by (length_in block (opened_node node.blocks.held)) refl ((node_in node).rows block) refl (lengths_by_nodes nodes block)
   where

@@ -1,0 +1,35 @@
+use Rattle.std.proofs.Common.{◌≡◌, ℕ, not, arith, ◌∙◌, ap}
+use Rattle.oz_core.specs.Nodes.{was_closed, was_held}
+use Rattle.oz_datanode.specs.Datanode.{State as Datanode, node_in}
+use Rattle.oz_store_opening.specs.Openings.{opened_node, opening_of}
+use Rattle.oz_world.specs.Disk.{seen}
+use Rattle.oz_nodes_opened.proofs.Nodes.{from_at, open_alike, there_at}
+use Rattle.oz_nodes_opened.proofs.laws.loaded_datanodes_stand_for_the_opening.Goals as goal
+
+pub returns-clause-number : goal.returns-clause-number
+returns-clause-number g c = λ disks nodes dn node are at.
+    let from = from_at (λ (d : g.row.D.Denot). seen (g.D.Disk.told d) (g.D.Disk.clock d) (g.D.Disk.image d) (g.D.Disk.faults d)) 0 disks nodes are dn node at in
+    let number = from.1.id in
+    omega (arith, number)
+
+pub returns-clause-runs : goal.returns-clause-runs
+returns-clause-runs g c = λ disks nodes dn node are at.
+    (from_at (λ (d : g.row.D.Denot). seen (g.D.Disk.told d) (g.D.Disk.clock d) (g.D.Disk.image d) (g.D.Disk.faults d)) 0 disks nodes are dn node at).1.running
+
+pub returns-clause-there : goal.returns-clause-there
+returns-clause-there g c = λ unseated namespace made nodes dn node at. there_at (λ (n : Datanode g.row.D.Denot). opened_node n.blocks.held) nodes dn node at
+
+pub returns-clause-numbered : goal.returns-clause-numbered
+returns-clause-numbered g c = λ unseated namespace made nodes unretired among. absurd (omega (arith, among.1))
+
+pub returns-clause-opened : goal.returns-clause-opened
+returns-clause-opened g c = λ all unseated namespace made disks nodes dn node tell are agree at.
+    let has = c.an_opening_has_what_was_loaded.ensures in
+    let from = from_at (λ (d : g.row.D.Denot). seen (g.D.Disk.told d) (g.D.Disk.clock d) (g.D.Disk.image d) (g.D.Disk.faults d)) 0 disks nodes are dn node at in
+    let number = from.1.id in
+    let its : node.id ≡ dn = omega (arith, number) in
+    record {
+      held = λ block. ap (λ (n : ℕ). was_held (opening_of unseated namespace made nodes) n block) its ∙ has.held unseated namespace made nodes dn node block at;
+      whole = λ block row is. c.each_row_has_the_length_of_its_block.ensures all unseated namespace made disks nodes dn node block row tell are agree at is;
+      closed = λ container. ap (λ (n : ℕ). was_closed (opening_of unseated namespace made nodes) n container) its ∙ (has.closed unseated namespace made nodes dn node container at ∙ ap not (open_alike ((node_in node).states container)));
+    }

@@ -1,10 +1,12 @@
 //! Laws of what loaded disks stand for together.
 
-ghost use Rattle.std.specs.Prelude.{◌≡◌, ◌↔◌, ◌<◌, ℕ, List, [], None, Some, IsSome, All, not, map, option_map, slice_get};
+ghost use Rattle.std.specs.Prelude.{◌≡◌, ◌↔◌, ◌<◌, ◌≤◌, ℕ, List, [], None, Some, IsSome, All, Contains, not, map, option_map, slice_get};
 ghost use Rattle.std.specs.FinMap.{get};
 ghost use Rattle.oz_core.specs.Coherent.{IdsAreFresh, LogIsCoherent};
 ghost use Rattle.oz_core.specs.Contents.{OpeningBytes};
 ghost use Rattle.oz_core.specs.Nodes.{is_open, length_in, length_of, was_closed, was_held};
+ghost use Rattle.oz_core.specs.declared.opening.Opening.{Opening as AnyOpening};
+ghost use Rattle.oz_core.specs.declared.opening.Replica.{Replica as AnyReplica};
 ghost use Rattle.oz_core.specs.Stories.{first_in};
 ghost use Rattle.oz_datanode.specs.Datanode.{State as AnyDatanode, node_in};
 ghost use Rattle.oz_datanode.specs.Pairs.{HaveDigests, bytes_of};
@@ -18,6 +20,7 @@ ghost use Rattle.oz_journal.specs.Grammar.{IsJournal};
 ghost use Rattle.oz_loaded.specs.Loads.{IsLoaded};
 ghost use Rattle.oz_loaded.specs.Unseated.{UnseatedView};
 ghost use Rattle.oz_namespace.specs.declared.namespace.Namespace.{Namespace as AnyNamespace};
+ghost use Rattle.oz_namespace.specs.Namespace.{nothing};
 ghost use Rattle.oz_nodes_loaded.specs.Ids.{AreBelow};
 ghost use Rattle.oz_nodes_loaded.specs.Loads.{AreNodesFrom, IsScmFrom};
 ghost use Rattle.oz_rows.specs.declared.key.RowKey.{RowKey as AnyKey};
@@ -59,15 +62,17 @@ pub fn no_id_is_granted_again<D: Disk>()
 }
 
 /// Where the rows that were loaded are sound but for what renamed rows say, and stand for a namespace, the ids that were
-/// loaded are below the next one, and the blocks agree, all disks are a store.
+/// loaded are below the next one, and the blocks agree, all disks are a store. The blocks of each store agree.
 pub fn all_disks_are_a_store<D: Disk>()
-    ensures { (bodies : List (List ℕ)) (unseated : UnseatedView) (this : IsLoaded bodies unseated)
+    ensures store { (bodies : List (List ℕ)) (unseated : UnseatedView) (this : IsLoaded bodies unseated)
         (namespace : AnyNamespace) (made : Made) (nodes : List (AnyDatanode D)) →
         let see = (λ (d : D). seen (D.told d) (D.clock d) (D.image d) (D.faults d)) in
         StandsFor (row_of this.all) namespace → IsSoundButRenames (row_of this.all) →
         AreBelow unseated.greatest_id (map node_in nodes) made.next_id →
         BlocksAgree (row_of this.all) (opening_of unseated namespace made nodes) (opening_bytes see nodes) →
         IsStore (row_of this.all) (opening_of unseated namespace made nodes) (opening_bytes see nodes) }
+    ensures only { (all : AnyRows) (opening : AnyOpening) (bytes : OpeningBytes) →
+        IsStore all opening bytes → BlocksAgree all opening bytes }
 {
     oz_loaded::what_is_left_stands_in_deleted_rows();
     oz_store::what_is_reached_stands_in_a_row();
@@ -84,8 +89,20 @@ pub fn an_empty_store_agrees<D: Disk>()
     ensures unwritten { (node : AnyDatanode D) → Makes [] (node_in node) → HoldsNothing node }
 {}
 
-/// An opening has the blocks of the datanodes, with their lengths, which of their replicas are closed, and the containers
-/// of the storage container manager.
+/// Where no journal has a body all disks are a store.
+pub fn unwritten_disks_are_a_store<D: Disk>()
+    ensures { (unseated : UnseatedView) (this : IsLoaded [] unseated) (count : ℕ) (nodes : List (AnyDatanode D)) →
+        let see = (λ (d : D). seen (D.told d) (D.clock d) (D.image d) (D.faults d)) in
+        All (λ (node : AnyDatanode D). Makes [] (node_in node)) nodes →
+        IsStore (row_of this.all) (opening_of unseated nothing (begun count) nodes) (opening_bytes see nodes) }
+{
+    oz_loaded::what_is_left_stands_in_deleted_rows();
+    oz_store::an_empty_store_is_one();
+    oz_store::what_is_reached_stands_in_a_row();
+}
+
+/// An opening has the blocks of the datanodes, with their lengths, the states and greatest transactions of their replicas,
+/// each of which is listed that is closed or has a transaction, and the containers of the storage container manager.
 pub fn an_opening_has_what_was_loaded<D: Disk>()
     ensures held { (unseated : UnseatedView) (namespace : AnyNamespace) (made : Made) (nodes : List (AnyDatanode D)) (dn : ℕ)
         (node : AnyDatanode D) (block : AnyBlock) → slice_get nodes dn ≡ Some node →
@@ -97,6 +114,16 @@ pub fn an_opening_has_what_was_loaded<D: Disk>()
         (node : AnyDatanode D) (container : ℕ) → slice_get nodes dn ≡ Some node →
         was_closed (opening_of unseated namespace made nodes) dn container
         ≡ not (is_open ((node_in node).states container)) }
+    ensures replicas { (node : AnyDatanode D) (replica : AnyReplica) →
+        Contains (opened_node node.blocks.held).replicas replica →
+        (replica.state ≡ (node_in node).states replica.container)
+        × (replica.greatest ≡ (node_in node).greatest replica.container) }
+    ensures applied { (node : AnyDatanode D) (container : ℕ) → 1 ≤ (node_in node).greatest container →
+        Contains (opened_node node.blocks.held).replicas (record {
+          container = container;
+          state = (node_in node).states container;
+          greatest = (node_in node).greatest container;
+        }) }
     ensures containers { (unseated : UnseatedView) (namespace : AnyNamespace) (made : Made) (nodes : List (AnyDatanode D))
         (number : ℕ) → get (opening_of unseated namespace made nodes).containers number
         ≡ option_map opened_container (container_at made.containers number) }

@@ -1,5 +1,5 @@
 -- Where nothing is on any disk.
-use Rattle.std.proofs.Common.{◌≡◌, ⊎_elim, ℕ, zero, suc, ◌<◌, true, false, List, [], ◌∷◌, length, map, None, Some, All, Any, refl, sym, ◌∙◌, ap, subst, arith}
+use Rattle.std.proofs.Common.{◌≡◌, ⊎_elim, ℕ, zero, suc, ◌<◌, true, false, List, [], ◌∷◌, length, map, None, Some, All, Any, refl, sym, ◌∙◌, ap, subst, arith, Contains, ◌↔◌}
 use Rattle.std.proofs.lemmas.Bool.{false≢true}
 use Rattle.std.specs.List.{slice_get, slice_index_or}
 use Rattle.std.specs.Option.{option_map_or}
@@ -10,13 +10,23 @@ use Rattle.oz_entries.specs.Build.{Makes, MakesFrom}
 use Rattle.oz_entries.specs.Node.{Node, is_held}
 use Rattle.oz_fields.specs.declared.block.Block.{Block}
 use Rattle.oz_grants.specs.Made.{Made, begun}
+use Rattle.oz_effects.specs.Build.{BuildsFrom}
+use Rattle.oz_loaded.specs.Counted.{IsGreatestId}
+use Rattle.oz_loaded.specs.Loads.{IsLoaded}
 use Rattle.oz_loaded.specs.Unseated.{UnseatedView}
+use Rattle.oz_model.specs.Reach.{IsReached}
 use Rattle.oz_namespace.specs.declared.namespace.Namespace.{Namespace}
+use Rattle.oz_namespace.specs.Namespace.{nothing}
+use Rattle.oz_world.specs.Disk.{Seen}
 use Rattle.oz_nodes_loaded.specs.Ids.{AreBelow, HoldsId}
-use Rattle.oz_rows.specs.RowMaps.{row_of}
-use Rattle.oz_store.specs.Store.{IsInARow}
+use Rattle.oz_rows.specs.RowMaps.{Rows, row_of}
+use Rattle.oz_rows.specs.declared.entry.RowEntry.{RowEntry}
+use Rattle.oz_sound.specs.Sound.{IsSoundButRenames}
+use Rattle.oz_sound.specs.StandsFor.{StandsFor}
+use Rattle.oz_store.specs.Store.{IsInADeletedRow, IsInARow, IsStore, empty_store}
 use Rattle.oz_store_opening.specs.Agreeing.{BlocksAgree, HoldsNothing}
-use Rattle.oz_store_opening.specs.Openings.{opening_of}
+use Rattle.oz_store_opening.specs.Openings.{opening_bytes, opening_of}
+use Rattle.oz_store_opening.specs.laws.Stores.{coherent, rows_agree}
 use Rattle.oz_store_opening.specs.laws.Held.{was_held_as}
 
 no_row : {X : Type 0} (block : Block) → IsInARow (row_of []) block → X
@@ -58,3 +68,41 @@ module _ {D : Type 0} (nodes : List (Datanode D)) (none : All HoldsNothing nodes
 pub no_bodies_hold_nothing : {D : Type 0} (node : Datanode D) → Makes [] (node_in node) → HoldsNothing node
 unfolding MakesFrom
 no_bodies_hold_nothing node makes block = ap (λ (n : Node). is_held n block) makes
+
+-- ---- rows of no body
+
+unwritten_greatest : (id : ℕ) → IsGreatestId (row_of []) id → id ≡ 0
+unwritten_greatest id is = ⊎_elim (λ none. none) (λ there. let found : None ≡ Some there.1 = there.2 in absurd cc) is.reached
+
+module _ {D : Type 0} (see : D → Seen) (empty_store_is : (bytes : OpeningBytes) → IsStore (row_of []) empty_store bytes)
+    (unseated : UnseatedView) (this : IsLoaded [] unseated)
+    (left : (block : Block) → Contains unseated.left block ↔ IsInADeletedRow (row_of this.all) block)
+    (reached_in : (all : Rows) (namespace : Namespace) (block : Block) → StandsFor all namespace → IsReached namespace block → IsInARow all block)
+    (count : ℕ) (nodes : List (Datanode D)) (unwritten : All (λ (node : Datanode D). Makes [] (node_in node)) nodes) where
+  no_rows : this.all ≡ []
+  unfolding BuildsFrom
+  no_rows = this.builds.1.0
+
+  hold_nothing : All HoldsNothing nodes
+  hold_nothing k d within = no_bodies_hold_nothing (slice_index_or nodes k d) (unwritten k d within)
+
+  below : AreBelow unseated.greatest_id (map node_in nodes) (begun count).next_id
+  below =
+      let none : unseated.greatest_id ≡ 0 = unwritten_greatest unseated.greatest_id (subst (λ (all : List RowEntry). IsGreatestId (row_of all) unseated.greatest_id) no_rows this.greatest_id) in
+      subst (λ (id : ℕ). AreBelow id (map node_in nodes) (begun count).next_id) (sym none) (nothing_below count nodes hold_nothing)
+
+  pub unwritten_store : IsStore (row_of this.all) (opening_of unseated nothing (begun count) nodes) (opening_bytes see nodes)
+  unwritten_store =
+      let bytes = opening_bytes see nodes in
+      let old = empty_store_is bytes in
+      let agree : BlocksAgree (row_of this.all) (opening_of unseated nothing (begun count) nodes) bytes =
+      subst (λ (all : List RowEntry). BlocksAgree (row_of all) (opening_of unseated nothing (begun count) nodes) bytes) (sym no_rows) (nothing_agrees nodes hold_nothing unseated nothing (begun count) bytes) in
+      let stands : StandsFor (row_of this.all) nothing = subst (λ (all : List RowEntry). StandsFor (row_of all) nothing) (sym no_rows) old.stands in
+      let reached : (block : Block) → IsReached nothing block → IsInARow (row_of this.all) block = λ block is. reached_in (row_of this.all) nothing block stands is in
+      record {
+        stands = stands;
+        sound = subst (λ (all : List RowEntry). IsSoundButRenames (row_of all)) (sym no_rows) old.sound;
+        left = left;
+        rows = rows_agree (row_of this.all) unseated this.greatest_id left nothing reached (begun count) nodes below bytes agree;
+        disks = coherent (row_of this.all) unseated this.greatest_id left nothing reached (begun count) nodes below bytes agree;
+      }

@@ -1,7 +1,7 @@
 -- The lengths and replicas of an opening are those of the datanodes.
-use Rattle.std.proofs.Common.{◌≡◌, ℕ, zero, suc, eqb, eqb-true, Bool, true, false, not, ◌&&◌, ◌||◌, ◌==◌, cond, List, [], ◌∷◌, map, Option, None, Some, is_some, option_map, refl, sym, ◌∙◌, ap, subst}
+use Rattle.std.proofs.Common.{◌≡◌, ℕ, zero, suc, eqb, eqb-true, Bool, true, false, not, ◌&&◌, ◌||◌, ◌==◌, cond, List, [], ◌∷◌, map, Option, None, Some, is_some, option_map, refl, sym, ◌∙◌, ap, subst, Contains, ◌<◌, ◌≤◌, length, arith}
 use Rattle.std.proofs.lemmas.Bool.{eq-eqb, false≢true}
-use Rattle.std.specs.List.{cons_option, filter_map, list_any, slice_get}
+use Rattle.std.specs.List.{cons_option, filter_map, list_any, slice_get, slice_index_or}
 use Rattle.std.specs.Option.{option_map_or}
 use Rattle.std.specs.Ordering.{is_eq, nat_cmp}
 use Rattle.oz_container.specs.declared.state.State.TheVariants as states
@@ -136,6 +136,42 @@ closed_as held container =
     same_test (closes_at_opening container (opened_node held)) (not (is_open ((node_of held).states container)))
     (listed_closed (node_of held) container (containers_in held.replicas))
     (λ is. closed_listed (node_of held) container (containers_in held.replicas) is (replica_listed held.replicas container (not_open_found (replica_of held.replicas container) is)))
+
+-- each has the state and the greatest transaction of its container
+listed_said : (node : Node) (containers : List ℕ) (k : ℕ) (replica : Replica) → k < length (replicas_of node containers) → slice_index_or (replicas_of node containers) k replica ≡ replica
+    → (replica.state ≡ node.states replica.container) × (replica.greatest ≡ node.greatest replica.container)
+listed_said node [] k replica within is = absurd (omega (arith, within))
+listed_said node (container ∷ containers) zero replica within is = (
+  sym (ap (λ (r : Replica). r.state) is) ∙ ap (λ (r : Replica). node.states r.container) is,
+  sym (ap (λ (r : Replica). r.greatest) is) ∙ ap (λ (r : Replica). node.greatest r.container) is,
+)
+listed_said node (container ∷ containers) (suc k) replica within is = listed_said node containers k replica (omega (arith, within)) is
+
+pub replica_said : (held : HeldView) (replica : Replica) → Contains (opened_node held).replicas replica
+    → (replica.state ≡ (node_of held).states replica.container) × (replica.greatest ≡ (node_of held).greatest replica.container)
+replica_said held replica among = listed_said (node_of held) (containers_in held.replicas) among.0 replica among.1 among.2
+
+-- one to which a transaction was applied is listed
+abbrev its : Node → ℕ → Replica
+its node n = record { container = n; state = node.states n; greatest = node.greatest n }
+
+found_listed : (containers : List ℕ) (node : Node) (container : ℕ) → list_any (λ (other : ℕ). eqb container other) containers ≡ true
+    → Contains (replicas_of node containers) (its node container)
+found_listed [] node container among = absurd (false≢true among)
+found_listed (other ∷ containers) node container among = by (eqb container other) refl (found_listed containers node container) among
+  where
+    by : (t : Bool) → eqb container other ≡ t → (list_any (λ (o : ℕ). eqb container o) containers ≡ true → Contains (replicas_of node containers) (its node container))
+        → (t || list_any (λ (o : ℕ). eqb container o) containers) ≡ true → Contains (its node other ∷ replicas_of node containers) (its node container)
+    by true same later e = (zero, omega arith, ap (its node) (sym (eqb-true container other same)))
+    by false same later e = let found = later e in (suc found.0, omega (arith, found.1), found.2)
+
+applied_found : (o : Option KeptReplica) → 1 ≤ option_map_or (λ (replica : KeptReplica). replica.greatest) o 0 → is_some o ≡ true
+applied_found None some = absurd (omega (arith, some))
+applied_found (Some replica) some = refl
+
+pub applied_listed : (held : HeldView) (container : ℕ) → 1 ≤ (node_of held).greatest container
+    → Contains (opened_node held).replicas (its (node_of held) container)
+applied_listed held container some = found_listed (containers_in held.replicas) (node_of held) container (replica_listed held.replicas container (applied_found (replica_of held.replicas container) some))
 
 -- ---- of one of all datanodes
 

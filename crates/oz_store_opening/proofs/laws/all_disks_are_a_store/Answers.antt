@@ -7,8 +7,8 @@ use Rattle.oz_store_opening.specs.laws.Stores.{coherent, rows_agree}
 use Rattle.oz_world.specs.Disk.{seen}
 use Rattle.oz_store_opening.proofs.laws.all_disks_are_a_store.Goals as goal
 
-pub returns : goal.returns
-returns g c bodies unseated this namespace made nodes stands sound below agree =
+pub returns-clause-store : goal.returns-clause-store
+returns-clause-store g c = λ bodies unseated this namespace made nodes stands sound below agree.
     let bytes = opening_bytes (λ (d : g.row.D.Denot). seen (g.D.Disk.told d) (g.D.Disk.clock d) (g.D.Disk.image d) (g.D.Disk.faults d)) nodes in
     let left = c.what_is_left_stands_in_deleted_rows.ensures bodies unseated this in
     let reached : (block : Block) → IsReached namespace block → IsInARow (row_of this.all) block = λ block is. c.what_is_reached_stands_in_a_row.ensures (row_of this.all) namespace block stands is in
@@ -19,3 +19,12 @@ returns g c bodies unseated this namespace made nodes stands sound below agree =
       rows = rows_agree (row_of this.all) unseated this.greatest_id left namespace reached made nodes below bytes agree;
       disks = coherent (row_of this.all) unseated this.greatest_id left namespace reached made nodes below bytes agree;
     }
+
+pub returns-clause-only : goal.returns-clause-only
+returns-clause-only g c = λ all opening bytes store. record {
+  made = store.rows.made;
+  placed = store.disks.blocks.placed;
+  digests_match = store.disks.blocks.digests_match;
+  alike = store.disks.blocks.alike;
+  whole = store.disks.blocks.whole;
+}

@@ -6,7 +6,7 @@ use Rattle.oz_datanode.specs.Datanode.{State as Datanode}
 use Rattle.oz_store_opening.specs.Openings.{opened_node}
 use Rattle.oz_store_opening.specs.laws.Containers.{containers_are}
 use Rattle.oz_store_opening.specs.laws.Held.{holds_as}
-use Rattle.oz_store_opening.specs.laws.Named.{at_place, closed_as, length_is}
+use Rattle.oz_store_opening.specs.laws.Named.{at_place, applied_listed, closed_as, length_is, replica_said}
 use Rattle.oz_store_opening.proofs.laws.an_opening_has_what_was_loaded.Goals as goal
 
 pub returns-clause-held : goal.returns-clause-held
@@ -24,3 +24,9 @@ returns-clause-closed g c = λ unseated namespace made nodes dn node container a
 
 pub returns-clause-containers : goal.returns-clause-containers
 returns-clause-containers g c = λ unseated namespace made nodes number. containers_are made.containers number
+
+pub returns-clause-replicas : goal.returns-clause-replicas
+returns-clause-replicas g c = λ node replica among. replica_said node.blocks.held replica among
+
+pub returns-clause-applied : goal.returns-clause-applied
+returns-clause-applied g c = λ node container some. applied_listed node.blocks.held container some

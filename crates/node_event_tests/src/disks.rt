@@ -1,7 +1,6 @@
 //! Datanodes over disks in memory.
 
 ghost use Rattle.std.specs.Prelude.{◌≡◌, IfOk};
-ghost use Rattle.oz_datanode.specs.Datanode.{Runs};
 ghost use Rattle.oz_replicas.specs.Stays.{IsIdle};
 
 use oz_datanode::{Datanode, NodeDisks};
@@ -52,7 +51,6 @@ fn disks_of(alloc: Global, disks: Disks) -> Result<NodeDisks<MemoryDisk>, OutOfM
 pub fn loaded(alloc: Global, dn: u8, disks: Disks) -> Result<Datanode<MemoryDisk>, Fail>
     ensures number { IfOk result (λ node. node.id ≡ dn) }
     ensures idle { IfOk result (λ node. IsIdle node) }
-    ensures runs { IfOk result (λ node. Runs MemoryDisk.faults node) }
 {
     match Datanode::load(alloc, dn, disks_of(alloc, disks)?) {
         Ok(node) => Ok(node),

@@ -8,6 +8,8 @@ mod disks;
 #[cfg(test)]
 mod stage;
 #[cfg(test)]
+mod stopping;
+#[cfg(test)]
 mod telling;
 #[cfg(test)]
 mod told;

@@ -93,6 +93,9 @@ fn cell<R: Ring>(alloc: Global, dn: u8, disks: Disks, seat: Seat<Book>) -> Resul
 {
     a_loaded_datanode_stands::<MemoryDisk, ThreeNodes>();
     let node = loaded(alloc, dn, disks)?;
+    if !node.running() {
+        return Err("it doesn't run".into());
+    }
     Ok(NodeCell::new(node, NodeSeat::make(dn, seat)))
 }
 
@@ -119,7 +122,7 @@ fn with_next<R: Ring>(
 }
 
 /// The datanodes 0, 1 and 2, over these disks.
-pub fn stage<R: Ring>(
+pub fn staged<R: Ring>(
     alloc: Global,
     mut seats: Vec<Seat<Book>>,
     disks: [Disks; 3],

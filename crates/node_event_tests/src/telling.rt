@@ -6,7 +6,8 @@ ghost use Rattle.oz_turn.specs.Turn.{turn_id};
 
 use crate::asking::{BLOCK, ID, ask, grant};
 use crate::disks::Disks;
-use crate::stage::{Book, Stage, Three, ThreeNodes, holds, made, stage};
+use crate::stage::{Book, Stage, Three, ThreeNodes, holds, made, staged};
+use crate::stopping::stop;
 use crate::told::tells;
 use oz_core::PutRefusal;
 use oz_fields::Piece;
@@ -80,7 +81,15 @@ fn reads_nothing<R: Ring, W: Wait + Abort>(
 {
     a_noter_stays_the_same::<MemoryDisk, ThreeNodes>();
     let mut noting = Noting::<MemoryDisk, Book, ThreeNodes, R, W>::new(
-        rt, alloc, turn, worker, ID, 0, BLOCK, MEMBERS, &[],
+        rt,
+        alloc,
+        turn,
+        worker,
+        ID,
+        0,
+        BLOCK,
+        MEMBERS,
+        &[],
     );
     let piece = Piece {
         block: BLOCK,
@@ -105,6 +114,42 @@ fn begins<R: Ring, W: Wait>(
     grant(rt, alloc, turn, &mut stage.decider)
 }
 
+/// So it is at these datanodes.
+fn writes_at<R: Ring, W: Wait + Abort>(
+    rt: &W,
+    alloc: Global,
+    turn: &Turn<Book>,
+    stage: &mut Stage<R>,
+    answers: [&str; 3],
+) -> Result<(), Fail>
+    requires { turn_id turn.now ≡ R.turn }
+{
+    writes(rt, alloc, turn, &stage.nodes, &mut stage.worker, answers)
+}
+
+fn reads_nothing_at<R: Ring, W: Wait + Abort>(
+    rt: &W,
+    alloc: Global,
+    turn: &Turn<Book>,
+    stage: &mut Stage<R>,
+) -> Result<(), Fail>
+    requires { turn_id turn.now ≡ R.turn }
+{
+    reads_nothing(rt, alloc, turn, &stage.nodes, &mut stage.worker)
+}
+
+/// A line stops datanode 2.
+fn stop_last<R: Ring, W: Wait>(
+    rt: &W,
+    alloc: Global,
+    turn: &Turn<Book>,
+    stage: &mut Stage<R>,
+) -> Result<(), Fail>
+    requires { turn_id turn.now ≡ R.turn }
+{
+    stop(rt, alloc, turn, &stage.nodes, &mut stage.worker, 2)
+}
+
 fn three_put<R: Ring, W: Wait + Abort>(
     rt: &W,
     alloc: Global,
@@ -115,13 +160,13 @@ fn three_put<R: Ring, W: Wait + Abort>(
     requires count { vec_len seats ≡ 9 }
     requires new { AreNewSeats R.turn seats.items }
 {
-    let mut stage = stage::<R>(alloc, seats, [Disks::Empty, Disks::Empty, Disks::Empty])?;
+    let mut stage = staged::<R>(alloc, seats, [Disks::Empty, Disks::Empty, Disks::Empty])?;
     begins(rt, alloc, turn, &mut stage)?;
     let put = ["put", "put", "put"];
-    writes(rt, alloc, turn, &stage.nodes, &mut stage.worker, put)?;
+    writes_at(rt, alloc, turn, &mut stage, put)?;
     let story = turn.look(rt, alloc, &mut stage.worker, 0)?;
     tells(rt, alloc, EMPTY, story.as_slice(), "a0d0p0p1p2")?;
-    writes(rt, alloc, turn, &stage.nodes, &mut stage.worker, put)?;
+    writes_at(rt, alloc, turn, &mut stage, put)?;
     let story = turn.look(rt, alloc, &mut stage.worker, 0)?;
     tells(rt, alloc, EMPTY, story.as_slice(), "a0d0p0p1p2")
 }
@@ -138,15 +183,35 @@ fn one_halts<R: Ring, W: Wait + Abort>(
     requires new { AreNewSeats R.turn seats.items }
 {
     let disks = [Disks::Empty, Disks::Failing(5), Disks::Empty];
-    let mut stage = stage::<R>(alloc, seats, disks)?;
+    let mut stage = staged::<R>(alloc, seats, disks)?;
     begins(rt, alloc, turn, &mut stage)?;
     let answers = ["put", "stopped", "put"];
-    writes(rt, alloc, turn, &stage.nodes, &mut stage.worker, answers)?;
+    writes_at(rt, alloc, turn, &mut stage, answers)?;
     let story = turn.look(rt, alloc, &mut stage.worker, 0)?;
     tells(rt, alloc, EMPTY, story.as_slice(), "a0d0p0h1r1p2")?;
-    writes(rt, alloc, turn, &stage.nodes, &mut stage.worker, answers)?;
+    writes_at(rt, alloc, turn, &mut stage, answers)?;
     let story = turn.look(rt, alloc, &mut stage.worker, 0)?;
     tells(rt, alloc, EMPTY, story.as_slice(), "a0d0p0h1r1p2r1")
+}
+
+/// A line has stopped datanode 2.
+fn one_is_stopped<R: Ring, W: Wait + Abort>(
+    rt: &W,
+    alloc: Global,
+    turn: &Turn<Book>,
+    seats: Vec<Seat<Book>>,
+) -> Result<(), Fail>
+    requires turn { turn_id turn.now ≡ R.turn }
+    requires count { vec_len seats ≡ 9 }
+    requires new { AreNewSeats R.turn seats.items }
+{
+    let mut stage = staged::<R>(alloc, seats, [Disks::Empty, Disks::Empty, Disks::Empty])?;
+    begins(rt, alloc, turn, &mut stage)?;
+    stop_last(rt, alloc, turn, &mut stage)?;
+    let answers = ["put", "put", "stopped"];
+    writes_at(rt, alloc, turn, &mut stage, answers)?;
+    let story = turn.look(rt, alloc, &mut stage.worker, 0)?;
+    tells(rt, alloc, EMPTY, story.as_slice(), "a0d0s2p0p1r2")
 }
 
 /// Two datanodes have the block with other bytes, and the third hasn't it.
@@ -160,9 +225,9 @@ fn two_are_bad<R: Ring, W: Wait + Abort>(
     requires count { vec_len seats ≡ 9 }
     requires new { AreNewSeats R.turn seats.items }
 {
-    let mut stage = stage::<R>(alloc, seats, [Disks::Bad, Disks::Bad, Disks::Empty])?;
+    let mut stage = staged::<R>(alloc, seats, [Disks::Bad, Disks::Bad, Disks::Empty])?;
     begins(rt, alloc, turn, &mut stage)?;
-    reads_nothing(rt, alloc, turn, &stage.nodes, &mut stage.worker)?;
+    reads_nothing_at(rt, alloc, turn, &mut stage)?;
     let story = turn.look(rt, alloc, &mut stage.worker, 0)?;
     tells(rt, alloc, HOLDING, story.as_slice(), "a0d0b0b1")
 }
@@ -177,6 +242,12 @@ fn three_members_put_a_block_once(rt: HostRuntime) -> Result<(), Fail> {
 fn a_member_whose_disk_fails_halts_and_refuses(rt: HostRuntime) -> Result<(), Fail> {
     let (turn, seats) = made(rt.alloc())?;
     one_halts::<Brand, _>(&rt, rt.alloc(), &turn, seats)
+}
+
+#[test]
+fn a_stopped_member_refuses(rt: HostRuntime) -> Result<(), Fail> {
+    let (turn, seats) = made(rt.alloc())?;
+    one_is_stopped::<Brand, _>(&rt, rt.alloc(), &turn, seats)
 }
 
 #[test]

@@ -3,7 +3,7 @@
 
 ghost use Rattle.std.specs.Prelude.{◌≡◌, ◌≤◌, ℕ, length, map, IfOk};
 ghost use Rattle.std.specs.String.{string_bytes};
-ghost use Rattle.oz_words.specs.Words.{IsRunWith};
+ghost use Rattle.oz_words.specs.Words.{IsRead, IsRunWith};
 
 use oz_datanode::NodeDisks;
 use oz_nodes_loaded::DiskName;
@@ -70,6 +70,24 @@ fn nodes_with(
     Ok(nodes)
 }
 
+/// As many datanodes as words say that were read.
+fn nodes_named(
+    alloc: Global,
+    words: &[String],
+    read: Words,
+    bytes: &[NodeDisks<Vec<u8>>],
+    failing: Option<FailingCall>,
+) -> Result<Vec<NodeDisks<MemoryDisk>>, OutOfMemory>
+    requires { IsRead (map string_bytes words.now) read }
+    ensures { (nodes workers : ℕ) → IsRunWith (map string_bytes words.now) nodes workers →
+        IfOk result (λ disks. length disks.items ≡ nodes) }
+{
+    words_are_one_run();
+    match read {
+        Words::Run { nodes, .. } => nodes_with(alloc, nodes, bytes, failing),
+    }
+}
+
 /// As many datanodes as these words say, and three where they are wrong: the first ones with these bytes and the others
 /// with empty disks.
 pub fn nodes_for(
@@ -78,13 +96,12 @@ pub fn nodes_for(
     bytes: &[NodeDisks<Vec<u8>>],
     failing: Option<FailingCall>,
 ) -> Result<Vec<NodeDisks<MemoryDisk>>, OutOfMemory>
-    ensures { IfOk result (λ disks. (nodes workers : ℕ) → IsRunWith (map string_bytes words.now) nodes workers →
-        length disks.items ≡ nodes) }
+    ensures { (nodes workers : ℕ) → IsRunWith (map string_bytes words.now) nodes workers →
+        IfOk result (λ disks. length disks.items ≡ nodes) }
 {
-    words_are_one_run();
     words_of_a_run_have_no_fault();
     match read_words(words) {
-        Ok(Words::Run { nodes, .. }) => nodes_with(alloc, nodes, bytes, failing),
+        Ok(read) => nodes_named(alloc, words, read, bytes, failing),
         Err(_) => nodes_with(alloc, 3, bytes, failing),
     }
 }

@@ -5,7 +5,6 @@ use Rattle.std.specs.Prelude.{not, is_none, is_some, min}
 use Rattle.oz_buffer.specs.Buffer.{AllFollow, Follows}
 use Rattle.oz_container.specs.declared.state.State.{State as ReplicaState}
 use Rattle.oz_container.specs.declared.state.State.TheVariants as states
-use Rattle.oz_core.specs.declared.event.Event.{Event}
 use Rattle.oz_core.specs.declared.event.EventKind.{EventKind}
 use Rattle.oz_core.specs.declared.event.EventKind.TheVariants as events
 use Rattle.oz_core.specs.declared.event.Node.TheVariants.{Datanode}
@@ -15,12 +14,11 @@ use Rattle.oz_core.specs.declared.opening.Opening.{Opening}
 use Rattle.oz_core.specs.Contents.{OpeningBytes}
 use Rattle.oz_core.specs.Law.{IsReason as IsReasonByLaw, IsFull as IsFullByLaw}
 use Rattle.oz_core.specs.Manager.{halt_of}
-use Rattle.oz_core.specs.Nodes.{holds, is_closed, is_running, stopped_or_started}
+use Rattle.oz_core.specs.Nodes.{holds, is_running, stopped_or_started}
 use Rattle.oz_core.specs.Seats.{IsDatanodeSeat, datanode_seat}
 use Rattle.oz_core.specs.Stories.{last_told}
-use Rattle.oz_datanode.specs.Datanode.{State, Runs, count_of, is_halted, meta_of, node_in, slots_of, stop_of}
+use Rattle.oz_datanode.specs.Datanode.{State, Runs, count_of, is_halted, meta_of, node_in, slots_of}
 use Rattle.oz_datanode.specs.Writing.{is_open}
-use Rattle.oz_entries.specs.Node.{is_held}
 use Rattle.oz_entries.specs.declared.row.BlockRow.{BlockRow}
 use Rattle.oz_fields.specs.declared.block.Block.{Block}
 use Rattle.oz_lines.specs.declared.script.Script.{Script}
@@ -31,7 +29,7 @@ use Rattle.oz_replicas.specs.declared.note.Note.TheVariants as notes
 use Rattle.oz_requests.specs.declared.request.AskId.{AskId}
 use Rattle.oz_world.specs.Disk.{Images}
 use Rattle.oz_world.specs.Faults.{Rose}
-use Rattle.oz_node_events.specs.NodeSeat.{IsKept, SeatView, StandsFor, events_of}
+use Rattle.oz_node_events.specs.NodeSeat.{SeatView, StandsFor, events_of}
 use Rattle.oz_node_events.specs.Noting.{FullIsFull, MayNote, event_of}
 use Rattle.oz_node_events.proofs.Telling.{halt_own, line_own}
 

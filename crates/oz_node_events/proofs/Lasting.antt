@@ -1,5 +1,5 @@
 -- What may be noted for an ask stays so.
-use Rattle.std.proofs.Common.{◌≡◌, ◌≢◌, inl, inr, ⊎_elim, ℕ, ◌≤◌, Bool, true, false, ◌||◌, ◌==◌, not, cond, List, [], ◌∷◌, ◌++◌, length, Option, None, Some, Contains, refl, sym, ap, ◌∙◌, subst, append_assoc, append-nil, arith}
+use Rattle.std.proofs.Common.{◌≡◌, ◌≢◌, inl, inr, ℕ, ◌≤◌, Bool, true, false, ◌||◌, not, cond, List, [], ◌∷◌, ◌++◌, length, Option, None, Some, Contains, refl, sym, ap, ◌∙◌, subst, append_assoc, append-nil, arith}
 use Rattle.std.proofs.Math.Bool.{or-true}
 use Rattle.std.proofs.lemmas.Bool.{false≢true, ne_eqb, or_left}
 use Rattle.std.proofs.lemmas.List.Elements.{All-contains, Contains-append_left}
@@ -13,10 +13,10 @@ use Rattle.oz_core.specs.declared.event.Event.{Event}
 use Rattle.oz_core.specs.declared.event.EventKind.{EventKind}
 use Rattle.oz_core.specs.declared.event.EventKind.TheVariants.{Ask, Put}
 use Rattle.oz_core.specs.declared.opening.Opening.{Opening}
-use Rattle.oz_core.specs.Asks.{answer_to, asks, is_asked, is_id, is_script, is_told}
+use Rattle.oz_core.specs.Asks.{asks, is_asked, is_id, is_script}
 use Rattle.oz_core.specs.Coherent.{IsCoherent}
 use Rattle.oz_core.specs.Contents.{HasContent, OpeningBytes, WasGranted}
-use Rattle.oz_core.specs.Fits.{EventFits, IsOfStartedAdmin, OwnHasStarted}
+use Rattle.oz_core.specs.Fits.{EventFits, OwnHasStarted}
 use Rattle.oz_core.specs.Law.{IsNamedOrOwn, KindIsEnabled}
 use Rattle.oz_core.specs.Lines.{AfterIsTold, HasStarted}
 use Rattle.oz_core.specs.Nodes.{is_block, length_in, length_of, put_length}
@@ -34,7 +34,7 @@ use Rattle.oz_reopened.specs.laws.Rising.{member_stays}
 use Rattle.oz_replicas.specs.Notes.{Subject}
 use Rattle.oz_requests.specs.declared.request.AskId.{AskId}
 use Rattle.oz_turn.specs.Told.{BeginsWith}
-use Rattle.oz_node_events.specs.Noting.{IsItsPiece, MayNote}
+use Rattle.oz_node_events.specs.Noting.{MayNote}
 use Rattle.oz_node_events.proofs.Moving.{first_longer, follow_behind, follow_front, length_parts}
 
 -- ---- what has happened stays so

@@ -1,5 +1,5 @@
 -- Behind what comes of a note the seat stands for the datanode as it is then.
-use Rattle.std.proofs.Common.{◌≡◌, ℕ, Bool, true, false, ◌&&◌, ◌==◌, cond, List, [], ◌∷◌, ◌++◌, ◌≤◌, length, Contains, Option, None, Some, eq-eqb, refl, sym, ap, ◌∙◌, subst, append-nil}
+use Rattle.std.proofs.Common.{◌≡◌, ℕ, Bool, true, false, ◌&&◌, ◌==◌, cond, List, [], ◌∷◌, ◌++◌, ◌≤◌, length, Contains, Option, None, Some, eq-eqb, refl, sym, ap, ◌∙◌, subst}
 use Rattle.std.proofs.lemmas.Bool.{and_from, and_parts, eqb-true}
 use Rattle.std.proofs.lemmas.Option.{same_Some}
 use Rattle.std.specs.Prelude.{not, is_some}
@@ -28,10 +28,10 @@ use Rattle.oz_replicas.specs.declared.note.Note.{Note}
 use Rattle.oz_replicas.specs.declared.note.Note.TheVariants as notes
 use Rattle.oz_requests.specs.declared.request.AskId.{AskId}
 use Rattle.oz_world.specs.Disk.{Images}
-use Rattle.oz_node_events.specs.NodeSeat.{NumbersAreOld, SeatView, StandsFor, events_of}
+use Rattle.oz_node_events.specs.NodeSeat.{NumbersAreOld, SeatView, StandsFor}
 use Rattle.oz_node_events.specs.Noting.{MayNote, event_of}
 use Rattle.oz_node_events.specs.laws.Standing.{stands_still}
-use Rattle.oz_node_events.proofs.Following.{not_halted, put_kind, refused_kind, bad_kind, halt_kind}
+use Rattle.oz_node_events.proofs.Following.{not_halted, put_kind, halt_kind}
 use Rattle.oz_node_events.proofs.Holding.{holds_push}
 use Rattle.oz_node_events.proofs.Moving.{first_longer, length_longer, length_parts}
 

@@ -1,6 +1,6 @@
 -- A datanode's seat that has seen nothing.
 use Rattle.std.proofs.Common.{◌≡◌, ℕ, ◌<◌, Bool, not, cond, List, [], ◌++◌, length, None, Some, refl, sym, ap, ◌∙◌, subst}
-use Rattle.oz_buffer.specs.Buffer.{AllFollow, Follows}
+use Rattle.oz_buffer.specs.Buffer.{Follows}
 use Rattle.oz_buffer.specs.laws.Following.{follow-none}
 use Rattle.oz_core.specs.declared.event.Event.{Event}
 use Rattle.oz_core.specs.declared.opening.Opening.{Opening}

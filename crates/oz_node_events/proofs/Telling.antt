@@ -1,9 +1,9 @@
 -- What is told of a datanode is told by its seat, so nothing is where others go on.
-use Rattle.std.proofs.Common.{◌≡◌, ℕ, ◌+◌, Bool, true, false, ◌&&◌, ◌==◌, cond, List, [], ◌∷◌, ◌++◌, length, Option, None, Some, eq-eqb, refl, sym, ap, ◌∙◌, subst, append_assoc, append-nil, length-append, arith}
+use Rattle.std.proofs.Common.{◌≡◌, ℕ, Bool, true, false, ◌&&◌, ◌==◌, cond, List, [], ◌∷◌, ◌++◌, length, Option, None, Some, eq-eqb, refl, sym, ap, ◌∙◌, append_assoc, append-nil, length-append, arith}
 use Rattle.std.proofs.lemmas.Bool.{eqb-true, false≢true}
 use Rattle.std.proofs.lemmas.List.Elements.{filter-append}
 use Rattle.oz_buffer.specs.Buffer.{AllFollow, Follows, IsOfItsSeat}
-use Rattle.oz_buffer.specs.laws.Following.{follow-each, follow-push, told-push, untold-push}
+use Rattle.oz_buffer.specs.laws.Following.{follow-each, told-push, untold-push}
 use Rattle.oz_core.specs.declared.event.Event.{Event}
 use Rattle.oz_core.specs.declared.event.EventKind.{EventKind}
 use Rattle.oz_core.specs.declared.event.EventKind.TheVariants.{Put, Copy, Delete, Wipe, Stop, Start, CloseCommand, Halt}

@@ -104,8 +104,9 @@ impl<T: Told<Entry = Event>, O: Opened, R: Ring> NodeSeat<T, O, R> {
 }
 
 impl<O: Opened, R: Ring> NodeSeat<Ledger<O>, O, R> {
-    /// Has room for two notes, so that noting takes no memory.
-    pub(crate) fn ready<W: Wait>(
+    /// Has room for two notes, so that noting takes no memory. Where there is no memory nothing changes but that the seat may have
+    /// seen more.
+    pub fn ready<W: Wait>(
         &mut self,
         rt: &W,
         alloc: Global,
@@ -129,8 +130,9 @@ impl<O: Opened, R: Ring> NodeSeat<Ledger<O>, O, R> {
         Ok(())
     }
 
-    /// Appends an event of the datanode. Another seat sees it, and all that the datanode's has seen.
-    pub(crate) fn note<W: Wait>(
+    /// Appends an event of the datanode, after the change that it names is stable and while the datanode's lock is held. Another
+    /// seat sees it, and all that the datanode's has seen. It takes no memory.
+    pub fn note<W: Wait>(
         &mut self,
         rt: &W,
         turn: &Turn<Ledger<O>>,

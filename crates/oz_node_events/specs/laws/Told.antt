@@ -41,10 +41,23 @@ told_joined id other first place before after a b c same at one two =
           (stand_joined (map (event_of id first) before) (map (event_of id first) after) one.since then.since one.told then.told);
     }
 
+-- a noter that has seen this
+abbrev with_seen : List Event → NotingView → NotingView
+with_seen seen noter = record {
+  reference = noter.reference;
+  by = noter.by;
+  seen = seen;
+  mine = noter.mine;
+  room = noter.room;
+  id = noter.id;
+  first = noter.first;
+  subject = noter.subject;
+}
+
 pub noted_joined : (first second third : NotingView) (before after : List Note) → IsNotedBy first before second
     → IsNotedBy second after third → IsNotedBy first (before ++ after) third
 noted_joined first second third before after one two = record {
-  same = two.same ∙ ap (λ (v : NotingView). record { reference = v.reference; by = v.by; seen = third.seen; mine = v.mine; room = v.room; id = v.id; first = v.first; subject = v.subject }) one.same;
+  same = two.same ∙ ap (with_seen third.seen) one.same;
   told = told_joined first.id second.id first.first second.first before after first.seen second.seen third.seen
       (ap (λ (v : NotingView). v.id) one.same) (ap (λ (v : NotingView). v.first) one.same) one.told two.told;
 }

@@ -1,13 +1,12 @@
-use Rattle.std.proofs.Common.{◌≡◌, ◌∷◌, [], ◌++◌, sym, ap, ◌∙◌, subst, refl}
+use Rattle.std.proofs.Common.{◌∷◌, [], ◌++◌, sym, ap, ◌∙◌, subst}
 use Rattle.oz_buffer.specs.Buffer.{Follows}
 use Rattle.oz_core.specs.declared.event.Event.{Event}
 use Rattle.oz_core.specs.declared.event.EventKind.{EventKind}
 use Rattle.oz_core.specs.Seats.{datanode_seat}
 use Rattle.oz_replicas.specs.Notes.{Subject, Leads}
 use Rattle.oz_turn.specs.Seat.{mine_of, number_of, room_of, seen_of}
-use Rattle.oz_turn.specs.Told.{BeginsWith}
 use Rattle.oz_node_events.specs.NodeSeat.{IsAppended}
-use Rattle.oz_node_events.specs.Noting.{AreTold, NotingView, event_of}
+use Rattle.oz_node_events.specs.Noting.{AreTold, NotingView}
 use Rattle.oz_node_events.proofs.Noted.{appended_begins, same_noting, noted_follows, noted_stands, noted_as, noted_told, noting_later}
 use Rattle.oz_node_events.proofs.noting.NotingLedgerNoterNodeSeatLedger.note.Goals as goal
 

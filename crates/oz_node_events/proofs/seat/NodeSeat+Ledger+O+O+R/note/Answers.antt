@@ -1,4 +1,4 @@
-use Rattle.std.proofs.Common.{ap, ◌+◌, ◌≡◌, ◌∷◌, [], sym, ◌∙◌, subst}
+use Rattle.std.proofs.Common.{ap, ◌+◌, ◌≡◌, sym, ◌∙◌, subst}
 use Rattle.oz_buffer.specs.Buffer.{Follows}
 use Rattle.oz_node_events.specs.NodeSeat.{events_of}
 use Rattle.oz_node_events.proofs.Own.{begins_as}

@@ -1,0 +1,41 @@
+-- A datanode that a line stopped, and its seat has said so.
+use Rattle.std.proofs.Common.{◌≡◌, ℕ, Bool, true, false, ◌==◌, cond, not, List, [], ◌∷◌, ◌++◌, None, Some, eq-eqb, sym, ap, ◌∙◌, subst}
+use Rattle.oz_buffer.specs.laws.Following.{told-push}
+use Rattle.oz_core.specs.declared.event.Event.{Event}
+use Rattle.oz_core.specs.declared.event.EventKind.TheVariants.{Stop}
+use Rattle.oz_core.specs.declared.event.Node.TheVariants.{Datanode}
+use Rattle.oz_core.specs.Manager.{halt_count, halt_of}
+use Rattle.oz_core.specs.Nodes.{stopped_or_started}
+use Rattle.oz_core.specs.Seats.{datanode_seat}
+use Rattle.oz_core.specs.Stories.{last_told, newer}
+use Rattle.oz_datanode.specs.Datanode.{State, count_of, is_halted}
+use Rattle.oz_node_events.specs.NodeSeat.{SeatView, StandsFor}
+use Rattle.node_event_tests.specs.Three.{three_nodes}
+
+pub stopped_stands : {D : Type 0} (faults : D → ℕ) (view ready later : SeatView) (old new : State D) (dn : ℕ) → StandsFor faults ⊥ three_nodes view old
+    → dn ≡ old.id → ready.dn ≡ view.dn → ready.mine ≡ view.mine → later.dn ≡ ready.dn
+    → later.mine ≡ ready.mine ++ record { seat = datanode_seat ready.dn; kind = Stop dn } ∷ []
+    → new ≡ record old { stopped = true }
+    → StandsFor faults ⊥ three_nodes later new
+stopped_stands {D} faults view ready later old new dn stood its number mine same told stop = record {
+  number = ap (λ (s : State D). s.id) stop ∙ (stood.number ∙ (sym number ∙ sym same));
+  halt = at (λ n l. halt_of (Datanode n) l)
+      ∙ (told-push (halt_count (Datanode view.dn)) None view.mine event
+      ∙ (stood.halt
+      ∙ sym (ap (λ (s : State D). cond (is_halted s) (Some (count_of faults s)) None) stop)));
+  line = at (λ n l. last_told (stopped_or_started n) true l)
+      ∙ (told-push (stopped_or_started view.dn) true view.mine event
+      ∙ (ap (λ (t : Bool). newer (cond t (Some false) None) (last_told (stopped_or_started view.dn) true view.mine)) (eq-eqb dn view.dn (its ∙ stood.number))
+      ∙ sym (ap (λ (s : State D). not s.stopped) stop)));
+  held = λ never. absurd never;
+  whole = λ never. absurd never;
+  closed = λ never. absurd never;
+} where
+  event : Event
+  event = record { seat = datanode_seat view.dn; kind = Stop dn }
+
+  at : {X : Type 0} (f : ℕ → List Event → X) → f later.dn later.mine ≡ f view.dn (view.mine ++ record { seat = datanode_seat view.dn; kind = Stop dn } ∷ [])
+  at f =
+      ap (λ (n : ℕ). f n later.mine) (same ∙ number)
+      ∙ ap (f view.dn) (told ∙ (ap (λ (n : ℕ). ready.mine ++ record { seat = datanode_seat n; kind = Stop dn } ∷ []) number
+      ∙ ap (λ l. l ++ record { seat = datanode_seat view.dn; kind = Stop dn } ∷ []) mine))

@@ -13,9 +13,9 @@ use Rattle.oz_fields.specs.declared.block.Piece.{Piece}
 use Rattle.oz_rows.specs.RowMaps.{Rows}
 use Rattle.oz_store.specs.Store.{IsInARow}
 
--- A block that the manager's rows name lies in a container that was made. One that a datanode holds lies in a container of
--- which it is a member, with the digests that were kept; all who hold it have the same bytes, as many as a key or a snapshot
--- says.
+-- Each block that the manager's rows name lies in a container that was made. A datanode that holds a block is a member of its
+-- container, and has bytes with the digests that were kept. All who hold a block have the same bytes, as many as a key or a
+-- snapshot says.
 pub record BlocksAgree (all : Rows) (opening : Opening) (bytes : OpeningBytes) : Type 0 where
   pub made : (block : Block) → IsInARow all block → IsSome (get opening.containers block.container)
   pub placed : (block : Block) (dn : ℕ) → was_held opening dn block ≡ true

@@ -66,9 +66,30 @@ mod tests {
             ("run,.,extra", Err(3)),
             ("walk,.", Err(1)),
             ("Run,.", Err(1)),
-            ("run,.", Ok(Words::Run { dir: 1, workers: 4 })),
-            ("run,a b", Ok(Words::Run { dir: 1, workers: 4 })),
-            ("run,.,--workers,1", Ok(Words::Run { dir: 1, workers: 1 })),
+            (
+                "run,.",
+                Ok(Words::Run {
+                    dir: 1,
+                    nodes: 3,
+                    workers: 4,
+                }),
+            ),
+            (
+                "run,a b",
+                Ok(Words::Run {
+                    dir: 1,
+                    nodes: 3,
+                    workers: 4,
+                }),
+            ),
+            (
+                "run,.,--workers,1",
+                Ok(Words::Run {
+                    dir: 1,
+                    nodes: 3,
+                    workers: 1,
+                }),
+            ),
         ] {
             let mut words = Vec::new(rt.alloc());
             if !line.is_empty() {

@@ -12,6 +12,20 @@ use Rattle.oz_datanode.specs.Datanode.{State, count_of, is_halted}
 use Rattle.oz_node_events.specs.NodeSeat.{SeatView, StandsFor}
 use Rattle.node_event_tests.specs.Three.{three_nodes}
 
+-- the seat was made ready
+pub ready_stands : {D : Type 0} (faults : D → ℕ) (view ready : SeatView) (node : State D) → StandsFor faults ⊥ three_nodes view node
+    → ready.dn ≡ view.dn → ready.mine ≡ view.mine → StandsFor faults ⊥ three_nodes ready node
+ready_stands faults view ready node stood number mine = record {
+  number = stood.number ∙ sym number;
+  halt = at (λ n l. halt_of (Datanode n) l) ∙ stood.halt;
+  line = at (λ n l. last_told (stopped_or_started n) true l) ∙ stood.line;
+  held = λ never. absurd never;
+  whole = λ never. absurd never;
+  closed = λ never. absurd never;
+} where
+  at : {X : Type 0} (f : ℕ → List Event → X) → f ready.dn ready.mine ≡ f view.dn view.mine
+  at f = ap (λ (n : ℕ). f n ready.mine) number ∙ ap (f view.dn) mine
+
 pub stopped_stands : {D : Type 0} (faults : D → ℕ) (view ready later : SeatView) (old new : State D) (dn : ℕ) → StandsFor faults ⊥ three_nodes view old
     → dn ≡ old.id → ready.dn ≡ view.dn → ready.mine ≡ view.mine → later.dn ≡ ready.dn
     → later.mine ≡ ready.mine ++ record { seat = datanode_seat ready.dn; kind = Stop dn } ∷ []

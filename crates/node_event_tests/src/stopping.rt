@@ -65,7 +65,7 @@ fn stop_beside<D: Disk, R: Ring, W: Wait>(
     ensures idle { IsIdle node.new }
     ensures stands { StandsFor D.faults ⊥ three_nodes kept.new node.new }
 {
-    kept.ready(rt, alloc, turn)?;
+    kept.ready(rt, alloc, turn, worker)?;
     let dn = node.id();
     node.stop();
     kept.note(rt, turn, worker, EventKind::Stop { dn });

@@ -148,11 +148,11 @@ appended_begins event seen other after told_so =
     begins_through after (told_so.before ++ event ∷ []) other told_so.goes_on
     (begins_through (told_so.before ++ event ∷ []) told_so.before other (event ∷ [], refl) told_so.begins_other)
 
-pub noted_as : (inside before after : NotingView) (note : Note) → inside ≡ before
+pub noted_as : (inside before after : NotingView) (said : List Note) → inside ≡ before
     → after ≡ record { reference = inside.reference; by = inside.by; seen = after.seen; mine = inside.mine; room = inside.room; id = inside.id; first = inside.first; subject = inside.subject }
-    → AreTold inside.id inside.first (note ∷ []) inside.seen after.seen → IsNotedBy before (note ∷ []) after
-noted_as inside before after note is same told =
-    subst (λ (v : NotingView). IsNotedBy v (note ∷ []) after) is (record { same = same; told = told })
+    → AreTold inside.id inside.first said inside.seen after.seen → IsNotedBy before said after
+noted_as inside before after said is same told =
+    subst (λ (v : NotingView). IsNotedBy v said after) is (record { same = same; told = told })
 
 abbrev as_noting : GName → ℕ → List Event → List Event → ℕ → AskId → ℕ → Subject → NotingView
 as_noting reference by seen mine room id first subject =
@@ -164,3 +164,7 @@ pub same_noting : (reference : GName) (seen : List Event) (id : AskId) (first : 
     ≡ as_noting reference other seen given places id first subject
 same_noting reference seen id first subject by mine room =
     λ i. record { reference = reference; by = by i; seen = seen; mine = mine i; room = room i; id = id; first = first; subject = subject }
+
+-- who has seen all that another has
+pub seen_alike : (one other : List Event) → one ≡ other → BeginsWith one other
+seen_alike one other same = ([], same ∙ sym (append-nil other))

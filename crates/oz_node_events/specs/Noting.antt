@@ -24,6 +24,7 @@ use Rattle.oz_replicas.specs.declared.note.Note.{Note}
 use Rattle.oz_replicas.specs.declared.note.Note.TheVariants as notes
 use Rattle.oz_requests.specs.declared.request.AskId.{AskId}
 use Rattle.oz_turn.specs.Told.{BeginsWith}
+use Rattle.oz_node_events.specs.NodeSeat.{SeatView}
 
 -- The bytes are those of the piece that the block was granted for, which begins there in the line's data; whoever has put
 -- the block had as many, and the datanodes that are asked are members of its container.
@@ -101,3 +102,7 @@ pub record IsNotedBy (before : NotingView) (said : List Note) (after : NotingVie
 pub record IsSameNoter (before after : NotingView) : Type 0 where
   pub same : after ≡ record before { seen = after.seen }
   pub goes_on : BeginsWith after.seen before.seen
+
+-- the noter's seat has seen all that the datanode's has
+abbrev pub HasSeen : NotingView → SeatView → Type 0
+HasSeen noter seat = BeginsWith noter.seen seat.seen

@@ -1,5 +1,9 @@
-use Rattle.node_event_tests.proofs.Stopped.{stopped_stands}
+use Rattle.node_event_tests.proofs.Stopped.{ready_stands, stopped_stands}
 use Rattle.node_event_tests.proofs.stopping.stop_beside.Goals as goal
+
+pub returns-in_err-ready-clause-stands : goal.returns-in_err-ready-clause-stands
+returns-in_err-ready-clause-stands g c =
+    ready_stands g.D.Disk.faults c.args.kept.now c.ready.new.self c.args.node.now c.requires.stood c.ready.ensures.number c.ready.ensures.mine
 
 pub returns-clause-stands : goal.returns-clause-stands
 returns-clause-stands g c =

@@ -7,7 +7,7 @@ use Rattle.oz_replicas.specs.Notes.{Subject, Leads}
 use Rattle.oz_turn.specs.Seat.{mine_of, number_of, room_of, seen_of}
 use Rattle.oz_node_events.specs.NodeSeat.{IsAppended}
 use Rattle.oz_node_events.specs.Noting.{AreTold, NotingView}
-use Rattle.oz_node_events.proofs.Noted.{appended_begins, same_noting, noted_follows, noted_stands, noted_as, noted_told, noting_later}
+use Rattle.oz_node_events.proofs.Noted.{appended_begins, same_noting, noted_follows, noted_stands, noted_as, noted_told, noting_later, seen_alike}
 use Rattle.oz_node_events.proofs.noting.NotingLedgerNoterNodeSeatLedger.note.Goals as goal
 
 pub note-requires-clause-follows : goal.note-requires-clause-follows
@@ -52,7 +52,7 @@ returns-clause-noted g c =
     c.args.kept.now c.is_kept.ensures c.args.note happened.0 happened.1.0 happened.1.1.0 leads c.note.new.self.seen told_so in
     let before : NotingView = record { reference = inside.seat.ghost_name; by = number_of inside.seat.now; seen = seen_of inside.seat.now; mine = mine_of inside.seat.now; room = room_of inside.seat.now; id = inside.id; first = inside.first; subject = subject } in
     let after : NotingView = record { reference = inside.seat.ghost_name; by = number_of c.note.new.other; seen = seen_of c.note.new.other; mine = mine_of c.note.new.other; room = room_of c.note.new.other; id = inside.id; first = inside.first; subject = subject } in
-    noted_as before c.args.self.now after c.args.note c.self.view_is
+    noted_as before c.args.self.now after (c.args.note ∷ []) c.self.view_is
     (same_noting inside.seat.ghost_name (seen_of c.note.new.other) inside.id inside.first subject note.other.1 note.other_mine note.other_room)
     (subst (λ l. AreTold inside.id inside.first (c.args.note ∷ []) (seen_of inside.seat.now) l) (sym note.other_seen) told)
 
@@ -69,3 +69,6 @@ returns-clause-stands g c old new stood leads_so =
     c.args.kept.now c.is_kept.ensures c.args.note old new stood leads c.note.new.self note.kept note.number
     (note.mine ∙ ap (λ (k : EventKind). c.args.kept.now.mine ++ record { seat = datanode_seat c.args.kept.now.dn; kind = k } ∷ []) c.kind_of-kind.ensures.kind)
     told_so
+
+pub returns-clause-knows : goal.returns-clause-knows
+returns-clause-knows g c = seen_alike (seen_of c.note.new.other) c.note.new.self.seen c.note.ensures.other_seen

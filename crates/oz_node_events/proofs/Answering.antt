@@ -135,10 +135,10 @@ same_by one other said so = record { same = so.same; goes_on = (so.told.since, s
 module _ {D : Type 0} (told : D → Option (List ℕ)) (clock : D → ℕ) (image : D → Images) (faults : D → ℕ) (Coherent : Type 0) (opening : Opening)
     (subject : Subject) where
   abbrev Stands : SeatView → State D → Type 0
-  Stands = StandsFor faults Coherent opening
+  Stands = StandsFor told faults Coherent opening
 
   pub all_same : (members : List ℕ) (answers : List (Option PutRefusal)) (before after : NotingView)
-      → AllAnswered told clock image faults (StandsFor faults Coherent opening) IsNotedBy HasSeen subject members answers before after → IsSameNoter before after
+      → AllAnswered told clock image faults (StandsFor told faults Coherent opening) IsNotedBy HasSeen subject members answers before after → IsSameNoter before after
   all_same [] [] before after all = subst (IsSameNoter before) (sym all) (same_itself before)
   all_same [] (answer ∷ answers) before after all = absurd all
   all_same (dn ∷ members) [] before after all = absurd all
@@ -146,12 +146,12 @@ module _ {D : Type 0} (told : D → Option (List ℕ)) (clock : D → ℕ) (imag
       same_through before all.0 after (same_by before all.0 all.1.0.said all.1.0.told_so) (all_same members answers all.0 after all.1.1)
 
   pub short_same : (members : List ℕ) (before after : NotingView)
-      → StopsShort told clock image faults (StandsFor faults Coherent opening) IsNotedBy HasSeen subject members before after → IsSameNoter before after
+      → StopsShort told clock image faults (StandsFor told faults Coherent opening) IsNotedBy HasSeen subject members before after → IsSameNoter before after
   short_same members before after short =
       same_through before short.reached after (all_same (take (length short.answers) members) short.answers before short.reached short.all) (same_by short.reached after [] short.none)
 
   pub given_same : (size : ℕ) (members : List ℕ) (given : Option (List ℕ)) (before after : NotingView)
-      → IsFirstGiven told clock image faults (StandsFor faults Coherent opening) IsNotedBy subject size members given before after → IsSameNoter before after
+      → IsFirstGiven told clock image faults (StandsFor told faults Coherent opening) IsNotedBy subject size members given before after → IsSameNoter before after
   given_same size [] given before after first = subst (IsSameNoter before) (sym first.1) (same_itself before)
   given_same size (dn ∷ members) given before after first =
       ⊎_elim
@@ -160,12 +160,12 @@ module _ {D : Type 0} (told : D → Option (List ℕ)) (clock : D → ℕ) (imag
       first
 
   pub reads_short_same : (size : ℕ) (members : List ℕ) (before after : NotingView)
-      → ReadsShort told clock image faults (StandsFor faults Coherent opening) IsNotedBy subject size members before after → IsSameNoter before after
+      → ReadsShort told clock image faults (StandsFor told faults Coherent opening) IsNotedBy subject size members before after → IsSameNoter before after
   reads_short_same size members before after short =
       same_through before short.reached after (given_same size (take short.count members) None before short.reached short.none_gave) (same_by short.reached after [] short.none)
 
   held_now : (dn : ℕ) (story : List Event) (old node : State D) (value : SeatView) → old.id ≡ dn → Stays told clock image faults old node
-      → StandsFor faults Coherent opening value node → BeginsWith story value.seen → HasAlready faults subject.block old
+      → StandsFor told faults Coherent opening value node → BeginsWith story value.seen → HasAlready faults subject.block old
       → HadIt Coherent opening subject.block story dn
   held_now dn story old node value its same stood begins has = record {
     moment = value.seen;
@@ -176,7 +176,7 @@ module _ {D : Type 0} (told : D → Option (List ℕ)) (clock : D → ℕ) (imag
   }
 
   one_stands : (id : AskId) (first dn : ℕ) (answer : Option PutRefusal) (before after : NotingView) → before.id ≡ id → before.first ≡ first
-      → Answered told clock image faults (StandsFor faults Coherent opening) IsNotedBy HasSeen subject dn answer before after → AnswerStands Coherent opening id subject.block after.seen dn answer
+      → Answered told clock image faults (StandsFor told faults Coherent opening) IsNotedBy HasSeen subject dn answer before after → AnswerStands Coherent opening id subject.block after.seen dn answer
   one_stands id first dn answer before after its at so =
       let is = same_told id before.id first before.first so.said before.seen after.seen its at so.told_so.told in
       let comes = subst (λ (n : ℕ). ComesWith n subject.block (length subject.bytes) answer so.said) so.member so.answers.noted_so in
@@ -188,7 +188,7 @@ module _ {D : Type 0} (told : D → Option (List ℕ)) (clock : D → ℕ) (imag
       so.left.1.0 so.left.1.1 (so.answers.already none))))
 
   pub answers_stand : (id : AskId) (first : ℕ) (members : List ℕ) (answers : List (Option PutRefusal)) (before after : NotingView) → before.id ≡ id → before.first ≡ first
-      → AllAnswered told clock image faults (StandsFor faults Coherent opening) IsNotedBy HasSeen subject members answers before after
+      → AllAnswered told clock image faults (StandsFor told faults Coherent opening) IsNotedBy HasSeen subject members answers before after
       → AnswersStand Coherent opening id subject.block after.seen members answers
   answers_stand id first [] [] before after its at all = tt
   answers_stand id first [] (answer ∷ answers) before after its at all = absurd all

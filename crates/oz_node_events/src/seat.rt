@@ -55,7 +55,7 @@ impl<D: Disk, T: Told<Entry = Event>, O: Opened, R: Ring> Kept<D> for NodeSeat<T
     ghost use Rattle.oz_node_events.specs.NodeSeat.{StandsFor};
     ghost use Rattle.oz_node_events.specs.laws.Standing.{stands_still};
 
-    ghost stands = { λ kept node. StandsFor D.faults O.coherent O.opening kept node };
+    ghost stands = { λ kept node. StandsFor D.told D.faults O.coherent O.opening kept node };
 
     ghost room = { λ kept. kept.room };
 

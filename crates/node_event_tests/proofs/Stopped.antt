@@ -1,5 +1,5 @@
 -- A datanode that a line stopped, and its seat has said so.
-use Rattle.std.proofs.Common.{◌≡◌, ℕ, Bool, true, false, ◌==◌, cond, not, List, [], ◌∷◌, ◌++◌, None, Some, eq-eqb, sym, ap, ◌∙◌, subst}
+use Rattle.std.proofs.Common.{◌≡◌, ℕ, Bool, true, false, ◌==◌, cond, not, List, [], ◌∷◌, ◌++◌, Option, None, Some, eq-eqb, sym, ap, ◌∙◌, subst}
 use Rattle.oz_buffer.specs.laws.Following.{told-push}
 use Rattle.oz_core.specs.declared.event.Event.{Event}
 use Rattle.oz_core.specs.declared.event.EventKind.TheVariants.{Stop}
@@ -12,12 +12,27 @@ use Rattle.oz_datanode.specs.Datanode.{State, count_of, is_halted}
 use Rattle.oz_node_events.specs.NodeSeat.{SeatView, StandsFor}
 use Rattle.node_event_tests.specs.Three.{three_nodes}
 
-pub stopped_stands : {D : Type 0} (faults : D → ℕ) (view ready later : SeatView) (old new : State D) (dn : ℕ) → StandsFor faults ⊥ three_nodes view old
+-- the seat was made ready
+pub ready_stands : {D : Type 0} (told : D → Option (List ℕ)) (faults : D → ℕ) (view ready : SeatView) (node : State D) → StandsFor told faults ⊥ three_nodes view node
+    → ready.dn ≡ view.dn → ready.mine ≡ view.mine → StandsFor told faults ⊥ three_nodes ready node
+ready_stands told faults view ready node stood number mine = record {
+  number = stood.number ∙ sym number;
+  halt = at (λ n l. halt_of (Datanode n) l) ∙ stood.halt;
+  line = at (λ n l. last_told (stopped_or_started n) true l) ∙ stood.line;
+  held = λ never. absurd never;
+  whole = λ never. absurd never;
+  closed = λ never. absurd never;
+  journal = λ never. absurd never;
+} where
+  at : {X : Type 0} (f : ℕ → List Event → X) → f ready.dn ready.mine ≡ f view.dn view.mine
+  at f = ap (λ (n : ℕ). f n ready.mine) number ∙ ap (f view.dn) mine
+
+pub stopped_stands : {D : Type 0} (told : D → Option (List ℕ)) (faults : D → ℕ) (view ready later : SeatView) (old new : State D) (dn : ℕ) → StandsFor told faults ⊥ three_nodes view old
     → dn ≡ old.id → ready.dn ≡ view.dn → ready.mine ≡ view.mine → later.dn ≡ ready.dn
     → later.mine ≡ ready.mine ++ record { seat = datanode_seat ready.dn; kind = Stop dn } ∷ []
     → new ≡ record old { stopped = true }
-    → StandsFor faults ⊥ three_nodes later new
-stopped_stands {D} faults view ready later old new dn stood its number mine same told stop = record {
+    → StandsFor told faults ⊥ three_nodes later new
+stopped_stands {D} told faults view ready later old new dn stood its number mine same noted stop = record {
   number = ap (λ (s : State D). s.id) stop ∙ (stood.number ∙ (sym number ∙ sym same));
   halt = at (λ n l. halt_of (Datanode n) l)
       ∙ (told-push (halt_count (Datanode view.dn)) None view.mine event
@@ -30,6 +45,7 @@ stopped_stands {D} faults view ready later old new dn stood its number mine same
   held = λ never. absurd never;
   whole = λ never. absurd never;
   closed = λ never. absurd never;
+  journal = λ never. absurd never;
 } where
   event : Event
   event = record { seat = datanode_seat view.dn; kind = Stop dn }
@@ -37,5 +53,5 @@ stopped_stands {D} faults view ready later old new dn stood its number mine same
   at : {X : Type 0} (f : ℕ → List Event → X) → f later.dn later.mine ≡ f view.dn (view.mine ++ record { seat = datanode_seat view.dn; kind = Stop dn } ∷ [])
   at f =
       ap (λ (n : ℕ). f n later.mine) (same ∙ number)
-      ∙ ap (f view.dn) (told ∙ (ap (λ (n : ℕ). ready.mine ++ record { seat = datanode_seat n; kind = Stop dn } ∷ []) number
+      ∙ ap (f view.dn) (noted ∙ (ap (λ (n : ℕ). ready.mine ++ record { seat = datanode_seat n; kind = Stop dn } ∷ []) number
       ∙ ap (λ l. l ++ record { seat = datanode_seat view.dn; kind = Stop dn } ∷ []) mine))

@@ -60,12 +60,12 @@ fn stop_beside<D: Disk, R: Ring, W: Wait>(
     requires turn { turn_id turn.now ≡ R.turn }
     requires ready { IsReady R.turn 8 worker.old }
     requires idle { IsIdle node.old }
-    requires stood { StandsFor D.faults ⊥ three_nodes kept.old node.old }
+    requires stood { StandsFor D.told D.faults ⊥ three_nodes kept.old node.old }
     ensures ready { IsReady R.turn 8 worker.new }
     ensures idle { IsIdle node.new }
-    ensures stands { StandsFor D.faults ⊥ three_nodes kept.new node.new }
+    ensures stands { StandsFor D.told D.faults ⊥ three_nodes kept.new node.new }
 {
-    kept.ready(rt, alloc, turn)?;
+    kept.ready(rt, alloc, turn, worker)?;
     let dn = node.id();
     node.stop();
     kept.note(rt, turn, worker, EventKind::Stop { dn });

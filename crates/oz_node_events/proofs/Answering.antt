@@ -14,9 +14,11 @@ use Rattle.oz_core.specs.Nodes.{holds, is_block}
 use Rattle.oz_core.specs.Stories.{has_event}
 use Rattle.oz_datanode.specs.Datanode.{State}
 use Rattle.oz_fields.specs.declared.block.Block.{Block}
-use Rattle.oz_replicas.specs.Notes.{Subject}
+use Rattle.oz_entries.specs.Node.{is_held}
+use Rattle.oz_replicas.specs.Notes.{Goes, Subject}
 use Rattle.oz_replicas.specs.Outcomes.{HasAlready}
 use Rattle.oz_replicas.specs.Reading.{IsFirstGiven, ReadsShort}
+use Rattle.oz_replicas.specs.Stays.{Stays}
 use Rattle.oz_replicas.specs.Writing.{Answered, AllAnswered, ComesWith, StopsShort}
 use Rattle.oz_replicas.specs.declared.note.Note.{Note}
 use Rattle.oz_replicas.specs.declared.note.Note.TheVariants as notes
@@ -25,7 +27,7 @@ use Rattle.oz_turn.specs.Told.{BeginsWith}
 use Rattle.oz_world.specs.Disk.{Images}
 use Rattle.oz_node_events.specs.Answers.{AnswerStands, AnswersStand, HadIt}
 use Rattle.oz_node_events.specs.NodeSeat.{SeatView, StandsFor}
-use Rattle.oz_node_events.specs.Noting.{AreTold, IsNotedBy, IsSameNoter, NotingView, StandIn, event_of}
+use Rattle.oz_node_events.specs.Noting.{AreTold, HasSeen, IsNotedBy, IsSameNoter, NotingView, StandIn, event_of}
 
 -- ---- an event that stands in a story
 
@@ -41,7 +43,7 @@ happened is front behind event story parts so =
     ∙ (list_any-append (λ (e : Event). is e.kind) front (event ∷ behind)
     ∙ (ap (λ (t : Bool). has_event is front || (t || has_event is behind)) so ∙ or-true (has_event is front)))
 
-same_block : (block : Block) → is_block block block ≡ true
+pub same_block : (block : Block) → is_block block block ≡ true
 same_block block =
     and_from (block.container == block.container) (block.local == block.local) (eq-eqb block.container block.container refl) (eq-eqb block.local block.local refl)
 
@@ -51,12 +53,19 @@ longer : (a b c : List Event) → c ≡ b → BeginsWith b a → BeginsWith c a
 longer a b c same begins = (begins.0, same ∙ begins.1)
 
 module _ (Coherent : Type 0) (opening : Opening) (id : AskId) (block : Block) where
+  had_later : (seen since : List Event) (dn : ℕ) → HadIt Coherent opening block seen dn → HadIt Coherent opening block (seen ++ since) dn
+  had_later seen since dn had = record {
+    moment = had.moment;
+    goes_on = (had.goes_on.0 ++ since, ap (λ l. l ++ since) had.goes_on.1 ∙ append_assoc had.moment had.goes_on.0 since);
+    held = had.held;
+  }
+
   stands_later : (seen since : List Event) (dn : ℕ) (answer : Option PutRefusal) → AnswerStands Coherent opening id block seen dn answer
       → AnswerStands Coherent opening id block (seen ++ since) dn answer
   stands_later seen since dn None stands =
       ⊎_elim
       (λ put. inl (list_any-append (λ (e : Event). puts dn block e.kind) seen since ∙ or_left (has_event (puts dn block) seen) (has_event (puts dn block) since) put))
-      (λ had. inr had) stands
+      (λ had. inr (had_later seen since dn had)) stands
   stands_later seen since dn (Some refusal) stands = Contains-append_left seen since _ stands
 
   -- ---- one member
@@ -80,28 +89,25 @@ module _ (Coherent : Type 0) (opening : Opening) (id : AskId) (block : Block) wh
       (Contains-append_right (event_of id first (notes.Halt dn count) ∷ []) stand.1.0 (event_of id first (notes.Refused dn block refusal))
       (refused_told first dn refusal stand.1.0 stand.1.1.1)))
 
+  put_behind : (seen since : List Event) (dn : ℕ) → has_event (puts dn block) since ≡ true → has_event (puts dn block) (seen ++ since) ≡ true
+  put_behind seen since dn put =
+      list_any-append (λ (e : Event). puts dn block e.kind) seen since
+      ∙ (ap (λ (t : Bool). has_event (puts dn block) seen || t) put ∙ or-true (has_event (puts dn block) seen))
+
   -- what a member answered stands behind what was seen before
-  answer_told : (dn size first : ℕ) (answer : Option PutRefusal) (said : List Note) (since : List Event)
+  answer_told : (dn size first : ℕ) (answer : Option PutRefusal) (said : List Note) (seen since : List Event)
       → ComesWith dn block size answer said → StandIn (map (event_of id first) said) since
-      → (said ≡ [] → HadIt Coherent opening block dn) → AnswerStands Coherent opening id block since dn answer
-  answer_told dn size first None said since comes stand had =
+      → (said ≡ [] → HadIt Coherent opening block (seen ++ since) dn) → AnswerStands Coherent opening id block (seen ++ since) dn answer
+  answer_told dn size first None said seen since comes stand had =
       ⊎_elim
       (λ none. inr (had none))
-      (λ put. inl (put_told first dn size since (subst (λ (l : List Note). StandIn (map (event_of id first) l) since) put stand)))
+      (λ put. inl (put_behind seen since dn (put_told first dn size since (subst (λ (l : List Note). StandIn (map (event_of id first) l) since) put stand))))
       comes
-  answer_told dn size first (Some refusal) said since comes stand had =
-      ⊎_elim
+  answer_told dn size first (Some refusal) said seen since comes stand had =
+      Contains-append_right seen since _ (⊎_elim
       (λ is. refused_told first dn refusal since (subst (λ (l : List Note). StandIn (map (event_of id first) l) since) is stand))
       (λ halt. after_halt first dn halt.0 refusal since (subst (λ (l : List Note). StandIn (map (event_of id first) l) since) halt.2 stand))
-      comes
-
-  stands_behind : (seen since : List Event) (dn : ℕ) (answer : Option PutRefusal) → AnswerStands Coherent opening id block since dn answer
-      → AnswerStands Coherent opening id block (seen ++ since) dn answer
-  stands_behind seen since dn None stands =
-      ⊎_elim
-      (λ put. inl (list_any-append (λ (e : Event). puts dn block e.kind) seen since ∙ (ap (λ (t : Bool). has_event (puts dn block) seen || t) put ∙ or-true (has_event (puts dn block) seen))))
-      (λ had. inr had) stands
-  stands_behind seen since dn (Some refusal) stands = Contains-append_right seen since _ stands
+      comes)
 
 -- ---- all members
 
@@ -129,10 +135,10 @@ same_by one other said so = record { same = so.same; goes_on = (so.told.since, s
 module _ {D : Type 0} (told : D → Option (List ℕ)) (clock : D → ℕ) (image : D → Images) (faults : D → ℕ) (Coherent : Type 0) (opening : Opening)
     (subject : Subject) where
   abbrev Stands : SeatView → State D → Type 0
-  Stands = StandsFor faults Coherent opening
+  Stands = StandsFor told faults Coherent opening
 
   pub all_same : (members : List ℕ) (answers : List (Option PutRefusal)) (before after : NotingView)
-      → AllAnswered told clock image faults (StandsFor faults Coherent opening) IsNotedBy subject members answers before after → IsSameNoter before after
+      → AllAnswered told clock image faults (StandsFor told faults Coherent opening) IsNotedBy HasSeen subject members answers before after → IsSameNoter before after
   all_same [] [] before after all = subst (IsSameNoter before) (sym all) (same_itself before)
   all_same [] (answer ∷ answers) before after all = absurd all
   all_same (dn ∷ members) [] before after all = absurd all
@@ -140,12 +146,12 @@ module _ {D : Type 0} (told : D → Option (List ℕ)) (clock : D → ℕ) (imag
       same_through before all.0 after (same_by before all.0 all.1.0.said all.1.0.told_so) (all_same members answers all.0 after all.1.1)
 
   pub short_same : (members : List ℕ) (before after : NotingView)
-      → StopsShort told clock image faults (StandsFor faults Coherent opening) IsNotedBy subject members before after → IsSameNoter before after
+      → StopsShort told clock image faults (StandsFor told faults Coherent opening) IsNotedBy HasSeen subject members before after → IsSameNoter before after
   short_same members before after short =
       same_through before short.reached after (all_same (take (length short.answers) members) short.answers before short.reached short.all) (same_by short.reached after [] short.none)
 
   pub given_same : (size : ℕ) (members : List ℕ) (given : Option (List ℕ)) (before after : NotingView)
-      → IsFirstGiven told clock image faults (StandsFor faults Coherent opening) IsNotedBy subject size members given before after → IsSameNoter before after
+      → IsFirstGiven told clock image faults (StandsFor told faults Coherent opening) IsNotedBy subject size members given before after → IsSameNoter before after
   given_same size [] given before after first = subst (IsSameNoter before) (sym first.1) (same_itself before)
   given_same size (dn ∷ members) given before after first =
       ⊎_elim
@@ -154,32 +160,35 @@ module _ {D : Type 0} (told : D → Option (List ℕ)) (clock : D → ℕ) (imag
       first
 
   pub reads_short_same : (size : ℕ) (members : List ℕ) (before after : NotingView)
-      → ReadsShort told clock image faults (StandsFor faults Coherent opening) IsNotedBy subject size members before after → IsSameNoter before after
+      → ReadsShort told clock image faults (StandsFor told faults Coherent opening) IsNotedBy subject size members before after → IsSameNoter before after
   reads_short_same size members before after short =
       same_through before short.reached after (given_same size (take short.count members) None before short.reached short.none_gave) (same_by short.reached after [] short.none)
 
-  held_before : (dn : ℕ) (node : State D) (value : SeatView) → node.id ≡ dn → StandsFor faults Coherent opening value node
-      → HasAlready faults subject.block node → HadIt Coherent opening subject.block dn
-  held_before dn node value its stood has = record {
-    seat = value;
-    its = sym stood.number ∙ its;
+  held_now : (dn : ℕ) (story : List Event) (old node : State D) (value : SeatView) → old.id ≡ dn → Stays told clock image faults old node
+      → StandsFor told faults Coherent opening value node → BeginsWith story value.seen → HasAlready faults subject.block old
+      → HadIt Coherent opening subject.block story dn
+  held_now dn story old node value its same stood begins has = record {
+    moment = value.seen;
+    goes_on = begins;
     held = λ coherent.
-        ap (λ (n : ℕ). holds opening value.seen n subject.block) (sym its ∙ stood.number)
-        ∙ (stood.held coherent subject.block ∙ has.held);
+        ap (λ (n : ℕ). holds opening value.seen n subject.block) (sym its ∙ (sym same.id ∙ stood.number))
+        ∙ (stood.held coherent subject.block ∙ (ap (λ n. is_held n subject.block) same.node ∙ has.held));
   }
 
   one_stands : (id : AskId) (first dn : ℕ) (answer : Option PutRefusal) (before after : NotingView) → before.id ≡ id → before.first ≡ first
-      → Answered told clock image faults (StandsFor faults Coherent opening) IsNotedBy subject dn answer before after → AnswerStands Coherent opening id subject.block after.seen dn answer
+      → Answered told clock image faults (StandsFor told faults Coherent opening) IsNotedBy HasSeen subject dn answer before after → AnswerStands Coherent opening id subject.block after.seen dn answer
   one_stands id first dn answer before after its at so =
       let is = same_told id before.id first before.first so.said before.seen after.seen its at so.told_so.told in
       let comes = subst (λ (n : ℕ). ComesWith n subject.block (length subject.bytes) answer so.said) so.member so.answers.noted_so in
       subst (λ (l : List Event). AnswerStands Coherent opening id subject.block l dn answer) (sym is.goes_on)
-      (stands_behind Coherent opening id subject.block before.seen is.since dn answer
-      (answer_told Coherent opening id subject.block dn (length subject.bytes) first answer so.said is.since comes is.told
-      (λ none. held_before dn so.old so.kept.0 so.member so.kept.1 (so.answers.already none))))
+      (answer_told Coherent opening id subject.block dn (length subject.bytes) first answer so.said before.seen is.since comes is.told
+      (λ none. subst (λ (l : List Event). HadIt Coherent opening subject.block l dn) is.goes_on
+      (held_now dn after.seen so.old so.new so.left.0 so.member
+      (subst (λ (l : List Note). Goes told clock image faults subject l so.old so.new) none so.answers.goes)
+      so.left.1.0 so.left.1.1 (so.answers.already none))))
 
   pub answers_stand : (id : AskId) (first : ℕ) (members : List ℕ) (answers : List (Option PutRefusal)) (before after : NotingView) → before.id ≡ id → before.first ≡ first
-      → AllAnswered told clock image faults (StandsFor faults Coherent opening) IsNotedBy subject members answers before after
+      → AllAnswered told clock image faults (StandsFor told faults Coherent opening) IsNotedBy HasSeen subject members answers before after
       → AnswersStand Coherent opening id subject.block after.seen members answers
   answers_stand id first [] [] before after its at all = tt
   answers_stand id first [] (answer ∷ answers) before after its at all = absurd all

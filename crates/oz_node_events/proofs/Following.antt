@@ -5,6 +5,7 @@ use Rattle.std.specs.Prelude.{not, is_none, is_some, min}
 use Rattle.oz_buffer.specs.Buffer.{AllFollow, Follows}
 use Rattle.oz_container.specs.declared.state.State.{State as ReplicaState}
 use Rattle.oz_container.specs.declared.state.State.TheVariants as states
+use Rattle.oz_core.specs.declared.event.Event.{Event}
 use Rattle.oz_core.specs.declared.event.EventKind.{EventKind}
 use Rattle.oz_core.specs.declared.event.EventKind.TheVariants as events
 use Rattle.oz_core.specs.declared.event.Node.TheVariants.{Datanode}
@@ -14,23 +15,25 @@ use Rattle.oz_core.specs.declared.opening.Opening.{Opening}
 use Rattle.oz_core.specs.Contents.{OpeningBytes}
 use Rattle.oz_core.specs.Law.{IsReason as IsReasonByLaw, IsFull as IsFullByLaw}
 use Rattle.oz_core.specs.Manager.{halt_of}
-use Rattle.oz_core.specs.Nodes.{holds, is_running, stopped_or_started}
+use Rattle.oz_core.specs.Nodes.{is_running, stopped_or_started}
 use Rattle.oz_core.specs.Seats.{IsDatanodeSeat, datanode_seat}
 use Rattle.oz_core.specs.Stories.{last_told}
 use Rattle.oz_datanode.specs.Datanode.{State, Runs, count_of, is_halted, meta_of, node_in, slots_of}
 use Rattle.oz_datanode.specs.Writing.{is_open}
 use Rattle.oz_entries.specs.declared.row.BlockRow.{BlockRow}
 use Rattle.oz_fields.specs.declared.block.Block.{Block}
+use Rattle.oz_fields.specs.declared.block.TheConstants.{LONGEST_PIECE}
+use Rattle.oz_full.specs.Full.{JournalStands, RowsAreHeld}
 use Rattle.oz_lines.specs.declared.script.Script.{Script}
 use Rattle.oz_replicas.specs.Notes.{Subject, Leads}
-use Rattle.oz_replicas.specs.Outcomes.{IsReason}
+use Rattle.oz_replicas.specs.Outcomes.{IsFull, IsReason}
 use Rattle.oz_replicas.specs.declared.note.Note.{Note}
 use Rattle.oz_replicas.specs.declared.note.Note.TheVariants as notes
 use Rattle.oz_requests.specs.declared.request.AskId.{AskId}
 use Rattle.oz_world.specs.Disk.{Images}
 use Rattle.oz_world.specs.Faults.{Rose}
 use Rattle.oz_node_events.specs.NodeSeat.{SeatView, StandsFor, events_of}
-use Rattle.oz_node_events.specs.Noting.{FullIsFull, MayNote, event_of}
+use Rattle.oz_node_events.specs.Noting.{MayNote, event_of}
 use Rattle.oz_node_events.proofs.Telling.{halt_own, line_own}
 
 -- ---- what stops a datanode
@@ -88,11 +91,18 @@ halt_kind count n dn a = cc
 
 -- ---- a story in which the seat stands for the datanode
 
+-- a datanode all of whose slots are taken is full by the law
+abbrev pub FilledIsFull : {D : Type 0} → (D → Option (List ℕ)) → (D → ℕ) → Type 0
+FilledIsFull {D} told faults =
+    (opening : Opening) (story : List Event) (dn : ℕ) (node : State D) (block : Block) (bytes : List ℕ) (used asked capacity : ℕ)
+    → JournalStands told node → RowsAreHeld opening story dn (node_in node) → length bytes ≤ LONGEST_PIECE
+    → IsFull faults block bytes node used asked capacity → IsFullByLaw opening story dn used asked capacity
+
 module _ (Coherent : Type 0) (opening : Opening) (bytes : OpeningBytes) (script : Script) {D : Type 0} (told : D → Option (List ℕ))
     (clock : D → ℕ) (image : D → Images) (faults : D → ℕ) (view : SeatView) (there : view.dn < length opening.nodes)
     (all : AllFollow (Follows Coherent opening bytes script) [] view.seen) (own : events_of view.dn view.seen ≡ view.mine)
     (id : AskId) (first : ℕ) (subject : Subject) (may : Coherent → MayNote opening bytes script id first subject view.seen)
-    (full : Coherent → FullIsFull faults opening subject view.seen) (old : State D) (stood : StandsFor faults Coherent opening view old) where
+    (filled : FilledIsFull told faults) (most : length subject.bytes ≤ LONGEST_PIECE) (old : State D) (stood : StandsFor told faults Coherent opening view old) where
   abbrev May : EventKind → Type 0
   May kind = Follows Coherent opening bytes script view.seen (record { seat = datanode_seat view.dn; kind = kind })
 
@@ -120,10 +130,9 @@ module _ (Coherent : Type 0) (opening : Opening) (bytes : OpeningBytes) (script 
       stopped (is_halted old) old.stopped (count_of faults old) count (halt_of (Datanode view.dn) view.seen) (last_told (stopped_or_started view.dn) true view.seen)
       halt_now (line_now coherent) why
   reason coherent (refusals.Full used asked capacity) why =
-      subst (λ (n : ℕ). IsFullByLaw opening view.seen n used asked capacity) stood.number
-      (full coherent old used asked capacity
-      (λ block. ap (λ (n : ℕ). holds opening view.seen n block) stood.number ∙ stood.held coherent block)
-      (λ block row is. stood.whole coherent block row is) why)
+      filled opening view.seen view.dn old subject.block subject.bytes used asked capacity
+      (stood.journal coherent (not_halted (is_halted old) (count_of faults old) _ why.took.served.ran))
+      (record { held = stood.held coherent; lengths = stood.whole coherent }) most why
   reason coherent (refusals.NotOpen state) why = (
     stood.closed coherent subject.block.container ∙ ap not (ap is_open (sym why.is) ∙ why.not_open),
     open_state state why.not_open,

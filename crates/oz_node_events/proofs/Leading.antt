@@ -1,6 +1,6 @@
 -- Behind what comes of a note the seat stands for the datanode as it is then.
 use Rattle.std.proofs.Common.{◌≡◌, ℕ, Bool, true, false, ◌&&◌, ◌==◌, cond, List, [], ◌∷◌, ◌++◌, ◌≤◌, length, Contains, Option, None, Some, eq-eqb, refl, sym, ap, ◌∙◌, subst}
-use Rattle.std.proofs.lemmas.Bool.{and_from, and_parts, eqb-true}
+use Rattle.std.proofs.lemmas.Bool.{and_from, and_parts, eqb-true, false≢true}
 use Rattle.std.proofs.lemmas.Option.{same_Some}
 use Rattle.std.specs.Prelude.{not, is_some}
 use Rattle.std.specs.List.{flat_map}
@@ -17,11 +17,13 @@ use Rattle.oz_core.specs.Nodes.{closed_after, held_after, holds, is_block, is_cl
 use Rattle.oz_core.specs.Scm.{logs}
 use Rattle.oz_core.specs.Seats.{datanode_seat}
 use Rattle.oz_core.specs.Stories.{all_told, first_in, last_told, newer}
-use Rattle.oz_datanode.specs.Datanode.{State, count_of, is_halted, node_in}
+use Rattle.oz_datanode.specs.Copying.{Copies}
+use Rattle.oz_datanode.specs.Datanode.{State, Runs, count_of, is_halted, node_in}
 use Rattle.oz_datanode.specs.Writing.{is_open}
 use Rattle.oz_entries.specs.Node.{Node, is_held, is_same_block, with_row}
 use Rattle.oz_entries.specs.declared.row.BlockRow.{BlockRow}
 use Rattle.oz_fields.specs.declared.block.Block.{Block}
+use Rattle.oz_full.specs.Full.{JournalStands}
 use Rattle.oz_lines.specs.declared.script.Script.{Script}
 use Rattle.oz_replicas.specs.Notes.{Subject, Leads}
 use Rattle.oz_replicas.specs.declared.note.Note.{Note}
@@ -80,7 +82,7 @@ one_block block other same =
 
 -- ---- behind the event
 
-module _ (Coherent : Type 0) (opening : Opening) (bytes : OpeningBytes) (script : Script) {D : Type 0} (faults : D → ℕ) (view : SeatView)
+module _ (Coherent : Type 0) (opening : Opening) (bytes : OpeningBytes) (script : Script) {D : Type 0} (told : D → Option (List ℕ)) (faults : D → ℕ) (view : SeatView)
     (numbered : Coherent → NumbersAreOld opening) (all : AllFollow (Follows Coherent opening bytes script) [] view.seen) where
   abbrev pub event_with : EventKind → Event
   event_with kind = record { seat = datanode_seat view.dn; kind = kind }
@@ -106,13 +108,14 @@ module _ (Coherent : Type 0) (opening : Opening) (bytes : OpeningBytes) (script 
     closed_told container = told-push (closed_after view.dn container) (was_closed opening view.dn container) view.seen (event_with kind)
 
     -- an event that tells nothing of what is held, closed and stopped by a line
-    stands_behind : (old new : State D) → StandsFor faults Coherent opening view old → new.id ≡ old.id → node_in new ≡ node_in old → new.stopped ≡ old.stopped
+    stands_behind : (old new : State D) → StandsFor told faults Coherent opening view old → new.id ≡ old.id → node_in new ≡ node_in old → new.stopped ≡ old.stopped
         → newer (halt_count (Datanode view.dn) kind) (halt_of (Datanode view.dn) view.mine) ≡ cond (is_halted new) (Some (count_of faults new)) None
         → stopped_or_started view.dn kind ≡ None
         → ((block : Block) → held_after (logs opening view.seen) view.dn block kind ≡ None)
         → ((container : ℕ) → closed_after view.dn container kind ≡ None)
-        → StandsFor faults Coherent opening (after kind) new
-    stands_behind old new stood number node stops halt no_line no_held no_closed = record {
+        → (Coherent → is_halted new ≡ false → JournalStands told new)
+        → StandsFor told faults Coherent opening (after kind) new
+    stands_behind old new stood number node stops halt no_line no_held no_closed journal = record {
       number = number ∙ stood.number;
       halt = halt_told ∙ halt;
       line = line_told
@@ -127,20 +130,27 @@ module _ (Coherent : Type 0) (opening : Opening) (bytes : OpeningBytes) (script 
           closed_told container
           ∙ (ap (λ (o : Option Bool). newer o (is_closed opening view.seen view.dn container)) (no_closed container)
           ∙ (stood.closed coherent container ∙ sym (ap (λ (n : Node). not (is_open (n.states container))) node)));
+      journal = journal;
     }
 
 -- ---- each note
 
+-- the journal stands for what is held behind a put
+abbrev pub PutStands : {D : Type 0} → (D → Option (List ℕ)) → (D → ℕ) → (D → Images) → (D → ℕ) → Type 0
+PutStands {D} told clock image faults =
+    (block : Block) (bytes : List ℕ) (old new : State D) → Runs faults old → JournalStands told old → Copies told clock image faults block bytes old new
+    → JournalStands told new
+
 module _ (Coherent : Type 0) (opening : Opening) (bytes : OpeningBytes) (script : Script) {D : Type 0} (told : D → Option (List ℕ))
-    (clock : D → ℕ) (image : D → Images) (faults : D → ℕ) (view : SeatView) (numbered : Coherent → NumbersAreOld opening)
+    (clock : D → ℕ) (image : D → Images) (faults : D → ℕ) (puts : PutStands told clock image faults) (view : SeatView) (numbered : Coherent → NumbersAreOld opening)
     (all : AllFollow (Follows Coherent opening bytes script) [] view.seen) (id : AskId) (first : ℕ) (subject : Subject)
     (may : Coherent → MayNote opening bytes script id first subject view.seen) (old new : State D)
-    (stood : StandsFor faults Coherent opening view old) where
+    (stood : StandsFor told faults Coherent opening view old) where
   abbrev May : EventKind → Type 0
   May kind = Follows Coherent opening bytes script view.seen (record { seat = datanode_seat view.dn; kind = kind })
 
   abbrev pub Behind : EventKind → Type 0
-  Behind kind = StandsFor faults Coherent opening (after Coherent opening bytes script faults view numbered all kind) new
+  Behind kind = StandsFor told faults Coherent opening (after Coherent opening bytes script told faults view numbered all kind) new
 
   -- the datanode holds one block more
   put_stands : (size : ℕ) → May (events.Put view.dn subject.block id first size)
@@ -158,21 +168,23 @@ module _ (Coherent : Type 0) (opening : Opening) (bytes : OpeningBytes) (script 
       let its : (view.dn == view.dn) ≡ true = eq-eqb view.dn view.dn refl in
       record {
         number = held.id ∙ stood.number;
-        halt = halt_told Coherent opening bytes script faults view numbered all kind follows
+        halt = halt_told Coherent opening bytes script told faults view numbered all kind follows
             ∙ (stood.halt
             ∙ (ap (λ (t : Bool). cond t (Some (count_of faults old)) None) ran
             ∙ sym (ap (λ (t : Bool). cond t (Some (count_of faults new)) None) runs)));
-        line = line_told Coherent opening bytes script faults view numbered all kind follows ∙ (stood.line ∙ sym (ap not held.line));
+        line = line_told Coherent opening bytes script told faults view numbered all kind follows ∙ (stood.line ∙ sym (ap not held.line));
         held = λ coherent other.
-            held_told Coherent opening bytes script faults view numbered all kind follows coherent other
+            held_told Coherent opening bytes script told faults view numbered all kind follows coherent other
             ∙ (ap (λ (t : Bool). newer (cond (t && is_block other block) (Some true) None) (holds opening view.seen view.dn other)) its
             ∙ (given (is_block other block) (holds opening view.seen view.dn other) row ((node_in old).rows other) (stood.held coherent other)
             ∙ sym (ap (λ (n : Node). is_held n other) node)));
         whole = λ coherent other other_row is.
             whole_one coherent leads.3.least row held.size (is_same_block block other) other other_row refl (sym (ap (λ (n : Node). n.rows other) node) ∙ is);
         closed = λ coherent container.
-            closed_told Coherent opening bytes script faults view numbered all kind follows container
+            closed_told Coherent opening bytes script told faults view numbered all kind follows container
             ∙ (stood.closed coherent container ∙ sym (ap (λ (n : Node). not (is_open (n.states container))) node));
+        journal = λ coherent running.
+            puts block subject.bytes old new leads.4.took.served.ran (stood.journal coherent ran) held;
       }
     where
       whole_one : (coherent : Coherent) → 1 ≤ length subject.bytes → (row : BlockRow) → row.length ≡ length subject.bytes → (t : Bool) (other : Block) (other_row : BlockRow)
@@ -197,17 +209,17 @@ module _ (Coherent : Type 0) (opening : Opening) (bytes : OpeningBytes) (script 
       (put_stands (length subject.bytes) (subst May same follows)
       (record { member = subst (λ (m : ℕ). Contains subject.members m) its leads.0.member; its = sym stood.number }, refl, refl, leads.3, leads.4) refl)
   stands_after (notes.Refused n block refusal) leads follows =
-      subst (λ (s : State D). StandsFor faults Coherent opening (after Coherent opening bytes script faults view numbered all (events.Refused n block id refusal)) s) (sym leads.3)
-      (stands_behind Coherent opening bytes script faults view numbered all (events.Refused n block id refusal) follows old old stood refl refl refl stood.halt refl (λ block. refl) (λ container. refl))
+      subst (λ (s : State D). StandsFor told faults Coherent opening (after Coherent opening bytes script told faults view numbered all (events.Refused n block id refusal)) s) (sym leads.3)
+      (stands_behind Coherent opening bytes script told faults view numbered all (events.Refused n block id refusal) follows old old stood refl refl refl stood.halt refl (λ block. refl) (λ container. refl) stood.journal)
   stands_after (notes.Halt n count) leads follows =
       let halts = leads.1 in
       let its = leads.0.its ∙ stood.number in
       let same = halt_kind count n view.dn its in
       subst Behind (sym same)
-      (stands_behind Coherent opening bytes script faults view numbered all (events.Halt (Datanode view.dn) count) (subst May same follows) old new stood halts.id halts.node halts.line
+      (stands_behind Coherent opening bytes script told faults view numbered all (events.Halt (Datanode view.dn) count) (subst May same follows) old new stood halts.id halts.node halts.line
       (ap (λ (t : Bool). newer (cond t (Some (Some count)) None) (halt_of (Datanode view.dn) view.mine)) (eq-eqb view.dn view.dn refl)
       ∙ (ap (λ (n : ℕ). Some n) halts.counted ∙ sym (ap (λ (t : Bool). cond t (Some (count_of faults new)) None) halts.halted)))
-      refl (λ block. refl) (λ container. refl))
+      refl (λ block. refl) (λ container. refl) (λ coherent running. absurd (false≢true (sym running ∙ halts.halted))))
   stands_after (notes.Bad n block) leads follows =
-      stands_still told clock image faults Coherent opening (after Coherent opening bytes script faults view numbered all (events.Bad n block id)) old new leads.2.stays
-      (stands_behind Coherent opening bytes script faults view numbered all (events.Bad n block id) follows old old stood refl refl refl stood.halt refl (λ block. refl) (λ container. refl))
+      stands_still told clock image faults Coherent opening (after Coherent opening bytes script told faults view numbered all (events.Bad n block id)) old new leads.2.stays
+      (stands_behind Coherent opening bytes script told faults view numbered all (events.Bad n block id) follows old old stood refl refl refl stood.halt refl (λ block. refl) (λ container. refl) stood.journal)

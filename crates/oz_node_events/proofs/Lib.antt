@@ -1,5 +1,6 @@
 pub mod Own
 pub mod Answering
+pub mod Quorum
 pub mod Telling
 pub mod Holding
 pub mod Moving

@@ -1,5 +1,5 @@
 -- A seat stands for its datanode in each story that goes on by others' events.
-use Rattle.std.proofs.Common.{◌≡◌, ℕ, List, [], ◌∷◌, ◌++◌, Some, sym, ap, ◌∙◌, subst, append_assoc, append-nil}
+use Rattle.std.proofs.Common.{◌≡◌, Option, ℕ, List, [], ◌∷◌, ◌++◌, Some, sym, ap, ◌∙◌, subst, append_assoc, append-nil}
 use Rattle.std.proofs.lemmas.List.Elements.{filter_map-append}
 use Rattle.std.specs.List.{flat_map}
 use Rattle.oz_buffer.specs.Buffer.{AllFollow, Follows}
@@ -51,11 +51,11 @@ length_longer opening block size seen more is =
 
 -- ---- views
 
-module _ {D : Type 0} (faults : D → ℕ) (Coherent : Type 0) (opening : Opening) (node : State D) where
+module _ {D : Type 0} (told : D → Option (List ℕ)) (faults : D → ℕ) (Coherent : Type 0) (opening : Opening) (node : State D) where
   abbrev Stands : SeatView → Type 0
-  Stands view = StandsFor faults Coherent opening view node
+  Stands view = StandsFor told faults Coherent opening view node
 
-  pub same_view : (a b : SeatView) → a.dn ≡ b.dn → a.seen ≡ b.seen → a.mine ≡ b.mine → StandsFor faults Coherent opening a node → StandsFor faults Coherent opening b node
+  pub same_view : (a b : SeatView) → a.dn ≡ b.dn → a.seen ≡ b.seen → a.mine ≡ b.mine → StandsFor told faults Coherent opening a node → StandsFor told faults Coherent opening b node
   same_view a b dn seen mine stood =
       let one : Stands (record { dn = b.dn; seen = a.seen; mine = a.mine; room = a.room }) =
       subst (λ (n : ℕ). Stands (record { dn = n; seen = a.seen; mine = a.mine; room = a.room })) dn stood in
@@ -63,11 +63,11 @@ module _ {D : Type 0} (faults : D → ℕ) (Coherent : Type 0) (opening : Openin
       subst (λ (l : List Event). Stands (record { dn = b.dn; seen = l; mine = a.mine; room = a.room })) seen one in
       let three : Stands (record { dn = b.dn; seen = b.seen; mine = b.mine; room = a.room }) =
       subst (λ (l : List Event). Stands (record { dn = b.dn; seen = b.seen; mine = l; room = a.room })) mine two in
-      record { number = three.number; halt = three.halt; line = three.line; held = three.held; whole = three.whole; closed = three.closed }
+      record { number = three.number; halt = three.halt; line = three.line; held = three.held; whole = three.whole; closed = three.closed; journal = three.journal }
 
-  pub stands_on : (bytes : OpeningBytes) (script : Script) (view : SeatView) → IsKept Coherent opening bytes script view → StandsFor faults Coherent opening view node
+  pub stands_on : (bytes : OpeningBytes) (script : Script) (view : SeatView) → IsKept Coherent opening bytes script view → StandsFor told faults Coherent opening view node
       → (story : List Event) (room : ℕ) → BeginsWith story view.seen → AllFollow (Follows Coherent opening bytes script) [] story → events_of view.dn story ≡ view.mine
-      → StandsFor faults Coherent opening (record { dn = view.dn; seen = story; mine = view.mine; room = room }) node
+      → StandsFor told faults Coherent opening (record { dn = view.dn; seen = story; mine = view.mine; room = room }) node
   stands_on bytes script view kept stood story room begins all own =
       let Follow = Follows Coherent opening bytes script in
       let more = begins.0 in
@@ -89,4 +89,5 @@ module _ {D : Type 0} (faults : D → ℕ) (Coherent : Type 0) (opening : Openin
             ap (λ (l : List Event). is_closed opening l view.dn container) begins.1
             ∙ (closed_more Coherent opening bytes script view.dn coherent container view.seen more behind none
             ∙ stood.closed coherent container);
+        journal = stood.journal;
       }

@@ -17,8 +17,8 @@ use Rattle.oz_turn.specs.Told.{BeginsWith}
 use Rattle.oz_world.specs.Disk.{Images}
 use Rattle.oz_node_events.specs.NodeSeat.{IsAppended, IsKept, SeatView, StandsFor, events_of}
 use Rattle.oz_node_events.specs.Noting.{AreTold, IsNotedBy, IsNoting, NotingView, event_of}
-use Rattle.oz_node_events.proofs.Following.{note_follows}
-use Rattle.oz_node_events.proofs.Leading.{stands_after}
+use Rattle.oz_node_events.proofs.Following.{FilledIsFull, note_follows}
+use Rattle.oz_node_events.proofs.Leading.{PutStands, stands_after}
 use Rattle.oz_node_events.proofs.Moving.{follow_behind, follow_front, same_view, stands_on}
 use Rattle.oz_node_events.proofs.Telling.{its_kept, its_parts, no_length}
 
@@ -80,21 +80,21 @@ module _ (Coherent : Type 0) (opening : Opening) (bytes : OpeningBytes) (script 
   Follow = Follows Coherent opening bytes script
 
   pub ready_stands : (node : State D) (view new : SeatView) → IsKept Coherent opening bytes script view → IsKept Coherent opening bytes script new
-      → new.dn ≡ view.dn → new.mine ≡ view.mine → BeginsWith new.seen view.seen → StandsFor faults Coherent opening view node → StandsFor faults Coherent opening new node
+      → new.dn ≡ view.dn → new.mine ≡ view.mine → BeginsWith new.seen view.seen → StandsFor told faults Coherent opening view node → StandsFor told faults Coherent opening new node
   ready_stands node view new kept kept_new number mine begins stood =
-      same_view faults Coherent opening node (record { dn = view.dn; seen = new.seen; mine = view.mine; room = view.room }) new (sym number) refl (sym mine)
-      (stands_on faults Coherent opening node bytes script view kept stood new.seen view.room begins kept_new.follow
+      same_view told faults Coherent opening node (record { dn = view.dn; seen = new.seen; mine = view.mine; room = view.room }) new (sym number) refl (sym mine)
+      (stands_on told faults Coherent opening node bytes script view kept stood new.seen view.room begins kept_new.follow
       (ap (λ (n : ℕ). events_of n new.seen) (sym number) ∙ (kept_new.own ∙ mine)))
 
   pub noting_later : (id : AskId) (first : ℕ) (subject : Subject) (seen later : List Event) → BeginsWith later seen
-      → IsNoting faults Coherent opening bytes script id first subject seen → IsNoting faults Coherent opening bytes script id first subject later
+      → IsNoting Coherent opening bytes script id first subject seen → IsNoting Coherent opening bytes script id first subject later
   noting_later id first subject seen later begins noting = record {
     may = λ coherent story goes all. noting.may coherent story (begins_through story later seen goes begins) all;
-    full = λ coherent story goes all. noting.full coherent story (begins_through story later seen goes begins) all;
+    most = noting.most;
   }
 
-  module _ (id : AskId) (first : ℕ) (subject : Subject) (other : List Event) (noting : IsNoting faults Coherent opening bytes script id first subject other)
-      (view : SeatView) (kept : IsKept Coherent opening bytes script view) (note : Note) (old new : State D) (stood : StandsFor faults Coherent opening view old)
+  module _ (filled : FilledIsFull told faults) (puts : PutStands told clock image faults) (id : AskId) (first : ℕ) (subject : Subject) (other : List Event) (noting : IsNoting Coherent opening bytes script id first subject other)
+      (view : SeatView) (kept : IsKept Coherent opening bytes script view) (note : Note) (old new : State D) (stood : StandsFor told faults Coherent opening view old)
       (leads : Leads told clock image faults subject note old new) where
     abbrev event : Event
     event = record { seat = datanode_seat view.dn; kind = (event_of id first note).kind }
@@ -103,13 +103,13 @@ module _ (Coherent : Type 0) (opening : Opening) (bytes : OpeningBytes) (script 
         → Follows Coherent opening bytes script story (record { seat = datanode_seat view.dn; kind = (event_of id first note).kind })
     noted_follows story begins others all own =
         note_follows Coherent opening bytes script told clock image faults (record { dn = view.dn; seen = story; mine = view.mine; room = view.room }) kept.there all own id first subject
-        (λ coherent. noting.may coherent story others all) (λ coherent. noting.full coherent story others all) old
-        (stands_on faults Coherent opening old bytes script view kept stood story view.room begins all own) note new leads
+        (λ coherent. noting.may coherent story others all) filled noting.most old
+        (stands_on told faults Coherent opening old bytes script view kept stood story view.room begins all own) note new leads
 
     pub noted_stands : (later : SeatView) → IsKept Coherent opening bytes script later → later.dn ≡ view.dn
         → later.mine ≡ view.mine ++ record { seat = datanode_seat view.dn; kind = (event_of id first note).kind } ∷ []
         → IsAppended (record { seat = datanode_seat view.dn; kind = (event_of id first note).kind }) view.seen other later.seen
-        → StandsFor faults Coherent opening later new
+        → StandsFor told faults Coherent opening later new
     noted_stands later kept_later number mine told_so =
         let before = told_so.before in
         let more = told_so.goes_on.0 in
@@ -122,13 +122,13 @@ module _ (Coherent : Type 0) (opening : Opening) (bytes : OpeningBytes) (script 
         let own_then = own_behind view.dn event refl view.seen before more view.mine later.seen kept.own told_so.begins told_so.goes_on.1 given in
         let here : SeatView = record { dn = view.dn; seen = before; mine = view.mine; room = view.room } in
         let behind : SeatView = record { dn = view.dn; seen = before ++ event ∷ []; mine = view.mine ++ event ∷ []; room = view.room } in
-        let stood_here : StandsFor faults Coherent opening here old = stands_on faults Coherent opening old bytes script view kept stood before view.room told_so.begins all_before own in
-        let stood_behind : StandsFor faults Coherent opening behind new =
-        stands_after Coherent opening bytes script told clock image faults here kept.numbered all_before id first subject
+        let stood_here : StandsFor told faults Coherent opening here old = stands_on told faults Coherent opening old bytes script view kept stood before view.room told_so.begins all_before own in
+        let stood_behind : StandsFor told faults Coherent opening behind new =
+        stands_after Coherent opening bytes script told clock image faults puts here kept.numbered all_before id first subject
         (λ coherent. noting.may coherent before told_so.begins_other all_before) old new stood_here note leads follows in
         let kept_behind : IsKept Coherent opening bytes script behind = record { few = kept.few; there = kept.there; numbered = kept.numbered; own = own_then; follow = all_behind } in
-        same_view faults Coherent opening new (record { dn = view.dn; seen = later.seen; mine = view.mine ++ event ∷ []; room = view.room }) later (sym number) refl (sym mine)
-        (stands_on faults Coherent opening new bytes script behind kept_behind stood_behind later.seen view.room told_so.goes_on kept_later.follow given)
+        same_view told faults Coherent opening new (record { dn = view.dn; seen = later.seen; mine = view.mine ++ event ∷ []; room = view.room }) later (sym number) refl (sym mine)
+        (stands_on told faults Coherent opening new bytes script behind kept_behind stood_behind later.seen view.room told_so.goes_on kept_later.follow given)
 
     pub noted_told : (later : List Event) → IsAppended (record { seat = datanode_seat view.dn; kind = (event_of id first note).kind }) view.seen other later
         → AreTold id first (note ∷ []) other later
@@ -148,11 +148,11 @@ appended_begins event seen other after told_so =
     begins_through after (told_so.before ++ event ∷ []) other told_so.goes_on
     (begins_through (told_so.before ++ event ∷ []) told_so.before other (event ∷ [], refl) told_so.begins_other)
 
-pub noted_as : (inside before after : NotingView) (note : Note) → inside ≡ before
+pub noted_as : (inside before after : NotingView) (said : List Note) → inside ≡ before
     → after ≡ record { reference = inside.reference; by = inside.by; seen = after.seen; mine = inside.mine; room = inside.room; id = inside.id; first = inside.first; subject = inside.subject }
-    → AreTold inside.id inside.first (note ∷ []) inside.seen after.seen → IsNotedBy before (note ∷ []) after
-noted_as inside before after note is same told =
-    subst (λ (v : NotingView). IsNotedBy v (note ∷ []) after) is (record { same = same; told = told })
+    → AreTold inside.id inside.first said inside.seen after.seen → IsNotedBy before said after
+noted_as inside before after said is same told =
+    subst (λ (v : NotingView). IsNotedBy v said after) is (record { same = same; told = told })
 
 abbrev as_noting : GName → ℕ → List Event → List Event → ℕ → AskId → ℕ → Subject → NotingView
 as_noting reference by seen mine room id first subject =
@@ -164,3 +164,7 @@ pub same_noting : (reference : GName) (seen : List Event) (id : AskId) (first : 
     ≡ as_noting reference other seen given places id first subject
 same_noting reference seen id first subject by mine room =
     λ i. record { reference = reference; by = by i; seen = seen; mine = mine i; room = room i; id = id; first = first; subject = subject }
+
+-- who has seen all that another has
+pub seen_alike : (one other : List Event) → one ≡ other → BeginsWith one other
+seen_alike one other same = ([], same ∙ sym (append-nil other))

@@ -1,5 +1,5 @@
 -- What contracts see of a datanode's seat, and for which datanodes it stands.
-use Rattle.std.specs.Prelude.{◌≡◌, ℕ, ◌<◌, ◌≤◌, true, not, List, [], ◌∷◌, ◌++◌, length, Contains, Some, None, if◌then◌else◌}
+use Rattle.std.specs.Prelude.{◌≡◌, ℕ, ◌<◌, ◌≤◌, true, false, not, List, [], ◌∷◌, ◌++◌, length, Contains, Option, Some, None, if◌then◌else◌}
 use Rattle.oz_buffer.specs.Buffer.{AllFollow, Follows}
 use Rattle.oz_core.specs.declared.event.Event.{Event}
 use Rattle.oz_core.specs.declared.event.Node.TheVariants.{Datanode}
@@ -15,6 +15,7 @@ use Rattle.oz_datanode.specs.Writing.{is_open}
 use Rattle.oz_entries.specs.Node.{is_held}
 use Rattle.oz_entries.specs.declared.row.BlockRow.{BlockRow}
 use Rattle.oz_fields.specs.declared.block.Block.{Block}
+use Rattle.oz_full.specs.Full.{JournalStands}
 use Rattle.oz_lines.specs.declared.script.Script.{Script}
 use Rattle.oz_nodes.specs.declared.nodes.TheConstants.{MOST_NODES}
 use Rattle.oz_turn.specs.Told.{BeginsWith, own_entries}
@@ -45,9 +46,10 @@ module _ (Coherent : Type 0) (opening : Opening) (bytes : OpeningBytes) (script 
     pub follow : AllFollow (Follows Coherent opening bytes script) [] view.seen
 
 -- It stands for a datanode that is what the story makes of it: halted and stopped as the seat's own events tell, and where
--- the opening is coherent with the blocks, the lengths and the open replicas of the story that the seat has seen.
-pub record StandsFor {D : Type 0} (faults : D → ℕ) (Coherent : Type 0) (opening : Opening) (view : SeatView) (node : State D)
-    : Type 0 where
+-- the opening is coherent with the blocks, the lengths and the open replicas of the story that the seat has seen, and with a
+-- journal that stands for them while no disk has failed.
+pub record StandsFor {D : Type 0} (told : D → Option (List ℕ)) (faults : D → ℕ) (Coherent : Type 0) (opening : Opening)
+    (view : SeatView) (node : State D) : Type 0 where
   pub number : node.id ≡ view.dn
   pub halt : halt_of (Datanode view.dn) view.mine ≡ (if is_halted node then Some (count_of faults node) else None)
   pub line : last_told (stopped_or_started view.dn) true view.mine ≡ not node.stopped
@@ -56,6 +58,7 @@ pub record StandsFor {D : Type 0} (faults : D → ℕ) (Coherent : Type 0) (open
       → length_of opening view.seen block ≡ Some row.length
   pub closed : Coherent → (container : ℕ)
       → is_closed opening view.seen view.dn container ≡ not (is_open ((node_in node).states container))
+  pub journal : Coherent → is_halted node ≡ false → JournalStands told node
 
 -- a datanode holds what the opening says of its disks
 pub record IsAsOpened {D : Type 0} (opening : Opening) (node : State D) : Type 0 where

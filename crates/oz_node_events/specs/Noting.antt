@@ -8,22 +8,18 @@ use Rattle.oz_core.specs.declared.event.Node.TheVariants.{Datanode}
 use Rattle.oz_core.specs.declared.opening.Opening.{Opening}
 use Rattle.oz_core.specs.Contents.{OpeningBytes, HasContent, WasGranted, piece_number}
 use Rattle.oz_core.specs.Fits.{OwnHasStarted}
-use Rattle.oz_core.specs.Law.{IsNamedOrOwn, IsFull as IsFullByLaw}
-use Rattle.oz_core.specs.Nodes.{holds, length_of}
+use Rattle.oz_core.specs.Law.{IsNamedOrOwn}
+use Rattle.oz_core.specs.Nodes.{length_of}
 use Rattle.oz_core.specs.Scm.{members}
 use Rattle.oz_core.specs.Seats.{datanode_seat}
-use Rattle.oz_datanode.specs.Datanode.{State, node_in}
-use Rattle.oz_entries.specs.Node.{is_held}
-use Rattle.oz_entries.specs.declared.row.BlockRow.{BlockRow}
-use Rattle.oz_fields.specs.declared.block.Block.{Block}
 use Rattle.oz_fields.specs.declared.block.TheConstants.{LONGEST_PIECE}
 use Rattle.oz_lines.specs.declared.script.Script.{Script}
 use Rattle.oz_replicas.specs.Notes.{Subject}
-use Rattle.oz_replicas.specs.Outcomes.{IsFull}
 use Rattle.oz_replicas.specs.declared.note.Note.{Note}
 use Rattle.oz_replicas.specs.declared.note.Note.TheVariants as notes
 use Rattle.oz_requests.specs.declared.request.AskId.{AskId}
 use Rattle.oz_turn.specs.Told.{BeginsWith}
+use Rattle.oz_node_events.specs.NodeSeat.{SeatView}
 
 -- The bytes are those of the piece that the block was granted for, which begins there in the line's data; whoever has put
 -- the block had as many, and the datanodes that are asked are members of its container.
@@ -42,15 +38,6 @@ pub record MayNote (opening : Opening) (bytes : OpeningBytes) (script : Script) 
   pub named : IsNamedOrOwn story id subject.block
   pub started : OwnHasStarted script story id
   pub piece : 1 ≤ length subject.bytes → IsItsPiece opening bytes script id first subject story
-
--- Where the slots of a datanode that holds what the story says are all taken, it is full as the law has it.
-abbrev pub FullIsFull : {D : Type 0} → (D → ℕ) → Opening → Subject → List Event → Type 0
-FullIsFull {D} faults opening subject story =
-    (node : State D) (used asked capacity : ℕ)
-    → ((block : Block) → holds opening story node.id block ≡ is_held (node_in node) block)
-    → ((block : Block) (row : BlockRow) → (node_in node).rows block ≡ Some row → length_of opening story block ≡ Some row.length)
-    → IsFull faults subject.block subject.bytes node used asked capacity
-    → IsFullByLaw opening story node.id used asked capacity
 
 -- the event that comes of a note for an ask
 abbrev pub event_of : AskId → ℕ → Note → Event
@@ -83,14 +70,13 @@ pub record NotingView : Type 0 where
   pub first : ℕ
   pub subject : Subject
 
--- what is known from here on of the ask and what is noted of, where the opening is coherent: it may be noted, and a datanode
--- that is full may say so
-pub record IsNoting {D : Type 0} (faults : D → ℕ) (Coherent : Type 0) (opening : Opening) (bytes : OpeningBytes) (script : Script)
-    (id : AskId) (first : ℕ) (subject : Subject) (seen : List Event) : Type 0 where
+-- what is known of the ask and what is noted of: it may be noted from here on, where the opening is coherent, and the bytes are no
+-- more than a piece has
+pub record IsNoting (Coherent : Type 0) (opening : Opening) (bytes : OpeningBytes) (script : Script) (id : AskId) (first : ℕ)
+    (subject : Subject) (seen : List Event) : Type 0 where
   pub may : Coherent → (story : List Event) → BeginsWith story seen
       → AllFollow (Follows Coherent opening bytes script) [] story → MayNote opening bytes script id first subject story
-  pub full : Coherent → (story : List Event) → BeginsWith story seen
-      → AllFollow (Follows Coherent opening bytes script) [] story → FullIsFull faults opening subject story
+  pub most : length subject.bytes ≤ LONGEST_PIECE
 
 -- a noter noted this, and is the same but for what it has seen
 pub record IsNotedBy (before : NotingView) (said : List Note) (after : NotingView) : Type 0 where
@@ -101,3 +87,7 @@ pub record IsNotedBy (before : NotingView) (said : List Note) (after : NotingVie
 pub record IsSameNoter (before after : NotingView) : Type 0 where
   pub same : after ≡ record before { seen = after.seen }
   pub goes_on : BeginsWith after.seen before.seen
+
+-- the noter's seat has seen all that the datanode's has
+abbrev pub HasSeen : NotingView → SeatView → Type 0
+HasSeen noter seat = BeginsWith noter.seen seat.seen

@@ -15,17 +15,20 @@ use oz_turn::{Seat, Turn};
 use std::alloc::Global;
 use std::sync::Wait;
 
-/// Makes a seat's room greater by so many events. `by` is its number.
+/// Makes a seat's room greater by so many events, and another seat sees all that this one has. `by` is its number.
 pub(crate) fn reserve<O: Opened, W: Wait>(
     rt: &W,
     alloc: Global,
     turn: &Turn<Ledger<O>>,
     seat: &mut Seat<Ledger<O>>,
+    other: &mut Seat<Ledger<O>>,
     by: u16,
     events: u32,
 ) -> Result<(), OutOfMemory>
     requires ready { IsReady (turn_id turn.now) by seat.old }
     requires seats { by < 64 }
+    requires other_turn { turn_of other.old ≡ turn_id turn.now }
+    requires other_free { taken_of other.old ≡ None }
     requires events { events ≤ 64 }
     ensures ready { IsReady (turn_id turn.now) by seat.new }
     ensures room { OnOk result (room_of seat.new ≡ room_of seat.old + events) }
@@ -34,10 +37,17 @@ pub(crate) fn reserve<O: Opened, W: Wait>(
     ensures mine { mine_of seat.new ≡ mine_of seat.old }
     ensures known { own_entries (λ event. event.seat) by (seen_of seat.new) ≡ mine_of seat.new }
     ensures follow { AllFollow (Follows O.coherent O.opening O.bytes O.script) [] (seen_of seat.new) }
+    ensures other { IsSameSeat other.old other.new }
+    ensures other_free { taken_of other.new ≡ None }
+    ensures other_begins { BeginsWith (seen_of other.new) (seen_of other.old) }
+    ensures other_seen { seen_of other.new ≡ seen_of seat.new }
+    ensures other_mine { mine_of other.new ≡ mine_of other.old }
+    ensures other_room { room_of other.new ≡ room_of other.old }
 {
     let (mut ledger, held) = turn.take(rt, seat);
     ledger.all_follow();
     let made = ledger.reserve_notes(alloc, by, events);
+    turn.show(seat, other);
     turn.give_back(seat, ledger, held);
     seat.knows_own();
     made

@@ -6,15 +6,19 @@ ghost use Rattle.oz_core.specs.declared.event.Event.{Event as AnyEvent};
 ghost use Rattle.oz_core.specs.declared.event.PutRefusal.{PutRefusal as AnyRefusal};
 ghost use Rattle.oz_core.specs.declared.event.Node.TheVariants.{Datanode};
 ghost use Rattle.oz_core.specs.Asks.{is_script};
-ghost use Rattle.oz_core.specs.Coherent.{IsCoherent};
+ghost use Rattle.oz_core.specs.Coherent.{IdsAreFresh, IsCoherent};
+ghost use Rattle.oz_core.specs.Contents.{WasGranted};
+ghost use Rattle.oz_core.specs.Law.{WroteIsEnabled, puts_or_copies};
 ghost use Rattle.oz_core.specs.Manager.{halt_of};
 ghost use Rattle.oz_core.specs.Nodes.{is_closed, stopped_or_started};
-ghost use Rattle.oz_core.specs.Stories.{last_told};
+ghost use Rattle.oz_core.specs.Stories.{has_event, last_told};
 ghost use Rattle.oz_datanode.specs.Datanode.{Runs, State as AnyNode};
+ghost use Rattle.oz_fields.specs.declared.block.Block.{Block as AnyBlock};
+ghost use Rattle.oz_full.specs.Full.{JournalStands};
 ghost use Rattle.oz_lines.specs.Numbered.{IsNumbered};
-ghost use Rattle.oz_node_events.specs.Answers.{AnswersStand};
+ghost use Rattle.oz_node_events.specs.Answers.{AnswersStand, HadIt, HasQuorum};
 ghost use Rattle.oz_node_events.specs.NodeSeat.{IsAsOpened, IsKept, SeatView, StandsFor, events_of};
-ghost use Rattle.oz_node_events.specs.Noting.{IsNotedBy, IsSameNoter, MayNote, NotingView};
+ghost use Rattle.oz_node_events.specs.Noting.{HasSeen, IsNotedBy, IsSameNoter, MayNote, NotingView};
 ghost use Rattle.oz_replicas.specs.Notes.{Subject};
 ghost use Rattle.oz_replicas.specs.Reading.{IsFirstGiven, ReadsShort};
 ghost use Rattle.oz_replicas.specs.Writing.{AllAnswered, StopsShort};
@@ -24,10 +28,12 @@ ghost use Rattle.oz_turn.specs.Told.{BeginsWith};
 use oz_buffer::Opened;
 use oz_world::Disk;
 
-/// A datanode that was loaded, and holds what the opening says, has a seat that stands for it before it gave an event.
+/// A datanode that was loaded, holds what the opening says, and has a journal that stands for it, has a seat that stands for it
+/// before it gave an event.
 pub fn a_loaded_datanode_stands<D: Disk, O: Opened>()
     ensures { (node : AnyNode D) → Runs D.faults node → (O.coherent → IsAsOpened O.opening node) →
-        StandsFor D.faults O.coherent O.opening (record { dn = node.id; seen = []; mine = []; room = 0 }) node }
+        (O.coherent → JournalStands D.told node) →
+        StandsFor D.told D.faults O.coherent O.opening (record { dn = node.id; seen = []; mine = []; room = 0 }) node }
 {}
 
 /// The events of a datanode's seat alone tell whether it halted, whether a line stopped it and which replicas are closed. It
@@ -42,10 +48,10 @@ pub fn its_seat_alone_tells<D: Disk, O: Opened>()
         AllFollow (Follows O.coherent O.opening O.bytes O.script) [] story →
         is_closed O.opening story dn container ≡ is_closed O.opening (events_of dn story) dn container }
     ensures stands { (view : SeatView) (node : AnyNode D) (story : List AnyEvent) →
-        IsKept O.coherent O.opening O.bytes O.script view → StandsFor D.faults O.coherent O.opening view node →
+        IsKept O.coherent O.opening O.bytes O.script view → StandsFor D.told D.faults O.coherent O.opening view node →
         BeginsWith story view.seen → AllFollow (Follows O.coherent O.opening O.bytes O.script) [] story →
         events_of view.dn story ≡ view.mine →
-        StandsFor D.faults O.coherent O.opening (record view { seen = story }) node }
+        StandsFor D.told D.faults O.coherent O.opening (record view { seen = story }) node }
 {}
 
 /// What a script's ask has to know so that something may be noted for it stays so, in each story that goes on.
@@ -60,23 +66,42 @@ pub fn what_may_be_noted_stays<O: Opened>()
 /// Once all members of a block have answered, each answer stands in the story that the noter's seat has seen by then.
 pub fn each_answer_is_in_the_story<D: Disk, O: Opened>()
     ensures { (subject : Subject) (members : List ℕ) (answers : List (Option AnyRefusal)) (before after : NotingView) →
-        AllAnswered D.told D.clock D.image D.faults (StandsFor D.faults O.coherent O.opening) IsNotedBy subject members
-        answers before after →
+        AllAnswered D.told D.clock D.image D.faults (StandsFor D.told D.faults O.coherent O.opening) IsNotedBy HasSeen subject
+        members answers before after →
         AnswersStand O.coherent O.opening before.id subject.block after.seen members answers }
+{}
+
+/// A datanode that held a block which was granted has put it or copied it in the story: no disk had it at the opening.
+pub fn what_was_granted_came_in_the_story<O: Opened>()
+    ensures { O.coherent → IdsAreFresh O.opening → (story before : List AnyEvent) (id : AnyId) (block : AnyBlock) (dn : ℕ) →
+        AllFollow (Follows O.coherent O.opening O.bytes O.script) [] story → WasGranted story id block before →
+        HadIt O.coherent O.opening block story dn → has_event (puts_or_copies dn block) story ≡ true }
+{}
+
+/// Once all members of a block that was granted have answered, two of them that they have it, the block may be written by a line's
+/// seat in each story that goes on from what the noter's seat has seen by then, as long as it isn't written there yet.
+pub fn a_quorum_may_be_written<D: Disk, O: Opened>()
+    ensures { O.coherent → IdsAreFresh O.opening → (subject : Subject) (dns : List ℕ) (answers : List (Option AnyRefusal))
+        (before after : NotingView) (story : List AnyEvent) (seat : ℕ) →
+        AllAnswered D.told D.clock D.image D.faults (StandsFor D.told D.faults O.coherent O.opening) IsNotedBy HasSeen subject dns
+        answers before after →
+        AllFollow (Follows O.coherent O.opening O.bytes O.script) [] story →
+        HasQuorum O.opening before.id subject.block dns answers after.seen story seat →
+        WroteIsEnabled O.opening story seat subject.block before.id }
 {}
 
 /// Whatever comes of a block, the noter is the same afterwards, and its seat has seen what it had seen, and more.
 pub fn a_noter_stays_the_same<D: Disk, O: Opened>()
     ensures written { (subject : Subject) (members : List ℕ) (answers : List (Option AnyRefusal)) (before after : NotingView) →
-        AllAnswered D.told D.clock D.image D.faults (StandsFor D.faults O.coherent O.opening) IsNotedBy subject members
-        answers before after → IsSameNoter before after }
+        AllAnswered D.told D.clock D.image D.faults (StandsFor D.told D.faults O.coherent O.opening) IsNotedBy HasSeen subject
+        members answers before after → IsSameNoter before after }
     ensures unwritten { (subject : Subject) (members : List ℕ) (before after : NotingView) →
-        StopsShort D.told D.clock D.image D.faults (StandsFor D.faults O.coherent O.opening) IsNotedBy subject members
+        StopsShort D.told D.clock D.image D.faults (StandsFor D.told D.faults O.coherent O.opening) IsNotedBy HasSeen subject members
         before after → IsSameNoter before after }
     ensures read { (subject : Subject) (size : ℕ) (members : List ℕ) (given : Option (List ℕ)) (before after : NotingView) →
-        IsFirstGiven D.told D.clock D.image D.faults (StandsFor D.faults O.coherent O.opening) IsNotedBy subject size members
+        IsFirstGiven D.told D.clock D.image D.faults (StandsFor D.told D.faults O.coherent O.opening) IsNotedBy subject size members
         given before after → IsSameNoter before after }
     ensures unread { (subject : Subject) (size : ℕ) (members : List ℕ) (before after : NotingView) →
-        ReadsShort D.told D.clock D.image D.faults (StandsFor D.faults O.coherent O.opening) IsNotedBy subject size members
+        ReadsShort D.told D.clock D.image D.faults (StandsFor D.told D.faults O.coherent O.opening) IsNotedBy subject size members
         before after → IsSameNoter before after }
 {}

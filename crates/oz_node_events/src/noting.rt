@@ -10,6 +10,7 @@ use crate::seat::NodeSeat;
 use oz_buffer::{Ledger, Opened};
 use oz_core::Event;
 use oz_fields::{Block, OutOfMemory};
+use oz_full::{a_filled_datanode_is_full, a_journal_keeps_slots_apart};
 use oz_replicas::{Note, Noter};
 use oz_requests::AskId;
 use oz_turn::{Ring, Seat, Told, Turn};
@@ -55,7 +56,7 @@ impl<'a, D: Disk, T: Told<Entry = Event>, O: Opened, R: Ring, W: Wait> Model
     } };
 
     ghost invariant = { λ n. (turn_id n.turn.now ≡ R.turn) × (turn_of n.seat.now ≡ R.turn) × (taken_of n.seat.now ≡ None)
-        × IsNoting D.faults O.coherent O.opening O.bytes O.script n.id n.first
+        × IsNoting O.coherent O.opening O.bytes O.script n.id n.first
         (record { block = n.block; members = n.members; bytes = n.bytes.now }) (seen_of n.seat.now) };
 }
 
@@ -76,7 +77,7 @@ impl<'a, D: Disk, T: Told<Entry = Event>, O: Opened, R: Ring, W: Wait> Noting<'a
         requires of_turn { turn_id turn.now ≡ R.turn }
         requires of_seat { turn_of seat.old ≡ R.turn }
         requires free { taken_of seat.old ≡ None }
-        requires knows { IsNoting D.faults O.coherent O.opening O.bytes O.script id first
+        requires knows { IsNoting O.coherent O.opening O.bytes O.script id first
             (record { block = block; members = members; bytes = bytes.now }) (seen_of seat.old) }
         ensures { result ≡ record {
           reference = seat.entry.ghost_name;
@@ -128,20 +129,24 @@ impl<'a, D: Disk, T: Told<Entry = Event>, O: Opened, R: Ring, W: Wait> Noting<'a
 
 impl<'a, D: Disk, O: Opened, R: Ring, W: Wait> Noter<D, NodeSeat<Ledger<O>, O, R>>
     for Noting<'a, D, Ledger<O>, O, R, W> {
-    ghost use Rattle.oz_node_events.specs.Noting.{IsNotedBy};
+    ghost use Rattle.oz_node_events.specs.Noting.{HasSeen, IsNotedBy};
     ghost use Rattle.oz_node_events.specs.laws.Told.{noted_joined};
 
     ghost subject = { λ noter. noter.subject };
 
     ghost noted = { IsNotedBy };
 
+    ghost knows = { HasSeen };
+
     ghost joins = { noted_joined };
 
     fn ready(&mut self, kept: &mut NodeSeat<Ledger<O>, O, R>) -> Result<(), OutOfMemory> {
-        kept.ready(self.rt, self.alloc, self.turn)
+        kept.ready(self.rt, self.alloc, self.turn, self.seat)
     }
 
     fn note(&mut self, kept: &mut NodeSeat<Ledger<O>, O, R>, note: Note) {
+        a_filled_datanode_is_full::<D>();
+        a_journal_keeps_slots_apart::<D>();
         kept.is_kept();
         let kind = kind_of(self.id, self.first, note);
         kept.note(self.rt, self.turn, self.seat, kind);

@@ -55,7 +55,7 @@ impl<D: Disk, T: Told<Entry = Event>, O: Opened, R: Ring> Kept<D> for NodeSeat<T
     ghost use Rattle.oz_node_events.specs.NodeSeat.{StandsFor};
     ghost use Rattle.oz_node_events.specs.laws.Standing.{stands_still};
 
-    ghost stands = { λ kept node. StandsFor D.faults O.coherent O.opening kept node };
+    ghost stands = { λ kept node. StandsFor D.told D.faults O.coherent O.opening kept node };
 
     ghost room = { λ kept. kept.room };
 
@@ -104,15 +104,18 @@ impl<T: Told<Entry = Event>, O: Opened, R: Ring> NodeSeat<T, O, R> {
 }
 
 impl<O: Opened, R: Ring> NodeSeat<Ledger<O>, O, R> {
-    /// Has room for two notes, so that noting takes no memory. Where there is no memory nothing changes but that the seat may have
-    /// seen more.
+    /// Has room for two notes, so that noting takes no memory, and another seat sees all that the datanode's has seen. Where there
+    /// is no memory nothing changes but that the seats may have seen more.
     pub fn ready<W: Wait>(
         &mut self,
         rt: &W,
         alloc: Global,
         turn: &Turn<Ledger<O>>,
+        other: &mut Seat<Ledger<O>>,
     ) -> Result<(), OutOfMemory>
-        requires { turn_id turn.now ≡ R.turn }
+        requires turn { turn_id turn.now ≡ R.turn }
+        requires other_turn { turn_of other.old ≡ R.turn }
+        requires other_free { taken_of other.old ≡ None }
         ensures number { self.new.dn ≡ self.old.dn }
         ensures room { OnOk result (2 ≤ self.new.room) }
         ensures lacks { OnErr result (self.new.room ≡ self.old.room) }
@@ -120,12 +123,20 @@ impl<O: Opened, R: Ring> NodeSeat<Ledger<O>, O, R> {
         ensures mine { self.new.mine ≡ self.old.mine }
         ensures kept { IsKept O.coherent O.opening O.bytes O.script self.new }
         ensures kept_before { IsKept O.coherent O.opening O.bytes O.script self.old }
+        ensures other { IsSameSeat other.old other.new }
+        ensures other_free { taken_of other.new ≡ None }
+        ensures other_begins { BeginsWith (seen_of other.new) (seen_of other.old) }
+        ensures other_seen { seen_of other.new ≡ self.new.seen }
+        ensures other_mine { mine_of other.new ≡ mine_of other.old }
+        ensures other_room { room_of other.new ≡ room_of other.old }
     {
+        let by = FIRST_DATANODE_SEAT + u16::from(self.dn);
+        let seat = &mut self.seat;
         if self.room >= NOTES {
+            show(rt, turn, seat, other, by);
             return Ok(());
         }
-        let by = FIRST_DATANODE_SEAT + u16::from(self.dn);
-        reserve(rt, alloc, turn, &mut self.seat, by, NOTES - self.room)?;
+        reserve(rt, alloc, turn, seat, other, by, NOTES - self.room)?;
         self.room = NOTES;
         Ok(())
     }

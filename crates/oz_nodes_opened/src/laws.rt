@@ -3,6 +3,7 @@
 ghost use Rattle.std.specs.Prelude.{◌≡◌, ◌<◌, ℕ, List, Some, IsSome, All, length, replicate, slice_get, false, true};
 ghost use Rattle.oz_datanode.specs.Datanode.{Runs, State as AnyDatanode};
 ghost use Rattle.oz_datanode.specs.declared.disks.NodeDisks.{NodeDisks};
+ghost use Rattle.oz_full.specs.Full.{JournalStands};
 ghost use Rattle.oz_grants.specs.Made.{Made};
 ghost use Rattle.oz_loaded.specs.Unseated.{UnseatedView};
 ghost use Rattle.oz_namespace.specs.declared.namespace.Namespace.{Namespace as AnyNamespace};
@@ -44,8 +45,8 @@ pub fn a_loaded_scm_stands_for_the_opening<D: Disk>()
 }
 
 /// Each datanode that was loaded has the number of its place, which the opening has too, and runs. Where the journals told
-/// their bytes and the blocks agree it holds what the opening says. No transaction of the opening's log has a number above
-/// the last.
+/// their bytes its own stands for what it holds, and where the blocks agree too that is what the opening says. No transaction
+/// of the opening's log has a number above the last.
 pub fn loaded_datanodes_stand_for_the_opening<D: Disk>()
     ensures number { (disks : List (NodeDisks D)) (nodes : List (AnyDatanode D)) (dn : ℕ) (node : AnyDatanode D) →
         let see = (λ (d : D). seen (D.told d) (D.clock d) (D.image d) (D.faults d)) in
@@ -58,6 +59,10 @@ pub fn loaded_datanodes_stand_for_the_opening<D: Disk>()
         dn < length (opening_of unseated namespace made nodes).nodes }
     ensures numbered { (unseated : UnseatedView) (namespace : AnyNamespace) (made : Made) (nodes : List (AnyDatanode D)) →
         NumbersAreOld (opening_of unseated namespace made nodes) }
+    ensures journal { (disks : List (NodeDisks D)) (nodes : List (AnyDatanode D)) (dn : ℕ) (node : AnyDatanode D) →
+        let see = (λ (d : D). seen (D.told d) (D.clock d) (D.image d) (D.faults d)) in
+        All (λ (own : NodeDisks D). IsSome (D.told own.meta)) disks → AreNodesFrom see 0 disks nodes →
+        slice_get nodes dn ≡ Some node → JournalStands D.told node }
     ensures opened { (all : AnyRows) (unseated : UnseatedView) (namespace : AnyNamespace) (made : Made)
         (disks : List (NodeDisks D)) (nodes : List (AnyDatanode D)) (dn : ℕ) (node : AnyDatanode D) →
         let see = (λ (d : D). seen (D.told d) (D.clock d) (D.image d) (D.faults d)) in

@@ -9,10 +9,10 @@ use Rattle.oz_replicas.specs.Reading.{Gave, IsFirstGiven}
 use Rattle.oz_replicas.specs.Writing.{Answered, AllAnswered, StopsShort}
 use Rattle.oz_replicas.specs.declared.note.Note.{Note}
 
-module _ {D K N : Type 0} (told : D → Option (List ℕ)) (clock : D → ℕ) (image : D → Images) (faults : D → ℕ) (stands : K → State D → Type 0) (noted : N → List Note → N → Type 0) (subject : Subject) where
+module _ {D K N : Type 0} (told : D → Option (List ℕ)) (clock : D → ℕ) (image : D → Images) (faults : D → ℕ) (stands : K → State D → Type 0) (noted : N → List Note → N → Type 0) (knows : N → K → Type 0) (subject : Subject) where
   -- all three answered
-  pub all_three : (members : List ℕ) (one two three : Option PutRefusal) (start first second third : N) → length members ≡ 3 → Answered told clock image faults stands noted subject (get_or members 0 0) one start first → Answered told clock image faults stands noted subject (get_or members 1 0) two first second → Answered told clock image faults stands noted subject (get_or members 2 0) three second third
-      → AllAnswered told clock image faults stands noted subject members (one ∷ two ∷ three ∷ []) start third
+  pub all_three : (members : List ℕ) (one two three : Option PutRefusal) (start first second third : N) → length members ≡ 3 → Answered told clock image faults stands noted knows subject (get_or members 0 0) one start first → Answered told clock image faults stands noted knows subject (get_or members 1 0) two first second → Answered told clock image faults stands noted knows subject (get_or members 2 0) three second third
+      → AllAnswered told clock image faults stands noted knows subject members (one ∷ two ∷ three ∷ []) start third
   all_three [] one two three start first second third count a b c = absurd (omega (arith, count))
   all_three (x ∷ []) one two three start first second third count a b c = absurd (omega (arith, count))
   all_three (x ∷ y ∷ []) one two three start first second third count a b c = absurd (omega (arith, count))
@@ -20,7 +20,7 @@ module _ {D K N : Type 0} (told : D → Option (List ℕ)) (clock : D → ℕ) (
   all_three (x ∷ y ∷ z ∷ w ∷ more) one two three start first second third count a b c = absurd (omega (arith, count))
 
   -- one did, and the second had no memory
-  pub short_one : (members : List ℕ) (one : Option PutRefusal) (start first after : N) → length members ≡ 3 → Answered told clock image faults stands noted subject (get_or members 0 0) one start first → noted first [] after → StopsShort told clock image faults stands noted subject members start after
+  pub short_one : (members : List ℕ) (one : Option PutRefusal) (start first after : N) → length members ≡ 3 → Answered told clock image faults stands noted knows subject (get_or members 0 0) one start first → noted first [] after → StopsShort told clock image faults stands noted knows subject members start after
   short_one [] one start first after count a none = absurd (omega (arith, count))
   short_one (x ∷ more) one start first after count a none = record {
     answers = one ∷ [];
@@ -31,8 +31,8 @@ module _ {D K N : Type 0} (told : D → Option (List ℕ)) (clock : D → ℕ) (
   }
 
   -- two did, and the third had none
-  pub short_two : (members : List ℕ) (one two : Option PutRefusal) (start first second after : N) → length members ≡ 3 → Answered told clock image faults stands noted subject (get_or members 0 0) one start first → Answered told clock image faults stands noted subject (get_or members 1 0) two first second → noted second [] after
-      → StopsShort told clock image faults stands noted subject members start after
+  pub short_two : (members : List ℕ) (one two : Option PutRefusal) (start first second after : N) → length members ≡ 3 → Answered told clock image faults stands noted knows subject (get_or members 0 0) one start first → Answered told clock image faults stands noted knows subject (get_or members 1 0) two first second → noted second [] after
+      → StopsShort told clock image faults stands noted knows subject members start after
   short_two [] one two start first second after count a b none = absurd (omega (arith, count))
   short_two (x ∷ []) one two start first second after count a b none = absurd (omega (arith, count))
   short_two (x ∷ y ∷ more) one two start first second after count a b none = record {
@@ -43,6 +43,7 @@ module _ {D K N : Type 0} (told : D → Option (List ℕ)) (clock : D → ℕ) (
     none = none;
   }
 
+module _ {D K N : Type 0} (told : D → Option (List ℕ)) (clock : D → ℕ) (image : D → Images) (faults : D → ℕ) (stands : K → State D → Type 0) (noted : N → List Note → N → Type 0) (subject : Subject) where
   -- one more gave none
   pub first_more : (members : List ℕ) (size dn : ℕ) (start now next : N) → IsFirstGiven told clock image faults stands noted subject size members None start now → Gave told clock image faults stands noted subject size dn None now next → IsFirstGiven told clock image faults stands noted subject size (members ++ dn ∷ []) None start next
   first_more [] size dn start now next none gave = inr (next, (subst (λ (n : N). Gave told clock image faults stands noted subject size dn None n next) none.1 gave, (refl, refl)))

@@ -25,35 +25,36 @@ pub record Answers {D : Type 0} (told : D → Option (List ℕ)) (clock : D → 
   pub goes : Goes told clock image faults subject said old new
   pub already : said ≡ [] → HasAlready faults subject.block old
 
--- The member of this number answered it under its lock, and that was noted.
+-- The member of this number answered it under its lock, and that was noted. The noter then knows all that is kept beside it.
 pub record Answered {D K N : Type 0} (told : D → Option (List ℕ)) (clock : D → ℕ) (image : D → Images) (faults : D → ℕ)
-    (stands : K → State D → Type 0) (noted : N → List Note → N → Type 0) (subject : Subject) (dn : ℕ)
+    (stands : K → State D → Type 0) (noted : N → List Note → N → Type 0) (knows : N → K → Type 0) (subject : Subject) (dn : ℕ)
     (answer : Option PutRefusal) (before after : N) : Type 0 where
   pub old : State D
   pub new : State D
   pub member : old.id ≡ dn
   pub kept : (value : K) × stands value old
-  pub left : (value : K) × stands value new
+  pub left : (value : K) × (stands value new × knows after value)
   pub said : List Note
   pub told_so : noted before said after
   pub answers : Answers told clock image faults subject old new answer said
 
 -- So did each of these members, one after the other.
 abbrev pub AllAnswered : {D K N : Type 0} → (D → Option (List ℕ)) → (D → ℕ) → (D → Images) → (D → ℕ)
-    → (K → State D → Type 0) → (N → List Note → N → Type 0) → Subject → List ℕ → List (Option PutRefusal) → N → N → Type 0
-AllAnswered told clock image faults stands noted subject [] [] before after = after ≡ before
-AllAnswered told clock image faults stands noted subject [] (answer ∷ answers) before after = ⊥
-AllAnswered told clock image faults stands noted subject (dn ∷ members) [] before after = ⊥
-AllAnswered {D} {K} {N} told clock image faults stands noted subject (dn ∷ members) (answer ∷ answers) before after =
-    (next : N) × (Answered told clock image faults stands noted subject dn answer before next
-    × AllAnswered told clock image faults stands noted subject members answers next after)
+    → (K → State D → Type 0) → (N → List Note → N → Type 0) → (N → K → Type 0) → Subject → List ℕ
+    → List (Option PutRefusal) → N → N → Type 0
+AllAnswered told clock image faults stands noted knows subject [] [] before after = after ≡ before
+AllAnswered told clock image faults stands noted knows subject [] (answer ∷ answers) before after = ⊥
+AllAnswered told clock image faults stands noted knows subject (dn ∷ members) [] before after = ⊥
+AllAnswered {D} {K} {N} told clock image faults stands noted knows subject (dn ∷ members) (answer ∷ answers) before after =
+    (next : N) × (Answered told clock image faults stands noted knows subject dn answer before next
+    × AllAnswered told clock image faults stands noted knows subject members answers next after)
 
 -- Some of the members answered so, and the next one's lock was let go with nothing noted for want of memory.
 pub record StopsShort {D K N : Type 0} (told : D → Option (List ℕ)) (clock : D → ℕ) (image : D → Images) (faults : D → ℕ)
-    (stands : K → State D → Type 0) (noted : N → List Note → N → Type 0) (subject : Subject) (members : List ℕ)
+    (stands : K → State D → Type 0) (noted : N → List Note → N → Type 0) (knows : N → K → Type 0) (subject : Subject) (members : List ℕ)
     (before after : N) : Type 0 where
   pub answers : List (Option PutRefusal)
   pub fewer : length answers < length members
   pub reached : N
-  pub all : AllAnswered told clock image faults stands noted subject (take (length answers) members) answers before reached
+  pub all : AllAnswered told clock image faults stands noted knows subject (take (length answers) members) answers before reached
   pub none : noted reached [] after

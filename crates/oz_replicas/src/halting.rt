@@ -33,6 +33,7 @@ pub(crate) fn note_halt<D: Disk, K: Kept<D>, N: Noter<D, K>>(
     ensures answer { result ≡ refusals.Stopped count }
     ensures noted { N.noted noter.old (notes.Halt node.now.id count
         ∷ notes.Refused node.now.id block (refusals.Stopped count) ∷ []) noter.new }
+    ensures knows { N.knows noter.new kept.new }
     ensures subject { N.subject noter.new ≡ N.subject noter.old }
     ensures stands { K.stands kept.new node.now }
 {

@@ -19,10 +19,14 @@ pub trait Noter<D: Disk, K: Kept<D>> {
     /// These notes, in their order, lead from the first to the second.
     ghost noted: { Self → List AnyNote → Self → Type 0 };
 
+    /// It knows all that is kept beside a datanode.
+    ghost knows: { Self → K → Type 0 };
+
     /// Makes room for two notes. It is called once under each lock before anything is done there.
     fn ready(&mut self, kept: &mut K) -> Result<(), OutOfMemory>
         ensures subject { subject self.new ≡ subject self.old }
         ensures noted { noted self.old [] self.new }
+        ensures knows { knows self.new kept.new }
         ensures room { OnOk result (2 ≤ K.room kept.new) }
         ensures stands { (node : State D) → K.stands kept.old node → K.stands kept.new node };
 
@@ -34,6 +38,7 @@ pub trait Noter<D: Disk, K: Kept<D>> {
         ensures room { K.room kept.old ≤ K.room kept.new + 1 }
         ensures subject { subject self.new ≡ subject self.old }
         ensures noted { noted self.old (note ∷ []) self.new }
+        ensures knows { knows self.new kept.new }
         ensures stands { (old new : State D) → K.stands kept.old old →
             Leads D.told D.clock D.image D.faults (subject self.old) note old new → K.stands kept.new new };
 

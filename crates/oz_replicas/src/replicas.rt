@@ -38,9 +38,9 @@ pub fn write_block<D: Disk, K: Kept<D>, N: Noter<D, K>, G: Gate, W: Wait>(
     requires its_members { (N.subject noter.old).members ≡ members }
     requires its_block { (N.subject noter.old).block ≡ block }
     requires its_bytes { (N.subject noter.old).bytes ≡ bytes.now }
-    ensures written { IfOk result (λ written. AllAnswered D.told D.clock D.image D.faults K.stands N.noted
+    ensures written { IfOk result (λ written. AllAnswered D.told D.clock D.image D.faults K.stands N.noted N.knows
         (N.subject noter.old) members written.answers noter.old noter.new) }
-    ensures lacks { OnErr result (StopsShort D.told D.clock D.image D.faults K.stands N.noted (N.subject noter.old)
+    ensures lacks { OnErr result (StopsShort D.told D.clock D.image D.faults K.stands N.noted N.knows (N.subject noter.old)
         members noter.old noter.new) }
     ensures subject { N.subject noter.new ≡ N.subject noter.old }
 {
@@ -70,7 +70,7 @@ fn write_member<D: Disk, K: Kept<D>, N: Noter<D, K>, G: Gate, W: Wait>(
     requires most { length bytes.now ≤ LONGEST_PIECE }
     requires its_block { (N.subject noter.old).block ≡ block }
     requires its_bytes { (N.subject noter.old).bytes ≡ bytes.now }
-    ensures answered { IfOk result (λ answer. Answered D.told D.clock D.image D.faults K.stands N.noted
+    ensures answered { IfOk result (λ answer. Answered D.told D.clock D.image D.faults K.stands N.noted N.knows
         (N.subject noter.old) dn answer noter.old noter.new) }
     ensures lacks { OnErr result (N.noted noter.old [] noter.new) }
     ensures subject { N.subject noter.new ≡ N.subject noter.old }

@@ -22,7 +22,7 @@ use oz_world::Disk;
 use std::alloc::Global;
 
 /// Writes a block at the datanode of a cell whose lock is held, and notes what came of it: None where it has the block now.
-/// A datanode that has it already gets no second put, and nothing is noted.
+/// A datanode that has it already gets no second put, and nothing is noted. The noter knows then what is kept beside it.
 pub fn write_at<D: Disk, K: Kept<D>, N: Noter<D, K>>(
     alloc: Global,
     cell: &mut NodeCell<D, K>,
@@ -40,6 +40,7 @@ pub fn write_at<D: Disk, K: Kept<D>, N: Noter<D, K>>(
         × Answers D.told D.clock D.image D.faults (N.subject noter.old) cell.old.node cell.new.node answer notes)) }
     ensures lacks { OnErr result (N.noted noter.old [] noter.new
         × Stays D.told D.clock D.image D.faults cell.old.node cell.new.node) }
+    ensures knows { N.knows noter.new cell.new.kept }
     ensures subject { N.subject noter.new ≡ N.subject noter.old }
     ensures before { IsAtRest K.stands cell.old.node cell.old.kept }
     ensures after { IsAtRest K.stands cell.new.node cell.new.kept }
@@ -68,6 +69,7 @@ fn write_beside<D: Disk, K: Kept<D>, N: Noter<D, K>>(
         × Answers D.told D.clock D.image D.faults (N.subject noter.old) node.old node.new answer notes)) }
     ensures lacks { OnErr result (N.noted noter.old [] noter.new
         × Stays D.told D.clock D.image D.faults node.old node.new) }
+    ensures knows { N.knows noter.new kept.new }
     ensures subject { N.subject noter.new ≡ N.subject noter.old }
     ensures idle { IsIdle node.new }
     ensures stands { K.stands kept.new node.new }

@@ -31,6 +31,8 @@ impl<'a> Noter<MemoryDisk, ()> for Notes<'a> {
 
     ghost noted = { λ before notes after. Unit {0} };
 
+    ghost knows = { λ noter kept. Unit {0} };
+
     ghost joins = { λ first second third before after noted_first noted_second. tt };
 
     fn ready(&mut self, _kept: &mut ()) -> Result<(), OutOfMemory> {

@@ -1,8 +1,9 @@
 -- A datanode at which nothing happened that is noted.
-use Rattle.std.proofs.Common.{◌≡◌, ℕ, Bool, true, false, cond, List, Option, None, Some, refl, sym, ap, ◌∙◌}
-use Rattle.std.specs.Prelude.{not}
+use Rattle.std.proofs.Common.{◌≡◌, ℕ, Bool, true, false, cond, List, Option, None, Some, refl, sym, ap, ◌∙◌, subst}
+use Rattle.std.specs.Prelude.{IsSomeAnd, not}
+use Rattle.oz_block.specs.Blocks.{StandsFor as StandsForNode}
 use Rattle.oz_core.specs.declared.opening.Opening.{Opening}
-use Rattle.oz_datanode.specs.Datanode.{State, count_of, is_halted}
+use Rattle.oz_datanode.specs.Datanode.{State, count_of, is_halted, meta_of, node_in}
 use Rattle.oz_datanode.specs.Writing.{is_open}
 use Rattle.oz_entries.specs.Node.{Node, is_held}
 use Rattle.oz_replicas.specs.Stays.{Stays}
@@ -16,10 +17,17 @@ same_count true false m n x y same stop = absurd cc
 same_count false true m n x y same stop = absurd cc
 same_count false false m n x y same stop = refl
 
+-- what a disk tells stands for what is held
+moved : (was now : Option (List ℕ)) (old new : Node) → now ≡ was → new ≡ old → IsSomeAnd was (λ bytes. StandsForNode bytes old)
+    → IsSomeAnd now (λ bytes. StandsForNode bytes new)
+moved was now old new same held stands =
+    subst (λ (o : Option (List ℕ)). IsSomeAnd o (λ bytes. StandsForNode bytes new)) (sym same)
+    (subst (λ (n : Node). IsSomeAnd was (λ bytes. StandsForNode bytes n)) (sym held) stands)
+
 pub stands_still : {D : Type 0} (told : D → Option (List ℕ)) (clock : D → ℕ) (image : D → Images) (faults : D → ℕ)
     (Coherent : Type 0) (opening : Opening) (view : SeatView) (old new : State D)
-    → Stays told clock image faults old new → StandsFor faults Coherent opening view old
-    → StandsFor faults Coherent opening view new
+    → Stays told clock image faults old new → StandsFor told faults Coherent opening view old
+    → StandsFor told faults Coherent opening view new
 stands_still told clock image faults Coherent opening view old new same stood = record {
   number = same.id ∙ stood.number;
   halt = stood.halt ∙ same_count (is_halted old) (is_halted new) (count_of faults old) (count_of faults new) _ _ same.halted same.stop;
@@ -28,4 +36,7 @@ stands_still told clock image faults Coherent opening view old new same stood = 
   whole = λ coherent block row is. stood.whole coherent block row (sym (ap (λ (n : Node). n.rows block) same.node) ∙ is);
   closed = λ coherent container. stood.closed coherent container
       ∙ sym (ap (λ (n : Node). not (is_open (n.states container))) same.node);
+  journal = λ coherent running.
+      moved (told (meta_of old)) (told (meta_of new)) (node_in old) (node_in new) (ap told same.journal) same.node
+      (stood.journal coherent (sym same.halted ∙ running));
 }

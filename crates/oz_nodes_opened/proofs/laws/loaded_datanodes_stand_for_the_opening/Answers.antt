@@ -1,9 +1,11 @@
 use Rattle.std.proofs.Common.{◌≡◌, ℕ, not, arith, ◌∙◌, ap}
+use Rattle.std.specs.Prelude.{IsSome}
 use Rattle.oz_core.specs.Nodes.{was_closed, was_held}
-use Rattle.oz_datanode.specs.Datanode.{State as Datanode, node_in}
+use Rattle.oz_datanode.specs.Datanode.{State as Datanode, meta_of, node_in}
+use Rattle.oz_datanode.specs.declared.disks.NodeDisks.{NodeDisks}
 use Rattle.oz_store_opening.specs.Openings.{opened_node, opening_of}
 use Rattle.oz_world.specs.Disk.{seen}
-use Rattle.oz_nodes_opened.proofs.Nodes.{from_at, open_alike, there_at}
+use Rattle.oz_nodes_opened.proofs.Nodes.{disks_at, from_at, open_alike, there_at, told_stands}
 use Rattle.oz_nodes_opened.proofs.laws.loaded_datanodes_stand_for_the_opening.Goals as goal
 
 pub returns-clause-number : goal.returns-clause-number
@@ -21,6 +23,12 @@ returns-clause-there g c = λ unseated namespace made nodes dn node at. there_at
 
 pub returns-clause-numbered : goal.returns-clause-numbered
 returns-clause-numbered g c = λ unseated namespace made nodes unretired among. absurd (omega (arith, among.1))
+
+pub returns-clause-journal : goal.returns-clause-journal
+returns-clause-journal g c = λ disks nodes dn node tell are at.
+    let from = disks_at (λ (d : g.row.D.Denot). seen (g.D.Disk.told d) (g.D.Disk.clock d) (g.D.Disk.image d) (g.D.Disk.faults d))
+    (λ (own : NodeDisks g.row.D.Denot). IsSome (g.D.Disk.told own.meta)) 0 disks nodes are tell dn node at in
+    told_stands (g.D.Disk.told from.0.meta) (g.D.Disk.told (meta_of node)) (node_in node) from.1.1 from.1.0.stands from.1.0.closed from.1.0.meta.contents
 
 pub returns-clause-opened : goal.returns-clause-opened
 returns-clause-opened g c = λ all unseated namespace made disks nodes dn node tell are agree at.

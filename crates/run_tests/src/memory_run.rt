@@ -23,6 +23,12 @@ pub const ONE: [u8; 23] = [
     1, 0, 0, 0, 17, 1, 0, 0, 0, 0, 0, 0, 0, 1, 1, 1, 0, 4, 118, 111, 108, 49, 0,
 ];
 
+/// The storage container manager's disk of three datanodes, which granted the ids 1 to 64 in container 1: each block that a manager's disk of these tests names was granted.
+const GRANTED: [u8; 36] = [
+    1, 0, 0, 0, 2, 1, 3, 1, 0, 0, 0, 23, 2, 2, 0, 0, 0, 0, 0, 0, 0, 1, 0, 0, 0, 0, 0, 0, 0, 0, 1,
+    0, 0, 0, 64, 0,
+];
+
 /// The numbers, from 1, of the calls that fail, and 0 where none does.
 #[derive(Clone, Copy)]
 pub struct FailingCalls {
@@ -86,7 +92,7 @@ pub fn runs_past<R: Threads + Wait + Sync + AllocGlobal, G: Gate + Sync>(
     let mut out = MemorySink::new(alloc, vec![in alloc; fails.sink]?)?;
     let disks = Disks {
         manager: disk_of(alloc, disk, fails.disk)?,
-        scm: disk_of(alloc, &[], 0)?,
+        scm: disk_of(alloc, &GRANTED, 0)?,
         nodes: nodes_for(alloc, &words, &[], None)?,
     };
     let ended = run(rt, alloc, &words, &mut source, &mut out, disks, gate);

@@ -7,3 +7,4 @@ pub mod Following
 pub mod Leading
 pub mod Noted
 pub mod Lasting
+pub mod Commanding

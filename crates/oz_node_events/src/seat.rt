@@ -210,9 +210,30 @@ impl<O: Opened, R: Ring> NodeSeat<Ledger<O>, O, R> {
         ensures other_mine { mine_of other.new ≡ mine_of other.old }
         ensures other_room { room_of other.new ≡ room_of other.old }
     {
-        let by = FIRST_DATANODE_SEAT + u16::from(self.dn);
         let changed = scm.track_ready(rt, turn, &mut self.seat, self.dn, up);
-        show(rt, turn, &mut self.seat, other, by);
+        self.show(rt, turn, other);
         changed
+    }
+
+    /// Another seat sees all that the datanode's has seen by then. It takes no memory.
+    pub fn show<W: Wait>(&mut self, rt: &W, turn: &Turn<Ledger<O>>, other: &mut Seat<Ledger<O>>)
+        requires turn { turn_id turn.now ≡ R.turn }
+        requires other_turn { turn_of other.old ≡ R.turn }
+        requires other_free { taken_of other.old ≡ None }
+        ensures number { self.new.dn ≡ self.old.dn }
+        ensures room { self.new.room ≡ self.old.room }
+        ensures mine { self.new.mine ≡ self.old.mine }
+        ensures goes_on { BeginsWith self.new.seen self.old.seen }
+        ensures kept { IsKept O.coherent O.opening O.bytes O.script self.new }
+        ensures kept_before { IsKept O.coherent O.opening O.bytes O.script self.old }
+        ensures other { IsSameSeat other.old other.new }
+        ensures other_free { taken_of other.new ≡ None }
+        ensures other_begins { BeginsWith (seen_of other.new) (seen_of other.old) }
+        ensures other_seen { seen_of other.new ≡ self.new.seen }
+        ensures other_mine { mine_of other.new ≡ mine_of other.old }
+        ensures other_room { room_of other.new ≡ room_of other.old }
+    {
+        let number = FIRST_DATANODE_SEAT + u16::from(self.dn);
+        show(rt, turn, &mut self.seat, other, number);
     }
 }

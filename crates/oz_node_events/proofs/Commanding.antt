@@ -14,7 +14,6 @@ use Rattle.oz_core.specs.Nodes.{closed_after, is_running, stopped_or_started, wa
 use Rattle.oz_core.specs.Stories.{last_told, newer}
 use Rattle.oz_datanode.specs.Datanode.{State, count_of, is_halted}
 use Rattle.oz_lines.specs.declared.script.Script.{Script}
-use Rattle.oz_turn.specs.Told.{BeginsWith}
 use Rattle.oz_node_events.specs.Commands.{by_node, run_event}
 use Rattle.oz_node_events.specs.NodeSeat.{IsAppended, IsKept, NumbersAreOld, SeatView, StandsFor, events_of}
 use Rattle.oz_node_events.proofs.Holding.{holds_push}
@@ -76,7 +75,32 @@ module _ (Coherent : Type 0) (opening : Opening) (bytes : OpeningBytes) (script 
         fits = fits;
       }
 
-  -- ---- behind it
+  -- ---- behind an event of the datanode's seat
+
+  pub event_stands : (kind : EventKind) (view later : SeatView) (old new : State D) (other : List Event) → IsKept Coherent opening bytes script view → IsKept Coherent opening bytes script later
+      → Stands view old → later.dn ≡ view.dn → later.mine ≡ view.mine ++ by_node view.dn kind ∷ [] → IsAppended (by_node view.dn kind) view.seen other later.seen
+      → ((before : List Event) → AllFollow Follow [] before → Follow before (by_node view.dn kind) → Stands (record { dn = view.dn; seen = before; mine = view.mine; room = view.room }) old
+      → Stands (record { dn = view.dn; seen = before ++ by_node view.dn kind ∷ []; mine = view.mine ++ by_node view.dn kind ∷ []; room = view.room }) new)
+      → Stands later new
+  event_stands kind view later old new other kept kept_later stood number mine told_so step =
+      let event = by_node view.dn kind in
+      let before = told_so.before in
+      let more = told_so.goes_on.0 in
+      let given : events_of view.dn later.seen ≡ view.mine ++ event ∷ [] = ap (λ (n : ℕ). events_of n later.seen) (sym number) ∙ (kept_later.own ∙ mine) in
+      let all : AllFollow Follow [] ((before ++ event ∷ []) ++ more) = subst (λ (l : List Event). AllFollow Follow [] l) told_so.goes_on.1 kept_later.follow in
+      let all_behind : AllFollow Follow [] (before ++ event ∷ []) = follow_front Follow [] (before ++ event ∷ []) more all in
+      let all_before : AllFollow Follow [] before = follow_front Follow [] before (event ∷ []) all_behind in
+      let follows : Follow before event = follow_one Follow before event [] (follow_behind Follow [] before (event ∷ []) all_behind) in
+      let own = own_before view.dn event refl view.seen before more view.mine later.seen kept.own told_so.begins told_so.goes_on.1 given in
+      let own_then = own_behind view.dn event refl view.seen before more view.mine later.seen kept.own told_so.begins told_so.goes_on.1 given in
+      let behind : SeatView = record { dn = view.dn; seen = before ++ event ∷ []; mine = view.mine ++ event ∷ []; room = view.room } in
+      let stood_here = stands_on faults Coherent opening old bytes script view kept stood before view.room told_so.begins all_before own in
+      let stood_behind : Stands behind new = step before all_before follows stood_here in
+      let kept_behind : IsKept Coherent opening bytes script behind = record { few = kept.few; there = kept.there; numbered = kept.numbered; own = own_then; follow = all_behind } in
+      same_view faults Coherent opening new (record { dn = view.dn; seen = later.seen; mine = view.mine ++ event ∷ []; room = view.room }) later (sym number) refl (sym mine)
+      (stands_on faults Coherent opening new bytes script behind kept_behind stood_behind later.seen view.room told_so.goes_on kept_later.follow given)
+
+  -- ---- behind a Stop or a Start
 
   module _ (numbered : Coherent → NumbersAreOld opening) (dn room : ℕ) (before mine : List Event) (all : AllFollow Follow [] before) where
     run_step : (runs : Bool) → Follow before (by_node dn (run_event dn runs)) → (old : State D) → Stands (record { dn = dn; seen = before; mine = mine; room = room }) old
@@ -108,20 +132,5 @@ module _ (Coherent : Type 0) (opening : Opening) (bytes : OpeningBytes) (script 
       → Stands view node → later.dn ≡ view.dn → later.mine ≡ view.mine ++ by_node view.dn (run_event view.dn runs) ∷ []
       → IsAppended (by_node view.dn (run_event view.dn runs)) view.seen other later.seen → Stands later (record node { stopped = not runs })
   run_stands view later node runs other kept kept_later stood number mine told_so =
-      let event = by_node view.dn (run_event view.dn runs) in
-      let new : State D = record node { stopped = not runs } in
-      let before = told_so.before in
-      let more = told_so.goes_on.0 in
-      let given : events_of view.dn later.seen ≡ view.mine ++ event ∷ [] = ap (λ (n : ℕ). events_of n later.seen) (sym number) ∙ (kept_later.own ∙ mine) in
-      let all : AllFollow Follow [] ((before ++ event ∷ []) ++ more) = subst (λ (l : List Event). AllFollow Follow [] l) told_so.goes_on.1 kept_later.follow in
-      let all_behind : AllFollow Follow [] (before ++ event ∷ []) = follow_front Follow [] (before ++ event ∷ []) more all in
-      let all_before : AllFollow Follow [] before = follow_front Follow [] before (event ∷ []) all_behind in
-      let follows : Follow before event = follow_one Follow before event [] (follow_behind Follow [] before (event ∷ []) all_behind) in
-      let own = own_before view.dn event refl view.seen before more view.mine later.seen kept.own told_so.begins told_so.goes_on.1 given in
-      let own_then = own_behind view.dn event refl view.seen before more view.mine later.seen kept.own told_so.begins told_so.goes_on.1 given in
-      let behind : SeatView = record { dn = view.dn; seen = before ++ event ∷ []; mine = view.mine ++ event ∷ []; room = view.room } in
-      let stood_here = stands_on faults Coherent opening node bytes script view kept stood before view.room told_so.begins all_before own in
-      let stood_behind : Stands behind new = run_step kept.numbered view.dn view.room before view.mine all_before runs follows node stood_here in
-      let kept_behind : IsKept Coherent opening bytes script behind = record { few = kept.few; there = kept.there; numbered = kept.numbered; own = own_then; follow = all_behind } in
-      same_view faults Coherent opening new (record { dn = view.dn; seen = later.seen; mine = view.mine ++ event ∷ []; room = view.room }) later (sym number) refl (sym mine)
-      (stands_on faults Coherent opening new bytes script behind kept_behind stood_behind later.seen view.room told_so.goes_on kept_later.follow given)
+      event_stands (run_event view.dn runs) view later node (record node { stopped = not runs }) other kept kept_later stood number mine told_so
+      (λ before all follows here. run_step kept.numbered view.dn view.room before view.mine all runs follows node here)

@@ -8,3 +8,4 @@ pub mod Leading
 pub mod Noted
 pub mod Lasting
 pub mod Commanding
+pub mod Wiping

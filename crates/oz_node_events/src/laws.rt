@@ -1,8 +1,9 @@
 //! What holds of the notes of an ask.
 
-ghost use Rattle.std.specs.Prelude.{◌≡◌, ℕ, [], ◌∷◌, ◌++◌, Bool, true, false, not, List, Option};
+ghost use Rattle.std.specs.Prelude.{◌≡◌, ◌≤◌, ℕ, [], ◌∷◌, ◌++◌, Bool, true, false, not, List, Option};
 ghost use Rattle.oz_buffer.specs.Buffer.{AllFollow, Follows};
 ghost use Rattle.oz_core.specs.declared.event.Event.{Event as AnyEvent};
+ghost use Rattle.oz_core.specs.declared.event.EventKind.TheVariants.{Halt, Wipe};
 ghost use Rattle.oz_core.specs.declared.event.PutRefusal.{PutRefusal as AnyRefusal};
 ghost use Rattle.oz_core.specs.declared.event.Node.TheVariants.{Datanode};
 ghost use Rattle.oz_core.specs.Asks.{is_script};
@@ -14,7 +15,7 @@ ghost use Rattle.oz_core.specs.Stories.{last_told};
 ghost use Rattle.oz_datanode.specs.Datanode.{Runs, State as AnyNode, is_halted};
 ghost use Rattle.oz_lines.specs.Numbered.{IsNumbered};
 ghost use Rattle.oz_node_events.specs.Answers.{AnswersStand};
-ghost use Rattle.oz_node_events.specs.Commands.{by_node, run_event};
+ghost use Rattle.oz_node_events.specs.Commands.{HaltsSo, IsWipedSo, by_node, run_event};
 ghost use Rattle.oz_node_events.specs.NodeSeat.{IsAppended, IsAsOpened, IsKept, SeatView, StandsFor, events_of};
 ghost use Rattle.oz_node_events.specs.Noting.{IsNotedBy, IsSameNoter, MayNote, NotingView};
 ghost use Rattle.oz_replicas.specs.Notes.{Subject};
@@ -108,4 +109,36 @@ pub fn it_stands_where_it_saw_more<D: Disk, O: Opened>()
         IsKept O.coherent O.opening O.bytes O.script after → StandsFor D.faults O.coherent O.opening view node →
         after.dn ≡ view.dn → after.mine ≡ view.mine → BeginsWith after.seen view.seen →
         StandsFor D.faults O.coherent O.opening after node }
+{}
+
+/// A Wipe of a datanode whose disks haven't failed may follow where the script leads to it, and behind it the seat stands for the
+/// datanode that holds nothing.
+pub fn a_line_wipes_it<D: Disk, O: Opened>()
+    ensures follows { (view : SeatView) (node : AnyNode D) (story : List AnyEvent) →
+        IsKept O.coherent O.opening O.bytes O.script view → StandsFor D.faults O.coherent O.opening view node →
+        is_halted node ≡ false → AllFollow (Follows O.coherent O.opening O.bytes O.script) [] story →
+        events_of view.dn story ≡ view.mine → (O.coherent → EventFits O.opening O.bytes O.script story (Wipe view.dn)) →
+        Follows O.coherent O.opening O.bytes O.script story (by_node view.dn (Wipe view.dn)) }
+    ensures stands { (view after : SeatView) (old new : AnyNode D) (other : List AnyEvent) →
+        IsKept O.coherent O.opening O.bytes O.script view → IsKept O.coherent O.opening O.bytes O.script after →
+        StandsFor D.faults O.coherent O.opening view old → IsWipedSo old new → after.dn ≡ view.dn →
+        after.mine ≡ view.mine ++ by_node view.dn (Wipe view.dn) ∷ [] →
+        IsAppended (by_node view.dn (Wipe view.dn)) view.seen other after.seen →
+        StandsFor D.faults O.coherent O.opening after new }
+{}
+
+/// A Halt of a datanode whose disks hadn't failed may follow, and behind it the seat stands for the datanode one of whose disks
+/// failed, if that holds what it held.
+pub fn a_failed_disk_halts_it<D: Disk, O: Opened>()
+    ensures follows { (view : SeatView) (node : AnyNode D) (count : ℕ) (story : List AnyEvent) →
+        IsKept O.coherent O.opening O.bytes O.script view → StandsFor D.faults O.coherent O.opening view node →
+        is_halted node ≡ false → 1 ≤ count → AllFollow (Follows O.coherent O.opening O.bytes O.script) [] story →
+        events_of view.dn story ≡ view.mine →
+        Follows O.coherent O.opening O.bytes O.script story (by_node view.dn (Halt (Datanode view.dn) count)) }
+    ensures stands { (view after : SeatView) (old new : AnyNode D) (count : ℕ) (other : List AnyEvent) →
+        IsKept O.coherent O.opening O.bytes O.script view → IsKept O.coherent O.opening O.bytes O.script after →
+        StandsFor D.faults O.coherent O.opening view old → HaltsSo D.faults old new count → after.dn ≡ view.dn →
+        after.mine ≡ view.mine ++ by_node view.dn (Halt (Datanode view.dn) count) ∷ [] →
+        IsAppended (by_node view.dn (Halt (Datanode view.dn) count)) view.seen other after.seen →
+        StandsFor D.faults O.coherent O.opening after new }
 {}

@@ -1,5 +1,5 @@
 -- What a command comes to, from what the seats have told.
-use Rattle.std.proofs.Common.{◌≡◌, ℕ, Bool, true, false, ◌==◌, cond, List, [], ◌∷◌, ◌++◌, Option, None, Some, Result, Ok, eq-eqb, refl, sym, ap, ◌∙◌, subst, append_assoc}
+use Rattle.std.proofs.Common.{◌≡◌, ℕ, Bool, true, false, ◌==◌, cond, List, [], ◌∷◌, ◌++◌, Option, None, Some, Ok, eq-eqb, refl, sym, ap, ◌∙◌, subst, append_assoc}
 use Rattle.std.specs.Prelude.{not, slice_set}
 use Rattle.oz_buffer.specs.Buffer.{AllFollow, Follows}
 use Rattle.oz_buffer.specs.laws.Following.{told-push}

@@ -12,7 +12,7 @@ use Rattle.oz_core.specs.Due.{IsAway, IsBack}
 use Rattle.oz_core.specs.Fits.{IsCommanded, starts, stops}
 use Rattle.oz_core.specs.Manager.{halt_of}
 use Rattle.oz_container.specs.declared.state.State.TheVariants.{Open}
-use Rattle.oz_datanode.specs.Datanode.{State, count_of, is_halted}
+use Rattle.oz_datanode.specs.Datanode.{count_of, is_halted}
 use Rattle.oz_grants.specs.declared.container.Container.{Container}
 use Rattle.oz_lines.specs.declared.script.Script.{Script}
 use Rattle.oz_node_events.specs.Commands.{by_node, run_event}

@@ -8,3 +8,5 @@ pub mod Following
 pub mod Leading
 pub mod Noted
 pub mod Lasting
+pub mod Commanding
+pub mod Wiping

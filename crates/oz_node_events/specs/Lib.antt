@@ -1,4 +1,6 @@
 pub mod NodeSeat
 pub mod Noting
 pub mod Answers
+pub mod Beside
+pub mod Commands
 pub mod laws

@@ -1,23 +1,26 @@
 //! What holds of the notes of an ask.
 
-ghost use Rattle.std.specs.Prelude.{◌≡◌, ℕ, [], true, List, Option};
+ghost use Rattle.std.specs.Prelude.{◌≡◌, ◌≤◌, ℕ, [], ◌∷◌, ◌++◌, Bool, true, false, not, List, Option};
 ghost use Rattle.oz_buffer.specs.Buffer.{AllFollow, Follows};
 ghost use Rattle.oz_core.specs.declared.event.Event.{Event as AnyEvent};
+ghost use Rattle.oz_core.specs.declared.event.EventKind.TheVariants.{Halt, Wipe};
 ghost use Rattle.oz_core.specs.declared.event.PutRefusal.{PutRefusal as AnyRefusal};
 ghost use Rattle.oz_core.specs.declared.event.Node.TheVariants.{Datanode};
 ghost use Rattle.oz_core.specs.Asks.{is_script};
 ghost use Rattle.oz_core.specs.Coherent.{IdsAreFresh, IsCoherent};
 ghost use Rattle.oz_core.specs.Contents.{WasGranted};
+ghost use Rattle.oz_core.specs.Fits.{EventFits};
 ghost use Rattle.oz_core.specs.Law.{WroteIsEnabled, puts_or_copies};
 ghost use Rattle.oz_core.specs.Manager.{halt_of};
-ghost use Rattle.oz_core.specs.Nodes.{is_closed, stopped_or_started};
+ghost use Rattle.oz_core.specs.Nodes.{is_closed, is_running, stopped_or_started};
 ghost use Rattle.oz_core.specs.Stories.{has_event, last_told};
-ghost use Rattle.oz_datanode.specs.Datanode.{Runs, State as AnyNode};
+ghost use Rattle.oz_datanode.specs.Datanode.{Runs, State as AnyNode, is_halted};
 ghost use Rattle.oz_fields.specs.declared.block.Block.{Block as AnyBlock};
 ghost use Rattle.oz_full.specs.Full.{JournalStands};
 ghost use Rattle.oz_lines.specs.Numbered.{IsNumbered};
 ghost use Rattle.oz_node_events.specs.Answers.{AnswersStand, HadIt, HasQuorum};
-ghost use Rattle.oz_node_events.specs.NodeSeat.{IsAsOpened, IsKept, SeatView, StandsFor, events_of};
+ghost use Rattle.oz_node_events.specs.Commands.{HaltsSo, IsWipedSo, by_node, run_event};
+ghost use Rattle.oz_node_events.specs.NodeSeat.{IsAppended, IsAsOpened, IsKept, SeatView, StandsFor, events_of};
 ghost use Rattle.oz_node_events.specs.Noting.{HasSeen, IsNotedBy, IsSameNoter, MayNote, NotingView};
 ghost use Rattle.oz_replicas.specs.Notes.{Subject};
 ghost use Rattle.oz_replicas.specs.Reading.{IsFirstGiven, ReadsShort};
@@ -104,4 +107,63 @@ pub fn a_noter_stays_the_same<D: Disk, O: Opened>()
     ensures unread { (subject : Subject) (size : ℕ) (members : List ℕ) (before after : NotingView) →
         ReadsShort D.told D.clock D.image D.faults (StandsFor D.told D.faults O.coherent O.opening) IsNotedBy subject size members
         before after → IsSameNoter before after }
+{}
+
+/// A datanode whose disks haven't failed runs unless a line stopped it. A Start of one that a line stopped, and a Stop of one
+/// that runs, may follow where the script leads to it, and behind it the seat stands for the datanode that runs, or doesn't.
+pub fn a_line_has_it_run_or_not<D: Disk, O: Opened>()
+    ensures runs { (view : SeatView) (node : AnyNode D) → StandsFor D.told D.faults O.coherent O.opening view node →
+        is_halted node ≡ false → is_running view.dn view.mine ≡ not node.stopped }
+    ensures follows { (view : SeatView) (node : AnyNode D) (runs : Bool) (story : List AnyEvent) →
+        IsKept O.coherent O.opening O.bytes O.script view → StandsFor D.told D.faults O.coherent O.opening view node →
+        is_halted node ≡ false → node.stopped ≡ runs → AllFollow (Follows O.coherent O.opening O.bytes O.script) [] story →
+        events_of view.dn story ≡ view.mine →
+        (O.coherent → EventFits O.opening O.bytes O.script story (run_event view.dn runs)) →
+        Follows O.coherent O.opening O.bytes O.script story (by_node view.dn (run_event view.dn runs)) }
+    ensures stands { (view after : SeatView) (node : AnyNode D) (runs : Bool) (other : List AnyEvent) →
+        IsKept O.coherent O.opening O.bytes O.script view → IsKept O.coherent O.opening O.bytes O.script after →
+        StandsFor D.told D.faults O.coherent O.opening view node → after.dn ≡ view.dn →
+        after.mine ≡ view.mine ++ by_node view.dn (run_event view.dn runs) ∷ [] →
+        IsAppended (by_node view.dn (run_event view.dn runs)) view.seen other after.seen →
+        StandsFor D.told D.faults O.coherent O.opening after (record node { stopped = not runs }) }
+{}
+
+/// A seat that has seen more, and gave no event since, stands for its datanode as before.
+pub fn it_stands_where_it_saw_more<D: Disk, O: Opened>()
+    ensures { (view after : SeatView) (node : AnyNode D) → IsKept O.coherent O.opening O.bytes O.script view →
+        IsKept O.coherent O.opening O.bytes O.script after → StandsFor D.told D.faults O.coherent O.opening view node →
+        after.dn ≡ view.dn → after.mine ≡ view.mine → BeginsWith after.seen view.seen →
+        StandsFor D.told D.faults O.coherent O.opening after node }
+{}
+
+/// A Wipe of a datanode whose disks haven't failed may follow where the script leads to it, and behind it the seat stands for the
+/// datanode that holds nothing.
+pub fn a_line_wipes_it<D: Disk, O: Opened>()
+    ensures follows { (view : SeatView) (node : AnyNode D) (story : List AnyEvent) →
+        IsKept O.coherent O.opening O.bytes O.script view → StandsFor D.told D.faults O.coherent O.opening view node →
+        is_halted node ≡ false → AllFollow (Follows O.coherent O.opening O.bytes O.script) [] story →
+        events_of view.dn story ≡ view.mine → (O.coherent → EventFits O.opening O.bytes O.script story (Wipe view.dn)) →
+        Follows O.coherent O.opening O.bytes O.script story (by_node view.dn (Wipe view.dn)) }
+    ensures stands { (view after : SeatView) (old new : AnyNode D) (other : List AnyEvent) →
+        IsKept O.coherent O.opening O.bytes O.script view → IsKept O.coherent O.opening O.bytes O.script after →
+        StandsFor D.told D.faults O.coherent O.opening view old → IsWipedSo D.told old new → after.dn ≡ view.dn →
+        after.mine ≡ view.mine ++ by_node view.dn (Wipe view.dn) ∷ [] →
+        IsAppended (by_node view.dn (Wipe view.dn)) view.seen other after.seen →
+        StandsFor D.told D.faults O.coherent O.opening after new }
+{}
+
+/// A Halt of a datanode whose disks hadn't failed may follow, and behind it the seat stands for the datanode one of whose disks
+/// failed, if that holds what it held.
+pub fn a_failed_disk_halts_it<D: Disk, O: Opened>()
+    ensures follows { (view : SeatView) (node : AnyNode D) (count : ℕ) (story : List AnyEvent) →
+        IsKept O.coherent O.opening O.bytes O.script view → StandsFor D.told D.faults O.coherent O.opening view node →
+        is_halted node ≡ false → 1 ≤ count → AllFollow (Follows O.coherent O.opening O.bytes O.script) [] story →
+        events_of view.dn story ≡ view.mine →
+        Follows O.coherent O.opening O.bytes O.script story (by_node view.dn (Halt (Datanode view.dn) count)) }
+    ensures stands { (view after : SeatView) (old new : AnyNode D) (count : ℕ) (other : List AnyEvent) →
+        IsKept O.coherent O.opening O.bytes O.script view → IsKept O.coherent O.opening O.bytes O.script after →
+        StandsFor D.told D.faults O.coherent O.opening view old → HaltsSo D.faults old new count → after.dn ≡ view.dn →
+        after.mine ≡ view.mine ++ by_node view.dn (Halt (Datanode view.dn) count) ∷ [] →
+        IsAppended (by_node view.dn (Halt (Datanode view.dn) count)) view.seen other after.seen →
+        StandsFor D.told D.faults O.coherent O.opening after new }
 {}

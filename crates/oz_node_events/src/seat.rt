@@ -1,11 +1,14 @@
 //! The seat of a datanode, which is kept beside it.
 
-ghost use Rattle.std.specs.Prelude.{◌≡◌, ◌+◌, ◌<◌, ◌≤◌, ◌++◌, ◌∷◌, [], List, length, None, OnOk, OnErr};
+ghost use Rattle.std.specs.Prelude.{◌≡◌, ◌+◌, ◌<◌, ◌≤◌, ◌++◌, ◌∷◌, [], List, length, slice_set, None, Ok, OnOk, OnErr};
 ghost use Rattle.oz_buffer.specs.Buffer.{AllFollow, Follows, IsNote};
 ghost use Rattle.oz_core.specs.declared.event.Event.{Event as AnyEvent};
+ghost use Rattle.oz_core.specs.Nodes.{is_running};
 ghost use Rattle.oz_core.specs.Seats.{datanode_seat};
 ghost use Rattle.oz_nodes.specs.declared.nodes.TheConstants.{MOST_NODES};
 ghost use Rattle.oz_node_events.specs.NodeSeat.{IsAppended, IsKept, NumbersAreOld, events_of};
+ghost use Rattle.oz_node_events.specs.Beside.{ShareAPlace};
+ghost use Rattle.oz_scm_events.specs.Tracked.{IsTracked};
 ghost use Rattle.oz_turn.specs.Seat.{IsNewSeat, IsReady, IsSameSeat, mine_of, room_of, seen_of, taken_of, turn_of};
 ghost use Rattle.oz_turn.specs.Told.{BeginsWith};
 ghost use Rattle.oz_turn.specs.Turn.{turn_id};
@@ -15,6 +18,7 @@ use oz_buffer::{Ledger, Opened};
 use oz_core::{Event, EventKind};
 use oz_fields::OutOfMemory;
 use oz_replicas::Kept;
+use oz_scm_events::ScmCell;
 use oz_turn::{Ring, Seat, Told, Turn};
 use oz_world::Disk;
 use std::alloc::Global;
@@ -176,5 +180,71 @@ impl<O: Opened, R: Ring> NodeSeat<Ledger<O>, O, R> {
         append(rt, turn, &mut self.seat, other, by, kind);
         show(rt, turn, &mut self.seat, other, by);
         self.room -= 1;
+    }
+
+    /// Has the storage container manager, which has room for one event, take the datanode for up, which runs, or for down, which
+    /// doesn't run; and answers whether it was taken for the other before. Where it wasn't nothing is appended. Another seat sees
+    /// all that the datanode's has seen. It takes no memory. Who calls holds both locks.
+    pub fn track<D: Disk, W: Wait>(
+        &mut self,
+        rt: &W,
+        turn: &Turn<Ledger<O>>,
+        scm: &mut ScmCell<D, Ledger<O>, O, R>,
+        other: &mut Seat<Ledger<O>>,
+        up: bool,
+    ) -> bool
+        requires turn { turn_id turn.now ≡ R.turn }
+        requires other_turn { turn_of other.old ≡ R.turn }
+        requires other_free { taken_of other.old ≡ None }
+        requires runs { is_running self.old.dn self.old.mine ≡ up }
+        requires made { 1 ≤ scm.old.room }
+        ensures number { self.new.dn ≡ self.old.dn }
+        ensures room { self.new.room ≡ self.old.room }
+        ensures mine { self.new.mine ≡ self.old.mine }
+        ensures goes_on { BeginsWith self.new.seen self.old.seen }
+        ensures kept { IsKept O.coherent O.opening O.bytes O.script self.new }
+        ensures kept_before { IsKept O.coherent O.opening O.bytes O.script self.old }
+
+        // What the storage container manager told.
+        ensures own { IsTracked {E = Unit {0}} self.old.dn up scm.old.mine scm.new.mine (Ok result) }
+        ensures scm { scm.new.scm ≡ record scm.old.scm { up = slice_set scm.old.scm.up self.old.dn up } }
+        ensures left { scm.new.room + 1 ≡ scm.old.room }
+        ensures scm_goes_on { BeginsWith scm.new.seen scm.old.seen }
+
+        // At a place of the story that the other seat has seen then, both have given what they have given now.
+        ensures shared { ShareAPlace (AllFollow (Follows O.coherent O.opening O.bytes O.script) []) self.old.dn self.old.seen
+            self.new.mine scm.new.mine (seen_of other.new) }
+        ensures other { IsSameSeat other.old other.new }
+        ensures other_free { taken_of other.new ≡ None }
+        ensures other_begins { BeginsWith (seen_of other.new) (seen_of other.old) }
+        ensures other_seen { seen_of other.new ≡ self.new.seen }
+        ensures other_mine { mine_of other.new ≡ mine_of other.old }
+        ensures other_room { room_of other.new ≡ room_of other.old }
+    {
+        let changed = scm.track_ready(rt, turn, &mut self.seat, self.dn, up);
+        self.show(rt, turn, other);
+        changed
+    }
+
+    /// Another seat sees all that the datanode's has seen by then. It takes no memory.
+    pub fn show<W: Wait>(&mut self, rt: &W, turn: &Turn<Ledger<O>>, other: &mut Seat<Ledger<O>>)
+        requires turn { turn_id turn.now ≡ R.turn }
+        requires other_turn { turn_of other.old ≡ R.turn }
+        requires other_free { taken_of other.old ≡ None }
+        ensures number { self.new.dn ≡ self.old.dn }
+        ensures room { self.new.room ≡ self.old.room }
+        ensures mine { self.new.mine ≡ self.old.mine }
+        ensures goes_on { BeginsWith self.new.seen self.old.seen }
+        ensures kept { IsKept O.coherent O.opening O.bytes O.script self.new }
+        ensures kept_before { IsKept O.coherent O.opening O.bytes O.script self.old }
+        ensures other { IsSameSeat other.old other.new }
+        ensures other_free { taken_of other.new ≡ None }
+        ensures other_begins { BeginsWith (seen_of other.new) (seen_of other.old) }
+        ensures other_seen { seen_of other.new ≡ self.new.seen }
+        ensures other_mine { mine_of other.new ≡ mine_of other.old }
+        ensures other_room { room_of other.new ≡ room_of other.old }
+    {
+        let number = FIRST_DATANODE_SEAT + u16::from(self.dn);
+        show(rt, turn, &mut self.seat, other, number);
     }
 }

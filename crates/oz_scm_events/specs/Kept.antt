@@ -14,11 +14,13 @@ use Rattle.oz_grants.specs.Made.{container_at}
 use Rattle.oz_scm.specs.Scm.{State}
 use Rattle.oz_turn.specs.Told.{own_entries}
 
--- the storage container manager, what its seat has seen of the story, and the events that it gave
+-- the storage container manager, what its seat has seen of the story, the events that it gave, and for how many more it
+-- has room
 pub record ScmView (D : Type 0) : Type 0 where
   pub scm : State D
   pub seen : List Event
   pub mine : List Event
+  pub room : ℕ
 
 -- a container that was made, as the law of a story has it
 abbrev pub as_told : MadeContainer → Container

@@ -29,11 +29,16 @@ pub struct ScmCell<D: Disk, T: Told<Entry = Event>, O: Opened, R: Ring> {
 impl<D: Disk, T: Told<Entry = Event>, O: Opened, R: Ring> Model for ScmCell<D, T, O, R> {
     ghost use Rattle.oz_core.specs.Seats.{scm_seat};
     ghost use Rattle.oz_scm_events.specs.Kept.{ScmView, IsKept};
-    ghost use Rattle.oz_turn.specs.Seat.{IsReady, mine_of, seen_of};
+    ghost use Rattle.oz_turn.specs.Seat.{IsReady, mine_of, room_of, seen_of};
 
     ghost Value = { ScmView D };
 
-    ghost view = { λ cell. record { scm = cell.scm; seen = seen_of cell.seat; mine = mine_of cell.seat } };
+    ghost view = { λ cell. record {
+      scm = cell.scm;
+      seen = seen_of cell.seat;
+      mine = mine_of cell.seat;
+      room = room_of cell.seat;
+    } };
 
     ghost invariant = { λ cell. IsReady R.turn scm_seat cell.seat
         × IsKept O.opening cell.scm (D.faults cell.scm.disk) (seen_of cell.seat) (mine_of cell.seat) };
@@ -48,7 +53,7 @@ impl<D: Disk, T: Told<Entry = Event>, O: Opened, R: Ring> ScmCell<D, T, O, R> {
         requires containers { AreContainers scm.made.containers O.opening.containers }
         requires up { scm.up ≡ replicate (length O.opening.nodes) true }
         requires seat { IsNewSeat R.turn scm_seat seat }
-        ensures { result ≡ record { scm = scm; seen = []; mine = [] } }
+        ensures { result ≡ record { scm = scm; seen = []; mine = []; room = 0 } }
     {
         ScmCell {
             scm,
@@ -85,6 +90,7 @@ impl<D: Disk, O: Opened, R: Ring> ScmCell<D, Ledger<O>, O, R> {
 
         // It is as it was, but for what it has seen.
         ensures same { (self.new.scm ≡ self.old.scm) × (self.new.mine ≡ self.old.mine) }
+        ensures same_room { self.new.room ≡ self.old.room }
         ensures goes_on { BeginsWith self.new.seen self.old.seen }
 
         // In what the other seat has seen then, the events of this one are all that it gave.

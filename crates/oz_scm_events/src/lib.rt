@@ -6,6 +6,7 @@ mod cell;
 mod granting;
 mod laws;
 mod noting;
+mod readying;
 mod tracking;
 
 pub use cell::ScmCell;

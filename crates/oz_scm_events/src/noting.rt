@@ -41,7 +41,11 @@ pub(crate) fn reserve<O: Opened, W: Wait>(
 }
 
 /// Gives back the room for an event that doesn't come.
-fn release<O: Opened, W: Wait>(rt: &W, turn: &Turn<Ledger<O>>, seat: &mut Seat<Ledger<O>>)
+pub(crate) fn release<O: Opened, W: Wait>(
+    rt: &W,
+    turn: &Turn<Ledger<O>>,
+    seat: &mut Seat<Ledger<O>>,
+)
     requires ready { IsReady (turn_id turn.now) scm_seat seat.old }
     requires room { 1 ≤ room_of seat.old }
     ensures ready { IsReady (turn_id turn.now) scm_seat seat.new }

@@ -85,7 +85,7 @@ impl<D: Disk, O: Opened, R: Ring> ScmCell<D, Ledger<O>, O, R> {
     }
 }
 
-fn up_event(dn: u8, up: bool) -> EventKind
+pub(crate) fn up_event(dn: u8, up: bool) -> EventKind
     ensures { result ≡ up_event dn up }
 {
     if up {

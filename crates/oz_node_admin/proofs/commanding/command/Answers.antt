@@ -1,0 +1,58 @@
+use Rattle.std.specs.Prelude.{Ok}
+use Rattle.std.proofs.Common.{sym, ap, ◌∙◌, subst}
+use Rattle.oz_scm_events.specs.Tracked.{IsTracked}
+use Rattle.oz_turn.specs.Seat.{seen_of}
+use Rattle.oz_node_admin.specs.Commands.{HasBeen, own_after}
+use Rattle.oz_node_admin.proofs.Told.{has_been_since, may_command_later, scm_as}
+use Rattle.oz_node_admin.proofs.commanding.command.Goals as goal
+
+pub returns-then-halted-clause-stands : goal.returns-then-halted-clause-stands
+returns-then-halted-clause-stands g c =
+    let show = c.show.ensures in
+    c.it_stands_where_it_saw_more.ensures c.args.kept.now c.show.new.self c.args.node.now show.kept_before show.kept c.requires.stood show.number show.mine show.goes_on
+
+pub returns-in_err-ready-clause-stands : goal.returns-in_err-ready-clause-stands
+returns-in_err-ready-clause-stands g c =
+    let ready = c.ready.ensures in
+    c.it_stands_where_it_saw_more.ensures c.args.kept.now c.ready.new.self c.args.node.now ready.kept_before ready.kept c.requires.stood ready.number ready.mine ready.goes_on
+
+pub returns-in_err-ready-2-clause-stands : goal.returns-in_err-ready-2-clause-stands
+returns-in_err-ready-2-clause-stands g c =
+    let ready = c.ready.ensures in
+    c.it_stands_where_it_saw_more.ensures c.args.kept.now c.ready.new.self c.args.node.now ready.kept_before ready.kept c.requires.stood ready.number ready.mine ready.goes_on
+
+pub carry_out-requires-clause-stood : goal.carry_out-requires-clause-stood
+carry_out-requires-clause-stood g c =
+    let ready = c.ready.ensures in
+    c.it_stands_where_it_saw_more.ensures c.args.kept.now c.ready.new.self c.args.node.now ready.kept_before ready.kept c.requires.stood ready.number ready.mine ready.goes_on
+
+pub carry_out-requires-clause-commanded : goal.carry_out-requires-clause-commanded
+carry_out-requires-clause-commanded g c other =
+    let O = g.O.Opened in
+    let ready = c.ready.ensures in
+    may_command_later O.coherent O.opening O.bytes O.script _ _ c.args.runs c.args.kept.now c.ready.new.self ready.number ready.mine ready.goes_on ready.other_begins (c.requires.commanded other)
+
+pub returns-clause-comes_to : goal.returns-clause-comes_to
+returns-clause-comes_to g c =
+    let O = g.O.Opened in
+    let ready = c.ready.ensures in
+    let room = c.ready-2.ensures in
+    let done = c.carry_out.ensures in
+    let runs = c.args.runs in
+    let view = c.args.kept.now in
+    let before = c.args.scm.now in
+    let after = c.carry_out.new.scm in
+    record {
+      unhalted = sym c.halted.ensures.halted ∙ c.if-halted.false;
+      node = done.node;
+      number = done.number ∙ ready.number;
+      its = done.its
+          ∙ (ap (λ n. own_after n runs c.args.node.now.stopped c.ready.new.self.mine) ready.number
+          ∙ ap (λ l. own_after view.dn runs c.args.node.now.stopped l) ready.mine);
+      changed = c.carry_out.result;
+      of_the_scm = subst (λ l. IsTracked {E = Unit {0}} view.dn runs l after.mine (Ok c.carry_out.result)) room.same.1
+          (subst (λ n. IsTracked {E = Unit {0}} n runs c.ready-2.new.self.mine after.mine (Ok c.carry_out.result)) ready.number done.of_the_scm);
+      scm = scm_as after.scm c.ready-2.new.self.scm before.scm c.ready.new.self.dn view.dn runs done.scm room.same.0 ready.number;
+      has_been = subst (λ n. HasBeen O.coherent n runs (seen_of c.args.seat.now) (seen_of c.carry_out.new.seat)) ready.number
+          (has_been_since O.coherent O.opening O.bytes O.script c.ready.new.self.dn runs _ _ _ ready.other_begins done.has_been);
+    }

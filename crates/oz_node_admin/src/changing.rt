@@ -1,0 +1,118 @@
+//! Having a datanode run or not, and telling so.
+
+ghost use Rattle.std.specs.Prelude.{◌≡◌, ◌+◌, ◌≤◌, None, not, true, false};
+ghost use Rattle.oz_buffer.specs.Buffer.{IsNote};
+ghost use Rattle.oz_datanode.specs.Datanode.{is_halted};
+ghost use Rattle.oz_node_admin.specs.Commands.{MayCommand, own_after};
+ghost use Rattle.oz_node_events.specs.Commands.{run_event};
+ghost use Rattle.oz_node_events.specs.NodeSeat.{IsKept, StandsFor};
+ghost use Rattle.oz_turn.specs.Seat.{IsSameSeat, mine_of, room_of, seen_of, taken_of, turn_of};
+ghost use Rattle.oz_turn.specs.Told.{BeginsWith};
+ghost use Rattle.oz_turn.specs.Turn.{turn_id};
+
+use oz_buffer::{Ledger, Opened};
+use oz_core::EventKind;
+use oz_datanode::Datanode;
+use oz_node_events::{NodeSeat, a_line_has_it_run_or_not, it_stands_where_it_saw_more};
+use oz_turn::{Ring, Seat, Turn};
+use oz_world::Disk;
+use std::sync::Wait;
+
+/// Has a datanode run, or not, and appends the Start or the Stop where it didn't yet. Another seat sees all of it.
+pub(crate) fn see_to<D: Disk, O: Opened, R: Ring, W: Wait>(
+    rt: &W,
+    turn: &Turn<Ledger<O>>,
+    node: &mut Datanode<D>,
+    kept: &mut NodeSeat<Ledger<O>, O, R>,
+    seat: &mut Seat<Ledger<O>>,
+    runs: bool,
+)
+    requires turn { turn_id turn.now ≡ R.turn }
+    requires seat_turn { turn_of seat.old ≡ R.turn }
+    requires seat_free { taken_of seat.old ≡ None }
+    requires room { 1 ≤ kept.old.room }
+    requires unhalted { is_halted node.old ≡ false }
+    requires kept { IsKept O.coherent O.opening O.bytes O.script kept.old }
+    requires stood { StandsFor D.told D.faults O.coherent O.opening kept.old node.old }
+    requires commanded { node.old.stopped ≡ runs
+        → MayCommand O.coherent O.opening O.bytes O.script (seen_of seat.old) kept.old runs }
+    ensures node { node.new ≡ record node.old { stopped = not runs } }
+    ensures number { kept.new.dn ≡ kept.old.dn }
+    ensures its { kept.new.mine ≡ own_after kept.old.dn runs node.old.stopped kept.old.mine }
+    ensures kept { IsKept O.coherent O.opening O.bytes O.script kept.new }
+    ensures stands { StandsFor D.told D.faults O.coherent O.opening kept.new node.new }
+    ensures goes_on { BeginsWith kept.new.seen kept.old.seen }
+    ensures seat { IsSameSeat seat.old seat.new }
+    ensures seat_free { taken_of seat.new ≡ None }
+    ensures begins { BeginsWith kept.new.seen (seen_of seat.old) }
+    ensures seen { seen_of seat.new ≡ kept.new.seen }
+    ensures mine { mine_of seat.new ≡ mine_of seat.old }
+    ensures seat_room { room_of seat.new ≡ room_of seat.old }
+{
+    it_stands_where_it_saw_more::<D, O>();
+    if node.running() != runs {
+        change(rt, turn, node, kept, seat, runs);
+    } else {
+        kept.show(rt, turn, seat);
+    }
+}
+
+/// The same of a datanode that doesn't do so yet.
+fn change<D: Disk, O: Opened, R: Ring, W: Wait>(
+    rt: &W,
+    turn: &Turn<Ledger<O>>,
+    node: &mut Datanode<D>,
+    kept: &mut NodeSeat<Ledger<O>, O, R>,
+    seat: &mut Seat<Ledger<O>>,
+    runs: bool,
+)
+    requires turn { turn_id turn.now ≡ R.turn }
+    requires seat_turn { turn_of seat.old ≡ R.turn }
+    requires seat_free { taken_of seat.old ≡ None }
+    requires room { 1 ≤ kept.old.room }
+    requires unhalted { is_halted node.old ≡ false }
+    requires other { node.old.stopped ≡ runs }
+    requires kept { IsKept O.coherent O.opening O.bytes O.script kept.old }
+    requires stood { StandsFor D.told D.faults O.coherent O.opening kept.old node.old }
+    requires commanded { MayCommand O.coherent O.opening O.bytes O.script (seen_of seat.old) kept.old runs }
+    ensures node { node.new ≡ record node.old { stopped = not runs } }
+    ensures number { kept.new.dn ≡ kept.old.dn }
+    ensures its { kept.new.mine ≡ own_after kept.old.dn runs node.old.stopped kept.old.mine }
+    ensures kept { IsKept O.coherent O.opening O.bytes O.script kept.new }
+    ensures stands { StandsFor D.told D.faults O.coherent O.opening kept.new node.new }
+    ensures goes_on { BeginsWith kept.new.seen kept.old.seen }
+    ensures seat { IsSameSeat seat.old seat.new }
+    ensures seat_free { taken_of seat.new ≡ None }
+    ensures begins { BeginsWith kept.new.seen (seen_of seat.old) }
+    ensures seen { seen_of seat.new ≡ kept.new.seen }
+    ensures mine { mine_of seat.new ≡ mine_of seat.old }
+    ensures seat_room { room_of seat.new ≡ room_of seat.old }
+{
+    a_line_has_it_run_or_not::<D, O>();
+    let dn = node.id();
+    have_run(node, runs);
+    kept.note(rt, turn, seat, run_event(dn, runs));
+}
+
+/// Has a datanode run, or not, whose disks haven't failed.
+fn have_run<D: Disk>(node: &mut Datanode<D>, runs: bool)
+    requires { is_halted node.old ≡ false }
+    ensures { node.new ≡ record node.old { stopped = not runs } }
+{
+    if !runs {
+        node.stop();
+        return;
+    }
+    let _started = node.start();
+}
+
+fn run_event(dn: u8, runs: bool) -> EventKind
+    ensures kind { result ≡ run_event dn runs }
+    ensures noted { IsNote result }
+{
+    if runs {
+        EventKind::Start { dn }
+    } else {
+        EventKind::Stop { dn }
+    }
+}

@@ -1,0 +1,125 @@
+-- What a wipe, and a disk that fails, come to for the datanode and its seat.
+use Rattle.std.proofs.Common.{◌≡◌, ℕ, ◌≤◌, Bool, true, false, ◌==◌, cond, List, [], ◌∷◌, ◌++◌, Option, None, Some, eq-eqb, refl, sym, ap, ◌∙◌}
+use Rattle.std.specs.Prelude.{not}
+use Rattle.oz_buffer.specs.Buffer.{AllFollow, Follows}
+use Rattle.oz_buffer.specs.laws.Following.{told-push}
+use Rattle.oz_core.specs.declared.event.Event.{Event}
+use Rattle.oz_core.specs.declared.event.EventKind.TheVariants.{Halt, Wipe}
+use Rattle.oz_core.specs.declared.event.Node.TheVariants.{Datanode}
+use Rattle.oz_core.specs.declared.opening.Opening.{Opening}
+use Rattle.oz_core.specs.Contents.{OpeningBytes}
+use Rattle.oz_core.specs.Fits.{EventFits}
+use Rattle.oz_core.specs.Manager.{halt_count, halt_of}
+use Rattle.oz_core.specs.Nodes.{closed_after, holds, is_closed, stopped_or_started, was_closed}
+use Rattle.oz_core.specs.Stories.{newer}
+use Rattle.oz_datanode.specs.Datanode.{State, count_of, is_halted}
+use Rattle.oz_datanode.specs.Writing.{is_open}
+use Rattle.oz_entries.specs.Node.{Node, is_held}
+use Rattle.oz_lines.specs.declared.script.Script.{Script}
+use Rattle.oz_node_events.specs.Commands.{HaltsSo, IsWipedSo, by_node}
+use Rattle.oz_node_events.specs.NodeSeat.{IsAppended, IsKept, NumbersAreOld, SeatView, StandsFor, events_of}
+use Rattle.oz_node_events.proofs.Commanding.{event_stands}
+use Rattle.oz_node_events.proofs.Holding.{holds_push}
+use Rattle.oz_node_events.proofs.Moving.{length_longer}
+use Rattle.oz_node_events.proofs.Telling.{halt_own}
+
+none_some : {X : Type 0} (x : X) → None ≡ Some x → ⊥
+none_some x is = cc
+
+true_false : true ≡ false → ⊥
+true_false is = cc
+
+module _ (Coherent : Type 0) (opening : Opening) (bytes : OpeningBytes) (script : Script) {D : Type 0} (told : D → Option (List ℕ)) (faults : D → ℕ) where
+  abbrev Follow : List Event → Event → Type 0
+  Follow = Follows Coherent opening bytes script
+
+  abbrev Stands : SeatView → State D → Type 0
+  Stands view node = StandsFor told faults Coherent opening view node
+
+  -- ---- they may be told
+
+  unhalted_now : (view : SeatView) (node : State D) → Stands view node → is_halted node ≡ false → (story : List Event) → AllFollow Follow [] story → events_of view.dn story ≡ view.mine
+      → halt_of (Datanode view.dn) story ≡ None
+  unhalted_now view node stood unhalted story all own =
+      halt_own Coherent opening bytes script view.dn story all
+      ∙ (ap (halt_of (Datanode view.dn)) own ∙ (stood.halt ∙ ap (λ (t : Bool). cond t (Some (count_of faults node)) None) unhalted))
+
+  pub wipe_follows : (view : SeatView) (node : State D) → IsKept Coherent opening bytes script view → Stands view node → is_halted node ≡ false
+      → (story : List Event) → AllFollow Follow [] story → events_of view.dn story ≡ view.mine
+      → (Coherent → EventFits opening bytes script story (Wipe view.dn)) → Follow story (by_node view.dn (Wipe view.dn))
+  wipe_follows view node kept stood unhalted story all own fits = record {
+    of_seat = tt;
+    enabled = λ coherent. record { of_datanode = record { there = kept.there; its = refl }; unhalted = unhalted_now view node stood unhalted story all own };
+    fits = fits;
+  }
+
+  pub halt_follows : (view : SeatView) (node : State D) (count : ℕ) → IsKept Coherent opening bytes script view → Stands view node → is_halted node ≡ false → 1 ≤ count
+      → (story : List Event) → AllFollow Follow [] story → events_of view.dn story ≡ view.mine → Follow story (by_node view.dn (Halt (Datanode view.dn) count))
+  halt_follows view node count kept stood unhalted some story all own = record {
+    of_seat = record { there = kept.there; its = refl };
+    enabled = λ coherent. record { of_node = record { there = kept.there; its = refl }; unhalted = unhalted_now view node stood unhalted story all own; counted = some };
+    fits = λ coherent. tt;
+  }
+
+  -- ---- behind them
+
+  module _ (numbered : Coherent → NumbersAreOld opening) (dn room : ℕ) (before mine : List Event) (all : AllFollow Follow [] before) (old new : State D)
+      (stood : Stands (record { dn = dn; seen = before; mine = mine; room = room }) old) where
+    wipe_step : Follow before (by_node dn (Wipe dn)) → IsWipedSo told old new
+        → Stands (record { dn = dn; seen = before ++ by_node dn (Wipe dn) ∷ []; mine = mine ++ by_node dn (Wipe dn) ∷ []; room = room }) new
+    wipe_step follows wiped =
+        let event = by_node dn (Wipe dn) in
+        let its : (dn == dn) ≡ true = eq-eqb dn dn refl in
+        record {
+          number = wiped.id ∙ stood.number;
+          halt = told-push (halt_count (Datanode dn)) None mine event
+              ∙ (stood.halt
+              ∙ (ap (λ (t : Bool). cond t (Some (count_of faults old)) None) wiped.ran
+              ∙ sym (ap (λ (t : Bool). cond t (Some (count_of faults new)) None) wiped.unhalted)));
+          line = told-push (stopped_or_started dn) true mine event ∙ (stood.line ∙ sym (ap not wiped.line));
+          held = λ coherent block.
+              holds_push Coherent opening bytes script coherent (numbered coherent) dn block before event all follows
+              ∙ (ap (λ (t : Bool). newer (cond t (Some false) None) (holds opening before dn block)) its
+              ∙ sym (ap (λ (n : Node). is_held n block) wiped.empty));
+          whole = λ coherent block row is. absurd (none_some row (sym (ap (λ (n : Node). n.rows block) wiped.empty) ∙ is));
+          closed = λ coherent container.
+              told-push (closed_after dn container) (was_closed opening dn container) before event
+              ∙ (ap (λ (t : Bool). newer (cond t (Some false) None) (is_closed opening before dn container)) its
+              ∙ sym (ap (λ (n : Node). not (is_open (n.states container))) wiped.empty));
+          journal = λ coherent running. wiped.journal;
+        }
+
+    halt_step : (count : ℕ) → Follow before (by_node dn (Halt (Datanode dn) count)) → HaltsSo faults old new count
+        → Stands (record { dn = dn; seen = before ++ by_node dn (Halt (Datanode dn) count) ∷ []; mine = mine ++ by_node dn (Halt (Datanode dn) count) ∷ []; room = room }) new
+    halt_step count follows halts =
+        let event = by_node dn (Halt (Datanode dn) count) in
+        record {
+          number = halts.id ∙ stood.number;
+          halt = told-push (halt_count (Datanode dn)) None mine event
+              ∙ (ap (λ (t : Bool). newer (cond t (Some (Some count)) None) (halt_of (Datanode dn) mine)) (eq-eqb dn dn refl)
+              ∙ (ap (λ (n : ℕ). Some n) halts.counted ∙ sym (ap (λ (t : Bool). cond t (Some (count_of faults new)) None) halts.halted)));
+          line = told-push (stopped_or_started dn) true mine event ∙ (stood.line ∙ sym (ap not halts.line));
+          held = λ coherent block.
+              holds_push Coherent opening bytes script coherent (numbered coherent) dn block before event all follows
+              ∙ (stood.held coherent block ∙ sym (ap (λ (n : Node). is_held n block) halts.node));
+          whole = λ coherent block row is.
+              length_longer opening block row.length before (event ∷ []) (stood.whole coherent block row (sym (ap (λ (n : Node). n.rows block) halts.node) ∙ is));
+          closed = λ coherent container.
+              told-push (closed_after dn container) (was_closed opening dn container) before event
+              ∙ (stood.closed coherent container ∙ sym (ap (λ (n : Node). not (is_open (n.states container))) halts.node));
+          journal = λ coherent running. absurd (true_false (sym halts.halted ∙ running));
+        }
+
+  pub wipe_stands : (view later : SeatView) (old new : State D) (other : List Event) → IsKept Coherent opening bytes script view → IsKept Coherent opening bytes script later
+      → Stands view old → IsWipedSo told old new → later.dn ≡ view.dn → later.mine ≡ view.mine ++ by_node view.dn (Wipe view.dn) ∷ []
+      → IsAppended (by_node view.dn (Wipe view.dn)) view.seen other later.seen → Stands later new
+  wipe_stands view later old new other kept kept_later stood wiped number mine told_so =
+      event_stands Coherent opening bytes script told faults (Wipe view.dn) view later old new other kept kept_later stood number mine told_so
+      (λ before all follows here. wipe_step kept.numbered view.dn view.room before view.mine all old new here follows wiped)
+
+  pub halt_stands : (view later : SeatView) (old new : State D) (count : ℕ) (other : List Event) → IsKept Coherent opening bytes script view → IsKept Coherent opening bytes script later
+      → Stands view old → HaltsSo faults old new count → later.dn ≡ view.dn → later.mine ≡ view.mine ++ by_node view.dn (Halt (Datanode view.dn) count) ∷ []
+      → IsAppended (by_node view.dn (Halt (Datanode view.dn) count)) view.seen other later.seen → Stands later new
+  halt_stands view later old new count other kept kept_later stood halts number mine told_so =
+      event_stands Coherent opening bytes script told faults (Halt (Datanode view.dn) count) view later old new other kept kept_later stood number mine told_so
+      (λ before all follows here. halt_step kept.numbered view.dn view.room before view.mine all old new here count follows halts)

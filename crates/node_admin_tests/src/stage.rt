@@ -1,0 +1,142 @@
+//! A turn of an empty story, a datanode and the storage container manager over disks in memory, with their seats.
+
+ghost use Rattle.std.specs.Prelude.{◌≡◌, ◌≤◌, ◌<◌, ◌+◌, [], true, false, replicate, vec_len, IfOk};
+ghost use Rattle.oz_replicas.specs.Stays.{IsIdle};
+ghost use Rattle.oz_turn.specs.Seat.{AreNewSeats, IsNewSeat, IsReady};
+ghost use Rattle.oz_turn.specs.Turn.{turn_id};
+
+use oz_buffer::{Ledger, Opened};
+use oz_datanode::{Datanode, NodeDisks};
+use oz_node_events::{NodeSeat, a_loaded_datanode_stands};
+use oz_replicas::NodeCell;
+use oz_scm_events::{Scm, ScmCell};
+use oz_turn::{Ring, Seat, Turn, new_seats_are_ready};
+use oz_world::{MemoryDisk, OutOfMemory};
+use std::alloc::Global;
+use std::test::Fail;
+
+/// An opening with three datanodes, of which nothing is asked.
+pub struct ThreeNodes;
+
+impl Opened for ThreeNodes {
+    ghost use Rattle.std.specs.Prelude.{[], None};
+    ghost use Rattle.oz_buffer.specs.Openings.{no_script};
+    ghost use Rattle.node_admin_tests.specs.Three.{three_nodes};
+
+    ghost opening = { three_nodes };
+
+    ghost bodies = { [] };
+
+    ghost bytes = { λ dn block. None };
+
+    ghost script = { no_script };
+
+    ghost coherent = { ⊥ };
+}
+
+pub type Book = Ledger<ThreeNodes>;
+
+pub type Cell<R> = NodeCell<MemoryDisk, NodeSeat<Book, ThreeNodes, R>>;
+
+pub type Manager<R> = ScmCell<MemoryDisk, Book, ThreeNodes, R>;
+
+/// Up to that of the first datanode, and then one of a worker.
+const SEATS: u16 = 6;
+
+/// The storage container manager, datanode 0, and who works for a line.
+#[derive(Drop)]
+pub struct Stage<R: Ring> {
+    pub scm: Manager<R>,
+    pub cell: Cell<R>,
+    pub worker: Seat<Book>,
+    ghost works: { IsReady R.turn 5 worker },
+    ghost none_made: { scm.scm.made.containers ≡ [] },
+}
+
+/// A turn of an empty story, and its seats.
+pub fn made(alloc: Global) -> Result<(Turn<Book>, Vec<Seat<Book>>), Fail>
+    ensures count { IfOk result (λ r. vec_len r.1 ≡ 6) }
+    ensures new { IfOk result (λ r. AreNewSeats (turn_id r.0) r.1.items) }
+{
+    match Turn::make(alloc, Book::over(alloc, 0), SEATS) {
+        Ok(made) => Ok(made),
+        Err((_, error)) => Err(error.into()),
+    }
+}
+
+/// The last seat leaves.
+fn pop_new<R: Ring>(seats: &mut Vec<Seat<Book>>) -> Result<Seat<Book>, Fail>
+    requires new { AreNewSeats R.turn seats.old.items }
+    ensures seat { IfOk result (λ s. IsNewSeat R.turn (vec_len seats.new) s) }
+    ensures count { IfOk result (λ _. vec_len seats.new + 1 ≡ vec_len seats.old) }
+    ensures rest { IfOk result (λ _. AreNewSeats R.turn seats.new.items) }
+{
+    new_seats_are_ready::<Book>();
+    match seats.pop() {
+        Some(seat) => Ok(seat),
+        None => Err("a seat".into()),
+    }
+}
+
+/// An empty disk, one call of which fails, or none where this is 0.
+fn disk(alloc: Global, failing: u64) -> Result<MemoryDisk, OutOfMemory> {
+    let fails = Vec::from_array(alloc, [failing])?;
+    MemoryDisk::new(alloc, Vec::new(alloc), fails, 16_384)
+}
+
+/// Datanode 0 over empty disks.
+fn loaded_node(alloc: Global) -> Result<Datanode<MemoryDisk>, Fail>
+    ensures number { IfOk result (λ node. node.id ≡ 0) }
+    ensures idle { IfOk result (λ node. IsIdle node) }
+{
+    let disks = NodeDisks {
+        meta: disk(alloc, 0)?,
+        slots: disk(alloc, 0)?,
+    };
+    match Datanode::load(alloc, 0, disks) {
+        Ok(node) => Ok(node),
+        Err((_disks, _fault)) => Err("not loaded".into()),
+    }
+}
+
+fn cell<R: Ring>(alloc: Global, seat: Seat<Book>) -> Result<Cell<R>, Fail>
+    requires { IsNewSeat R.turn 4 seat }
+{
+    a_loaded_datanode_stands::<MemoryDisk, ThreeNodes>();
+    let node = loaded_node(alloc)?;
+    if !node.running() {
+        return Err("it doesn't run".into());
+    }
+    Ok(NodeCell::new(node, NodeSeat::make(0, seat)))
+}
+
+/// What is loaded of an empty disk.
+fn loaded_scm(alloc: Global) -> Result<Scm<MemoryDisk>, Fail>
+    ensures running { IfOk result (λ scm. scm.stopped ≡ false) }
+    ensures nodes { IfOk result (λ scm. scm.made.nodes ≡ 3) }
+    ensures up { IfOk result (λ scm. scm.up ≡ replicate 3 true) }
+    ensures next { IfOk result (λ scm. scm.made.next_id ≡ 1) }
+    ensures containers { IfOk result (λ scm. scm.made.containers ≡ []) }
+{
+    let Ok(scm) = Scm::load(alloc, disk(alloc, 0)?, 3) else {
+        return Err("a disk".into());
+    };
+    if scm.next_id() != 1 || !scm.containers(alloc)?.is_empty() {
+        return Err("an empty disk".into());
+    }
+    Ok(scm)
+}
+
+/// All of it, over empty disks.
+pub fn staged<R: Ring>(alloc: Global, mut seats: Vec<Seat<Book>>) -> Result<Stage<R>, Fail>
+    requires count { vec_len seats ≡ 6 }
+    requires new { AreNewSeats R.turn seats.items }
+{
+    new_seats_are_ready::<Book>();
+    let worker = pop_new::<R>(&mut seats)?;
+    let its = pop_new::<R>(&mut seats)?;
+    let of_scm = pop_new::<R>(&mut seats)?;
+    let cell = cell::<R>(alloc, its)?;
+    let scm = ScmCell::make(loaded_scm(alloc)?, of_scm);
+    Ok(Stage { scm, cell, worker })
+}

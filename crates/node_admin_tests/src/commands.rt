@@ -31,7 +31,8 @@ fn in_short(alloc: Global, story: &[Event]) -> Result<Vec<u8>, OutOfMemory> {
             _ => b'?',
         };
         said.push(letter)?;
-        said.push(b'0'.wrapping_add(event.seat as u8))?;
+        let seat = u8::try_from(event.seat).unwrap_or(u8::MAX);
+        said.push(b'0'.wrapping_add(seat))?;
     }
     Ok(said)
 }

@@ -127,6 +127,15 @@ fn loaded_scm(alloc: Global) -> Result<Scm<MemoryDisk>, Fail>
     Ok(scm)
 }
 
+/// The storage container manager over an empty disk.
+fn manager<R: Ring>(alloc: Global, seat: Seat<Book>) -> Result<Manager<R>, Fail>
+    requires { IsNewSeat R.turn 3 seat }
+    ensures { IfOk result (λ it. it.scm.made.containers ≡ []) }
+{
+    let scm = loaded_scm(alloc)?;
+    Ok(ScmCell::make(scm, seat))
+}
+
 /// All of it, over empty disks.
 pub fn staged<R: Ring>(alloc: Global, mut seats: Vec<Seat<Book>>) -> Result<Stage<R>, Fail>
     requires count { vec_len seats ≡ 6 }
@@ -137,6 +146,6 @@ pub fn staged<R: Ring>(alloc: Global, mut seats: Vec<Seat<Book>>) -> Result<Stag
     let its = pop_new::<R>(&mut seats)?;
     let of_scm = pop_new::<R>(&mut seats)?;
     let cell = cell::<R>(alloc, its)?;
-    let scm = ScmCell::make(loaded_scm(alloc)?, of_scm);
+    let scm = manager::<R>(alloc, of_scm)?;
     Ok(Stage { scm, cell, worker })
 }

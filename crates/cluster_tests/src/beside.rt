@@ -15,7 +15,7 @@ const YIELDS: u32 = 1_000;
 const VOLUMES: u32 = 500;
 
 /// How many runs there are at most.
-const RUNS: u32 = 5;
+const RUNS: u32 = 50;
 
 /// A gate at which the flusher lets other threads go first.
 struct YieldingGate;

@@ -4,7 +4,7 @@ ghost use Rattle.std.specs.Prelude.{◌≡◌, vec_len};
 ghost use Rattle.oz_turn.specs.Seat.{AreNewSeats};
 ghost use Rattle.oz_turn.specs.Turn.{turn_id};
 
-use crate::stage::{Book, Stage, made, staged};
+use crate::stage::{Book, Cell, Stage, made, staged};
 use oz_core::{Event, EventKind};
 use oz_fields::OutOfMemory;
 use oz_node_admin::{start_at, stop_at};
@@ -53,6 +53,10 @@ fn tells<R: Ring, W: Wait + Abort>(
     Ok(())
 }
 
+fn runs<R: Ring>(cell: &Cell<R>) -> bool {
+    cell.node.running()
+}
+
 fn stop<R: Ring, W: Wait + Abort>(
     rt: &W,
     alloc: Global,
@@ -70,7 +74,7 @@ fn stop<R: Ring, W: Wait + Abort>(
         &mut stage.worker,
     );
     holds(rt, answer.is_ok(), "stopped");
-    holds(rt, !stage.cell.node.running(), "it doesn't run");
+    holds(rt, !runs(&stage.cell), "it doesn't run");
     Ok(())
 }
 
@@ -91,7 +95,7 @@ fn start<R: Ring, W: Wait + Abort>(
         &mut stage.worker,
     );
     holds(rt, answer.is_ok(), "started");
-    holds(rt, stage.cell.node.running(), "it runs");
+    holds(rt, runs(&stage.cell), "it runs");
     Ok(())
 }
 

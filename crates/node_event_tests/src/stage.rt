@@ -30,6 +30,8 @@ impl Opened for ThreeNodes {
 
     ghost bytes = { λ dn block. None };
 
+    ghost faults = { λ node. 0 };
+
     ghost script = { no_script };
 
     ghost coherent = { ⊥ };

@@ -34,6 +34,8 @@ impl Opened for Three {
 
     ghost bytes = { λ dn block. None };
 
+    ghost faults = { λ node. 0 };
+
     ghost script = { no_script };
 
     ghost coherent = { ⊥ };

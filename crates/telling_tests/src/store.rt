@@ -32,6 +32,8 @@ impl Opened for AnyOpening {
 
     ghost bytes = { λ dn block. None };
 
+    ghost faults = { λ node. 0 };
+
     ghost script = { no_script };
 
     ghost coherent = { ⊥ };

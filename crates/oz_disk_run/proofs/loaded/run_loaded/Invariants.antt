@@ -10,6 +10,7 @@ ghosts-run_told-O-Opened g a = record {
   opening = opening_shown a.unseated a.nodes;
   bodies = bodies_shown (g.D.Disk.told a.flusher.disk);
   bytes = no_bytes;
+  faults = λ node. 0;
   script = a.script.now;
   coherent = ShowStore a.unseated.parts;
 }

@@ -4,4 +4,4 @@ use Rattle.running_tests.proofs.opened.run.Given as goal
 
 -- the script that was handed in, over disks of which nothing is asked
 abbrev pub ghosts-opened : goal.ghosts-opened
-ghosts-opened g a = record { opening = no_opening; bodies = []; bytes = λ dn block. None; script = a.script.now; coherent = ⊥ }
+ghosts-opened g a = record { opening = no_opening; bodies = []; bytes = λ dn block. None; faults = λ node. 0; script = a.script.now; coherent = ⊥ }

@@ -1,7 +1,7 @@
 //! What stays of a line that is under way.
 
-ghost use Rattle.std.specs.Prelude.{◌≡◌, ◌≢◌, ◌+◌, ◌==◌, ◌++◌, ◌∷◌, ℕ, [], Bool, List, Option, true, false, None, Some};
-ghost use Rattle.std.specs.Prelude.{length, if◌then◌else◌, Contains};
+ghost use Rattle.std.specs.Prelude.{◌≡◌, ◌≢◌, ◌+◌, ◌≤◌, ◌<◌, ◌==◌, ◌++◌, ◌∷◌, ℕ, [], Bool, List, Option, true, false};
+ghost use Rattle.std.specs.Prelude.{None, Some, length, if◌then◌else◌, All, Contains};
 ghost use Rattle.std.specs.List.{list_all};
 ghost use Rattle.oz_asker.specs.Decided.{IsDecideAt};
 ghost use Rattle.oz_buffer.specs.Buffer.{AllFollow, Follows};
@@ -25,20 +25,26 @@ ghost use Rattle.oz_core.specs.Due.{IsDue};
 ghost use Rattle.oz_core.specs.Fits.{EventFits, Fits};
 ghost use Rattle.oz_core.specs.Law.{AskIsEnabled, puts};
 ghost use Rattle.oz_core.specs.Lines.{HasStarted};
+ghost use Rattle.oz_core.specs.Scm.{members};
 ghost use Rattle.oz_core.specs.Steps.{GrantedBlock, commit_step, is_open_at, opening_line, refuses_so, was_told_ok};
 ghost use Rattle.oz_core.specs.Stories.{has_event};
 ghost use Rattle.oz_fields.specs.declared.block.Block.{Block as AnyBlock};
 ghost use Rattle.oz_fields.specs.declared.block.Piece.{Piece as AnyPiece};
+ghost use Rattle.oz_granted.specs.Granted.{AreNumbered};
 ghost use Rattle.oz_lines.specs.declared.script.Line.{Line as AnyLine};
 ghost use Rattle.oz_lines.specs.Numbered.{IsNumbered};
 ghost use Rattle.oz_model.specs.Answers.{Answers};
 ghost use Rattle.oz_namespace.specs.declared.namespace.Namespace.{Namespace as AnyNamespace};
+ghost use Rattle.oz_nodes.specs.Pipelines.{AreApart, members_of, pipelines_of};
+ghost use Rattle.oz_nodes.specs.declared.nodes.TheConstants.{FEWEST_NODES};
 ghost use Rattle.oz_requests.specs.declared.answer.Answer.{Answer as AnyAnswer};
+ghost use Rattle.oz_requests.specs.declared.reply.Reply.TheVariants as replies;
 ghost use Rattle.oz_requests.specs.declared.reply.Reply.{Reply as AnyReply};
 ghost use Rattle.oz_requests.specs.declared.request.AskId.{AskId as AnyId};
 ghost use Rattle.oz_requests.specs.declared.request.Family.TheVariants.{Allocation};
 ghost use Rattle.oz_requests.specs.declared.request.Request.{Request as AnyRequest};
 ghost use Rattle.oz_requests.specs.Families.{family_of};
+ghost use Rattle.oz_rows.specs.Rows.{IsBlock};
 ghost use Rattle.oz_steps.specs.declared.label.Label.{Label as AnyLabel};
 ghost use Rattle.oz_steps.specs.Came.{granted_by};
 ghost use Rattle.oz_steps.specs.Grants.{has_fate_written};
@@ -128,6 +134,29 @@ pub fn a_reply_comes<O: Opened>()
         id ≡ record { client = line.client; line = line.number; step = asked + 1 } → IsDecideAt later place id reply →
         IsUnderWay O.coherent O.opening O.bytes O.script later line (asked + 1) now command
         (progress_after progress (gots.Reply reply)) }
+{}
+
+/// A Decide that grants a block says which datanodes are to have it: the three members of the pipeline, each another one that is
+/// known, where there are enough. The block has numbers as blocks have them, and was granted to the Decide's Ask.
+pub fn what_a_grant_is<O: Opened>()
+    ensures members { O.coherent → (story : List AnyEvent) (place pipeline : ℕ) (id : AnyId) (block : AnyBlock) →
+        AllFollow (Follows O.coherent O.opening O.bytes O.script) [] story →
+        IsDecideAt story place id (replies.Granted block pipeline) →
+        (members O.opening story block.container ≡ members_of (length O.opening.nodes) pipeline)
+        × (pipeline < pipelines_of (length O.opening.nodes)) }
+    ensures apart { O.coherent → FEWEST_NODES ≤ length O.opening.nodes → (story : List AnyEvent) (place pipeline : ℕ)
+        (id : AnyId) (block : AnyBlock) → AllFollow (Follows O.coherent O.opening O.bytes O.script) [] story →
+        IsDecideAt story place id (replies.Granted block pipeline) →
+        AreApart (members O.opening story block.container)
+        × All (λ dn. dn < length O.opening.nodes) (members O.opening story block.container) }
+    ensures numbers { O.coherent → 1 ≤ O.opening.next_id → AreNumbered O.opening.containers O.opening.next_id →
+        (story : List AnyEvent) (place pipeline : ℕ) (id : AnyId) (block : AnyBlock) →
+        AllFollow (Follows O.coherent O.opening O.bytes O.script) [] story →
+        IsDecideAt story place id (replies.Granted block pipeline) → IsBlock block }
+    ensures granted { O.coherent → (story : List AnyEvent) (place pipeline : ℕ) (id : AnyId) (block : AnyBlock) →
+        AllFollow (Follows O.coherent O.opening O.bytes O.script) [] story →
+        IsDecideAt story place id (replies.Granted block pipeline) →
+        (before : List AnyEvent) × WasGranted story id block before }
 {}
 
 /// A piece of a key is read, while no more was said of the line's blocks: what its block has, it has from then on.

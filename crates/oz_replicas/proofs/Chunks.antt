@@ -1,12 +1,13 @@
 -- How far the chunks of a block were written, one behind the other.
-use Rattle.std.proofs.Common.{◌≡◌, ◌⊎◌, inl, inr, ℕ, ◌+◌, ◌-◌, ◌*◌, ◌/◌, ◌<◌, ◌≤◌, min, ◌||◌, Bool, true, false, List, [], ◌∷◌, ◌++◌, length, take, drop, slice_range, Option, Ok, Err, refl, sym, ap, ◌∙◌, subst, arith, length-take}
+use Rattle.std.proofs.Common.{◌≡◌, inl, inr, ℕ, ◌+◌, ◌-◌, ◌*◌, ◌/◌, ◌<◌, ◌≤◌, min, ◌||◌, Bool, true, false, List, [], ◌∷◌, ◌++◌, length, take, drop, slice_range, Option, Ok, Err, refl, sym, ap, ◌∙◌, subst, arith, length-take}
 use Rattle.std.proofs.lemmas.Bool.{cases_lt}
 use Rattle.std.proofs.lemmas.List.{take-take, take-append-drop, drop-take, take_all}
-use Rattle.oz_datanode.specs.Datanode.{State, Runs, node_in}
+use Rattle.oz_datanode.specs.Datanode.{State, Runs, DisksGoOn, node_in}
 use Rattle.oz_datanode.specs.Pairs.{Content, NodeHolds}
 use Rattle.oz_datanode.specs.Writing.{MakeBytes, IsOpen, Wrote, WriteEnds, is_open}
 use Rattle.oz_datanode.specs.declared.refusal.NodeRefusal.{NodeRefusal}
 use Rattle.oz_datanode.specs.declared.refusal.NodeRefusal.TheVariants as refusals
+use Rattle.oz_datanode.specs.laws.GoingOn.{disks_same, go_on_then}
 use Rattle.oz_entries.specs.Held.{any_in}
 use Rattle.oz_entries.specs.Node.{chunk_count, is_used}
 use Rattle.oz_fields.specs.declared.block.Block.{Block}
@@ -84,12 +85,13 @@ module _ {D : Type 0} (told : D → Option (List ℕ)) (clock : D → ℕ) (imag
     count = let size : length (written_of block old.shelf.written) ≡ 0 = ap (λ (w : List Written). length (written_of block w)) idle in omega (arith, size);
     made = inl (refl, refl);
     holds = λ contents holding. holding;
+    goes_on = disks_same told faults old old refl;
   }
 
   pub written_stays : (place : ℕ) (old now : State D) → WrittenTo told clock image faults block bytes place old now → Stays told clock image faults old now
   written_stays place old now written = elim written.made [
     | inl none ↦ subst (λ (n : State D). Stays told clock image faults old n) (sym none.1) (stays_itself told clock image faults old)
-    | inr some ↦ stays_running told clock image faults old now written.same some.0.ran some.1 written.holds
+    | inr some ↦ stays_running told clock image faults old now written.same some.0.ran some.1 written.holds written.goes_on
   ]
 
   open_still : (old now : State D) → now ≡ record { id = old.id; blocks = old.blocks; shelf = now.shelf; stopped = old.stopped } → Runs faults now → IsOpen faults block old → IsOpen faults block now
@@ -100,13 +102,14 @@ module _ {D : Type 0} (told : D → Option (List ℕ)) (clock : D → ℕ) (imag
 
   pub written_more : (place : ℕ) (part : List ℕ) (old mid new : State D) → WrittenTo told clock image faults block bytes place old mid → IsOpen faults block mid → Wrote told faults block place part mid new → part ≡ slice_range bytes (place * 16384) (place * 16384 + min (length bytes - place * 16384) 16384) → place * 16384 < length bytes
       → (place ≡ 0 → written_of block mid.shelf.written ≡ [] → MakeBytes told block part new.shelf) → ((front : List ℕ) → MakeBytes told block front mid.shelf → length front ≡ place * 16384 → MakeBytes told block (front ++ part) new.shelf)
-      → ((contents : Block → Content) → NodeHolds told clock image faults contents mid → NodeHolds told clock image faults contents new) → WrittenTo told clock image faults block bytes (place + 1) old new
-  written_more place part old mid new written opened wrote is less first next holds = record {
+      → ((contents : Block → Content) → NodeHolds told clock image faults contents mid → NodeHolds told clock image faults contents new) → DisksGoOn told faults mid new → WrittenTo told clock image faults block bytes (place + 1) old new
+  written_more place part old mid new written opened wrote is less first next holds goes = record {
     same = wrote.same ∙ ap (λ (n : State D). record { id = n.id; blocks = n.blocks; shelf = new.shelf; stopped = n.stopped }) written.same;
     own = ap (λ (w : List Written). written_besides block w) wrote.written.listed ∙ (besides_written mid.shelf.written _ ∙ written.own);
     count = omega (arith, makes_count new.shelf.written block (length whole) all.1.made, chunks_made place (length whole) (omega (arith, length-take ((place + 1) * 16384) bytes)));
     made = inr (all.0, wrote.runs, all.1);
     holds = λ contents holding. holds contents (written.holds contents holding);
+    goes_on = go_on_then told faults old mid new written.goes_on goes;
   } where
     whole : List ℕ
     whole = take ((place + 1) * 16384) bytes
@@ -131,8 +134,8 @@ module _ {D : Type 0} (told : D → Option (List ℕ)) (clock : D → ℕ) (imag
 
   -- the call at a chunk is refused
   pub write_gives_up : (T : Type 0) (refusal : NodeRefusal) (place : ℕ) (part : List ℕ) (old mid new : State D) → WrittenTo told clock image faults block bytes place old mid → place * 16384 < length bytes → ¬ HasAlready faults block old → WriteEnds {T = T} told faults block place part mid new (Err refusal)
-      → ((contents : Block → Content) → NodeHolds told clock image faults contents mid → NodeHolds told clock image faults contents new) → FillGoes {T = T} told clock image faults block bytes old new (Err refusal)
-  write_gives_up T (refusals.Stopped count) place part old mid new written less wanted ends holds = (
+      → ((contents : Block → Content) → NodeHolds told clock image faults contents mid → NodeHolds told clock image faults contents new) → DisksGoOn told faults mid new → FillGoes {T = T} told clock image faults block bytes old new (Err refusal)
+  write_gives_up T (refusals.Stopped count) place part old mid new written less wanted ends holds goes = (
     mid,
     (
       written_stays place old mid written,
@@ -147,11 +150,12 @@ module _ {D : Type 0} (told : D → Option (List ℕ)) (clock : D → ℕ) (imag
           id = halts.1.halts.id;
           line = halts.1.halts.line;
           disks = inl (record { blocks = halts.1.blocks; holds = holds });
+          goes_on = goes;
         })
       ],
     ),
   )
-  write_gives_up T (refusals.Full used asked capacity) place part old mid new written less wanted ends holds = (
+  write_gives_up T (refusals.Full used asked capacity) place part old mid new written less wanted ends holds goes = (
     mid,
     (
       written_stays place old mid written,
@@ -169,10 +173,10 @@ module _ {D : Type 0} (told : D → Option (List ℕ)) (clock : D → ℕ) (imag
       ),
     ),
   )
-  write_gives_up T (refusals.NotOpen state) place part old mid new written less wanted ends holds = (mid, (written_stays place old mid written, (record { ran = ends.ran; is = ends.is; not_open = ends.not_open }, ends.same)))
-  write_gives_up T refusals.OutOfMemory place part old mid new written less wanted ends holds = (mid, (written_stays place old mid written, inl ends.1))
-  write_gives_up T refusals.NoBlock place part old mid new written less wanted ends holds = absurd ends
-  write_gives_up T (refusals.Bad kept found) place part old mid new written less wanted ends holds = absurd ends
+  write_gives_up T (refusals.NotOpen state) place part old mid new written less wanted ends holds goes = (mid, (written_stays place old mid written, (record { ran = ends.ran; is = ends.is; not_open = ends.not_open }, ends.same)))
+  write_gives_up T refusals.OutOfMemory place part old mid new written less wanted ends holds goes = (mid, (written_stays place old mid written, inl ends.1))
+  write_gives_up T refusals.NoBlock place part old mid new written less wanted ends holds goes = absurd ends
+  write_gives_up T (refusals.Bad kept found) place part old mid new written less wanted ends holds goes = absurd ends
 
   -- and the chunks are those of the block still
   pub refused_own : (T : Type 0) (refusal : NodeRefusal) (place : ℕ) (part : List ℕ) (mid new : State D) → WriteEnds {T = T} told faults block place part mid new (Err refusal) → AreOf block mid.shelf → AreOf block new.shelf

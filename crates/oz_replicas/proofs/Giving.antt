@@ -5,6 +5,7 @@ use Rattle.oz_datanode.specs.Datanode.{State, is_halted, node_in, meta_of, slots
 use Rattle.oz_datanode.specs.Pairs.{Content, HaveAll, NodeHolds}
 use Rattle.oz_datanode.specs.declared.refusal.NodeRefusal.{NodeRefusal}
 use Rattle.oz_datanode.specs.declared.refusal.NodeRefusal.TheVariants as refusals
+use Rattle.oz_datanode.specs.laws.GoingOn.{go_on_then}
 use Rattle.oz_fields.specs.declared.block.Block.{Block}
 use Rattle.oz_world.specs.Disk.{Images}
 use Rattle.oz_replicas.specs.Nodes.{PutGoes, WriteGoes, unput_of}
@@ -59,5 +60,6 @@ module _ {D : Type 0} (told : D → Option (List ℕ)) (clock : D → ℕ) (imag
           line = last.line ∙ lacks.1.line;
           stop = runs_from faults new whole on ∙ sym lacks.0;
           holds = λ contents holding. at_rest whole contents (read_still told clock image faults contents goes.0 new (last.node ∙ lacks.1.node) (last.journal ∙ lacks.1.journal) (slots ∙ lacks.1.slots) holding);
+          goes_on = go_on_then told faults goes.0 mid new lacks.2 last.goes_on;
         }
   ])

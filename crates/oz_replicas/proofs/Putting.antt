@@ -1,7 +1,7 @@
 -- What a put comes to, of a block whose chunks are written.
-use Rattle.std.proofs.Common.{◌≡◌, inl, inr, ℕ, Bool, false, cond, List, [], length, Option, Result, Ok, Err, OnOk, IfSome, refl, sym, ap, ◌∙◌, subst}
+use Rattle.std.proofs.Common.{◌≡◌, inl, inr, ℕ, Bool, false, cond, List, [], length, Option, Result, Ok, Err, OnOk, IfSome, refl, sym, ◌∙◌, subst}
 use Rattle.std.proofs.lemmas.Bool.{false≢true}
-use Rattle.oz_datanode.specs.Datanode.{State, Runs, is_halted, node_in, slots_of}
+use Rattle.oz_datanode.specs.Datanode.{State, Runs, DisksGoOn, is_halted, node_in, slots_of}
 use Rattle.oz_datanode.specs.Pairs.{Content, Has, NodeHolds, with_content}
 use Rattle.oz_datanode.specs.Writing.{MakeBytes, IsOpen, PutEnds, contents_with, intact}
 use Rattle.oz_datanode.specs.declared.refusal.NodeRefusal.{NodeRefusal}
@@ -27,8 +27,8 @@ module _ {D : Type 0} (told : D → Option (List ℕ)) (clock : D → ℕ) (imag
   has_still mid new same has = subst (λ (o : Option (List ℕ)). IfSome o (Has (intact bytes) (row_of mid.shelf.written block (length bytes)))) (sym same) has
 
   pub put_goes : {T : Type 0} (mid new : State D) (result : Result T NodeRefusal) → IsOpen faults block mid → MakeBytes told block bytes mid.shelf → ¬ HasAlready faults block mid → PutEnds told clock image faults block (length bytes) mid new result
-      → ((contents : Block → Content) (content : Content) → is_halted mid ≡ false → IfSome (told (slots_of mid)) (Has content (row_of mid.shelf.written block (length bytes))) → NodeHolds told clock image faults contents mid → NodeHolds told clock image faults (contents_with block content contents mid) new) → PutGoes told clock image faults block bytes mid new result
-  put_goes mid new (Ok done) opened made wanted ends pairs =
+      → ((contents : Block → Content) (content : Content) → is_halted mid ≡ false → IfSome (told (slots_of mid)) (Has content (row_of mid.shelf.written block (length bytes))) → NodeHolds told clock image faults contents mid → NodeHolds told clock image faults (contents_with block content contents mid) new) → DisksGoOn told faults mid new → PutGoes told clock image faults block bytes mid new result
+  put_goes mid new (Ok done) opened made wanted ends pairs goes =
       let took = takes told clock image faults block mid opened wanted in
       let puts = ends.put took.absent in (
         mid,
@@ -46,10 +46,11 @@ module _ {D : Type 0} (told : D → Option (List ℕ)) (clock : D → ℕ) (imag
               line = ends.line;
             };
             holds = put_holds mid new took.absent opened.ran made.has pairs;
+            goes_on = goes;
           },
         ),
       )
-  put_goes mid new (Err (refusals.Stopped count)) opened made wanted ends pairs =
+  put_goes mid new (Err (refusals.Stopped count)) opened made wanted ends pairs goes =
       let took = takes told clock image faults block mid opened wanted in (
         mid,
         (
@@ -72,17 +73,18 @@ module _ {D : Type 0} (told : D → Option (List ℕ)) (clock : D → ℕ) (imag
                 journal = halts.2.journal;
                 holds = put_holds mid new took.absent opened.ran made.has pairs;
               });
+              goes_on = goes;
             })
           ],
         ),
       )
-  put_goes mid new (Err (refusals.Full used asked capacity)) opened made wanted ends pairs = absurd ends
-  put_goes mid new (Err (refusals.NotOpen state)) opened made wanted ends pairs =
+  put_goes mid new (Err (refusals.Full used asked capacity)) opened made wanted ends pairs goes = absurd ends
+  put_goes mid new (Err (refusals.NotOpen state)) opened made wanted ends pairs goes =
       (mid, (stays_itself told clock image faults mid, (record { ran = ends.0.ran; is = ends.0.is; not_open = ends.0.not_open }, ends.0.same)))
-  put_goes mid new (Err refusals.NoBlock) opened made wanted ends pairs = absurd (false≢true (sym ends.made ∙ made.made))
-  put_goes mid new (Err (refusals.Bad kept found)) opened made wanted ends pairs = absurd ends
-  put_goes mid new (Err refusals.OutOfMemory) opened made wanted ends pairs =
-      (mid, (stays_itself told clock image faults mid, inr (opened.ran, ends.3)))
+  put_goes mid new (Err refusals.NoBlock) opened made wanted ends pairs goes = absurd (false≢true (sym ends.made ∙ made.made))
+  put_goes mid new (Err (refusals.Bad kept found)) opened made wanted ends pairs goes = absurd ends
+  put_goes mid new (Err refusals.OutOfMemory) opened made wanted ends pairs goes =
+      (mid, (stays_itself told clock image faults mid, inr (opened.ran, ends.3, goes)))
 
   -- the chunks that are left are those of the block
   pub put_own : {T : Type 0} (mid new : State D) (result : Result T NodeRefusal) → PutEnds told clock image faults block (length bytes) mid new result → AreOf block mid.shelf → AreOf block new.shelf

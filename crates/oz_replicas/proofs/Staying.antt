@@ -1,9 +1,10 @@
 -- What stays where nothing is noted.
-use Rattle.std.proofs.Common.{◌≡◌, inl, inr, ℕ, Bool, true, false, cond, ◌||◌, List, [], Option, None, Some, IsSome, IfSome, refl, sym, ap, ◌∙◌, subst}
+use Rattle.std.proofs.Common.{◌≡◌, ℕ, Bool, true, false, cond, ◌||◌, List, Option, None, Some, IsSome, IfSome, refl, sym, ap, ◌∙◌, subst}
 use Rattle.std.proofs.lemmas.Bool.{false≢true}
-use Rattle.oz_datanode.specs.Datanode.{State, node_in, meta_of, slots_of, is_halted, count_of, stop_of, Runs}
+use Rattle.oz_datanode.specs.Datanode.{State, DisksGoOn, node_in, meta_of, slots_of, is_halted, count_of, stop_of, Runs}
 use Rattle.oz_datanode.specs.Pairs.{Content, HaveAll, NodeHolds}
 use Rattle.oz_datanode.specs.Writing.{IsOpen, Abandons, is_open}
+use Rattle.oz_datanode.specs.laws.GoingOn.{disks_same, disks_stay, go_on_then}
 use Rattle.oz_entries.specs.Node.{Node, is_held}
 use Rattle.oz_fields.specs.declared.block.Block.{Block}
 use Rattle.oz_world.specs.Disk.{Images}
@@ -50,6 +51,7 @@ module _ {D : Type 0} (told : D → Option (List ℕ)) (clock : D → ℕ) (imag
     line = refl;
     stop = refl;
     holds = λ contents holding. holding;
+    goes_on = disks_same told faults node node refl;
   }
 
   pub stays_same : (old new : State D) → new ≡ old → Stays told clock image faults old new
@@ -64,11 +66,12 @@ module _ {D : Type 0} (told : D → Option (List ℕ)) (clock : D → ℕ) (imag
     line = second.line ∙ first.line;
     stop = second.stop ∙ first.stop;
     holds = λ contents holding. second.holds contents (first.holds contents holding);
+    goes_on = go_on_then told faults one two three first.goes_on second.goes_on;
   }
 
   -- the shelf alone changed, and it runs still
-  pub stays_running : (old new : State D) → new ≡ record { id = old.id; blocks = old.blocks; shelf = new.shelf; stopped = old.stopped } → Runs faults old → Runs faults new → ((contents : Block → Content) → NodeHolds told clock image faults contents old → NodeHolds told clock image faults contents new) → Stays told clock image faults old new
-  stays_running old new same ran runs holds = record {
+  pub stays_running : (old new : State D) → new ≡ record { id = old.id; blocks = old.blocks; shelf = new.shelf; stopped = old.stopped } → Runs faults old → Runs faults new → ((contents : Block → Content) → NodeHolds told clock image faults contents old → NodeHolds told clock image faults contents new) → DisksGoOn told faults old new → Stays told clock image faults old new
+  stays_running old new same ran runs holds goes = record {
     id = ap (λ (n : State D). n.id) same;
     node = ap (λ (n : State D). node_in n) same;
     journal = ap (λ (n : State D). meta_of n) same;
@@ -76,6 +79,7 @@ module _ {D : Type 0} (told : D → Option (List ℕ)) (clock : D → ℕ) (imag
     line = ap (λ (n : State D). n.stopped) same;
     stop = runs ∙ sym ran;
     holds = holds;
+    goes_on = goes;
   }
 
   -- chunks are abandoned
@@ -91,6 +95,7 @@ module _ {D : Type 0} (told : D → Option (List ℕ)) (clock : D → ℕ) (imag
         line = line;
         stop = same_stop old new halted line journal abandons.slots;
         holds = holds;
+        goes_on = disks_stay told faults old new journal abandons.slots;
       }
     where
       same_stop : (old new : State D) → is_halted new ≡ is_halted old → new.stopped ≡ old.stopped → meta_of new ≡ meta_of old → slots_of new ≡ slots_of old → stop_of faults new ≡ stop_of faults old

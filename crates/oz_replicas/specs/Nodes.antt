@@ -2,7 +2,7 @@
 use Rattle.std.specs.Prelude.{◌≡◌, ◌⊎◌, ℕ, ◌*◌, ◌≤◌, Bool, true, false, List, [], length, take, Option, Some, Result, Ok, Err}
 use Rattle.oz_chunk.specs.declared.table.TheConstants.{SLOT_SIZE}
 use Rattle.oz_core.specs.declared.event.PutRefusal.TheVariants as reasons
-use Rattle.oz_datanode.specs.Datanode.{State, Runs, stop_of}
+use Rattle.oz_datanode.specs.Datanode.{State, Runs, DisksGoOn, stop_of}
 use Rattle.oz_datanode.specs.Pairs.{Content, NodeHolds}
 use Rattle.oz_datanode.specs.Writing.{IsOpen, MakeBytes, NoMemory}
 use Rattle.oz_datanode.specs.declared.refusal.NodeRefusal.{NodeRefusal}
@@ -34,6 +34,7 @@ pub record WrittenTo {D : Type 0} (told : D → Option (List ℕ)) (clock : D �
       ⊎ (IsOpen faults block old × Runs faults now × MakeBytes told block (take (place * SLOT_SIZE) bytes) now.shelf)
   pub holds : (contents : Block → Content) → NodeHolds told clock image faults contents old
       → NodeHolds told clock image faults contents now
+  pub goes_on : DisksGoOn told faults old now
 
 -- what a refused call at a datanode comes to
 abbrev pub GivesUp : {D : Type 0} → (D → Option (List ℕ)) → (D → ℕ) → (D → Images) → (D → ℕ) → Block → List ℕ
@@ -45,7 +46,7 @@ GivesUp told clock image faults block bytes (refusals.Full used asked capacity) 
 GivesUp told clock image faults block bytes (refusals.NotOpen state) old new =
     IsShut faults block old state × (new ≡ old)
 GivesUp told clock image faults block bytes refusals.OutOfMemory old new =
-    (new ≡ old) ⊎ (Runs faults old × NoMemory told old new)
+    (new ≡ old) ⊎ (Runs faults old × NoMemory told old new × DisksGoOn told faults old new)
 GivesUp told clock image faults block bytes refusals.NoBlock old new = ⊥
 GivesUp told clock image faults block bytes (refusals.Bad kept found) old new = ⊥
 

@@ -7,7 +7,7 @@ use Rattle.oz_container.specs.declared.state.State.{State}
 use Rattle.oz_core.specs.declared.event.PutRefusal.{PutRefusal}
 use Rattle.oz_core.specs.declared.event.PutRefusal.TheVariants as refusals
 use Rattle.oz_datanode.specs.Copying.{Copies}
-use Rattle.oz_datanode.specs.Datanode.{State as NodeState, node_in, meta_of, slots_of, is_halted, count_of, stop_of, Runs}
+use Rattle.oz_datanode.specs.Datanode.{State as NodeState, DisksGoOn, node_in, meta_of, slots_of, is_halted, count_of, stop_of, Runs}
 use Rattle.oz_datanode.specs.Pairs.{Content, Has, NodeHolds, journal_seen, with_content}
 use Rattle.oz_datanode.specs.Reading.{IsRead, IsBad}
 use Rattle.oz_datanode.specs.Writing.{IsOpen, intact, is_open, state_for}
@@ -38,6 +38,7 @@ pub record IsPut {D : Type 0} (told : D → Option (List ℕ)) (clock : D → �
   pub held : Copies told clock image faults block bytes old new
   pub holds : (contents : Block → Content) → NodeHolds told clock image faults contents old
       → NodeHolds told clock image faults (with_content block (intact bytes) contents) new
+  pub goes_on : DisksGoOn told faults old new
 
 -- Each slot is taken, by a block or by one of so few chunks of this one that it isn't whole.
 pub record IsFull {D : Type 0} (faults : D → ℕ) (block : Block) (bytes : List ℕ) (node : NodeState D)
@@ -95,6 +96,7 @@ pub record Halts {D : Type 0} (told : D → Option (List ℕ)) (clock : D → �
   pub id : new.id ≡ old.id
   pub line : new.stopped ≡ old.stopped
   pub disks : OnlySlots told clock image faults old new ⊎ MayBePut told clock image faults block bytes old new
+  pub goes_on : DisksGoOn told faults old new
 
 -- ---- reading
 

@@ -13,3 +13,11 @@ pub mod Deciding
 pub mod UnderWay
 pub mod Labels
 pub mod Commits
+pub mod Members
+pub mod Grants
+pub mod Unsaid
+pub mod Fates
+pub mod Granted
+pub mod Piece
+pub mod Answered
+pub mod Writing

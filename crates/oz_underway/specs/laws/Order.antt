@@ -179,7 +179,7 @@ module _ (Coherent : Type 0) (opening : Opening) (bytes : OpeningBytes) (script 
   abbrev Follow : List Event → Event → Type 0
   Follow = Follows Coherent opening bytes script
 
-  fits_from : (before story : List Event) → Coherent → AllFollow Follow before story → FitsFrom opening bytes script before story
+  pub fits_from : (before story : List Event) → Coherent → AllFollow Follow before story → FitsFrom opening bytes script before story
   unfolding AllFollow FitsFrom
   fits_from before [] coherent all = tt
   fits_from before (event ∷ story) coherent all = (all.0.fits coherent, fits_from (before ++ event ∷ []) story coherent all.1)

@@ -128,7 +128,7 @@ module _ (Coherent : Type 0) (opening : Opening) (bytes : OpeningBytes) (script 
 
 -- ---- one reply more
 
-only_one : {X : Type 0} (xs : List X) (x : X) → Contains xs x → length xs ≤ 1 → xs ≡ x ∷ []
+pub only_one : {X : Type 0} (xs : List X) (x : X) → Contains xs x → length xs ≤ 1 → xs ≡ x ∷ []
 only_one [] x among few = absurd (omega (arith, among.1))
 only_one (y ∷ []) x among few = ⊎_elim
     (λ same. ap (λ z. z ∷ []) same)

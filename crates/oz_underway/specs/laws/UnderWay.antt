@@ -44,7 +44,7 @@ use Rattle.oz_buffer.specs.laws.Courses.{pending-push}
 use Rattle.oz_kept.specs.laws.Granted.{one_ask_id}
 use Rattle.oz_kept.specs.laws.Lines.{lines_apart}
 use Rattle.oz_turn.specs.Told.{BeginsWith}
-use Rattle.oz_underway.specs.UnderWay.{IsLast, IsSaid, IsUnderWay, LabelStays, is_all_written, times_asked}
+use Rattle.oz_underway.specs.UnderWay.{IsLast, IsSaid, IsUnderWay, IsUnwritten, LabelStays, is_all_written, times_asked}
 use Rattle.oz_underway.specs.laws.Asks.{asked_of_step, its_line, of_line, pending_was_asked, script_of_line, scripted, step_of_asked}
 use Rattle.oz_underway.specs.laws.Blocks.{attempts_written, none_granted, same_written, still_grants}
 use Rattle.oz_underway.specs.laws.Contents.{contents_more, content_still}
@@ -76,6 +76,7 @@ module _ (Coherent : Type 0) (opening : Opening) (bytes : OpeningBytes) (script 
     started = way.started;
     asked_so = way.asked_so;
     said_so = way.said_so;
+    unwritten = way.unwritten;
     labelled = way.labelled;
     has = way.has;
   }
@@ -91,6 +92,7 @@ module _ (Coherent : Type 0) (opening : Opening) (bytes : OpeningBytes) (script 
     started = way.started;
     asked_so = way.asked_so;
     said_so = said_of_written way.since line other progress written;
+    unwritten = way.unwritten;
     labelled = way.labelled;
     has = λ story goes all so as_said. way.has story goes all so (said_of_written story line said progress written);
   }
@@ -217,6 +219,7 @@ module _ (Coherent : Type 0) (opening : Opening) (bytes : OpeningBytes) (script 
     started = started;
     asked_so = ap length none;
     said_so = said_of_written seen line said (nothing_yet nodes label) refl;
+    unwritten = tt;
     labelled = labelled;
     has = λ story goes all so as_said.
         let few = few_replies Coherent opening bytes script line.client line.number story other coherent all in
@@ -329,6 +332,7 @@ module _ (Coherent : Type 0) (opening : Opening) (bytes : OpeningBytes) (script 
           started = started_still (found.front ++ event ∷ []) way.since line behind way.started;
           asked_so = found.asked_so;
           said_so = said_of_written (found.front ++ event ∷ []) line now (progress_after progress (gots.Reply reply)) all_written;
+          unwritten = subst (IsUnwritten (found.front ++ event ∷ []) line (asked + 1)) (sym no_grant) tt;
           labelled = λ story begins all. way.labelled story (begins_through story (found.front ++ event ∷ []) way.since begins behind) all;
           has = λ story begins all so as_said.
               let among = among_since story way.since found.front event found.behind begins in
@@ -361,6 +365,7 @@ module _ (Coherent : Type 0) (opening : Opening) (bytes : OpeningBytes) (script 
         started = started_still later way.since line behind way.started;
         asked_so = idle_asks numbered seen line asked said command progress coherent way reading.idle.no_step later begins all as_said;
         said_so = as_said;
+        unwritten = subst (IsUnwritten later line asked) (sym reading.idle.unwritten) tt;
         labelled = λ story goes follow. way.labelled story (begins_through story later way.since goes behind) follow;
         has = λ story goes follow so still.
             let at = way.has story (begins_through story later way.since goes behind) follow so still in

@@ -51,6 +51,14 @@ left_empty contents after bytes other kept one there stands (Some second) tells 
     let empty : StandsFor bytes empty_node = ([], subst (λ (b : List ℕ). IsJournal b []) (sym same) tells, none_made empty_node refl) in
     subst (λ (n : Node). HaveAll contents n other) (one bytes empty_node kept empty stands) (nothing_held contents other)
 
+-- what the journal tells then stands for nothing that is held
+pub stands_wiped : {D T : Type 0} (old new : Blocks D) (before after : Seen) (x : T) → Wipes {D = D} {T = T} old new before after (Ok x) → ((bytes : List ℕ) → before.told ≡ Some bytes → StandsFor bytes (node_in_blocks old)) → (bytes : List ℕ) → after.told ≡ Some bytes → StandsFor bytes (node_in_blocks new)
+stands_wiped old new before after x wiped keeps bytes is =
+    let first = was_told before.told after.told wiped.telling (subst (λ (o : Option (List ℕ)). IsSome o) (sym is) refl) in
+    let was : StandsFor first.0 (node_in_blocks old) = keeps first.0 first.1 in
+    let none : TellsBodies (Some bytes) [] = subst (λ (o : Option (List ℕ)). TellsBodies o []) is (wiped.tells was.0 (tells_of before.told first.0 was.0 first.1 was.1)) in
+    subst (λ (n : Node). StandsFor bytes n) (sym wiped.made) ([], none, none_made empty_node refl)
+
 all_empty : (contents : Block → Content) (told : Option (List ℕ)) → IfSome told (HaveAll contents empty_node)
 all_empty contents None = tt
 all_empty contents (Some bytes) = nothing_held contents bytes

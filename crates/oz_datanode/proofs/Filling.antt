@@ -10,8 +10,8 @@ use Rattle.sha2.specs.Sha256.{sha256}
 use Rattle.oz_shelf.specs.Written.{chunks_in, written_of, written_besides}
 use Rattle.oz_shelf.specs.laws.Written.{makes_count, besides_written}
 use Rattle.oz_world.specs.Disk.{Images}
-use Rattle.oz_world.specs.Faults.{Rose}
-use Rattle.oz_datanode.specs.Datanode.{State, Runs, node_in, slots_of}
+use Rattle.oz_datanode.specs.Datanode.{State, Runs, DisksGoOn, node_in, slots_of}
+use Rattle.oz_datanode.specs.laws.GoingOn.{disks_same, go_on_then, rose_since}
 use Rattle.oz_datanode.specs.Pairs.{Content, NodeHolds, journal_seen}
 use Rattle.oz_datanode.specs.Steps.{AtRest, FilledTo, Filled, FillEnds, PartEnds}
 use Rattle.oz_datanode.specs.Writing.{MakeBytes, Wrote}
@@ -51,10 +51,6 @@ all_places place size past = omega (arith, past)
 fewer : (count place taken size : ℕ) → count ≡ (taken + 16383) / 16384 → taken ≡ min (place * 16384) size → place < (size + 16383) / 16384 → count < (size + 16383) / 16384
 fewer count place taken size is short less = omega (arith, is, short, less)
 
--- the count rose
-rose : (first before after : ℕ) → first ≤ before → Rose before after → Rose first after
-rose first before after least risen = omega (arith, least, risen)
-
 -- all but the shelf is as it was
 still : {D : Type 0} (old mid new : State D) → mid ≡ with_shelf old mid.shelf → new.blocks ≡ mid.blocks → new.id ≡ mid.id → new.stopped ≡ mid.stopped → new ≡ with_shelf old new.shelf
 still {D = D} old mid new same blocks id line =
@@ -71,19 +67,19 @@ module _ {D : Type 0} (told : D → Option (List ℕ)) (clock : D → ℕ) (imag
     runs = runs;
     made = none_made told block old.shelf none;
     others = refl;
-    never_falls = omega arith;
+    goes_on = disks_same told faults old old refl;
     holds = λ contents holds. holds;
   }
 
   pub filled_more : (place : ℕ) (part : List ℕ) (old mid new : State D) → FilledTo told clock image faults block bytes place old mid → Wrote told faults block place part mid new → part ≡ slice_range bytes (place * 16384) (place * 16384 + min (length bytes - place * 16384) 16384) → place * 16384 < length bytes
-      → ((front : List ℕ) → MakeBytes told block front mid.shelf → length front ≡ place * 16384 → MakeBytes told block (front ++ part) new.shelf) → faults (slots_of mid) ≤ faults (slots_of new)
+      → ((front : List ℕ) → MakeBytes told block front mid.shelf → length front ≡ place * 16384 → MakeBytes told block (front ++ part) new.shelf) → DisksGoOn told faults mid new
       → ((contents : Block → Content) → NodeHolds told clock image faults contents mid → NodeHolds told clock image faults contents new) → FilledTo told clock image faults block bytes (place + 1) old new
-  filled_more place part old mid new filled wrote is less next fell holds = record {
+  filled_more place part old mid new filled wrote is less next goes holds = record {
     same = wrote.same ∙ ap (λ (n : State D). with_shelf n new.shelf) filled.same;
     runs = wrote.runs;
     made = subst (λ (l : List ℕ). MakeBytes told block l new.shelf) (one_more place bytes part is less) (next (take (place * 16384) bytes) filled.made (omega (arith, length-take (place * 16384) bytes, less)));
     others = ap (written_besides block) wrote.written.listed ∙ (besides_written mid.shelf.written (record { block = block; place = place; size = length part; chunk = record { slot = wrote.written.slot; digest = sha256 part } }) ∙ filled.others);
-    never_falls = omega (arith, filled.never_falls, fell);
+    goes_on = go_on_then told faults old mid new filled.goes_on goes;
     holds = λ contents holding. holds contents (filled.holds contents holding);
   }
 
@@ -92,7 +88,7 @@ module _ {D : Type 0} (told : D → Option (List ℕ)) (clock : D → ℕ) (imag
     same = filled.same;
     runs = filled.runs;
     made = subst (λ (l : List ℕ). MakeBytes told block l new.shelf) (take_all (place * 16384) bytes (all_places place (length bytes) past)) filled.made;
-    never_falls = filled.never_falls;
+    never_falls = filled.goes_on.slots_never_fall;
   }
 
   -- a chunk wasn't written
@@ -100,7 +96,7 @@ module _ {D : Type 0} (told : D → Option (List ℕ)) (clock : D → ℕ) (imag
   part_refused T place part old mid new (refusals.Stopped count) filled less ends = record {
     halted = ends.halts.halted;
     counted = ends.halts.counted;
-    cause = rose (faults (slots_of old)) (faults (slots_of mid)) (faults (slots_of new)) filled.never_falls ends.own;
+    cause = rose_since (faults (slots_of old)) (faults (slots_of mid)) (faults (slots_of new)) filled.goes_on.slots_never_fall ends.own;
     same = still old mid new filled.same ends.blocks ends.halts.id ends.halts.line;
   }
   part_refused T place part old mid new (refusals.Full used asked capacity) filled less ends = record {

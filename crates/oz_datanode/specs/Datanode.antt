@@ -7,6 +7,7 @@ use Rattle.oz_entries.specs.Node.{Node, is_used}
 use Rattle.oz_datanode.specs.declared.disks.NodeDisks.{NodeDisks}
 use Rattle.oz_datanode.specs.declared.fault.NodeFault.{NodeFault}
 use Rattle.oz_shelf.specs.Shelf.{ShelfView}
+use Rattle.oz_world.specs.Disk.{TellsAsBefore}
 
 -- its number, its blocks, its slots, and whether a line stopped it
 pub record State (D : Type 0) : Type 0 where
@@ -70,3 +71,10 @@ meta_after (Err refused) = refused.0.meta
 abbrev pub slots_after : {D : Type 0} → Result (State D) (NodeDisks D × NodeFault) → D
 slots_after (Ok state) = slots_of state
 slots_after (Err refused) = refused.0.slots
+
+-- Its disks go on: they tell their bytes if they did, and no count of faults falls.
+pub record DisksGoOn {D : Type 0} (told : D → Option (List ℕ)) (faults : D → ℕ) (old new : State D) : Type 0 where
+  pub meta_tells : TellsAsBefore (told (meta_of old)) (told (meta_of new))
+  pub slots_tell : TellsAsBefore (told (slots_of old)) (told (slots_of new))
+  pub meta_never_falls : faults (meta_of old) ≤ faults (meta_of new)
+  pub slots_never_fall : faults (slots_of old) ≤ faults (slots_of new)

@@ -6,3 +6,4 @@ pub mod Reading
 pub mod Steps
 pub mod Wiping
 pub mod Writing
+pub mod laws

@@ -15,7 +15,7 @@ use Rattle.oz_entries.specs.declared.row.BlockRow.{BlockRow}
 use Rattle.oz_fields.specs.declared.block.Block.{Block}
 use Rattle.oz_shelf.specs.Written.{chunks_in, written_of, written_besides}
 use Rattle.oz_world.specs.Disk.{Images, Seen, IsStable}
-use Rattle.oz_datanode.specs.Datanode.{State, Runs, node_in, slots_of, is_halted, count_of}
+use Rattle.oz_datanode.specs.Datanode.{State, Runs, DisksGoOn, node_in, slots_of, is_halted, count_of}
 use Rattle.oz_datanode.specs.Pairs.{Content, NodeHolds}
 use Rattle.oz_datanode.specs.Writing.{Puts, PutHalts, NoMemory, Wrote, WriteHalts, IsFull, MakeBytes}
 use Rattle.oz_world.specs.Faults.{Rose}
@@ -83,7 +83,7 @@ pub record FilledTo {D : Type 0} (told : D → Option (List ℕ)) (clock : D →
   pub runs : Runs faults now
   pub made : MakeBytes told block (take (place * SLOT_SIZE) bytes) now.shelf
   pub others : written_besides block now.shelf.written ≡ written_besides block old.shelf.written
-  pub never_falls : faults (slots_of old) ≤ faults (slots_of now)
+  pub goes_on : DisksGoOn told faults old now
   pub holds : (contents : Block → Content) → NodeHolds told clock image faults contents old
       → NodeHolds told clock image faults contents now
 

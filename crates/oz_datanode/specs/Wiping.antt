@@ -1,5 +1,6 @@
 -- What a wipe does to a datanode.
-use Rattle.std.specs.Prelude.{◌≡◌, ℕ, true, false, [], Result, Ok, Err}
+use Rattle.std.specs.Prelude.{◌≡◌, ℕ, true, false, List, [], Some, Result, Ok, Err}
+use Rattle.oz_block.specs.Blocks.{StandsFor}
 use Rattle.oz_block.specs.Changes.{Wipes as WipesBlocks}
 use Rattle.oz_chunk.specs.Disk.{Empties}
 use Rattle.oz_chunk.specs.Taken.{is_taken}
@@ -10,10 +11,11 @@ use Rattle.oz_datanode.specs.declared.refusal.NodeRefusal.{NodeRefusal}
 use Rattle.oz_datanode.specs.declared.refusal.NodeRefusal.TheVariants as refusals
 use Rattle.oz_datanode.specs.Datanode.{State, node_in, is_halted, count_of}
 
--- Nothing is held, nothing was written, and no slot is taken. Both disks were emptied, the journal first, and that is
--- stable.
+-- Nothing is held, each replica is open, nothing was written, and no slot is taken. Both disks were emptied, the journal
+-- first, and that is stable. What the journal tells stands for that.
 pub record Wiped {D : Type 0} (old new : State D) (journal emptied slots cut : Seen) : Type 0 where
   pub blocks : WipesBlocks {T = Unit {0}} old.blocks new.blocks journal emptied (Ok tt)
+  pub stands : (bytes : List ℕ) → emptied.told ≡ Some bytes → StandsFor bytes (node_in new)
   pub shelf : Empties {T = Unit {0}} {E = Failed} slots cut (Ok tt)
   pub free : (slot : ℕ) → is_taken new.shelf.slots.taken slot ≡ false
   pub written : new.shelf.written ≡ []

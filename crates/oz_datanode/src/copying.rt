@@ -10,7 +10,7 @@ ghost use Rattle.oz_entries.specs.Held.{any_in};
 ghost use Rattle.oz_chunk.specs.Taken.{is_taken};
 ghost use Rattle.oz_shelf.specs.Written.{chunks_in, written_of, written_besides};
 ghost use Rattle.oz_datanode.specs.Copying.{CopyGoes};
-ghost use Rattle.oz_datanode.specs.Datanode.{Runs, stop_of};
+ghost use Rattle.oz_datanode.specs.Datanode.{Runs, stop_of, DisksGoOn};
 ghost use Rattle.oz_datanode.specs.Pairs.{Content, NodeHolds, journal_seen, with_content};
 ghost use Rattle.oz_datanode.specs.Steps.{AtRest, FillEnds};
 ghost use Rattle.oz_datanode.specs.Writing.{state_for, intact};
@@ -51,6 +51,7 @@ impl<D: Disk> Datanode<D> {
         ensures pairs { (contents : BlockName → Content) → is_halted self.old ≡ false →
             NodeHolds D.told D.clock D.image D.faults contents self.old →
             NodeHolds D.told D.clock D.image D.faults (with_content block (intact bytes.now) contents) self.new }
+        ensures goes_on { DisksGoOn D.told D.faults self.old self.new }
     {
         a_disk_stands_for_one_node();
         self.check_running()?;
@@ -97,6 +98,7 @@ impl<D: Disk> Datanode<D> {
         ensures pairs { (contents : BlockName → Content) → contents block ≡ intact bytes.now →
             NodeHolds D.told D.clock D.image D.faults contents self.old →
             NodeHolds D.told D.clock D.image D.faults contents self.new }
+        ensures goes_on { DisksGoOn D.told D.faults self.old self.new }
     {
         self.fill(alloc, block, bytes)?;
         self.keep(alloc, block, bytes.len() as u32)
@@ -118,6 +120,7 @@ impl<D: Disk> Datanode<D> {
         ensures others { written_besides block self.new.shelf.written ≡ written_besides block self.old.shelf.written }
         ensures pairs { (contents : BlockName → Content) → NodeHolds D.told D.clock D.image D.faults contents self.old
             → NodeHolds D.told D.clock D.image D.faults contents self.new }
+        ensures goes_on { DisksGoOn D.told D.faults self.old self.new }
     {
         for place in 0..(bytes.len() + (SLOT_SIZE as usize - 1)) / SLOT_SIZE as usize {
             self.write_part(alloc, block, place as u8, part_at(bytes, place))?;

@@ -4,7 +4,7 @@ ghost use Rattle.std.specs.Prelude.{◌≡◌, ◌≤◌, ◌+◌, ◌⊎◌, �
 ghost use Rattle.std.specs.Prelude.{IfOk, IfErr, OnOk, OnErr, IfSome};
 ghost use Rattle.oz_block.specs.Blocks.{StandsFor, IsDamagedDisk};
 ghost use Rattle.oz_chunk.specs.Slots.{IsWithin};
-ghost use Rattle.oz_datanode.specs.Datanode.{Runs, IsLowestPast};
+ghost use Rattle.oz_datanode.specs.Datanode.{Runs, IsLowestPast, DisksGoOn};
 ghost use Rattle.oz_datanode.specs.Pairs.{Content, HaveAll, NodeHolds};
 ghost use Rattle.oz_datanode.specs.declared.refusal.NodeRefusal.TheVariants as refusals;
 ghost use Rattle.oz_entries.specs.Node.{Node, is_used};
@@ -191,7 +191,8 @@ impl<D: Disk> Datanode<D> {
 
     /// Stops it. It keeps what it holds.
     pub fn stop(&mut self)
-        ensures { self.new ≡ record self.old { stopped = true } }
+        ensures stopped { self.new ≡ record self.old { stopped = true } }
+        ensures goes_on { DisksGoOn D.told D.faults self.old self.new }
     {
         self.stopped = true;
     }
@@ -202,6 +203,7 @@ impl<D: Disk> Datanode<D> {
             OnErr result ⊥ × (self.new ≡ record self.old { stopped = false }) }
         ensures halted { is_halted self.old ≡ true →
             (result ≡ Err (refusals.Stopped (count_of D.faults self.old))) × (self.new ≡ self.old) }
+        ensures goes_on { DisksGoOn D.told D.faults self.old self.new }
     {
         if self.halted() {
             return Err(self.halt());

@@ -4,7 +4,7 @@ ghost use Rattle.std.specs.Prelude.{◌≡◌, ◌≤◌, ◌<◌, ◌^◌, ◌+
 ghost use Rattle.std.specs.List.{AllByRecursion, list_any};
 ghost use Rattle.oz_block.specs.Blocks.{node_in as node_in_blocks};
 ghost use Rattle.oz_datanode.specs.Changing.{IsJournaled, Frees, held_count};
-ghost use Rattle.oz_datanode.specs.Datanode.{Runs, stop_of};
+ghost use Rattle.oz_datanode.specs.Datanode.{Runs, stop_of, DisksGoOn};
 ghost use Rattle.oz_datanode.specs.Pairs.{Content, NodeHolds, journal_seen};
 ghost use Rattle.oz_datanode.specs.declared.refusal.NodeRefusal.TheVariants as refusals;
 ghost use Rattle.oz_dellog.specs.declared.txn.TheConstants.{MOST_LOCALS as MOST};
@@ -46,6 +46,7 @@ impl<D: Disk> Datanode<D> {
         ensures gone { OnOk result (names_held (node_in self.new) txn.now ≡ false) }
         ensures pairs { (contents : BlockName → Content) → NodeHolds D.told D.clock D.image D.faults contents self.old
             → NodeHolds D.told D.clock D.image D.faults contents self.new }
+        ensures goes_on { DisksGoOn D.told D.faults self.old self.new }
     {
         a_disk_stands_for_one_node();
         self.check_running()?;
@@ -76,6 +77,7 @@ impl<D: Disk> Datanode<D> {
         ensures shelf { self.new.shelf ≡ self.old.shelf }
         ensures pairs { (contents : BlockName → Content) → NodeHolds D.told D.clock D.image D.faults contents self.old
             → NodeHolds D.told D.clock D.image D.faults contents self.new }
+        ensures goes_on { DisksGoOn D.told D.faults self.old self.new }
     {
         a_disk_stands_for_one_node();
         self.check_running()?;

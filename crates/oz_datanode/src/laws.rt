@@ -1,9 +1,9 @@
 //! What the bytes of a block are whose chunks came in any order, and what two disks stand for.
 
-ghost use Rattle.std.specs.Prelude.{◌≡◌, ◌*◌, ◌<◌, ◌⊎◌, ℕ, Bool, List, true, length, take, drop, Option, IfSome};
+ghost use Rattle.std.specs.Prelude.{◌≡◌, ◌*◌, ◌<◌, ◌≤◌, ◌⊎◌, ℕ, Bool, List, true, length, take, drop, Option, IfSome};
 ghost use Rattle.oz_block.specs.Blocks.{StandsFor};
 ghost use Rattle.oz_chunk.specs.declared.table.TheConstants.{SLOT_SIZE};
-ghost use Rattle.oz_datanode.specs.Datanode.{BothStandFor, AreDamaged};
+ghost use Rattle.oz_datanode.specs.Datanode.{State, BothStandFor, AreDamaged, DisksGoOn, meta_of, slots_of, count_of};
 ghost use Rattle.oz_datanode.specs.Pairs.{Content, Has, HaveAll};
 ghost use Rattle.oz_datanode.specs.Writing.{HasPart, intact};
 ghost use Rattle.oz_entries.specs.Node.{Node};
@@ -11,9 +11,11 @@ ghost use Rattle.oz_fields.specs.declared.block.Block.{Block};
 ghost use Rattle.oz_journal.specs.Load.{IsLeftAlone};
 ghost use Rattle.oz_shelf.specs.Written.{makes, row_of};
 ghost use Rattle.oz_shelf.specs.declared.written.Written.{Written};
+ghost use Rattle.oz_world.specs.Faults.{Rose};
 
 use oz_block::a_disk_stands_for_one_node;
 use oz_journal::bytes_left_alone_stand_for_the_same;
+use oz_world::Disk;
 
 /// Where the chunks that were written of a block make as many bytes as these are, and each was written with its part of
 /// them, they make these bytes, with their digests.
@@ -53,3 +55,21 @@ pub fn what_a_load_leaves_loads_alike()
 {
     bytes_left_alone_stand_for_the_same();
 }
+
+/// Disks go on from one call to the next. How often both have failed never falls, and rises where that of one of them does.
+pub fn disks_go_on_and_count<D: Disk>()
+    ensures same { (node : State D) → DisksGoOn D.told D.faults node node }
+    ensures joined { (one two three : State D) → DisksGoOn D.told D.faults one two →
+        DisksGoOn D.told D.faults two three → DisksGoOn D.told D.faults one three }
+    ensures never_falls { (old new : State D) → DisksGoOn D.told D.faults old new →
+        count_of D.faults old ≤ count_of D.faults new }
+    ensures rises { (old new : State D) → DisksGoOn D.told D.faults old new →
+        Rose (D.faults (meta_of old)) (D.faults (meta_of new)) ⊎ Rose (D.faults (slots_of old)) (D.faults (slots_of new)) →
+        Rose (count_of D.faults old) (count_of D.faults new) }
+{}
+
+/// A count that rose has risen since each one that was no greater before, and until each one that is no smaller after.
+pub fn a_count_that_rose_has_risen()
+    ensures since { (first before after : ℕ) → first ≤ before → Rose before after → Rose first after }
+    ensures until { (before after last : ℕ) → Rose before after → after ≤ last → Rose before last }
+{}

@@ -19,5 +19,8 @@ mod writing;
 pub use datanode::Datanode;
 pub use disks::NodeDisks;
 pub use fault::NodeFault;
-pub use laws::{parts_make_a_block, what_a_load_leaves_loads_alike, what_loads_is_not_damaged};
+pub use laws::{
+    a_count_that_rose_has_risen, disks_go_on_and_count, parts_make_a_block,
+    what_a_load_leaves_loads_alike, what_loads_is_not_damaged,
+};
 pub use refusal::NodeRefusal;

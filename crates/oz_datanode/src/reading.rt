@@ -4,6 +4,7 @@ ghost use Rattle.std.specs.Prelude.{◌≡◌, ◌≤◌, ◌+◌, ℕ, List, tr
 ghost use Rattle.std.specs.Option.{ForSome};
 ghost use Rattle.oz_chunk.specs.Slots.{IsWithin, start_of};
 ghost use Rattle.oz_chunk.specs.declared.table.TheConstants.{SLOT_SIZE as SLOT_BYTES};
+ghost use Rattle.oz_datanode.specs.Datanode.{DisksGoOn};
 ghost use Rattle.oz_datanode.specs.Pairs.{Content, NodeHolds, slots_seen, part_of, parts_of, HaveDigests};
 ghost use Rattle.oz_datanode.specs.Reading.{IsFirstBad, IsRead, IsUnread, OnlyReads, fails_to_read};
 ghost use Rattle.oz_entries.specs.Held.{any_in};
@@ -41,6 +42,7 @@ impl<D: Disk> Datanode<D> {
             (slots_seen D.told D.clock D.image D.faults self.new) }
         ensures pairs { (contents : BlockName → Content) → NodeHolds D.told D.clock D.image D.faults contents self.old
             → NodeHolds D.told D.clock D.image D.faults contents self.new }
+        ensures goes_on { DisksGoOn D.told D.faults self.old self.new }
     {
         self.check_running()?;
         self.blocks.uses_slots_of_rows();

@@ -3,7 +3,7 @@
 ghost use Rattle.std.specs.Prelude.{◌≡◌, ℕ, List, false, Err, Some, IfErr, OnOk};
 ghost use Rattle.oz_block.specs.Blocks.{StandsFor};
 ghost use Rattle.oz_datanode.specs.Changing.{IsJournaled, refusal_of};
-ghost use Rattle.oz_datanode.specs.Datanode.{Runs, stop_of};
+ghost use Rattle.oz_datanode.specs.Datanode.{Runs, stop_of, DisksGoOn};
 ghost use Rattle.oz_datanode.specs.Pairs.{Content, NodeHolds, journal_seen};
 ghost use Rattle.oz_datanode.specs.declared.refusal.NodeRefusal.TheVariants as refusals;
 ghost use Rattle.oz_entries.specs.declared.entry.Entry.TheVariants as entries;
@@ -46,6 +46,7 @@ impl<D: Disk> Datanode<D> {
         ensures shelf { self.new.shelf ≡ self.old.shelf }
         ensures pairs { (contents : BlockName → Content) → NodeHolds D.told D.clock D.image D.faults contents self.old
             → NodeHolds D.told D.clock D.image D.faults contents self.new }
+        ensures goes_on { DisksGoOn D.told D.faults self.old self.new }
     {
         a_disk_stands_for_one_node();
         self.check_running()?;

@@ -1,6 +1,7 @@
 //! Taking everything away.
 
 ghost use Rattle.std.specs.Prelude.{◌≡◌, ℕ, true, false, Err, OnOk};
+ghost use Rattle.oz_datanode.specs.Datanode.{DisksGoOn};
 ghost use Rattle.oz_datanode.specs.Pairs.{Content, NodeHolds, journal_seen, slots_seen};
 ghost use Rattle.oz_datanode.specs.Wiping.{Wipes};
 ghost use Rattle.oz_datanode.specs.declared.refusal.NodeRefusal.TheVariants as refusals;
@@ -27,6 +28,7 @@ impl<D: Disk> Datanode<D> {
             (slots_seen D.told D.clock D.image D.faults self.new) result }
         ensures pairs { OnOk result ((contents : BlockName → Content) →
             NodeHolds D.told D.clock D.image D.faults contents self.new) }
+        ensures goes_on { DisksGoOn D.told D.faults self.old self.new }
     {
         a_disk_stands_for_one_node();
         if self.halted() {

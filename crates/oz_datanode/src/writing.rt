@@ -7,7 +7,7 @@ ghost use Rattle.oz_fields.specs.declared.block.Block.{Block as BlockName};
 ghost use Rattle.oz_fields.specs.declared.block.TheConstants.{LONGEST_PIECE};
 ghost use Rattle.oz_rows.specs.Rows.{IsBlock};
 ghost use Rattle.oz_shelf.specs.Written.{makes, row_of, written_of};
-ghost use Rattle.oz_datanode.specs.Datanode.{stop_of, Runs};
+ghost use Rattle.oz_datanode.specs.Datanode.{stop_of, Runs, DisksGoOn};
 ghost use Rattle.oz_datanode.specs.Pairs.{Content, Has, NodeHolds, journal_seen, with_content};
 ghost use Rattle.oz_datanode.specs.Writing.{is_open, state_for, HasPart, MakeBytes, contents_with, WriteEnds, PutEnds, Abandons};
 ghost use Rattle.oz_datanode.specs.Steps.{PartEnds, KeepEnds, AtRest};
@@ -82,6 +82,7 @@ impl<D: Disk> Datanode<D> {
             HasPart other place part self.new.shelf.written (D.told (slots_of self.new))) }
         ensures pairs { (contents : BlockName → Content) → NodeHolds D.told D.clock D.image D.faults contents self.old
             → NodeHolds D.told D.clock D.image D.faults contents self.new }
+        ensures goes_on { DisksGoOn D.told D.faults self.old self.new }
     {
         self.check_running()?;
         self.check_open(block.container)?;
@@ -102,7 +103,6 @@ impl<D: Disk> Datanode<D> {
         requires least { 1 ≤ length bytes.now }
         requires most { length bytes.now ≤ SLOT_BYTES }
         ensures ends { PartEnds D.told D.faults block chunk bytes.now self.old self.new result }
-        ensures never_falls { D.faults (slots_of self.old) ≤ D.faults (slots_of self.new) }
         ensures first { OnOk result (chunk ≡ 0 → written_of block self.old.shelf.written ≡ [] →
             MakeBytes D.told block bytes.now self.new.shelf) }
         ensures next { OnOk result ((front : List ℕ) → MakeBytes D.told block front self.old.shelf →
@@ -117,6 +117,7 @@ impl<D: Disk> Datanode<D> {
             HasPart other place part self.new.shelf.written (D.told (slots_of self.new))) }
         ensures pairs { (contents : BlockName → Content) → NodeHolds D.told D.clock D.image D.faults contents self.old
             → NodeHolds D.told D.clock D.image D.faults contents self.new }
+        ensures goes_on { DisksGoOn D.told D.faults self.old self.new }
     {
         a_disk_stands_for_one_node();
         each_place_has_its_last_chunk();
@@ -143,6 +144,7 @@ impl<D: Disk> Datanode<D> {
             NodeHolds D.told D.clock D.image D.faults contents self.old →
             NodeHolds D.told D.clock D.image D.faults (contents_with block content contents self.old) self.new }
         ensures refused { is_halted self.old ≡ true → self.new ≡ self.old }
+        ensures goes_on { DisksGoOn D.told D.faults self.old self.new }
     {
         a_disk_stands_for_one_node();
         self.check_running()?;
@@ -178,6 +180,7 @@ impl<D: Disk> Datanode<D> {
             IfSome (D.told (slots_of self.old)) (Has content (row_of self.old.shelf.written block length)) →
             NodeHolds D.told D.clock D.image D.faults contents self.old →
             NodeHolds D.told D.clock D.image D.faults (with_content block content contents) self.new }
+        ensures goes_on { DisksGoOn D.told D.faults self.old self.new }
     {
         a_disk_stands_for_one_node();
         let row = self.shelf.row(alloc, block, length)?;
@@ -199,6 +202,7 @@ impl<D: Disk> Datanode<D> {
         ensures abandons { Abandons block self.old self.new }
         ensures pairs { (contents : BlockName → Content) → NodeHolds D.told D.clock D.image D.faults contents self.old
             → NodeHolds D.told D.clock D.image D.faults contents self.new }
+        ensures goes_on { DisksGoOn D.told D.faults self.old self.new }
     {
         self.shelf.let_go(block);
     }

@@ -74,7 +74,7 @@ module _ (opening : Opening) (story : List Event) (made : List MadeContainer) (a
 least_count : (before now : ℕ) → Rose before now → 1 ≤ now
 least_count before now rose = omega (arith, rose)
 
-module _ {D : Type 0} (Coherent : Type 0) (opening : Opening) (bytes : OpeningBytes) (script : Script) (old : State D) (faults : ℕ) (seen mine : List Event) (kept : IsKept opening old faults seen mine) where
+module _ {D : Type 0} {loaded : ℕ} (Coherent : Type 0) (opening : Opening) (bytes : OpeningBytes) (script : Script) (old : State D) (faults : ℕ) (seen mine : List Event) (kept : IsKept opening loaded old faults seen mine) where
   abbrev Follow : List Event → Event → Type 0
   Follow = Follows Coherent opening bytes script
 
@@ -89,7 +89,7 @@ module _ {D : Type 0} (Coherent : Type 0) (opening : Opening) (bytes : OpeningBy
     ups_are = ups_own Coherent opening bytes script coherent story all ∙ ap (ups opening) own ∙ sym kept.up
 
     unhalted : old.stopped ≡ false → halt_of Scm story ≡ None
-    unhalted running = halt_own Coherent opening bytes script coherent story all ∙ ap (halt_of Scm) own ∙ kept.halt ∙ ap (λ t. if t then Some faults else None) running
+    unhalted running = halt_own Coherent opening bytes script story all ∙ ap (halt_of Scm) own ∙ kept.halt ∙ ap (λ t. if t then Some faults else None) running
 
     are_there : AreContainers old.made.containers (containers opening story)
     are_there = subst (AreContainers old.made.containers) (sym containers_are) kept.made

@@ -32,6 +32,7 @@ use Rattle.oz_scm_events.proofs.Made.{granted_more, within}
 use Rattle.oz_scm_events.proofs.Ups.{all_up, length_ups, one_of_ups, set_again, ups_after}
 use Rattle.oz_turn.specs.Told.{own_entries, BeginsWith}
 use Rattle.oz_world.specs.Disk.{Seen}
+use Rattle.oz_world.specs.Faults.{Rose}
 
 abbrev granted : ℕ → Grant → Event
 granted stripe grant = by_scm (events.Grant stripe grant.container grant.pipeline grant.first grant.count)
@@ -39,18 +40,26 @@ granted stripe grant = by_scm (events.Grant stripe grant.container grant.pipelin
 abbrev pub known : List Event → List Event
 known story = own_entries (λ (event : Event). event.seat) scm_seat story
 
-module _ {D : Type 0} (opening : Opening) (scm : State D) (faults : ℕ) where
+module _ {D : Type 0} (opening : Opening) (loaded : ℕ) (scm : State D) (faults : ℕ) where
   pub kept_new : (seen mine : List Event) → seen ≡ [] → mine ≡ [] → scm.stopped ≡ false → scm.made.nodes ≡ length opening.nodes → scm.made.next_id ≡ opening.next_id
-      → AreContainers scm.made.containers opening.containers → scm.up ≡ replicate (length opening.nodes) true → IsKept opening scm faults seen mine
-  kept_new seen mine unseen none running nodes next made up =
-      subst (λ (l : List Event). IsKept opening scm faults seen l) (sym none) (subst (λ (l : List Event). IsKept opening scm faults l []) (sym unseen) (record {
+      → AreContainers scm.made.containers opening.containers → scm.up ≡ replicate (length opening.nodes) true → loaded ≤ faults → IsKept opening loaded scm faults seen mine
+  kept_new seen mine unseen none running nodes next made up no_fewer =
+      subst (λ (l : List Event). IsKept opening loaded scm faults seen l) (sym none) (subst (λ (l : List Event). IsKept opening loaded scm faults l []) (sym unseen) (record {
         own = refl;
         halt = sym (ap (λ t. if t then Some faults else None) running);
         nodes = nodes;
         next = next;
         made = made;
         up = up ∙ all_up opening;
+        no_fewer = no_fewer;
+        rose = λ stopped. absurd (false≢true (sym running ∙ stopped));
       }))
+
+no_fewer_then : (loaded before after : ℕ) → loaded ≤ before → before ≤ after → loaded ≤ after
+no_fewer_then loaded before after one two = omega (arith, one, two)
+
+rose_then : (loaded before after : ℕ) → loaded ≤ before → Rose before after → Rose loaded after
+rose_then loaded before after less rose = omega (arith, less, rose)
 
 -- ---- an event more
 
@@ -85,11 +94,14 @@ pub chosen_place : (made : List MadeContainer) (pipeline : ℕ) (excluded : List
 chosen_place made pipeline excluded number chosen =
     ⊎_elim (λ it. chosen_there made number it.0.room.container it.0.room.there) (λ it. (omega (arith, it.0), omega (arith, it.0))) chosen
 
-module _ {D : Type 0} (opening : Opening) (old new : State D) (faults stripe : ℕ) (exclude : Exclude) (before after : Seen) (seen mine seen_after mine_after : List Event) (kept : IsKept opening old faults seen mine) (running : old.stopped ≡ false) where
+module _ {D : Type 0} {loaded : ℕ} (opening : Opening) (old new : State D) (stripe : ℕ) (exclude : Exclude) (before after : Seen) (seen mine seen_after mine_after : List Event) (kept : IsKept opening loaded old before.faults seen mine) (running : old.stopped ≡ false) where
   unhalted : halt_of Scm mine ≡ None
-  unhalted = kept.halt ∙ ap (λ t. if t then Some faults else None) running
+  unhalted = kept.halt ∙ ap (λ t. if t then Some before.faults else None) running
 
-  kept_granted : (grant : Grant) → Grants stripe exclude old new before after (Ok grant) → known seen_after ≡ mine ++ granted stripe grant ∷ [] → IsKept opening new after.faults seen_after (mine ++ granted stripe grant ∷ [])
+  no_rise : new.stopped ≡ false → new.stopped ≡ true → Rose loaded after.faults
+  no_rise still stopped = absurd (false≢true (sym still ∙ stopped))
+
+  kept_granted : (grant : Grant) → Grants stripe exclude old new before after (Ok grant) → known seen_after ≡ mine ++ granted stripe grant ∷ [] → IsKept opening loaded new after.faults seen_after (mine ++ granted stripe grant ∷ [])
   kept_granted grant grants own =
       let kind = events.Grant stripe grant.container grant.pipeline grant.first grant.count in
       let place = chosen_place old.made.containers grant.pipeline exclude.containers grant.container grants.due.chosen in
@@ -102,9 +114,11 @@ module _ {D : Type 0} (opening : Opening) (old new : State D) (faults stripe : �
             (subst (AreContainers (after_grant grant old.made).containers) (sym (containers_more opening mine kind))
             (granted_more old.made.containers (containers opening mine) kept.made grant.container grant.pipeline grant.count place.0 place.1));
         up = grants.ups ∙ kept.up ∙ sym (quiet_ups opening mine kind (λ dn. refl));
+        no_fewer = no_fewer_then loaded before.faults after.faults kept.no_fewer grants.never_falls;
+        rose = no_rise grants.stops;
       }
 
-  kept_halted : (count : ℕ) → Grants stripe exclude old new before after (Err (Stopped count)) → known seen_after ≡ mine ++ by_scm (events.Halt Scm count) ∷ [] → IsKept opening new after.faults seen_after (mine ++ by_scm (events.Halt Scm count) ∷ [])
+  kept_halted : (count : ℕ) → Grants stripe exclude old new before after (Err (Stopped count)) → known seen_after ≡ mine ++ by_scm (events.Halt Scm count) ∷ [] → IsKept opening loaded new after.faults seen_after (mine ++ by_scm (events.Halt Scm count) ∷ [])
   kept_halted count grants own =
       let kind = events.Halt Scm count in
       record {
@@ -115,32 +129,36 @@ module _ {D : Type 0} (opening : Opening) (old new : State D) (faults stripe : �
         made = subst (λ (made : Made). AreContainers made.containers (containers opening (mine ++ by_scm kind ∷ []))) (sym grants.same)
             (subst (AreContainers old.made.containers) (sym (containers_more opening mine kind)) kept.made);
         up = grants.ups ∙ kept.up ∙ sym (quiet_ups opening mine kind (λ dn. refl));
+        no_fewer = no_fewer_then loaded before.faults after.faults kept.no_fewer grants.never_falls;
+        rose = λ stopped. rose_then loaded before.faults after.faults kept.no_fewer (grants.cause running stopped);
       }
 
-  kept_same : new.made ≡ old.made → new.up ≡ old.up → new.stopped ≡ false → known seen_after ≡ mine → IsKept opening new after.faults seen_after mine
-  kept_same made up still own = record {
+  kept_same : new.made ≡ old.made → new.up ≡ old.up → new.stopped ≡ false → before.faults ≤ after.faults → known seen_after ≡ mine → IsKept opening loaded new after.faults seen_after mine
+  kept_same made up still no_fall own = record {
     own = own;
     halt = unhalted ∙ sym (ap (λ t. if t then Some after.faults else None) still);
     nodes = ap (λ (made : Made). made.nodes) made ∙ kept.nodes;
     next = ap (λ (made : Made). made.next_id) made ∙ kept.next;
     made = subst (λ (made : Made). AreContainers made.containers (containers opening mine)) (sym made) kept.made;
     up = up ∙ kept.up;
+    no_fewer = no_fewer_then loaded before.faults after.faults kept.no_fewer no_fall;
+    rose = no_rise still;
   }
 
-  kept_after : (result : Result Grant GrantFault) → Grants stripe exclude old new before after result → known seen_after ≡ with_told (told_of stripe result) mine → IsKept opening new after.faults seen_after (with_told (told_of stripe result) mine)
+  kept_after : (result : Result Grant GrantFault) → Grants stripe exclude old new before after result → known seen_after ≡ with_told (told_of stripe result) mine → IsKept opening loaded new after.faults seen_after (with_told (told_of stripe result) mine)
   kept_after (Ok grant) grants own = kept_granted grant grants own
   kept_after (Err (Stopped count)) grants own = kept_halted count grants own
-  kept_after (Err NoPipeline) grants own = kept_same grants.same grants.ups grants.stops own
-  kept_after (Err Excluded) grants own = kept_same grants.same grants.ups grants.stops own
-  kept_after (Err (IdsSpent next count)) grants own = kept_same grants.same grants.ups grants.stops own
-  kept_after (Err OutOfMemory) grants own = kept_same grants.same grants.ups grants.stops own
+  kept_after (Err NoPipeline) grants own = kept_same grants.same grants.ups grants.stops grants.never_falls own
+  kept_after (Err Excluded) grants own = kept_same grants.same grants.ups grants.stops grants.never_falls own
+  kept_after (Err (IdsSpent next count)) grants own = kept_same grants.same grants.ups grants.stops grants.never_falls own
+  kept_after (Err OutOfMemory) grants own = kept_same grants.same grants.ups grants.stops grants.never_falls own
 
-  pub kept_told : (result : Result Grant GrantFault) → Grants stripe exclude old new before after result → mine_after ≡ with_told (told_of stripe result) mine → known seen_after ≡ mine_after → IsKept opening new after.faults seen_after mine_after
-  kept_told result grants told own = subst (λ (l : List Event). IsKept opening new after.faults seen_after l) (sym told) (kept_after result grants (own ∙ told))
+  pub kept_told : (result : Result Grant GrantFault) → Grants stripe exclude old new before after result → mine_after ≡ with_told (told_of stripe result) mine → known seen_after ≡ mine_after → IsKept opening loaded new after.faults seen_after mine_after
+  kept_told result grants told own = subst (λ (l : List Event). IsKept opening loaded new after.faults seen_after l) (sym told) (kept_after result grants (own ∙ told))
 
 -- ---- refusals
 
-module _ {D : Type 0} (opening : Opening) (old new : State D) (stripe : ℕ) (exclude : Exclude) (before after : Seen) (seen mine : List Event) (kept : IsKept opening new after.faults seen mine) where
+module _ {D : Type 0} {loaded : ℕ} (opening : Opening) (old new : State D) (stripe : ℕ) (exclude : Exclude) (before after : Seen) (seen mine : List Event) (kept : IsKept opening loaded new after.faults seen mine) where
   halted_as : (stopped : Bool) → new.stopped ≡ stopped → halt_of Scm mine ≡ (if stopped then Some after.faults else None)
   halted_as stopped is = kept.halt ∙ ap (λ t. if t then Some after.faults else None) is
 
@@ -165,9 +183,9 @@ module _ {D : Type 0} (opening : Opening) (old new : State D) (stripe : ℕ) (ex
 
 -- ---- what the seat sees
 
-module _ {D : Type 0} (opening : Opening) (scm : State D) (faults : ℕ) where
+module _ {D : Type 0} {loaded : ℕ} (opening : Opening) (scm : State D) (faults : ℕ) where
   -- where it saw more, and gave nothing
-  pub kept_seen : (seen mine seen_after mine_after : List Event) → IsKept opening scm faults seen mine → mine_after ≡ mine → known seen_after ≡ mine_after → IsKept opening scm faults seen_after mine_after
+  pub kept_seen : (seen mine seen_after mine_after : List Event) → IsKept opening loaded scm faults seen mine → mine_after ≡ mine → known seen_after ≡ mine_after → IsKept opening loaded scm faults seen_after mine_after
   kept_seen seen mine seen_after mine_after kept same own = record {
     own = own;
     halt = ap (halt_of Scm) same ∙ kept.halt;
@@ -175,6 +193,8 @@ module _ {D : Type 0} (opening : Opening) (scm : State D) (faults : ℕ) where
     next = kept.next ∙ sym (ap (next_id opening) same);
     made = subst (λ (l : List Event). AreContainers scm.made.containers (containers opening l)) (sym same) kept.made;
     up = kept.up ∙ sym (ap (ups opening) same);
+    no_fewer = kept.no_fewer;
+    rose = kept.rose;
   }
 
 pub begins_then : (story later seen : List Event) → BeginsWith later story → BeginsWith story seen → BeginsWith later seen
@@ -198,7 +218,7 @@ other_bool true false not is = false≢true (sym is)
 other_bool false true not is = false≢true is
 other_bool false false not is = false≢true (sym not)
 
-module _ {D : Type 0} (opening : Opening) (scm : State D) (faults : ℕ) (seen mine : List Event) (kept : IsKept opening scm faults seen mine) (dn : ℕ) (there : dn < length opening.nodes) where
+module _ {D : Type 0} {loaded : ℕ} (opening : Opening) (scm : State D) (faults : ℕ) (seen mine : List Event) (kept : IsKept opening loaded scm faults seen mine) (dn : ℕ) (there : dn < length opening.nodes) where
   pub among_ups : dn < length scm.up
   among_ups = omega (arith, there, ap length kept.up, length_ups opening mine)
 
@@ -229,7 +249,7 @@ module _ {D : Type 0} (opening : Opening) (scm : State D) (faults : ℕ) (seen m
   no_halt false = refl
 
   kept_up : (up : Bool) (seen_after : List Event) → known seen_after ≡ mine ++ by_scm (up_event dn up) ∷ []
-      → IsKept opening (record scm { up = slice_set scm.up dn up }) faults seen_after (mine ++ by_scm (up_event dn up) ∷ [])
+      → IsKept opening loaded (record scm { up = slice_set scm.up dn up }) faults seen_after (mine ++ by_scm (up_event dn up) ∷ [])
   kept_up up seen_after own = record {
     own = own;
     halt = quiet_halt opening mine (up_event dn up) (no_halt up) ∙ kept.halt;
@@ -237,14 +257,16 @@ module _ {D : Type 0} (opening : Opening) (scm : State D) (faults : ℕ) (seen m
     next = kept.next ∙ sym (quiet_next opening mine (up_event dn up) (no_id up));
     made = subst (AreContainers scm.made.containers) (sym (quiet_made up)) kept.made;
     up = ap (λ l. slice_set l dn up) kept.up ∙ ups_after opening mine dn up there;
+    no_fewer = kept.no_fewer;
+    rose = kept.rose;
   }
 
   pub kept_tracked : (up : Bool) (new : State D) (seen_after mine_after : List Event) (faults_after : ℕ) → new ≡ record scm { up = slice_set scm.up dn up } → faults_after ≡ faults
-      → mine_after ≡ mine ++ by_scm (up_event dn up) ∷ [] → known seen_after ≡ mine_after → IsKept opening new faults_after seen_after mine_after
+      → mine_after ≡ mine ++ by_scm (up_event dn up) ∷ [] → known seen_after ≡ mine_after → IsKept opening loaded new faults_after seen_after mine_after
   kept_tracked up new seen_after mine_after faults_after is still told own =
-      subst (λ (n : ℕ). IsKept opening new n seen_after mine_after) (sym still)
-      (subst (λ (s : State D). IsKept opening s faults seen_after mine_after) (sym is)
-      (subst (λ (l : List Event). IsKept opening (record scm { up = slice_set scm.up dn up }) faults seen_after l) (sym told) (kept_up up seen_after (own ∙ told))))
+      subst (λ (n : ℕ). IsKept opening loaded new n seen_after mine_after) (sym still)
+      (subst (λ (s : State D). IsKept opening loaded s faults seen_after mine_after) (sym is)
+      (subst (λ (l : List Event). IsKept opening loaded (record scm { up = slice_set scm.up dn up }) faults seen_after l) (sym told) (kept_up up seen_after (own ∙ told))))
 
 pub tracked_as : (mine mine_after : List Event) (dn : ℕ) (up : Bool) (kind : EventKind) → kind ≡ up_event dn up → mine_after ≡ mine ++ by_scm kind ∷ [] → mine_after ≡ mine ++ by_scm (up_event dn up) ∷ []
 tracked_as mine mine_after dn up kind is told = told ∙ ap (λ k. mine ++ by_scm k ∷ []) is

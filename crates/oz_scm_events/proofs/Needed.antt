@@ -122,7 +122,7 @@ module _ (Coherent : Type 0) (opening : Opening) (bytes : OpeningBytes) (script 
 
   module _ (story : List Event) (all : AllFollow Follow [] story) where
     halts : halt_of Scm (known story) ≡ halt_of Scm story
-    halts = sym (halt_own Coherent opening bytes script coherent story all)
+    halts = sym (halt_own Coherent opening bytes script story all)
 
     are_up : ups opening (known story) ≡ ups opening story
     are_up = sym (ups_own Coherent opening bytes script coherent story all)

@@ -4,7 +4,7 @@ use Rattle.std.specs.Prelude.{true, false, Bool, ◌==◌, ◌&&◌, map, is_non
 use Rattle.std.specs.List.{range_with_len}
 use Rattle.std.proofs.Common.{◌≡◌, ℕ, List, [], Option, None, Some, length, refl, sym, ap, ◌∙◌, cond}
 use Rattle.std.proofs.lemmas.Bool.{false≢true, eqb-true}
-use Rattle.oz_buffer.specs.Buffer.{AllFollow, Follows}
+use Rattle.oz_buffer.specs.Buffer.{AllFollow, Follows, IsOfItsSeat}
 use Rattle.oz_buffer.specs.laws.Following.{follow-all}
 use Rattle.oz_core.specs.declared.event.Event.{Event}
 use Rattle.oz_core.specs.declared.event.EventKind.{EventKind}
@@ -59,11 +59,31 @@ not_up dn up (Up other) not = absurd (false≢true (sym not))
 not_up dn up (Down other) not = absurd (false≢true (sym not))
 not_up dn up kind not = refl
 
-no_halt : (halt : Option ℕ) (kind : EventKind) → of_scm kind ≡ false → newer (halt_count Scm kind) halt ≡ halt
-no_halt halt (Halt Scm count) not = absurd (false≢true (sym not))
-no_halt halt (Halt Manager count) not = refl
-no_halt halt (Halt (Datanode dn) count) not = refl
-no_halt halt kind not = refl
+-- ---- its halts, which are of its seat whatever the disks had
+
+abbrev halts_it : EventKind → Bool
+halts_it (Halt Scm count) = true
+halts_it _ = false
+
+halts_of_seat : (opening : Opening) (seat : ℕ) (kind : EventKind) → IsOfItsSeat opening seat kind → halts_it kind ≡ true → seat ≡ scm_seat
+halts_of_seat opening seat (Halt Scm count) of_seat is = of_seat
+halts_of_seat opening seat (Halt Manager count) of_seat is = absurd (false≢true is)
+halts_of_seat opening seat (Halt (Datanode dn) count) of_seat is = absurd (false≢true is)
+halts_of_seat opening seat kind of_seat is = absurd (false≢true is)
+
+no_halt_of_it : (halt : Option ℕ) (kind : EventKind) → halts_it kind ≡ false → newer (halt_count Scm kind) halt ≡ halt
+no_halt_of_it halt (Halt Scm count) not = absurd (false≢true (sym not))
+no_halt_of_it halt (Halt Manager count) not = refl
+no_halt_of_it halt (Halt (Datanode dn) count) not = refl
+no_halt_of_it halt kind not = refl
+
+module _ (Coherent : Type 0) (opening : Opening) (bytes : OpeningBytes) (script : Script) (story : List Event) (all : AllFollow (Follows Coherent opening bytes script) [] story) where
+  halts_all : AreIts scm_seat halts_it story
+  halts_all =
+      follow-all (Follows Coherent opening bytes script) (IsIts scm_seat halts_it) [] story (λ front event may. halts_of_seat opening event.seat event.kind may.of_seat) all
+
+  pub halt_own : halt_of Scm story ≡ halt_of Scm (own scm_seat halts_it story)
+  halt_own = made_by_own scm_seat halts_it (λ halt kind. newer (halt_count Scm kind) halt) no_halt_of_it None story halts_all
 
 -- ---- a datanode
 
@@ -114,9 +134,6 @@ module _ (Coherent : Type 0) (opening : Opening) (bytes : OpeningBytes) (script 
 
   pub ups_own : ups opening story ≡ ups opening (own scm_seat of_scm story)
   ups_own i = map (λ dn. up_own dn i) (range_with_len 0 (length opening.nodes))
-
-  pub halt_own : halt_of Scm story ≡ halt_of Scm (own scm_seat of_scm story)
-  halt_own = made_by_own scm_seat of_scm (λ halt kind. newer (halt_count Scm kind) halt) no_halt None story scm_all
 
   pub running_own : (dn : ℕ) → is_running dn story ≡ is_running dn (own (datanode_seat dn) (of_datanode dn) story)
   running_own dn =

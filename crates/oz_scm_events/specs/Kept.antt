@@ -1,5 +1,5 @@
 -- What contracts see of a storage container manager with its seat, and what it keeps.
-use Rattle.std.specs.Prelude.{◌≡◌, ℕ, List, Some, None, length, if◌then◌else◌}
+use Rattle.std.specs.Prelude.{◌≡◌, ℕ, ◌≤◌, true, List, Some, None, length, if◌then◌else◌}
 use Rattle.std.specs.FinMap.{get}
 use Rattle.std.specs.Option.{option_map}
 use Rattle.oz_core.specs.declared.event.Event.{Event}
@@ -13,6 +13,7 @@ use Rattle.oz_grants.specs.declared.container.Container.{Container as MadeContai
 use Rattle.oz_grants.specs.Made.{container_at}
 use Rattle.oz_scm.specs.Scm.{State}
 use Rattle.oz_turn.specs.Told.{own_entries}
+use Rattle.oz_world.specs.Faults.{Rose}
 
 -- the storage container manager, what its seat has seen of the story, the events that it gave, and for how many more it
 -- has room
@@ -30,8 +31,9 @@ as_told made = record { pipeline = made.pipeline; state = made.state; granted = 
 abbrev pub AreContainers : List MadeContainer → Containers → Type 0
 AreContainers made all = (number : ℕ) → get all number ≡ option_map as_told (container_at made number)
 
--- It stands for what the events that its seat gave make of what was opened; its disk has failed so often.
-pub record IsKept {D : Type 0} (opening : Opening) (scm : State D) (faults : ℕ) (seen mine : List Event) : Type 0 where
+-- It stands for what the events that its seat gave make of what was opened; its disk had failed so often once it was
+-- loaded, and has failed so often now.
+pub record IsKept {D : Type 0} (opening : Opening) (loaded : ℕ) (scm : State D) (faults : ℕ) (seen mine : List Event) : Type 0 where
   -- The events that the seat gave are those of the storage container manager in the story.
   pub own : own_entries (λ (event : Event). event.seat) scm_seat seen ≡ mine
   -- A Halt stands there exactly where a call on the disk has failed, with the count of faults.
@@ -40,3 +42,5 @@ pub record IsKept {D : Type 0} (opening : Opening) (scm : State D) (faults : ℕ
   pub next : scm.made.next_id ≡ next_id opening mine
   pub made : AreContainers scm.made.containers (containers opening mine)
   pub up : scm.up ≡ ups opening mine
+  pub no_fewer : loaded ≤ faults
+  pub rose : scm.stopped ≡ true → Rose loaded faults

@@ -1,7 +1,8 @@
 //! The storage container manager with its seat.
 
-ghost use Rattle.std.specs.Prelude.{◌≡◌, [], length, replicate, true, false};
+ghost use Rattle.std.specs.Prelude.{◌≡◌, ◌≤◌, [], length, replicate, true, false};
 ghost use Rattle.oz_buffer.specs.Buffer.{AllFollow, Follows};
+ghost use Rattle.oz_core.specs.declared.event.Node.TheVariants.{Scm as ScmNode};
 ghost use Rattle.oz_core.specs.Seats.{scm_seat};
 ghost use Rattle.oz_scm_events.specs.Kept.{AreContainers, IsKept};
 ghost use Rattle.oz_turn.specs.Seat.{IsNewSeat, IsReady, mine_of, number_of, room_of, seen_of};
@@ -27,6 +28,7 @@ pub struct ScmCell<D: Disk, T: Told<Entry = Event>, O: Opened, R: Ring> {
 }
 
 impl<D: Disk, T: Told<Entry = Event>, O: Opened, R: Ring> Model for ScmCell<D, T, O, R> {
+    ghost use Rattle.oz_core.specs.declared.event.Node.TheVariants.{Scm as ScmNode};
     ghost use Rattle.oz_core.specs.Seats.{scm_seat};
     ghost use Rattle.oz_scm_events.specs.Kept.{ScmView, IsKept};
     ghost use Rattle.oz_turn.specs.Seat.{IsReady, mine_of, room_of, seen_of};
@@ -41,7 +43,7 @@ impl<D: Disk, T: Told<Entry = Event>, O: Opened, R: Ring> Model for ScmCell<D, T
     } };
 
     ghost invariant = { λ cell. IsReady R.turn scm_seat cell.seat
-        × IsKept O.opening cell.scm (D.faults cell.scm.disk) (seen_of cell.seat) (mine_of cell.seat) };
+        × IsKept O.opening (O.faults ScmNode) cell.scm (D.faults cell.scm.disk) (seen_of cell.seat) (mine_of cell.seat) };
 }
 
 impl<D: Disk, T: Told<Entry = Event>, O: Opened, R: Ring> ScmCell<D, T, O, R> {
@@ -52,6 +54,7 @@ impl<D: Disk, T: Told<Entry = Event>, O: Opened, R: Ring> ScmCell<D, T, O, R> {
         requires next { scm.made.next_id ≡ O.opening.next_id }
         requires containers { AreContainers scm.made.containers O.opening.containers }
         requires up { scm.up ≡ replicate (length O.opening.nodes) true }
+        requires faults { O.faults ScmNode ≤ D.faults scm.disk }
         requires seat { IsNewSeat R.turn scm_seat seat }
         ensures { result ≡ record { scm = scm; seen = []; mine = []; room = 0 } }
     {
@@ -64,7 +67,7 @@ impl<D: Disk, T: Told<Entry = Event>, O: Opened, R: Ring> ScmCell<D, T, O, R> {
 
     /// What holds of every one. It does nothing when it runs.
     pub fn is_kept(&self)
-        ensures { IsKept O.opening self.now.scm (D.faults self.now.scm.disk) self.now.seen self.now.mine }
+        ensures { IsKept O.opening (O.faults ScmNode) self.now.scm (D.faults self.now.scm.disk) self.now.seen self.now.mine }
     {
         let _count = self.scm.faults();
     }
@@ -74,7 +77,7 @@ impl<D: Disk, T: Told<Entry = Event>, O: Opened, R: Ring> ScmCell<D, T, O, R> {
         ensures scm { result.0 ≡ self.scm }
         ensures ready { IsReady R.turn scm_seat result.1 }
         ensures events { (seen_of result.1 ≡ self.seen) × (mine_of result.1 ≡ self.mine) }
-        ensures kept { IsKept O.opening result.0 (D.faults result.0.disk) (seen_of result.1) (mine_of result.1) }
+        ensures kept { IsKept O.opening (O.faults ScmNode) result.0 (D.faults result.0.disk) (seen_of result.1) (mine_of result.1) }
     {
         let ScmCell { scm, seat, of: _ } = self;
         (scm, seat)

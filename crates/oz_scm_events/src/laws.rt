@@ -17,7 +17,7 @@ ghost use Rattle.oz_turn.specs.Told.{own_entries, BeginsWith};
 use oz_buffer::Opened;
 
 /// Where the disks agree, the events of the storage container manager's seat alone tell which id is granted next, which
-/// containers were made, who is up, and whether it halted.
+/// containers were made and who is up. Whatever the disks had, they alone tell whether it halted.
 pub fn the_scm_alone_tells<O: Opened>()
     ensures next { (story : List AnyEvent) → O.coherent →
         AllFollow (Follows O.coherent O.opening O.bytes O.script) [] story →
@@ -31,7 +31,7 @@ pub fn the_scm_alone_tells<O: Opened>()
     ensures ups { (story : List AnyEvent) → O.coherent →
         AllFollow (Follows O.coherent O.opening O.bytes O.script) [] story →
         ups O.opening story ≡ ups O.opening (own_entries (λ event. event.seat) scm_seat story) }
-    ensures halt { (story : List AnyEvent) → O.coherent →
+    ensures halt { (story : List AnyEvent) →
         AllFollow (Follows O.coherent O.opening O.bytes O.script) [] story →
         halt_of Scm story ≡ halt_of Scm (own_entries (λ event. event.seat) scm_seat story) }
 {}

@@ -22,6 +22,6 @@ returns-clause-ups g c story coherent all =
     ups_own O.coherent O.opening O.bytes O.script coherent story all
 
 pub returns-clause-halt : goal.returns-clause-halt
-returns-clause-halt g c story coherent all =
+returns-clause-halt g c story all =
     let O = g.O.Opened in
-    halt_own O.coherent O.opening O.bytes O.script coherent story all
+    halt_own O.coherent O.opening O.bytes O.script story all

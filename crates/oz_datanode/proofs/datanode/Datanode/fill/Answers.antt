@@ -13,7 +13,7 @@ pub write_part-requires-clause-at_rest : goal.write_part-requires-clause-at_rest
 write_part-requires-clause-at_rest g c = rest_filled g.D.Disk.told g.D.Disk.clock g.D.Disk.image g.D.Disk.faults c.args.block c.args.bytes.now c.loop-place.place c.args.self.now c.loop-place.self c.loop-place.invariant c.requires.at_rest
 
 pub loop-place-preserved : goal.loop-place-preserved
-loop-place-preserved g c = filled_more g.D.Disk.told g.D.Disk.clock g.D.Disk.image g.D.Disk.faults c.args.block c.args.bytes.now c.loop-place.place c.part_at.result.now c.args.self.now c.loop-place.self c.write_part.new.self c.loop-place.invariant c.in_ok-write_part.ensures.ends c.part_at.ensures.part (within c.loop-place.place _ (omega arith)) c.in_ok-write_part.ensures.next c.write_part.ensures.never_falls c.write_part.ensures.pairs
+loop-place-preserved g c = filled_more g.D.Disk.told g.D.Disk.clock g.D.Disk.image g.D.Disk.faults c.args.block c.args.bytes.now c.loop-place.place c.part_at.result.now c.args.self.now c.loop-place.self c.write_part.new.self c.loop-place.invariant c.in_ok-write_part.ensures.ends c.part_at.ensures.part (within c.loop-place.place _ (omega arith)) c.in_ok-write_part.ensures.next c.write_part.ensures.goes_on c.write_part.ensures.pairs
 
 pub returns-clause-ends : goal.returns-clause-ends
 returns-clause-ends g c = filled_all g.D.Disk.told g.D.Disk.clock g.D.Disk.image g.D.Disk.faults c.args.block c.args.bytes.now c.loop-place.place c.args.self.now c.loop-place.self c.loop-place.invariant (omega arith)

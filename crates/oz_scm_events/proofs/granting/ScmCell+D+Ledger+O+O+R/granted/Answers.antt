@@ -30,7 +30,7 @@ invariant_of-self-2 g c =
     let seat = c.tell.new.seat in
     let kept = kept_seen O.opening c.self.inside.scm _ _ _ (seen_of before) (mine_of before) c.self.invariant.1 own.mine own.known in (
       subst (λ t. IsReady t scm_seat seat) c.requires.turn c.tell.ensures.ready,
-      kept_told O.opening c.self.inside.scm c.grant-answer.new.self _ c.args.stripe c.args.exclude.now _ _ (seen_of before) (mine_of before) (seen_of seat) (mine_of seat) kept
+      kept_told O.opening c.self.inside.scm c.grant-answer.new.self c.args.stripe c.args.exclude.now _ _ (seen_of before) (mine_of before) (seen_of seat) (mine_of seat) kept
           (sym c.stopped.ensures.stopped ∙ c.if-stopped.false) c.grant-answer.result c.grant-answer.ensures
           (c.tell.ensures.mine ∙ ap (λ o. with_told o (mine_of before)) c.told_of-told.ensures) c.tell.ensures.known,
     )
@@ -43,7 +43,7 @@ returns-clause-refused g c =
     let seat = c.tell.new.seat in
     let kept = kept_seen O.opening c.self.inside.scm _ _ _ (seen_of before) (mine_of before) c.self.invariant.1 own.mine own.known in
     let after =
-    kept_told O.opening c.self.inside.scm c.grant-answer.new.self _ c.args.stripe c.args.exclude.now _ _ (seen_of before) (mine_of before) (seen_of seat) (mine_of seat) kept
+    kept_told O.opening c.self.inside.scm c.grant-answer.new.self c.args.stripe c.args.exclude.now _ _ (seen_of before) (mine_of before) (seen_of seat) (mine_of seat) kept
     (sym c.stopped.ensures.stopped ∙ c.if-stopped.false) c.grant-answer.result c.grant-answer.ensures
     (c.tell.ensures.mine ∙ ap (λ o. with_told o (mine_of before)) c.told_of-told.ensures) c.tell.ensures.known in
     says O.opening c.self.inside.scm c.grant-answer.new.self c.args.stripe c.args.exclude.now _ _ (seen_of seat) (mine_of seat) after c.grant-answer.result c.grant-answer.ensures

@@ -14,7 +14,7 @@ use Rattle.oz_core.specs.declared.event.EventKind.TheVariants.{Put, Refused, Wro
 use Rattle.oz_core.specs.declared.event.PutRefusal.{PutRefusal}
 use Rattle.oz_core.specs.declared.limits.TheConstants.{SERVICE_CLIENT}
 use Rattle.oz_core.specs.declared.opening.Opening.{Opening}
-use Rattle.oz_core.specs.Asks.{asks_of, is_id}
+use Rattle.oz_core.specs.Asks.{asks_of, is_id, is_own}
 use Rattle.oz_core.specs.Contents.{HasContent, OpeningBytes, WasGranted, piece_number, written_for}
 use Rattle.oz_core.specs.Law.{IsNamed, puts}
 use Rattle.oz_core.specs.Lines.{HasStarted}
@@ -86,10 +86,11 @@ HaveAnswered story id block (dn ∷ members) [] = ⊥
 HaveAnswered story id block (dn ∷ members) (answer ∷ answers) =
     HasAnswered story id block dn answer × HaveAnswered story id block members answers
 
--- These bytes are the piece of the line's data that a Decide of this Ask named the block for, which begins there; whoever
--- put the block had as many.
-pub record IsItsPiece (opening : Opening) (bytes : OpeningBytes) (script : Script) (story : List Event) (id : AskId)
+-- These bytes are the piece of a line's data that the block was granted for to this Ask, which isn't the line's own id, and
+-- the piece begins there; whoever put the block had as many.
+pub record IsPieceFor (opening : Opening) (bytes : OpeningBytes) (script : Script) (story : List Event) (id : AskId)
     (block : Block) (first : ℕ) (content : List ℕ) : Type 0 where
+  pub asked : is_own id ≡ false
   pub named : IsNamed story id block
   pub before : List Event
   pub granted : WasGranted story id block before

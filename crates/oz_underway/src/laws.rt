@@ -1,7 +1,7 @@
 //! What stays of a line that is under way.
 
 ghost use Rattle.std.specs.Prelude.{◌≡◌, ◌≢◌, ◌+◌, ◌≤◌, ◌<◌, ◌==◌, ◌++◌, ◌∷◌, ℕ, [], Bool, List, Option, true, false};
-ghost use Rattle.std.specs.Prelude.{None, Some, length, if◌then◌else◌, All, Contains};
+ghost use Rattle.std.specs.Prelude.{None, Some, length, if◌then◌else◌, All, Contains, count_by, is_none, nat_le};
 ghost use Rattle.std.specs.List.{list_all};
 ghost use Rattle.oz_asker.specs.Decided.{IsDecideAt};
 ghost use Rattle.oz_buffer.specs.Buffer.{AllFollow, Follows};
@@ -10,20 +10,23 @@ ghost use Rattle.oz_client.specs.declared.progress.Progress.{Progress as AnyProg
 ghost use Rattle.oz_client.specs.declared.step.Got.TheVariants as gots;
 ghost use Rattle.oz_client.specs.declared.step.Got.{Got as AnyGot};
 ghost use Rattle.oz_client.specs.declared.step.Step.TheVariants as steps;
+ghost use Rattle.oz_client.specs.declared.step.Written.{Written as AnyWritten};
 ghost use Rattle.oz_client.specs.LineState.{nothing_yet, progress_after};
-ghost use Rattle.oz_client.specs.Onward.{IsReading};
+ghost use Rattle.oz_client.specs.Onward.{IsReading, IsWriting};
 ghost use Rattle.oz_client.specs.Stories.{HasIt, IsLeftEverywhere, IsStepEverywhere};
 ghost use Rattle.oz_command.specs.declared.command.Command.TheVariants as commands;
 ghost use Rattle.oz_command.specs.declared.command.Command.{Command as AnyCommand};
+ghost use Rattle.oz_command.specs.Payload.{piece};
 ghost use Rattle.oz_core.specs.declared.event.Event.{Event as AnyEvent};
-ghost use Rattle.oz_core.specs.declared.event.EventKind.TheVariants.{Ask, Told};
+ghost use Rattle.oz_core.specs.declared.event.EventKind.TheVariants.{Ask, Told, Wrote};
 ghost use Rattle.oz_core.specs.declared.limits.TheConstants.{SERVICE_CLIENT};
 ghost use Rattle.oz_core.specs.declared.event.PutRefusal.{PutRefusal as AnyPutRefusal};
 ghost use Rattle.oz_core.specs.Asks.{asks_of, is_of_line, is_told, last_ask, pending};
+ghost use Rattle.oz_core.specs.Coherent.{IsCoherent};
 ghost use Rattle.oz_core.specs.Contents.{HasContent, WasGranted, written_for};
 ghost use Rattle.oz_core.specs.Due.{IsDue};
 ghost use Rattle.oz_core.specs.Fits.{EventFits, Fits};
-ghost use Rattle.oz_core.specs.Law.{AskIsEnabled, puts};
+ghost use Rattle.oz_core.specs.Law.{AskIsEnabled, puts, writes};
 ghost use Rattle.oz_core.specs.Lines.{HasStarted};
 ghost use Rattle.oz_core.specs.Scm.{members};
 ghost use Rattle.oz_core.specs.Steps.{GrantedBlock, commit_step, is_open_at, opening_line, refuses_so, was_told_ok};
@@ -45,14 +48,16 @@ ghost use Rattle.oz_requests.specs.declared.request.Family.TheVariants.{Allocati
 ghost use Rattle.oz_requests.specs.declared.request.Request.{Request as AnyRequest};
 ghost use Rattle.oz_requests.specs.Families.{family_of};
 ghost use Rattle.oz_rows.specs.Rows.{IsBlock};
+ghost use Rattle.oz_steps.specs.declared.came.Granted.{Granted as AnyGranted};
 ghost use Rattle.oz_steps.specs.declared.label.Label.{Label as AnyLabel};
 ghost use Rattle.oz_steps.specs.Came.{granted_by};
-ghost use Rattle.oz_steps.specs.Grants.{has_fate_written};
+ghost use Rattle.oz_steps.specs.Grants.{has_fate_written, written_blocks};
 ghost use Rattle.oz_steps.specs.Lines.{IsLabel, commit_of_label};
 ghost use Rattle.oz_steps.specs.Requests.{request_by};
 ghost use Rattle.oz_turn.specs.Told.{BeginsWith};
 ghost use Rattle.oz_underway.specs.GoingOn.{FromHereOn};
-ghost use Rattle.oz_underway.specs.UnderWay.{IsLast, IsSaid, IsUnderWay, LabelStays, WhileStill, is_all_written, times_asked};
+ghost use Rattle.oz_underway.specs.UnderWay.{HaveAnswered, IsPieceFor, IsLast, IsSaid, IsUnderWay, LabelStays, WhileStill};
+ghost use Rattle.oz_underway.specs.UnderWay.{ask_of, is_all_written, times_asked};
 
 use oz_buffer::Opened;
 
@@ -136,8 +141,9 @@ pub fn a_reply_comes<O: Opened>()
         (progress_after progress (gots.Reply reply)) }
 {}
 
-/// A Decide that grants a block says which datanodes are to have it: the three members of the pipeline, each another one that is
-/// known, where there are enough. The block has numbers as blocks have them, and was granted to the Decide's Ask.
+/// A block that was granted lies on the pipeline that the reply names: its members are the three of that pipeline, known
+/// datanodes that differ from one another, where there are enough. Its numbers are as blocks have them, where the opening's
+/// containers are numbered, and the Ask that was decided is the last of its id.
 pub fn what_a_grant_is<O: Opened>()
     ensures members { O.coherent → (story : List AnyEvent) (place pipeline : ℕ) (id : AnyId) (block : AnyBlock) →
         AllFollow (Follows O.coherent O.opening O.bytes O.script) [] story →
@@ -157,6 +163,84 @@ pub fn what_a_grant_is<O: Opened>()
         AllFollow (Follows O.coherent O.opening O.bytes O.script) [] story →
         IsDecideAt story place id (replies.Granted block pipeline) →
         (before : List AnyEvent) × WasGranted story id block before }
+{}
+
+/// What was decided of a line's next Ask has come back to it, also where it grants a block, and whatever became of the blocks
+/// before: no more was said of them than at a place before the Decide.
+pub fn a_reply_comes_where_no_more_is_said<O: Opened>()
+    ensures { O.coherent → (base seen later : List AnyEvent) (line : AnyLine) (asked said place : ℕ)
+        (command : AnyCommand) (progress : AnyProgress) (reply : AnyReply) (id : AnyId) →
+        IsUnderWay O.coherent O.opening O.bytes O.script seen line asked said command progress →
+        progress.came.writing ≡ None → progress.read ≡ [] →
+        BeginsWith seen base → times_said line.client line.number base ≡ said →
+        BeginsWith later seen → AllFollow (Follows O.coherent O.opening O.bytes O.script) [] later →
+        times_said line.client line.number later ≡ said →
+        id ≡ ask_of line (asked + 1) → length seen ≤ place → IsDecideAt later place id reply →
+        IsUnderWay O.coherent O.opening O.bytes O.script later line (asked + 1) said command
+        (progress_after progress (gots.Reply reply)) }
+{}
+
+/// What a line writes next is the piece of its data that the block was granted for to its last Ask, at the members of the
+/// block's container, whatever is said and asked since.
+pub fn what_is_put_is_its_piece<O: Opened>()
+    ensures piece { O.coherent → IsCoherent O.opening O.bytes → IsNumbered O.script → (seen : List AnyEvent)
+        (line : AnyLine) (asked said first count : ℕ) (command : AnyCommand) (progress : AnyProgress) (block : AnyBlock)
+        (dns : List ℕ) →
+        IsUnderWay O.coherent O.opening O.bytes O.script seen line asked said command progress →
+        IsWriting command progress block dns first count →
+        FromHereOn O.coherent O.opening O.bytes O.script seen (λ story.
+        IsPieceFor O.opening O.bytes O.script story (ask_of line asked) block first
+        (piece (length (written_blocks progress.came.attempts)) command)) }
+    ensures members { O.coherent → (seen : List AnyEvent) (line : AnyLine) (asked said first count : ℕ)
+        (command : AnyCommand) (progress : AnyProgress) (block : AnyBlock) (dns : List ℕ) →
+        IsUnderWay O.coherent O.opening O.bytes O.script seen line asked said command progress →
+        IsWriting command progress block dns first count → progress.nodes ≡ length O.opening.nodes →
+        FromHereOn O.coherent O.opening O.bytes O.script seen (λ story.
+        members O.opening story block.container ≡ dns) }
+{}
+
+/// A line's block may be written by the script where its three members have answered, and no more was said of the line's
+/// blocks since the block was granted than these three answers.
+pub fn a_quorum_fits<O: Opened>()
+    ensures { O.coherent → FEWEST_NODES ≤ length O.opening.nodes → (seen : List AnyEvent) (line : AnyLine)
+        (asked said : ℕ) (command : AnyCommand) (progress : AnyProgress) (granted : AnyGranted)
+        (answers : List (Option AnyPutRefusal)) →
+        IsUnderWay O.coherent O.opening O.bytes O.script seen line asked said command progress →
+        progress.came.writing ≡ Some granted → progress.nodes ≡ length O.opening.nodes →
+        FromHereOn O.coherent O.opening O.bytes O.script seen (λ story.
+        HaveAnswered story (ask_of line asked) granted.block (members_of progress.nodes granted.pipeline) answers →
+        times_said line.client line.number story ≡ said + 3 →
+        EventFits O.opening O.bytes O.script story (Wrote granted.block (ask_of line asked))) }
+{}
+
+/// The answers of a block's three members have come back to a line that asked no more since, where no more was said of its
+/// blocks than these three, and, where two members put the block, that it was written.
+pub fn a_block_is_answered<O: Opened>()
+    ensures given_up { O.coherent → IsNumbered O.script → FEWEST_NODES ≤ length O.opening.nodes →
+        (seen later : List AnyEvent) (line : AnyLine) (asked said : ℕ) (command : AnyCommand) (progress : AnyProgress)
+        (granted : AnyGranted) (written : AnyWritten) →
+        IsUnderWay O.coherent O.opening O.bytes O.script seen line asked said command progress →
+        progress.came.writing ≡ Some granted → progress.nodes ≡ length O.opening.nodes →
+        BeginsWith later seen → AllFollow (Follows O.coherent O.opening O.bytes O.script) [] later →
+        times_asked later line ≡ asked →
+        HaveAnswered later (ask_of line asked) granted.block (members_of progress.nodes granted.pipeline)
+        written.answers →
+        nat_le 2 (count_by is_none written.answers) ≡ false → times_said line.client line.number later ≡ said + 3 →
+        IsUnderWay O.coherent O.opening O.bytes O.script later line asked (said + 3) command
+        (progress_after progress (gots.Written written)) }
+    ensures written { O.coherent → IsNumbered O.script → FEWEST_NODES ≤ length O.opening.nodes →
+        (seen later : List AnyEvent) (line : AnyLine) (asked said : ℕ) (command : AnyCommand) (progress : AnyProgress)
+        (granted : AnyGranted) (written : AnyWritten) →
+        IsUnderWay O.coherent O.opening O.bytes O.script seen line asked said command progress →
+        progress.came.writing ≡ Some granted → progress.nodes ≡ length O.opening.nodes →
+        BeginsWith later seen → AllFollow (Follows O.coherent O.opening O.bytes O.script) [] later →
+        times_asked later line ≡ asked →
+        HaveAnswered later (ask_of line asked) granted.block (members_of progress.nodes granted.pipeline)
+        written.answers →
+        nat_le 2 (count_by is_none written.answers) ≡ true → has_event (writes granted.block) later ≡ true →
+        times_said line.client line.number later ≡ said + 4 →
+        IsUnderWay O.coherent O.opening O.bytes O.script later line asked (said + 4) command
+        (progress_after progress (gots.Written written)) }
 {}
 
 /// A piece of a key is read, while no more was said of the line's blocks: what its block has, it has from then on.

@@ -1,16 +1,15 @@
 -- What the three members of a block answered, by what was said since it was granted.
-use Rattle.std.proofs.Common.{◌≡◌, ◌≢◌, ⊎_elim, ◌⊎◌, inl, inr, ℕ, zero, suc, ◌+◌, ◌%◌, ◌≤◌, Bool, true, false, not, ◌||◌, ◌&&◌, ◌==◌, is_none, cond, List, [], ◌∷◌, ◌++◌, length, take, drop, Option, None, Some, Contains, eq-eqb, refl, sym, ap, ◌∙◌, subst, append-nil, arith}
+use Rattle.std.proofs.Common.{◌≡◌, ◌≢◌, ⊎_elim, ◌⊎◌, inl, inr, ℕ, ◌+◌, ◌≤◌, Bool, true, false, not, ◌||◌, ◌&&◌, ◌==◌, cond, List, [], ◌∷◌, length, take, drop, Option, None, Some, Contains, eq-eqb, refl, sym, ap, ◌∙◌, subst, arith}
 use Rattle.std.proofs.Math.Bool.{or-false}
 use Rattle.std.proofs.lemmas.Bool.{and_from, and_parts, eqb-true, false≢true, or_left, or_right}
 use Rattle.std.proofs.lemmas.List.{take-append-drop}
 use Rattle.std.proofs.lemmas.List.Elements.{Contains-append_cases, Contains-append_left}
 use Rattle.std.proofs.lemmas.List.Folds.{list_any-append}
 use Rattle.std.proofs.lemmas.List.Sums.{sum_by-cons}
-use Rattle.std.specs.Prelude.{count_by, nat_le}
+use Rattle.std.specs.Prelude.{count_by}
 use Rattle.std.specs.List.{cons_option, list_any}
 use Rattle.oz_fields.specs.declared.block.Block.{Block}
 use Rattle.oz_lines.specs.declared.script.Script.{Script}
-use Rattle.oz_nodes.specs.Pipelines.{members_of}
 use Rattle.oz_requests.specs.declared.reply.Reply.TheVariants as replies
 use Rattle.oz_requests.specs.declared.request.AskId.{AskId}
 use Rattle.oz_core.specs.declared.event.Event.{Event}
@@ -19,7 +18,7 @@ use Rattle.oz_core.specs.declared.event.EventKind.TheVariants.{Decide, Put, Refu
 use Rattle.oz_core.specs.declared.event.PutRefusal.{PutRefusal}
 use Rattle.oz_core.specs.declared.opening.Opening.{Opening}
 use Rattle.oz_core.specs.Asks.{is_id, is_of_line}
-use Rattle.oz_core.specs.Contents.{OpeningBytes, WasGranted, written_for, wrote}
+use Rattle.oz_core.specs.Contents.{OpeningBytes, WasGranted, wrote}
 use Rattle.oz_core.specs.Law.{IsLegal, KindIsEnabled, puts}
 use Rattle.oz_core.specs.Nodes.{is_block}
 use Rattle.oz_core.specs.Scm.{members}
@@ -32,10 +31,10 @@ use Rattle.oz_buffer.specs.Buffer.{AllFollow, Follows}
 use Rattle.oz_buffer.specs.Courses.{says, times_said}
 use Rattle.oz_kept.specs.laws.Contents.{its_grant, one_block}
 use Rattle.oz_kept.specs.laws.Deleted.{enabled_at, first_or_later, found_at}
-use Rattle.oz_kept.specs.laws.Granted.{IsGrantedTo, one_id}
+use Rattle.oz_kept.specs.laws.Granted.{one_id}
 use Rattle.oz_reopened.specs.laws.Placed.{event_there}
 use Rattle.oz_turn.specs.Told.{BeginsWith}
-use Rattle.oz_underway.specs.UnderWay.{HasAnswered, HaveAnswered, says_for}
+use Rattle.oz_underway.specs.UnderWay.{HasAnswered, says_for}
 use Rattle.oz_underway.specs.laws.Asks.{its_line, of_line}
 use Rattle.oz_underway.specs.laws.Granted.{refuses_for}
 use Rattle.oz_underway.specs.laws.Piece.{granting}

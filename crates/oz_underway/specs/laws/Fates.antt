@@ -4,12 +4,10 @@ use Rattle.std.proofs.lemmas.Option.{none-some, same_Some}
 use Rattle.std.proofs.lemmas.List.Elements.{Contains-append_left}
 use Rattle.std.specs.Prelude.{count_by, nat_le}
 use Rattle.std.specs.List.{list_all, list_any}
-use Rattle.oz_fields.specs.declared.block.Block.{Block}
 use Rattle.oz_lines.specs.declared.script.Script.{Script}
 use Rattle.oz_nodes.specs.Pipelines.{members_of}
 use Rattle.oz_requests.specs.declared.reply.Reply.{Reply}
 use Rattle.oz_requests.specs.declared.reply.Reply.TheVariants as replies
-use Rattle.oz_requests.specs.declared.request.AskId.{AskId}
 use Rattle.oz_core.specs.declared.event.Event.{Event}
 use Rattle.oz_core.specs.declared.event.EventKind.{EventKind}
 use Rattle.oz_core.specs.declared.event.EventKind.TheVariants.{Decide}
@@ -19,8 +17,7 @@ use Rattle.oz_core.specs.Asks.{is_of_line}
 use Rattle.oz_core.specs.Contents.{OpeningBytes, written_for}
 use Rattle.oz_core.specs.Nodes.{is_block}
 use Rattle.oz_core.specs.Scm.{members}
-use Rattle.oz_core.specs.Steps.{GrantedBlock, grant_in, grant_to, granted_to, is_abandoned, is_any, is_of_node, is_off, is_settled, is_written, refuses_so, refusing_members}
-use Rattle.oz_core.specs.Stories.{has_event}
+use Rattle.oz_core.specs.Steps.{GrantedBlock, grant_in, grant_to, granted_to, is_abandoned, is_any, is_of_node, is_off, is_settled, is_written, refusing_members}
 use Rattle.oz_steps.specs.declared.came.Attempt.{Attempt}
 use Rattle.oz_steps.specs.declared.came.Granted.{Granted}
 use Rattle.oz_steps.specs.declared.fate.Fate.{Fate}
@@ -28,7 +25,7 @@ use Rattle.oz_steps.specs.declared.fate.Fate.TheVariants as fates
 use Rattle.oz_steps.specs.Grants.{AreAnswers, AreGrants, IsAttempt, IsFate, IsUnsettled, fate_of, has_fate_written, is_fate_written, refused_so}
 use Rattle.oz_buffer.specs.Buffer.{AllFollow, Follows}
 use Rattle.oz_buffer.specs.Courses.{times_said}
-use Rattle.oz_kept.specs.laws.Deleted.{first_or_later, found_at}
+use Rattle.oz_kept.specs.laws.Deleted.{found_at}
 use Rattle.oz_reopened.specs.laws.Named.{told_event}
 use Rattle.oz_turn.specs.Told.{BeginsWith}
 use Rattle.oz_underway.specs.laws.Asks.{of_line}
@@ -98,8 +95,7 @@ module _ (opening : Opening) (seen story : List Event) where
       → AreGrants opening seen attempts None grants → AreGrants opening story attempts None grants
   grants_still [] grants alike are = are
   grants_still (attempt ∷ attempts) grants alike (first, others, is, at, rest) =
-      let here = alike first (subst (λ (l : List GrantedBlock). Contains l first) (sym is) (0, omega arith, refl)) in
-      (
+      let here = alike first (subst (λ (l : List GrantedBlock). Contains l first) (sym is) (0, omega arith, refl)) in (
         first,
         others,
         is,

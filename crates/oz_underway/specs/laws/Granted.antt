@@ -1,5 +1,5 @@
 -- A reply that comes where no more was said of a line's blocks, and what it grants.
-use Rattle.std.proofs.Common.{◌≡◌, ◌≢◌, ⊎_elim, inl, inr, ℕ, suc, ◌+◌, ◌-◌, ◌≤◌, Bool, true, false, ◌||◌, ◌&&◌, ◌==◌, not, is_none, cond, List, [], ◌∷◌, ◌++◌, length, take, drop, Option, None, Some, Contains, refl, sym, ap, ◌∙◌, subst, length-append, append_assoc, append-nil, arith}
+use Rattle.std.proofs.Common.{◌≡◌, ◌≢◌, ◌⊎◌, ⊎_elim, inl, inr, ℕ, suc, ◌+◌, ◌-◌, ◌≤◌, Bool, true, false, ◌||◌, ◌&&◌, ◌==◌, not, is_none, cond, List, [], ◌∷◌, ◌++◌, length, take, drop, Option, None, Some, Contains, refl, sym, ap, ◌∙◌, subst, length-append, append_assoc, append-nil, arith}
 use Rattle.std.proofs.Math.Bool.{or-true}
 use Rattle.std.proofs.Math.Seq.{take-append-add}
 use Rattle.std.proofs.lemmas.Bool.{and_parts, false≢true}
@@ -7,7 +7,6 @@ use Rattle.std.proofs.lemmas.List.{take-append-drop}
 use Rattle.std.proofs.lemmas.List.Elements.{Contains-append_left, Contains-append_right}
 use Rattle.std.proofs.lemmas.List.Folds.{list_any-append}
 use Rattle.std.proofs.lemmas.List.Sums.{sum_by-cons}
-use Rattle.std.proofs.lemmas.Option.{none-some}
 use Rattle.std.specs.Prelude.{count_by, nat_le}
 use Rattle.std.specs.List.{cons_option, filter_map, list_any, list_all, slice_get}
 use Rattle.oz_command.specs.declared.command.Command.{Command}
@@ -23,22 +22,23 @@ use Rattle.oz_core.specs.declared.event.EventKind.TheVariants.{Ask, Decide, Refu
 use Rattle.oz_core.specs.declared.event.PutRefusal.{PutRefusal}
 use Rattle.oz_core.specs.declared.limits.TheConstants.{SERVICE_CLIENT}
 use Rattle.oz_core.specs.declared.opening.Opening.{Opening}
-use Rattle.oz_core.specs.Asks.{ask_id, asks, asks_of, is_asked, is_id, is_of_line, is_script, reply_to, replies_to}
+use Rattle.oz_core.specs.Asks.{ask_id, asks, asks_of, is_asked, is_id, is_script, reply_to, replies_to}
 use Rattle.oz_core.specs.Contents.{OpeningBytes, WasGranted, piece_number, written_for, wrote}
 use Rattle.oz_core.specs.Due.{AreContents}
-use Rattle.oz_core.specs.Law.{DecideIsEnabled, IsLegal, KindIsEnabled, WroteIsEnabled, writes}
+use Rattle.oz_core.specs.Law.{DecideIsEnabled, IsLegal, KindIsEnabled, writes}
 use Rattle.oz_core.specs.Manager.{IsUsed, granted_block}
 use Rattle.oz_core.specs.Nodes.{is_block}
 use Rattle.oz_core.specs.Scm.{members}
-use Rattle.oz_core.specs.Steps.{GrantedBlock, grant_in, grant_to, granted_to, is_any, is_settled, is_written, refuses_so, refusing_members}
+use Rattle.oz_core.specs.Steps.{GrantedBlock, grant_in, grant_to, granted_to, is_any, is_written, refuses_so, refusing_members}
 use Rattle.oz_core.specs.Stories.{has_event}
 use Rattle.oz_steps.specs.declared.came.Granted.{Granted}
 use Rattle.oz_steps.specs.Came.{granted_by}
-use Rattle.oz_steps.specs.Grants.{AreGrants, IsUnsettled, has_fate_written, written_blocks}
+use Rattle.oz_steps.specs.Grants.{AreGrants, IsUnsettled, has_fate_written}
 use Rattle.oz_client.specs.declared.progress.Progress.{Progress}
 use Rattle.oz_client.specs.declared.step.Got.TheVariants as gots
 use Rattle.oz_client.specs.LineState.{pieces_in, progress_after}
 use Rattle.oz_client.specs.Stories.{IsAt}
+use Rattle.oz_asker.specs.Decided.{IsDecideAt}
 use Rattle.oz_asker.specs.laws.Asks.{legal_of_follow, same_id}
 use Rattle.oz_buffer.specs.Buffer.{AllFollow, Follows}
 use Rattle.oz_buffer.specs.Courses.{times_said}
@@ -48,11 +48,11 @@ use Rattle.oz_kept.specs.laws.Deleted.{enabled_at, found_at, split_at}
 use Rattle.oz_kept.specs.laws.Granted.{told_among}
 use Rattle.oz_reopened.specs.laws.Placed.{event_there}
 use Rattle.oz_turn.specs.Told.{BeginsWith}
-use Rattle.oz_underway.specs.UnderWay.{IsSaid, IsToBeWritten, IsUnderWay, IsUnwritten, ask_of, is_all_written, says_for, times_asked}
+use Rattle.oz_underway.specs.UnderWay.{IsToBeWritten, IsUnderWay, IsUnwritten, ask_of, is_all_written, says_for, times_asked}
 use Rattle.oz_underway.specs.laws.Asks.{its_line, scripted, step_of_asked, step_of_last}
-use Rattle.oz_underway.specs.laws.Blocks.{attempts_written, none_granted, same_written, still_grants, written_once}
-use Rattle.oz_underway.specs.laws.Fates.{grants_still, one_granted, quiet_stands}
-use Rattle.oz_underway.specs.laws.Going.{begins_itself, begins_push, begins_through, count_more, either_way, follow_before, follow_behind, follow_first, follow_front, happened_still, no_fewer, none_more, same_by_count, told_longer, told_more}
+use Rattle.oz_underway.specs.laws.Blocks.{none_granted, written_once}
+use Rattle.oz_underway.specs.laws.Fates.{StillSettled, grants_still, one_granted, quiet_stands, stays_settled}
+use Rattle.oz_underway.specs.laws.Going.{begins_itself, begins_push, begins_through, count_more, either_way, follow_before, follow_behind, follow_first, happened_still, no_fewer, none_more, same_by_count, told_longer, told_more}
 use Rattle.oz_underway.specs.laws.Grants.{IsLastAsked, granted_now, last_asked, unused_before}
 use Rattle.oz_underway.specs.laws.Replies.{few_replies, none_more_replied, pending_is_last}
 use Rattle.oz_underway.specs.laws.Said.{no_fewer_said, refused_stay, written_stay}
@@ -65,8 +65,7 @@ use Rattle.oz_underway.specs.laws.Unsaid.{fewer_has, unsaid}
 front_behind : (later seen : List Event) (place : ℕ) → BeginsWith later seen → length seen ≤ place → BeginsWith (take place later) seen
 front_behind later seen place begins le =
     let more = place - length seen in
-    let same : length seen + (place - length seen) ≡ place = omega arith in
-    (
+    let same : length seen + (place - length seen) ≡ place = omega arith in (
       take (place - length seen) begins.0,
       ap (take place) begins.1 ∙ (ap (λ (n : ℕ). take n (seen ++ begins.0)) (sym same) ∙ take-append-add seen begins.0 (place - length seen)),
     )
@@ -262,30 +261,17 @@ module _ (Coherent : Type 0) (opening : Opening) (bytes : OpeningBytes) (script 
     granted_front : granted_to line.client line.number front ≡ granted_to line.client line.number way.since
     granted_front = same_granted line.client line.number front way.since front_since (omega (arith, replied_front, replied_since))
 
-    record AreAsSince : Type 0 where
-      grants : AreGrants opening front progress.came.attempts None (granted_to line.client line.number way.since)
-      written : written_for line.client line.number front ≡ written_blocks progress.came.attempts
-
-    as_since : AreAsSince
-    as_since = by (list_all has_fate_written progress.came.attempts) refl
+    as_since : StillSettled Coherent opening bytes script line.client line.number way.since front progress.came.attempts
+    as_since =
+        stays_settled Coherent opening bytes script line.client line.number way.since front progress.came.attempts coherent all_since all_front front_since grants_since granted_front
+        (by (list_all has_fate_written progress.came.attempts) refl)
       where
-        by : (t : Bool) → list_all has_fate_written progress.came.attempts ≡ t → AreAsSince
-        by true each = record {
-          grants = still_grants opening front way.since progress.came.attempts (granted_to line.client line.number way.since) front_since each grants_since;
-          written =
-              same_written Coherent opening bytes script line.client line.number front way.since coherent all_front front_since
-              (attempts_written opening way.since progress.came.attempts (granted_to line.client line.number way.since) each grants_since)
-              granted_front
-              ∙ at_since.of_line.written;
-        }
+        by : (t : Bool) → list_all has_fate_written progress.came.attempts ≡ t
+            → (list_all has_fate_written progress.came.attempts ≡ true) ⊎ (times_said line.client line.number front ≡ times_said line.client line.number way.since)
+        by true each = inl each
         by false some =
             let unwritten : is_all_written progress ≡ false = λ i. is_none (idle i) && some i in
-            let same : times_said line.client line.number front ≡ times_said line.client line.number way.since = said_front ∙ sym (way.said_so unwritten) in
-            record {
-              grants = grants_still opening way.since front progress.came.attempts (granted_to line.client line.number way.since)
-                  (λ grant among. quiet_stands Coherent opening bytes script line.client line.number way.since front grant coherent all_since all_front front_since same among) grants_since;
-              written = written_stay line.client line.number way.since front front_since same ∙ at_since.of_line.written;
-            }
+            inr (said_front ∙ sym (way.said_so unwritten))
 
     -- ---- a block that it is granted
 
@@ -302,7 +288,7 @@ module _ (Coherent : Type 0) (opening : Opening) (bytes : OpeningBytes) (script 
           let since = before_asked line asked way.since front asker.before asker.behind ask way.of_client coherent all_since way.asked_so (same_id id) asker.parts front_since in
           let few = no_fewer (wrote line.client line.number) asker.before way.since since in
           let more = no_fewer (wrote line.client line.number) front asker.before (ask ∷ asker.behind, asker.parts) in
-          omega (arith, few, more, ap length (as_since.written ∙ sym at_since.of_line.written))
+          omega (arith, few, more, ap length as_since.written)
 
       to_be_written : IsToBeWritten now line (asked + 1) (record { block = block; pipeline = pipeline })
       to_be_written =
@@ -311,7 +297,7 @@ module _ (Coherent : Type 0) (opening : Opening) (bytes : OpeningBytes) (script 
           subst (λ (r : Reply). IsToBeWritten (front ++ record { seat = seat; kind = Decide id index r batch } ∷ []) line (asked + 1) (record { block = block; pipeline = pipeline })) (sym granted)
           (record {
             before = asker.before;
-            its = granted_now front seat index pipeline id block batch grants_it asker;
+            its = granted_now Coherent opening bytes script front seat index pipeline id block batch grants_it asker;
             on = refl;
             in_turn = ap length (none_more (wrote line.client line.number) front grant (written_for line.client line.number front) refl refl) ∙ its_turn asker;
             unsaid = list_any-append (λ (e : Event). says_for id e.kind) front (grant ∷ []) ∙ ap (λ (t : Bool). t || (false || false)) unsaid_front;
@@ -327,7 +313,7 @@ module _ (Coherent : Type 0) (opening : Opening) (bytes : OpeningBytes) (script 
           by false none = refl
           by true some =
               let used = used_of_written opening front (legal_of_follow Coherent opening bytes script front coherent all_front) block (written_once block line.client line.number front some) in
-              absurd (unused_before front seat index pipeline id block batch grants_it used)
+              absurd (unused_before Coherent opening bytes script front seat index pipeline id block batch grants_it used)
 
       unsettled : (story : List Event) → BeginsWith story front → times_said line.client line.number story ≡ said
           → IsUnsettled opening story (record { id = ask_of line (asked + 1); block = block; pipeline = pipeline }) (record { block = block; pipeline = pipeline })
@@ -384,10 +370,10 @@ module _ (Coherent : Type 0) (opening : Opening) (bytes : OpeningBytes) (script 
 
       old_grants : AreGrants opening story progress.came.attempts None (granted_to line.client line.number way.since)
       old_grants =
-          grants_still opening front story progress.came.attempts (granted_to line.client line.number way.since)
-          (λ grant among. quiet_stands Coherent opening bytes script line.client line.number front story grant coherent all_front all story_front same_said
-          (subst (λ (l : List GrantedBlock). Contains l grant) (sym granted_front) among))
-          as_since.grants
+          subst (AreGrants opening story progress.came.attempts None) granted_front
+          (grants_still opening front story progress.came.attempts (granted_to line.client line.number front)
+          (λ grant among. quiet_stands Coherent opening bytes script line.client line.number front story grant coherent all_front all story_front same_said among)
+          as_since.grants)
 
       grants_story : AreGrants opening story progress.came.attempts (granted_by reply) (granted_to line.client line.number story)
       grants_story =
@@ -411,7 +397,7 @@ module _ (Coherent : Type 0) (opening : Opening) (bytes : OpeningBytes) (script 
           commits = way.labelled story (begins_through story front way.since story_front front_since) all;
           replies = replies_story;
           grants = grants_story;
-          written = written_stay line.client line.number front story story_front same_said ∙ as_since.written;
+          written = written_stay line.client line.number front story story_front same_said ∙ (as_since.written ∙ at_since.of_line.written);
         };
         decided =
             let some = no_fewer (reply_to line.client line.number) story now begins in
@@ -443,3 +429,10 @@ module _ (Coherent : Type 0) (opening : Opening) (bytes : OpeningBytes) (script 
           labelled = λ story begins all. way.labelled story (begins_through story now way.since begins (begins_push front way.since event front_since)) all;
           has = λ story begins all so as_said. at_story story begins all so (as_said some);
         }
+
+  pub decided_reply : (seen later base : List Event) (line : Line) (asked said place : ℕ) (command : Command) (progress : Progress) (reply : Reply) → Coherent
+      → UnderWay seen line asked said command progress → progress.came.writing ≡ None → progress.read ≡ [] → AllFollow Follow [] later → BeginsWith later seen → BeginsWith seen base
+      → times_said line.client line.number base ≡ said → times_said line.client line.number later ≡ said → length seen ≤ place → IsDecideAt later place (ask_of line (asked + 1)) reply
+      → UnderWay later line (asked + 1) said command (progress_after progress (gots.Reply reply))
+  decided_reply seen later base line asked said place command progress reply coherent way idle unread follow goes from first last behind (seat, index, batch, is) =
+      granted_reply seen later base line asked said place seat index batch command progress reply coherent way idle unread follow goes from first last behind is

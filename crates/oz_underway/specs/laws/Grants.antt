@@ -98,7 +98,7 @@ module _ (Coherent : Type 0) (opening : Opening) (bytes : OpeningBytes) (script 
 
   module _ (front : List Event) (seat index pipeline : ℕ) (id : AskId) (block : Block) (batch : List ℕ)
       (enabled : DecideIsEnabled opening front seat id index (replies.Granted block pipeline) batch) where
-    pub granted_now : (last : IsLastAsked front id enabled.request)
+    abbrev pub granted_now : (last : IsLastAsked front id enabled.request)
         → WasGranted (front ++ record { seat = seat; kind = Decide id index (replies.Granted block pipeline) batch } ∷ []) id block last.before
     granted_now last =
         let event : Event = record { seat = seat; kind = Decide id index (replies.Granted block pipeline) batch } in
@@ -168,8 +168,7 @@ module _ (Coherent : Type 0) (opening : Opening) (bytes : OpeningBytes) (script 
         let before = follow_front Follow [] front (event ∷ rest) follow in
         let here = follow_first Follow front event rest (follow_behind Follow [] front (event ∷ rest) follow) in
         let enabled : DecideIsEnabled opening front seat id index (replies.Granted block pipeline) batch = here.enabled coherent in
-        let last = last_asked id enabled.request front before enabled.undecided in
-        (
+        let last = last_asked id enabled.request front before enabled.undecided in (
           last.before,
           granted_still Coherent opening bytes script story (front ++ event ∷ []) id block last.before its_script coherent all
               (rest, parts ∙ sym (append_assoc front (event ∷ []) rest))

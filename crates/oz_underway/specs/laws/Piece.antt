@@ -1,6 +1,6 @@
 -- The piece that a block was granted for.
-use Rattle.std.proofs.Common.{◌≡◌, ◌≢◌, inr, ℕ, zero, suc, ◌*◌, Bool, true, false, ◌||◌, cond, List, [], ◌∷◌, ◌++◌, length, take, drop, Option, None, Some, Contains, refl, sym, ap, ◌∙◌, subst, arith}
-use Rattle.std.proofs.lemmas.Bool.{false≢true}
+use Rattle.std.proofs.Common.{◌≡◌, inr, ℕ, zero, suc, ◌*◌, ◌≤◌, Bool, true, false, ◌||◌, ◌&&◌, cond, List, [], ◌∷◌, ◌++◌, length, take, drop, None, Some, Contains, refl, sym, ap, ◌∙◌, subst, arith}
+use Rattle.std.proofs.lemmas.Bool.{false≢true, ne_eqb}
 use Rattle.std.proofs.lemmas.List.{take-append-drop}
 use Rattle.std.proofs.lemmas.List.Elements.{Contains-append_left, Contains-append_right}
 use Rattle.std.proofs.lemmas.Option.{none-some, same_Some}
@@ -21,12 +21,11 @@ use Rattle.oz_core.specs.declared.event.EventKind.{EventKind}
 use Rattle.oz_core.specs.declared.event.EventKind.TheVariants.{Ask, Decide, Put}
 use Rattle.oz_core.specs.declared.opening.NodeOpening.{NodeOpening}
 use Rattle.oz_core.specs.declared.opening.Opening.{Opening}
-use Rattle.oz_core.specs.Asks.{is_script}
 use Rattle.oz_core.specs.Coherent.{IsCoherent}
 use Rattle.oz_core.specs.Contents.{HasContent, OpeningBytes, WasGranted, WasThere, piece_number}
+use Rattle.oz_core.specs.Asks.{is_own}
 use Rattle.oz_core.specs.Fits.{EventFits}
-use Rattle.oz_core.specs.Law.{IsLegal, IsNamed}
-use Rattle.oz_core.specs.Nodes.{has_piece, is_block, length_in, length_of, put_length, was_held}
+use Rattle.oz_core.specs.Nodes.{has_piece, is_block, length_in, length_of, put_length}
 use Rattle.oz_core.specs.Scm.{members}
 use Rattle.oz_core.specs.Stories.{all_told, first_in}
 use Rattle.oz_steps.specs.declared.came.Granted.{Granted}
@@ -42,7 +41,7 @@ use Rattle.oz_kept.specs.laws.Granted.{fits_at, was_nowhere}
 use Rattle.oz_kept.specs.laws.Lines.{lines_apart}
 use Rattle.oz_reopened.specs.laws.Named.{told_event}
 use Rattle.oz_turn.specs.Told.{BeginsWith}
-use Rattle.oz_underway.specs.UnderWay.{IsItsPiece, IsToBeWritten, IsUnderWay, IsUnwritten, ask_of}
+use Rattle.oz_underway.specs.UnderWay.{IsPieceFor, IsToBeWritten, IsUnderWay, IsUnwritten, ask_of}
 use Rattle.oz_underway.specs.laws.Asks.{scripted}
 use Rattle.oz_underway.specs.laws.Contents.{content_still, granted_still}
 use Rattle.oz_underway.specs.laws.Going.{begins_itself, begins_through, follow_before}
@@ -140,6 +139,22 @@ module _ (Coherent : Type 0) (opening : Opening) (bytes : OpeningBytes) (script 
         granted_still Coherent opening bytes script story way.since (ask_of line asked) granted.block new.before
         (scripted line.client line.number asked way.of_client) coherent all story_since new.its
 
+    -- it was asked with a step
+    its_step : 1 ≤ asked
+    its_step =
+        let ask : Event = record { seat = granted_story.asker; kind = Ask (ask_of line asked) granted_story.request } in
+        let there : Contains story ask = subst (λ (l : List Event). Contains l ask) (sym granted_story.asked)
+        (Contains-append_right new.before (ask ∷ granted_story.behind) ask (0, omega arith, refl)) in
+        let fits : EventFits opening bytes script (take there.0 story) (Ask (ask_of line asked) granted_story.request) =
+        fits_at opening bytes script story (fits_from Coherent opening bytes script [] story coherent all) there.0 ask (found_at story ask there) in
+        omega (arith, (fits.0 (scripted line.client line.number asked way.of_client)).in_turn)
+
+    not_own : is_own (ask_of line asked) ≡ false
+    not_own =
+        let of_script = scripted line.client line.number asked way.of_client in
+        let stepped = ne_eqb asked 0 (λ none. omega (arith, none, its_step)) in
+        λ i. of_script i && stepped i
+
     turn : piece_number (ask_of line asked) new.before ≡ length (written_blocks progress.came.attempts)
     turn = sym new.in_turn ∙ ap length at_since.of_line.written
 
@@ -169,12 +184,13 @@ module _ (Coherent : Type 0) (opening : Opening) (bytes : OpeningBytes) (script 
       })
 
       pub its_piece : (block : Block) (members : List ℕ) (first count : ℕ) → IsWriting command progress block members first count
-          → IsItsPiece opening bytes script story (ask_of line asked) block first (piece (length (written_blocks progress.came.attempts)) command)
+          → IsPieceFor opening bytes script story (ask_of line asked) block first (piece (length (written_blocks progress.came.attempts)) command)
       its_piece block members first count to_write =
           let same : granted ≡ to_write.granted = same_Some granted to_write.granted (sym writing ∙ to_write.its) in
           let block_is : granted.block ≡ block = ap (λ (g : Granted). g.block) same ∙ sym to_write.block_is in
-          subst (λ (b : Block). IsItsPiece opening bytes script story (ask_of line asked) b first (piece (length (written_blocks progress.came.attempts)) command)) block_is
+          subst (λ (b : Block). IsPieceFor opening bytes script story (ask_of line asked) b first (piece (length (written_blocks progress.came.attempts)) command)) block_is
           (record {
+            asked = not_own;
             named = record {
               seat = granted_story.stripe;
               index = granted_story.index;

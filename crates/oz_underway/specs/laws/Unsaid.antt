@@ -1,5 +1,5 @@
 -- Nothing is said for an Ask before it is decided.
-use Rattle.std.proofs.Common.{◌≡◌, ⊎_elim, ◌⊎◌, inl, inr, ℕ, ◌≤◌, Bool, true, false, ◌||◌, ◌==◌, List, [], ◌∷◌, ◌++◌, length, Some, Contains, refl, sym, ap, ◌∙◌, subst, append-nil, arith}
+use Rattle.std.proofs.Common.{◌≡◌, inl, inr, ℕ, ◌≤◌, Bool, true, false, ◌||◌, ◌==◌, List, [], ◌∷◌, ◌++◌, Some, Contains, refl, sym, ap, ◌∙◌, subst, append-nil, arith}
 use Rattle.std.proofs.lemmas.Bool.{and_parts, eqb-true, false≢true}
 use Rattle.std.proofs.lemmas.List.Elements.{Contains-append_left, Contains-append_right}
 use Rattle.std.proofs.lemmas.List.Folds.{list_any-append}
@@ -14,7 +14,7 @@ use Rattle.oz_core.specs.declared.event.Event.{Event}
 use Rattle.oz_core.specs.declared.event.EventKind.{EventKind}
 use Rattle.oz_core.specs.declared.event.EventKind.TheVariants.{Ask, Decide, Put, Refused, Wrote}
 use Rattle.oz_core.specs.declared.opening.Opening.{Opening}
-use Rattle.oz_core.specs.Asks.{is_own, is_script, pending}
+use Rattle.oz_core.specs.Asks.{is_script, pending}
 use Rattle.oz_core.specs.Contents.{OpeningBytes, WasGranted}
 use Rattle.oz_core.specs.Law.{IsNamedOrOwn, KindIsEnabled}
 use Rattle.oz_core.specs.Stories.{has_event}

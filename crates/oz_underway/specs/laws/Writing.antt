@@ -1,12 +1,12 @@
 -- A line whose block's members have answered.
-use Rattle.std.proofs.Common.{◌≡◌, ◌≢◌, ◌⊎◌, ⊎_elim, inl, inr, ℕ, ◌+◌, ◌%◌, ◌≤◌, ◌<◌, Bool, true, false, not, ◌||◌, ◌&&◌, is_none, cond, List, [], ◌∷◌, ◌++◌, map, filter, length, take, Option, None, Some, Contains, refl, sym, ap, ◌∙◌, subst, length-append, append-nil, arith}
+use Rattle.std.proofs.Common.{◌≡◌, ◌⊎◌, ⊎_elim, inl, inr, ℕ, ◌+◌, ◌%◌, ◌≤◌, ◌<◌, Bool, true, false, ◌||◌, ◌&&◌, is_none, cond, List, [], ◌∷◌, ◌++◌, map, filter, length, take, Option, None, Some, Contains, refl, sym, ap, ◌∙◌, subst, append-nil, arith}
 use Rattle.std.proofs.Math.Bool.{or-false}
 use Rattle.std.proofs.lemmas.Bool.{and_parts, false≢true}
 use Rattle.std.proofs.lemmas.List.{map-append}
 use Rattle.std.proofs.lemmas.List.Elements.{Contains-append_left, Contains-push, filter-append}
 use Rattle.std.proofs.lemmas.List.Folds.{list_any-append}
 use Rattle.std.specs.Prelude.{count_by, nat_le}
-use Rattle.std.specs.List.{cons_option, list_all, list_any}
+use Rattle.std.specs.List.{list_all, list_any}
 use Rattle.oz_command.specs.declared.command.Command.{Command}
 use Rattle.oz_fields.specs.declared.block.Block.{Block}
 use Rattle.oz_fields.specs.declared.block.Piece.{Piece}
@@ -22,13 +22,13 @@ use Rattle.oz_core.specs.declared.event.EventKind.TheVariants.{Decide, Wrote}
 use Rattle.oz_core.specs.declared.event.PutRefusal.{PutRefusal}
 use Rattle.oz_core.specs.declared.opening.Opening.{Opening}
 use Rattle.oz_core.specs.Asks.{is_id, is_of_line, reply_to, replies_to}
-use Rattle.oz_core.specs.Contents.{HasContent, OpeningBytes, WasGranted, written_for, wrote}
+use Rattle.oz_core.specs.Contents.{OpeningBytes, WasGranted, written_for, wrote}
 use Rattle.oz_core.specs.Due.{AreContents}
 use Rattle.oz_core.specs.Fits.{EventFits}
 use Rattle.oz_core.specs.Law.{KindIsEnabled, writes}
 use Rattle.oz_core.specs.Nodes.{is_block}
 use Rattle.oz_core.specs.Scm.{members}
-use Rattle.oz_core.specs.Steps.{GrantedBlock, grant_to, granted_to, is_abandoned, is_settled, is_written, refuses_so, refusing_members}
+use Rattle.oz_core.specs.Steps.{GrantedBlock, granted_to, is_abandoned, is_settled, is_written}
 use Rattle.oz_core.specs.Stories.{all_told, has_event}
 use Rattle.oz_steps.specs.declared.came.Attempt.{Attempt}
 use Rattle.oz_steps.specs.declared.came.Granted.{Granted}
@@ -36,7 +36,9 @@ use Rattle.oz_steps.specs.Came.{with_answers}
 use Rattle.oz_steps.specs.Grants.{AreAnswers, AreGrants, fate_of, has_fate_written, written_blocks}
 use Rattle.oz_steps.specs.laws.Settled.{all-settled}
 use Rattle.oz_client.specs.declared.progress.Progress.{Progress}
-use Rattle.oz_client.specs.LineState.{pieces_in}
+use Rattle.oz_client.specs.declared.step.Got.TheVariants as gots
+use Rattle.oz_client.specs.declared.step.Written.{Written}
+use Rattle.oz_client.specs.LineState.{came_written, pieces_in, progress_after}
 use Rattle.oz_client.specs.Stories.{IsAt}
 use Rattle.oz_asker.specs.laws.Asks.{legal_of_follow, same_id}
 use Rattle.oz_buffer.specs.Buffer.{AllFollow, Follows}
@@ -50,12 +52,12 @@ use Rattle.oz_underway.specs.UnderWay.{HaveAnswered, IsSaid, IsToBeWritten, IsUn
 use Rattle.oz_underway.specs.laws.Answered.{AreCounted, IsAnswerIn, are_counted, its_answer, its_id, refused_as_before, refusing_as_answered, same_block, since_then}
 use Rattle.oz_underway.specs.laws.Asks.{its_line, of_line}
 use Rattle.oz_underway.specs.laws.Contents.{content_still}
-use Rattle.oz_underway.specs.laws.Fates.{IsGrantOf, IsLastOf, StandsAsBefore, StillSettled, grant_members, grant_of, grants_still, its_fate, last_of, one_attempt, stays_settled, written_by_two}
+use Rattle.oz_underway.specs.laws.Fates.{IsGrantOf, IsLastOf, StandsAsBefore, grant_members, grant_of, grants_still, its_fate, last_of, one_attempt, stays_settled, written_by_two}
 use Rattle.oz_underway.specs.laws.Going.{begins_itself, begins_through, follow_before, no_fewer, same_by_count, told_longer}
 use Rattle.oz_underway.specs.laws.Granted.{same_granted}
 use Rattle.oz_underway.specs.laws.Grants.{its_pipeline}
 use Rattle.oz_underway.specs.laws.Members.{AreThree, are_three}
-use Rattle.oz_underway.specs.laws.Piece.{all_since, at_since, granted_story, granting, members_story, new, story_since}
+use Rattle.oz_underway.specs.laws.Piece.{granted_story, granting, members_story, new}
 use Rattle.oz_underway.specs.laws.Replies.{few_replies, only_one}
 use Rattle.oz_underway.specs.laws.Said.{said_longer}
 use Rattle.oz_underway.specs.laws.Starting.{started_still}
@@ -85,9 +87,10 @@ contents_still : (Coherent : Type 0) (opening : Opening) (bytes : OpeningBytes) 
 contents_still Coherent opening bytes script numbered coherent story seen all begins [] [] are = are
 contents_still Coherent opening bytes script numbered coherent story seen all begins [] (one ∷ read) are = are
 contents_still Coherent opening bytes script numbered coherent story seen all begins (first ∷ pieces) [] are = are
-contents_still Coherent opening bytes script numbered coherent story seen all begins (first ∷ pieces) (one ∷ read) are =
-    (content_still Coherent opening bytes script numbered story seen first.block one coherent all begins are.0,
-    contents_still Coherent opening bytes script numbered coherent story seen all begins pieces read are.1)
+contents_still Coherent opening bytes script numbered coherent story seen all begins (first ∷ pieces) (one ∷ read) are = (
+  content_still Coherent opening bytes script numbered story seen first.block one coherent all begins are.0,
+  contents_still Coherent opening bytes script numbered coherent story seen all begins pieces read are.1,
+)
 
 record AreThreeAnswers (story : List Event) (id : AskId) (block : Block) (a b c : ℕ) (answers : List (Option PutRefusal)) : Type 0 where
   x : Option PutRefusal
@@ -129,6 +132,7 @@ module _ (Coherent : Type 0) (opening : Opening) (bytes : OpeningBytes) (script 
     at = way.has way.since (begins_itself way.since) follow_since way.asked_so way.said_so
 
     granted_later : WasGranted later id granted.block to_write.before
+    unfolding to_write
     granted_later = granted_story Coherent opening bytes script seen line asked said command progress granted coherent way writing later begins all
 
     abbrev a : ℕ
@@ -395,7 +399,7 @@ module _ (Coherent : Type 0) (opening : Opening) (bytes : OpeningBytes) (script 
       }
 
     -- fewer than two put it
-    unwritten_way : IsNumbered script → times_asked later line ≡ asked → nat_le 2 (count_by is_none (x ∷ y ∷ z ∷ [])) ≡ false → (now : ℕ) → now ≡ said + 3
+    pub unwritten_way : IsNumbered script → times_asked later line ≡ asked → nat_le 2 (count_by is_none (x ∷ y ∷ z ∷ [])) ≡ false → (now : ℕ) → now ≡ said + 3
         → times_said line.client line.number later ≡ now
         → IsUnderWay Coherent opening bytes script later line asked now command (record progress { came = with_answers progress.came granted (x ∷ y ∷ z ∷ []) })
     unwritten_way numbered asked_so few now more said_now =
@@ -422,10 +426,55 @@ module _ (Coherent : Type 0) (opening : Opening) (bytes : OpeningBytes) (script 
             (ap (λ (t : Bool). cond t (Some block) None) of ∙ ap Some (sym same))
         by place seat kind among enabled so = absurd (false≢true so)
 
-    written_way : IsNumbered script → times_asked later line ≡ asked → nat_le 2 (count_by is_none (x ∷ y ∷ z ∷ [])) ≡ true → has_event (writes granted.block) later ≡ true
+    pub written_way : IsNumbered script → times_asked later line ≡ asked → nat_le 2 (count_by is_none (x ∷ y ∷ z ∷ [])) ≡ true → has_event (writes granted.block) later ≡ true
         → (now : ℕ) → now ≡ said + 4 → times_said line.client line.number later ≡ now
         → IsUnderWay Coherent opening bytes script later line asked now command (record progress { came = with_answers progress.came granted (x ∷ y ∷ z ∷ []) })
-    written_way numbered asked_so two wrote now more said_now =
-        let there = wrote_there wrote in
+    written_way numbered asked_so two so now more said_now =
+        let there = wrote_there so in
         let each = counted 1 (omega (arith, said_now, more)) (omega (arith, there.1)) in
         has_answered numbered asked_so true two (only_one (all_told (wrote line.client line.number) since.0) granted.block there (omega (arith, each.written))) 1 each now said_now
+
+  -- whatever comes back
+  module _ (seen : List Event) (line : Line) (asked said : ℕ) (command : Command) (progress : Progress) (granted : Granted) (written : Written) (coherent : Coherent)
+      (numbered : IsNumbered script) (way : IsUnderWay Coherent opening bytes script seen line asked said command progress) (writing : progress.came.writing ≡ Some granted)
+      (nodes : progress.nodes ≡ length opening.nodes) (least : 3 ≤ length opening.nodes)
+      (later : List Event) (begins : BeginsWith later seen) (all : AllFollow Follow [] later) (asked_so : times_asked later line ≡ asked)
+      (answered : HaveAnswered later (ask_of line asked) granted.block (members_of progress.nodes granted.pipeline) written.answers) where
+    they : AreThreeAnswers later (ask_of line asked) granted.block (granted.pipeline % progress.nodes) ((granted.pipeline + 1) % progress.nodes) ((granted.pipeline + 2) % progress.nodes) written.answers
+    they =
+        three_answers later (ask_of line asked) granted.block (granted.pipeline % progress.nodes) ((granted.pipeline + 1) % progress.nodes) ((granted.pipeline + 2) % progress.nodes)
+        written.answers answered
+
+    as_came : (now : ℕ) → IsUnderWay Coherent opening bytes script later line asked now command
+        (record progress { came = with_answers progress.came granted (they.x ∷ they.y ∷ they.z ∷ []) })
+        → IsUnderWay Coherent opening bytes script later line asked now command (progress_after progress (gots.Written written))
+    as_came now is =
+        subst (λ (w : Option Granted). IsUnderWay Coherent opening bytes script later line asked now command (record progress { came = came_written progress.came w written.answers })) (sym writing)
+        (subst (λ (l : List (Option PutRefusal)). IsUnderWay Coherent opening bytes script later line asked now command (record progress { came = with_answers progress.came granted l })) (sym they.are) is)
+
+    pub given_up_way : nat_le 2 (count_by is_none written.answers) ≡ false → times_said line.client line.number later ≡ said + 3
+        → IsUnderWay Coherent opening bytes script later line asked (said + 3) command (progress_after progress (gots.Written written))
+    given_up_way few now =
+        as_came (said + 3)
+        (unwritten_way seen line asked said command progress granted coherent way writing nodes least later begins all they.x they.y they.z they.answered
+        numbered asked_so (sym (ap (λ (l : List (Option PutRefusal)). nat_le 2 (count_by is_none l)) they.are) ∙ few) (said + 3) refl now)
+
+    pub quorum_way : nat_le 2 (count_by is_none written.answers) ≡ true → has_event (writes granted.block) later ≡ true → times_said line.client line.number later ≡ said + 4
+        → IsUnderWay Coherent opening bytes script later line asked (said + 4) command (progress_after progress (gots.Written written))
+    quorum_way two wrote_it now =
+        as_came (said + 4)
+        (written_way seen line asked said command progress granted coherent way writing nodes least later begins all they.x they.y they.z they.answered
+        numbered asked_so (sym (ap (λ (l : List (Option PutRefusal)). nat_le 2 (count_by is_none l)) they.are) ∙ two) wrote_it (said + 4) refl now)
+
+  -- the answers may be in a story of which it isn't known how often the line asked
+  pub quorum_may_fit : (seen : List Event) (line : Line) (asked said : ℕ) (command : Command) (progress : Progress) (granted : Granted) (answers : List (Option PutRefusal)) → Coherent
+      → IsUnderWay Coherent opening bytes script seen line asked said command progress → progress.came.writing ≡ Some granted
+      → progress.nodes ≡ length opening.nodes → 3 ≤ length opening.nodes
+      → (story : List Event) → BeginsWith story seen → AllFollow Follow [] story
+      → HaveAnswered story (ask_of line asked) granted.block (members_of progress.nodes granted.pipeline) answers
+      → times_said line.client line.number story ≡ said + 3
+      → EventFits opening bytes script story (Wrote granted.block (ask_of line asked))
+  quorum_may_fit seen line asked said command progress granted answers coherent way writing nodes least story begins all answered now =
+      let they = three_answers story (ask_of line asked) granted.block (granted.pipeline % progress.nodes) ((granted.pipeline + 1) % progress.nodes) ((granted.pipeline + 2) % progress.nodes)
+      answers answered in
+      quorum_fits seen line asked said command progress granted coherent way writing nodes least story begins all they.x they.y they.z they.answered now

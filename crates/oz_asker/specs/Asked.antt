@@ -21,10 +21,9 @@ abbrev pub MayAdd : ℕ → AskId → Request → List Event → List Event → 
 MayAdd seat id request before after =
     (after ≡ before) ⊎ (after ≡ before ++ record { seat = seat; kind = Ask id request } ∷ [])
 
--- Nothing that the id asked is undecided, and what was said of the blocks of its line is not so much.
-pub record IsSaidOtherwise (story : List Event) (id : AskId) (said : ℕ) : Type 0 where
-  pub decided : pending id story ≡ None
-  pub otherwise : times_said id.client id.line story ≢ said
+-- not so often something was said of the blocks of the id's line
+abbrev pub IsSaidOtherwise : List Event → AskId → ℕ → Type 0
+IsSaidOtherwise story id said = times_said id.client id.line story ≢ said
 
 -- Nothing that the id asked is undecided, and the law doesn't let it ask this behind the story.
 pub record IsEarly (opening : Opening) (story : List Event) (seat : ℕ) (id : AskId) (request : Request) : Type 0 where

@@ -31,7 +31,7 @@ use std::sync::Wait;
 
 /// Appends the Ask, unless one of the id stands undecided, and answers the place of the one or the other. `by` is the
 /// seat's number, and `said` is how often something was said of the blocks of the id's line, as far as its worker knows:
-/// where none stands undecided that is compared first, then whether the law lets the id ask, and then room is made.
+/// that is compared first. Then, where none stands undecided, it is seen whether the law lets the id ask, and room is made.
 pub fn put_ask<O: Opened, W: Wait>(
     rt: &W,
     alloc: Global,
@@ -49,6 +49,7 @@ pub fn put_ask<O: Opened, W: Wait>(
     requires of_client { family_of request ≢ Service }
     requires same { O.coherent → (story : List AnyEvent) → BeginsWith story (seen_of seat.old)
         → AllFollow (Follows O.coherent O.opening O.bytes O.script) [] story
+        → times_said id.client id.line story ≡ said
         → (other : AnyRequest) → pending id story ≡ Some other → other ≡ request }
     requires fits { O.coherent → (story : List AnyEvent) → BeginsWith story (seen_of seat.old)
         → AllFollow (Follows O.coherent O.opening O.bytes O.script) [] story
@@ -65,7 +66,7 @@ pub fn put_ask<O: Opened, W: Wait>(
     ensures in_time { IfOk result (λ _. asked_late id (seen_of seat.new) ≡ false) }
     ensures other_blocks { result ≡ Err AskFault.OtherBlocks ↔ IsSaidOtherwise (seen_of seat.new) id said }
     ensures unasked { result ≡ Err AskFault.OtherBlocks → mine_of seat.new ≡ mine_of seat.old }
-    ensures as_said { mine_of seat.new ≢ mine_of seat.old → times_said id.client id.line (seen_of seat.new) ≡ said }
+    ensures as_said { result ≢ Err AskFault.OtherBlocks → times_said id.client id.line (seen_of seat.new) ≡ said }
     ensures early { result ≡ Err AskFault.Early → (mine_of seat.new ≡ mine_of seat.old)
         × (O.coherent → IsEarly O.opening (seen_of seat.new) by id request) }
     ensures stopped { (count : ℕ) → result ≡ Err (faults.Stopped count) → IsLate (seen_of seat.new) id count
@@ -75,12 +76,16 @@ pub fn put_ask<O: Opened, W: Wait>(
 {
     let (mut ledger, held) = turn.take(rt, seat);
     ledger.all_follow();
+    if ledger.times_said(id.client, id.line) != said {
+        turn.give_back(seat, ledger, held);
+        return Err(AskFault::OtherBlocks);
+    }
     if let Some(place) = undecided_ask(&ledger, id) {
         let answer = in_time(&ledger, id, place);
         turn.give_back(seat, ledger, held);
         return answer;
     }
-    if let Err(fault) = make_room(alloc, &mut ledger, by, id, said) {
+    if let Err(fault) = make_room(alloc, &mut ledger, by, id) {
         turn.give_back(seat, ledger, held);
         return Err(fault);
     }
@@ -108,13 +113,12 @@ fn undecided_ask<O: Opened>(ledger: &Ledger<O>, id: AskId) -> Option<usize>
     }
 }
 
-/// Makes room for an Ask, where so much was said of the blocks of its line, and the law lets a script's id ask.
+/// Makes room for an Ask, where the law lets a script's id ask.
 fn make_room<O: Opened>(
     alloc: Global,
     ledger: &mut Ledger<O>,
     by: u16,
     id: AskId,
-    said: u64,
 ) -> Result<(), AskFault>
     requires seat { by < 64 }
     requires script { is_script id ≡ true }
@@ -123,14 +127,10 @@ fn make_room<O: Opened>(
     ensures others { (n : ℕ) → n ≢ by → slice_index ledger.new.rooms n ≡ slice_index ledger.old.rooms n }
     ensures may { O.coherent → OnOk result (MayAsk O.opening ledger.old.story id) }
     ensures same { OnErr result (ledger.new ≡ ledger.old) }
-    ensures said { OnOk result (times_said id.client id.line ledger.old.story ≡ said) }
-    ensures other { result ≡ Err AskFault.OtherBlocks ↔ (times_said id.client id.line ledger.old.story ≢ said) }
     ensures early { O.coherent → result ≡ Err AskFault.Early → MayAsk O.opening ledger.old.story id → ⊥ }
+    ensures as_said { IfErr result (λ fault. fault ≢ AskFault.OtherBlocks) }
     ensures running { IfErr result (λ fault. (count : ℕ) → fault ≢ faults.Stopped count) }
 {
-    if ledger.times_said(id.client, id.line) != said {
-        return Err(AskFault::OtherBlocks);
-    }
     if !may_ask(ledger, id) {
         return Err(AskFault::Early);
     }

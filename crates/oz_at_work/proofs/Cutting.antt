@@ -55,7 +55,7 @@ stopped_due opening story line asked last late (commands.Admin admin.Drain) =
 stopped_due opening story line asked last late command = (id_of line asked, last, late)
 
 end_due : (opening : Opening) (bytes : OpeningBytes) (script : Script) (story : List Event) (line : Line) (asked : ℕ) (said : ℕ) (answer : Answer) → IsOfEnd asked answer
-    → MayTell opening story line.client line.number (last_of line asked) said answer → IsDue opening bytes script story line answer
+    → MayTell opening story line.client line.number (last_of line asked) said [] answer → IsDue opening bytes script story line answer
 end_due opening bytes script story line asked said answers.OutOfMemory of_end may = tt
 end_due opening bytes script story line asked said answers.Unacknowledged of_end may = may.cause
 end_due opening bytes script story line asked said answers.ManagerStopped of_end may =

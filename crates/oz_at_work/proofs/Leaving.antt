@@ -66,11 +66,11 @@ label_left Coherent opening bytes script seen line opened name left does its has
 
 module _ (Coherent : Type 0) (opening : Opening) (bytes : OpeningBytes) (script : Script) (seen after mine mine_after : List Event) (work : WorkView) (seat : ℕ) (answer : Answer)
     (goes : BeginsWith after seen) (at_work : IsAtWork Coherent opening bytes script seen work) (is : work.next ≡ steps.Tell answer)
-    (told : IsTold opening seat work.line.client work.line.number (last_of work.line work.asked) work.said answer seen mine after mine_after) where
+    (told : IsTold opening seat work.line.client work.line.number (last_of work.line work.asked) work.said [] answer seen mine after mine_after) where
   is_told_now : is_told work.line.client work.line.number after ≡ true
   is_told_now = subst (λ (l : List Event). is_told work.line.client work.line.number l ≡ true) (sym told.story) (told_now told.before seat work.line.client work.line.number answer)
 
-  untold_no_more : (story : List Event) (last : Option AskId) (said : ℕ) (other : Answer) → BeginsWith story after → MayTell opening story work.line.client work.line.number last said other → ⊥
+  untold_no_more : (story : List Event) (last : Option AskId) (said : ℕ) (other : Answer) → BeginsWith story after → MayTell opening story work.line.client work.line.number last said [] other → ⊥
   untold_no_more story last said other begins may =
       false≢true (sym may.untold ∙ told_still work.line.client work.line.number story after begins is_told_now)
 

@@ -163,7 +163,7 @@ module _ (Coherent : Type 0) (opening : Opening) (bytes : OpeningBytes) (script 
     step_leaves : (answer : Answer) → IsNext line.command progress got (steps.Tell answer)
         → (IsNoCode (steps.Tell answer) → list_any is_code progress.came.replies ≡ false)
         → (story : List Event) → BeginsWith story seen → AllFollow Follow [] story → (before : List Event) (seat known : ℕ) → BeginsWith before seen
-        → MayTell opening before line.client line.number (last_of line asked) known answer
+        → MayTell opening before line.client line.number (last_of line asked) known [] answer
         → BeginsWith story (before ++ told_event seat line.client line.number answer ∷ [])
         → IsLabelOf story line line.command (left_by line.command progress.came (steps.Tell answer))
     step_leaves answer next clean story goes all before seat known from may behind =

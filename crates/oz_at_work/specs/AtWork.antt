@@ -99,10 +99,10 @@ module _ (Coherent : Type 0) (opening : Opening) (bytes : OpeningBytes) (script 
   -- From here on the answer is the line's wherever it may be told it, and once it is told this is what it left.
   pub record MayBeTold (line : Line) (last : Option AskId) (answer : Answer) (left : Option Label) : Type 0 where
     pub fits : FromHereOn Coherent opening bytes script seen (λ story. (said : ℕ)
-        → MayTell opening story line.client line.number last said answer
+        → MayTell opening story line.client line.number last said [] answer
         → EventFits opening bytes script story (Told line.client line.number answer))
     pub leaves : FromHereOn Coherent opening bytes script seen (λ story. (before : List Event) (seat said : ℕ)
-        → BeginsWith before seen → MayTell opening before line.client line.number last said answer
+        → BeginsWith before seen → MayTell opening before line.client line.number last said [] answer
         → BeginsWith story (before ++ told_event seat line.client line.number answer ∷ [])
         → IsLabelOf story line line.command left)
 

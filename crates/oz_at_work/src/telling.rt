@@ -84,7 +84,17 @@ impl<'s> LineAtWork<'s> {
         };
         let (client, line, last) = (self.line.client, self.line.number, self.last());
         match tell(
-            rt, alloc, turn, seat, by, client, line, last, self.said, answer,
+            rt,
+            alloc,
+            turn,
+            seat,
+            by,
+            client,
+            line,
+            last,
+            self.said,
+            &[],
+            answer,
         ) {
             Ok(()) => Did::Ended,
             Err((answer, cause)) => {
@@ -94,8 +104,8 @@ impl<'s> LineAtWork<'s> {
         }
     }
 
-    /// What keeps the line from being told: what isn't stable is waited for, what is said of its blocks is looked at, and where it asked once more than is
-    /// known, as it may where memory ran out, it is told that there is none.
+    /// What keeps the line from being told: what isn't stable is waited for, what is said of its blocks is looked at, and
+    /// where it asked once more than is known, as it may where memory ran out, it is told that there is none.
     fn put_off<O: Opened, W: Wait>(
         &mut self,
         rt: &W,
@@ -122,7 +132,7 @@ impl<'s> LineAtWork<'s> {
             }
             (Untold::OtherBlocks, _) => self.look_again(rt, turn, seat, by),
             (Untold::OutOfMemory, _) => Did::OutOfMemory,
-            (Untold::Told | Untold::NotDue | Untold::OtherAsk, _) => Did::Waits,
+            (Untold::Told | Untold::Moved | Untold::NotDue | Untold::OtherAsk, _) => Did::Waits,
         }
     }
 }

@@ -1,5 +1,5 @@
 -- What stands in a story stands in each that begins with it; and how the asker's seat is refused.
-use Rattle.std.proofs.Common.{◌≡◌, ◌≤◌, ℕ, zero, suc, List, [], ◌∷◌, ◌++◌, length, length-append, Some, Result, Ok, Err, refl, ap, ◌∙◌, arith}
+use Rattle.std.proofs.Common.{◌≡◌, ◌≤◌, ℕ, zero, suc, List, [], ◌∷◌, ◌++◌, length, length-append, append-nil, Some, Result, Ok, Err, refl, sym, ap, ◌∙◌, arith}
 use Rattle.std.proofs.lemmas.Option.{none-some}
 use Rattle.std.specs.Prelude.{slice_get}
 use Rattle.oz_asker.specs.Asked.{IsAskAt}
@@ -26,6 +26,9 @@ asked_still story seen place id request begins ask =
 pub longer : (story seen : List Event) → BeginsWith story seen → length seen ≤ length story
 longer story seen begins = omega (arith, ap length begins.1, length-append seen begins.0)
 
+pub begins_itself : {A : Type 0} (l : List A) → BeginsWith l l
+begins_itself l = ([], sym (append-nil l))
+
 err_of : Result Reply Refusal → Refusal
 err_of (Err refusal) = refusal
 err_of (Ok reply) = refusals.Early
@@ -33,6 +36,14 @@ err_of (Ok reply) = refusals.Early
 pub one_err : (one other : Refusal) → ◌≡◌ {A = Result Reply Refusal} (Err one) (Err other) → one ≡ other
 unfolding err_of
 one_err one other same = ap err_of same
+
+fault_of : Result ℕ AskFault → AskFault
+fault_of (Err fault) = fault
+fault_of (Ok place) = faults.Early
+
+pub one_fault : (one other : AskFault) → ◌≡◌ {A = Result ℕ AskFault} (Err one) (Err other) → one ≡ other
+unfolding fault_of
+one_fault one other same = ap fault_of same
 
 pub fault_stands : (story : List Event) (id : AskId) (request : Request) (fault : AskFault)
     → ((count : ℕ) → fault ≡ faults.Stopped count → (place : ℕ) × IsAskAt story place id request) → AskStands story id request (Err (refusal_of fault))

@@ -2,6 +2,7 @@
 use Rattle.std.specs.Prelude.{◌≡◌, ℕ, ◌+◌, ◌<◌, ◌≤◌, List, length, Some, slice_get, take}
 use Rattle.oz_batches.specs.declared.batches.TheConstants.{LARGEST_BUFFER}
 use Rattle.oz_buffer.specs.Buffer.{buffer_of}
+use Rattle.oz_buffer.specs.Courses.{times_said}
 use Rattle.oz_core.specs.declared.event.Event.{Event}
 use Rattle.oz_core.specs.declared.event.EventKind.TheVariants.{Decide}
 use Rattle.oz_core.specs.declared.opening.Opening.{Opening}
@@ -20,6 +21,7 @@ use Rattle.oz_requests.specs.declared.request.Exclude.{Exclude}
 use Rattle.oz_requests.specs.declared.request.Request.{Request}
 use Rattle.oz_requests.specs.declared.request.Request.TheVariants.{AllocateBlock}
 use Rattle.oz_requests.specs.Names.{volume_in}
+use Rattle.oz_turn.specs.Told.{BeginsWith}
 
 -- At one place of the story, behind all that was seen before, the stripe of the request's volume decided the id with this
 -- reply, which is that of one thread to the request there.
@@ -35,6 +37,13 @@ pub record IsDecided (opening : Opening) (seen story : List Event) (id : AskId) 
   })
   pub asked : pending id (take place story) ≡ Some request
   pub one_thread : Answers (namespace_at opening story place) request reply
+
+-- At a place of the story, behind all that was seen before, so often something was said of the blocks of the id's line.
+pub record WasAsSaid (seen story : List Event) (id : AskId) (said : ℕ) : Type 0 where
+  pub place : List Event
+  pub behind : BeginsWith place seen
+  pub begins : BeginsWith story place
+  pub so_often : times_said id.client id.line place ≡ said
 
 -- At the end of a story a session wants a block, one thread would grant it any, and each block that its stripe was
 -- granted is used, or excluded.

@@ -1,6 +1,6 @@
 //! What the manager is asked.
 
-ghost use Rattle.std.specs.Prelude.{◌≡◌, ℕ, ◌<◌, List, [], true, false, Some, Err, IfOk, IfErr, IsSome};
+ghost use Rattle.std.specs.Prelude.{◌≡◌, ◌≢◌, ℕ, ◌<◌, List, [], true, false, Some, Err, IfOk, IfErr, IsSome};
 ghost use Rattle.oz_asker.specs.Asked.{IsEarly, IsLate, IsSaidOtherwise, MayAdd};
 ghost use Rattle.oz_asker.specs.Settled.{IsSettlement};
 ghost use Rattle.oz_buffer.specs.Buffer.{AllFollow, Follows};
@@ -13,7 +13,7 @@ ghost use Rattle.oz_core.specs.Law.{AskIsEnabled};
 ghost use Rattle.oz_core.specs.Manager.{asked_late};
 ghost use Rattle.oz_core.specs.Seats.{IsAskSeat};
 ghost use Rattle.oz_deciding.specs.Decided.{is_decided};
-ghost use Rattle.oz_om.specs.Decided.{IsDecided, IsPoolEmpty, IsTooMuch};
+ghost use Rattle.oz_om.specs.Decided.{IsDecided, IsPoolEmpty, IsTooMuch, WasAsSaid};
 ghost use Rattle.oz_om.specs.Refusals.{AskStands, IsOfStripe};
 ghost use Rattle.oz_om.specs.declared.refusal.Refusal.TheVariants as refusals;
 ghost use Rattle.oz_requests.specs.declared.request.Request.{Request as AnyRequest};
@@ -37,8 +37,8 @@ impl<O: Opened, L: Loaded, R: Ring> Manager<Ledger<O>, O, L, R> {
     /// Asks for the id of a script's line, and answers what was decided: at one place of the story, by the stripe of
     /// the request's volume, as one thread would. `by` is the number of the asking seat.
     ///
-    /// Where an Ask of the id stands undecided, that is decided and no other is appended; the request has to be its
-    /// own. Else `said` has to be how often something was said of the blocks of the id's line; that is compared first.
+    /// `said` has to be how often something was said of the blocks of the id's line; that is compared first. Where an Ask
+    /// of the id stands undecided then, that is decided and no other is appended; the request has to be its own.
     pub fn ask<W: Wait>(
         &self,
         rt: &W,
@@ -58,6 +58,7 @@ impl<O: Opened, L: Loaded, R: Ring> Manager<Ledger<O>, O, L, R> {
         requires decided { is_decided request ≡ true }
         requires same { O.coherent → (story : List AnyEvent) → BeginsWith story (seen_of seat.old)
             → AllFollow (Follows O.coherent O.opening O.bytes O.script) [] story
+            → times_said id.client id.line story ≡ said
             → (other : AnyRequest) → pending id story ≡ Some other → other ≡ request }
         requires fits { O.coherent → (story : List AnyEvent) → BeginsWith story (seen_of seat.old)
             → AllFollow (Follows O.coherent O.opening O.bytes O.script) [] story
@@ -75,6 +76,10 @@ impl<O: Opened, L: Loaded, R: Ring> Manager<Ledger<O>, O, L, R> {
         ensures ok { O.coherent → IfOk result (λ reply. IsDecided O.opening (seen_of seat.old) (seen_of seat.new)
             id request reply) }
         ensures seen { IfOk result (λ reply. IsSome (index_of id (seen_of seat.new))) }
+
+        // Unless it is refused for other blocks, so much was said at a place of the story behind all that was seen before.
+        ensures as_said { result ≢ Err Refusal.OtherBlocks →
+            WasAsSaid (seen_of seat.old) (seen_of seat.new) id said }
 
         // When each refusal comes, in the story that the seat has seen then, and what stands there.
         ensures other_blocks { result ≡ Err Refusal.OtherBlocks → (mine_of seat.new ≡ mine_of seat.old)

@@ -12,6 +12,7 @@ ghost use Rattle.oz_turn.specs.Told.{BeginsWith};
 ghost use Rattle.oz_turn.specs.Turn.{turn_id};
 
 use crate::manager::{cause_stands, is_in_time};
+use crate::still::{Still, all_stand_still};
 use crate::untold::Untold;
 use oz_buffer::{Ledger, Opened};
 use oz_core::{Event, EventKind};
@@ -21,7 +22,8 @@ use std::alloc::Global;
 use std::sync::Wait;
 
 /// Tells a line its answer where it may be told this, and hands the answer back where it may not. `last` is what the line
-/// asked last, and `said` how often something was said of its blocks, as far as its worker knows; `by` is the seat's number.
+/// asked last, and `said` how often something was said of its blocks, as far as its worker knows; `stills` are the seats
+/// whose further events would unsay the answer, and `by` is the seat's number.
 pub fn tell<O: Opened, W: Wait>(
     rt: &W,
     alloc: Global,
@@ -32,6 +34,7 @@ pub fn tell<O: Opened, W: Wait>(
     line: u16,
     last: Option<AskId>,
     said: u64,
+    stills: &[Still],
     answer: Answer,
 ) -> Result<(), (Answer, Untold)>
     requires ready { IsReady (turn_id turn.now) by seat.old }
@@ -39,22 +42,32 @@ pub fn tell<O: Opened, W: Wait>(
     requires of_line { IsLineSeat by }
     requires fits { O.coherent → (story : List AnyEvent) → BeginsWith story (seen_of seat.old)
         → AllFollow (Follows O.coherent O.opening O.bytes O.script) [] story
-        → MayTell O.opening story client line last said answer
+        → MayTell O.opening story client line last said stills.now answer
         → EventFits O.opening O.bytes O.script story (events.Told client line answer) }
     ensures ready { IsReady (turn_id turn.now) by seat.new }
     ensures room { room_of seat.new ≡ room_of seat.old }
     ensures goes_on { BeginsWith (seen_of seat.new) (seen_of seat.old) }
     ensures follow { AllFollow (Follows O.coherent O.opening O.bytes O.script) [] (seen_of seat.new) }
-    ensures told { OnOk result (IsTold O.opening by client line last said answer (seen_of seat.old) (mine_of seat.old)
+    ensures told { OnOk result (IsTold O.opening by client line last said stills.now answer (seen_of seat.old) (mine_of seat.old)
         (seen_of seat.new) (mine_of seat.new)) }
     ensures untold { OnErr result (mine_of seat.new ≡ mine_of seat.old) }
     ensures answer { IfErr result (λ refused. refused.0 ≡ answer) }
     ensures cause { IfErr result (λ refused.
-        KeepsUntold O.opening (seen_of seat.new) client line last said answer refused.1) }
+        KeepsUntold O.opening (seen_of seat.new) client line last said stills.now answer refused.1) }
 {
     let (mut ledger, held) = turn.take(rt, seat);
     ledger.all_follow();
-    if let Err(cause) = make_room(alloc, &mut ledger, by, client, line, last, said, &answer) {
+    if let Err(cause) = make_room(
+        alloc,
+        &mut ledger,
+        by,
+        client,
+        line,
+        last,
+        said,
+        stills,
+        &answer,
+    ) {
         turn.give_back(seat, ledger, held);
         return Err((answer, cause));
     }
@@ -78,17 +91,18 @@ fn make_room<O: Opened>(
     line: u16,
     last: Option<AskId>,
     said: u64,
+    stills: &[Still],
     answer: &Answer,
 ) -> Result<(), Untold>
     requires seat { by < 64 }
     ensures story { ledger.new.story ≡ ledger.old.story }
     ensures room { OnOk result (slice_index ledger.new.rooms by ≡ slice_index ledger.old.rooms by + 1) }
     ensures others { (n : ℕ) → n ≢ by → slice_index ledger.new.rooms n ≡ slice_index ledger.old.rooms n }
-    ensures may { OnOk result (MayTell O.opening ledger.old.story client line last said answer.now) }
+    ensures may { OnOk result (MayTell O.opening ledger.old.story client line last said stills.now answer.now) }
     ensures same { OnErr result (ledger.new ≡ ledger.old) }
-    ensures cause { IfErr result (λ cause. KeepsUntold O.opening ledger.old.story client line last said answer.now cause) }
+    ensures cause { IfErr result (λ cause. KeepsUntold O.opening ledger.old.story client line last said stills.now answer.now cause) }
 {
-    may_tell(ledger, client, line, last, said, answer)?;
+    may_tell(ledger, client, line, last, said, stills, answer)?;
     match ledger.reserve_notes(alloc, by, 1) {
         Ok(()) => Ok(()),
         Err(_error) => Err(Untold::OutOfMemory),
@@ -102,10 +116,11 @@ fn may_tell<O: Opened>(
     line: u16,
     last: Option<AskId>,
     said: u64,
+    stills: &[Still],
     answer: &Answer,
 ) -> Result<(), Untold>
-    ensures may { OnOk result (MayTell O.opening ledger.now.story client line last said answer.now) }
-    ensures cause { IfErr result (λ cause. KeepsUntold O.opening ledger.now.story client line last said answer.now cause) }
+    ensures may { OnOk result (MayTell O.opening ledger.now.story client line last said stills.now answer.now) }
+    ensures cause { IfErr result (λ cause. KeepsUntold O.opening ledger.now.story client line last said stills.now answer.now cause) }
 {
     if ledger.is_told(client, line) {
         return Err(Untold::Told);
@@ -115,6 +130,9 @@ fn may_tell<O: Opened>(
     }
     if ledger.times_said(client, line) != said {
         return Err(Untold::OtherBlocks);
+    }
+    if !all_stand_still(ledger, stills) {
+        return Err(Untold::Moved);
     }
     if !cause_stands(ledger, client, line, last, answer) {
         return Err(Untold::NotDue);

@@ -65,6 +65,7 @@ fn told_knowing<R: Wait>(
         line,
         last,
         said,
+        &[],
         answer,
     ) {
         Ok(()) => Ok(()),

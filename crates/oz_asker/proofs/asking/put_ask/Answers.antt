@@ -1,5 +1,4 @@
-use Rattle.std.proofs.Common.{◌≡◌, List, Some, Err, refl, sym, ap, ◌∙◌, subst}
-use Rattle.std.proofs.lemmas.Option.{none-some}
+use Rattle.std.proofs.Common.{◌≡◌, List, Err, refl, sym, ap, ◌∙◌, subst}
 use Rattle.oz_core.specs.declared.event.Event.{Event}
 use Rattle.oz_core.specs.declared.event.EventKind.TheVariants.{Ask}
 use Rattle.oz_core.specs.Asks.{pending}
@@ -9,7 +8,7 @@ use Rattle.oz_turn.specs.Seat.{seen_of}
 use Rattle.oz_asker.specs.Asked.{IsAskAt, IsLate}
 use Rattle.oz_asker.specs.declared.fault.AskFault.{AskFault}
 use Rattle.oz_asker.specs.declared.fault.AskFault.TheVariants as faults
-use Rattle.oz_asker.proofs.Standing.{if_ok_also, late_of, same_fault, found_pending, found_there, not_of_blocks, now_pending, now_there, may_enable, enabled_may}
+use Rattle.oz_asker.proofs.Standing.{if_ok_also, late_of, same_fault, found_pending, found_there, now_pending, now_there, may_enable, enabled_may}
 use Rattle.oz_asker.proofs.asking.put_ask.Goals as goal
 
 -- ---- an Ask that stood before
@@ -19,8 +18,8 @@ returns-in-Some-clause-undecided g c coherent =
     let O = g.O.Opened in
     let took = c.take-ledger.ensures in
     let story = c.take-ledger.result.0.story in
-    let seen : seen_of c.give_back.new.seat ≡ story = c.give_back.ensures.seen ∙ took.seen in
-    let pends = found_pending O.coherent O.opening O.bytes O.script story coherent c.all_follow.ensures c.args.id c.requires.script c.args.request (c.requires.same coherent story took.begins c.all_follow.ensures) c.in-Some.ensures.some in
+    let seen : seen_of c.give_back-in-Some.new.seat ≡ story = c.give_back-in-Some.ensures.seen ∙ took.seen in
+    let pends = found_pending O.coherent O.opening O.bytes O.script story coherent c.all_follow.ensures c.args.id c.requires.script c.args.request (c.requires.same coherent story took.begins c.all_follow.ensures (sym c.times_said.ensures ∙ c.if-times_said-said.false)) c.in-Some.ensures.some in
     if_ok_also c.in_time-answer.result c.in_time-answer.ensures.ok (λ found is. ap (pending c.args.id) seen ∙ pends)
 
 pub returns-in-Some-clause-ok : goal.returns-in-Some-clause-ok
@@ -28,8 +27,8 @@ returns-in-Some-clause-ok g c coherent =
     let O = g.O.Opened in
     let took = c.take-ledger.ensures in
     let story = c.take-ledger.result.0.story in
-    let seen : seen_of c.give_back.new.seat ≡ story = c.give_back.ensures.seen ∙ took.seen in
-    let there = found_there O.coherent O.opening O.bytes O.script story coherent c.all_follow.ensures c.args.id c.requires.script c.args.request (c.requires.same coherent story took.begins c.all_follow.ensures) c.in-Some.ensures.some c.in-Some.place c.in-Some.ensures.place in
+    let seen : seen_of c.give_back-in-Some.new.seat ≡ story = c.give_back-in-Some.ensures.seen ∙ took.seen in
+    let there = found_there O.coherent O.opening O.bytes O.script story coherent c.all_follow.ensures c.args.id c.requires.script c.args.request (c.requires.same coherent story took.begins c.all_follow.ensures (sym c.times_said.ensures ∙ c.if-times_said-said.false)) c.in-Some.ensures.some c.in-Some.place c.in-Some.ensures.place in
     if_ok_also c.in_time-answer.result c.in_time-answer.ensures.ok
     (λ found is. subst (λ (l : List Event). IsAskAt l found c.args.id c.args.request) (sym seen) (subst (λ n. IsAskAt story n c.args.id c.args.request) (sym is.0) there))
 
@@ -38,11 +37,11 @@ returns-in-Some-clause-stopped g c count is =
     let O = g.O.Opened in
     let took = c.take-ledger.ensures in
     let story = c.take-ledger.result.0.story in
-    let seen : seen_of c.give_back.new.seat ≡ story = c.give_back.ensures.seen ∙ took.seen in
+    let seen : seen_of c.give_back-in-Some.new.seat ≡ story = c.give_back-in-Some.ensures.seen ∙ took.seen in
     let late = late_of story c.args.id c.in_time-answer.result count c.in_time-answer.ensures.err is in (
       subst (λ (l : List Event). IsLate l c.args.id count) (sym seen) late,
       λ coherent.
-          let same = c.requires.same coherent story took.begins c.all_follow.ensures in
+          let same = c.requires.same coherent story took.begins c.all_follow.ensures (sym c.times_said.ensures ∙ c.if-times_said-said.false) in
           let pends = found_pending O.coherent O.opening O.bytes O.script story coherent c.all_follow.ensures c.args.id c.requires.script c.args.request same c.in-Some.ensures.some in
           let there = found_there O.coherent O.opening O.bytes O.script story coherent c.all_follow.ensures c.args.id c.requires.script c.args.request same c.in-Some.ensures.some c.in-Some.place c.in-Some.ensures.place in
           (ap (pending c.args.id) seen ∙ pends, (c.in-Some.place, subst (λ (l : List Event). IsAskAt l c.in-Some.place c.args.id c.args.request) (sym seen) there)),
@@ -79,17 +78,8 @@ note-requires-clause-follows g c =
       of_seat = tt;
       enabled = λ coherent. subst (λ (l : List Event). AskIsEnabled O.opening l c.args.by c.args.id c.args.request) same (enabled coherent);
       fits = λ coherent. subst (λ (l : List Event). EventFits O.opening O.bytes O.script l (Ask c.args.id c.args.request)) same
-          (c.requires.fits coherent story took.begins c.all_follow.ensures c.in_default-make_room.ensures.said (enabled coherent));
+          (c.requires.fits coherent story took.begins c.all_follow.ensures (sym c.times_said.ensures ∙ c.if-times_said-said.false) (enabled coherent));
     }
-
-pub returns-clause-other_blocks : goal.returns-clause-other_blocks
-returns-clause-other_blocks g c =
-    let story = c.make_room.new.ledger.story in
-    let whole = c.give.ensures.seen ∙ c.note.ensures.story in
-    let asked : pending c.args.id (seen_of c.give.new.seat) ≡ Some c.args.request = ap (pending c.args.id) whole ∙ now_pending story c.args.by c.args.id c.args.request in (
-      λ is. absurd (not_of_blocks c.note.new.self.story c.args.id c.in_time-answer-2.result c.in_time-answer-2.ensures.err is),
-      λ other. absurd (none-some c.args.request (sym other.decided ∙ asked)),
-    )
 
 pub returns-clause-undecided : goal.returns-clause-undecided
 returns-clause-undecided g c coherent =

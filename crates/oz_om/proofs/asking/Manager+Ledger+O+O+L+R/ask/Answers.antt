@@ -1,6 +1,7 @@
 use Rattle.std.proofs.Common.{◌≡◌, ℕ, Err, Some, sym, ap, ◌∙◌, subst, arith}
 use Rattle.std.specs.Prelude.{slice_get}
 use Rattle.oz_asker.specs.declared.fault.AskFault.{AskFault}
+use Rattle.oz_asker.specs.declared.fault.AskFault.TheVariants as faults
 use Rattle.oz_core.specs.declared.event.EventKind.TheVariants.{Decide}
 use Rattle.oz_turn.specs.declared.seat.Seat.{Seat}
 use Rattle.oz_turn.specs.Seat.{seen_of}
@@ -8,7 +9,7 @@ use Rattle.oz_turn.specs.Told.{BeginsWith}
 use Rattle.oz_om.specs.declared.refusal.Refusal.{Refusal}
 use Rattle.oz_om.specs.declared.refusal.Refusal.TheVariants as refusals
 use Rattle.oz_om.specs.Refusals.{AskStands}
-use Rattle.oz_om.proofs.Answered.{asked_still, fault_stands, longer, one_err, refused_stands}
+use Rattle.oz_om.proofs.Answered.{asked_still, begins_itself, fault_stands, longer, one_err, one_fault, refused_stands}
 use Rattle.oz_om.proofs.asking.Manager+Ledger+O+O+L+R.ask.Goals as goal
 
 pub returns-in-Err-clause-stopped : goal.returns-in-Err-clause-stopped
@@ -53,3 +54,30 @@ pub returns-in-Err-decide_locked-clause-stands : goal.returns-in-Err-decide_lock
 returns-in-Err-decide_locked-clause-stands g c = λ coherent.
     refused_stands (seen_of c.decide_locked.new.seat) c.args.id c.args.request c.in-Err-decide_locked.refusal
     (c.in-Ok.place, asked_still (seen_of c.decide_locked.new.seat) (seen_of c.put_ask.new.seat) c.in-Ok.place c.args.id c.args.request c.in-Err-decide_locked.ensures.shown.goes_on (c.in-Ok.ensures.ok coherent))
+
+-- ---- what was compared first
+
+pub returns-in-Err-clause-as_said : goal.returns-in-Err-clause-as_said
+returns-in-Err-clause-as_said g c = λ other. record {
+  place = seen_of c.put_ask.new.seat;
+  behind = c.put_ask.ensures.goes_on;
+  begins = begins_itself (seen_of c.put_ask.new.seat);
+  so_often = c.in-Err.ensures.as_said (λ same.
+      other (ap (λ (refusal : Refusal). Err refusal) (c.of_asker.ensures.other_blocks.1 (one_fault c.in-Err.fault faults.OtherBlocks same))));
+}
+
+pub returns-clause-as_said : goal.returns-clause-as_said
+returns-clause-as_said g c = λ other. record {
+  place = seen_of c.put_ask.new.seat;
+  behind = c.put_ask.ensures.goes_on;
+  begins = subst (λ (s : Seat _ _ _). BeginsWith (seen_of c.see.new.seat) (seen_of s)) c.in-Ok-decide_locked.ensures.same c.see.ensures.goes_on;
+  so_often = c.in-Ok.ensures.as_said (λ same. cc);
+}
+
+pub returns-in-Err-decide_locked-clause-as_said : goal.returns-in-Err-decide_locked-clause-as_said
+returns-in-Err-decide_locked-clause-as_said g c = λ other. record {
+  place = seen_of c.put_ask.new.seat;
+  behind = c.put_ask.ensures.goes_on;
+  begins = c.in-Err-decide_locked.ensures.shown.goes_on;
+  so_often = c.in-Ok.ensures.as_said (λ same. cc);
+}

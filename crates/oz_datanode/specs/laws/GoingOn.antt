@@ -1,5 +1,5 @@
 -- Disks that go on, and how often they have failed then.
-use Rattle.std.proofs.Common.{◌≡◌, ◌⊎◌, inl, inr, ℕ, ◌+◌, ◌-◌, ◌^◌, ◌≤◌, min, List, Option, None, refl, sym, ap, ◌∙◌, subst, arith}
+use Rattle.std.proofs.Common.{◌≡◌, ◌⊎◌, inl, inr, ℕ, ◌+◌, ◌-◌, ◌^◌, ◌≤◌, min, List, Option, sym, ap, ◌∙◌, arith}
 use Rattle.oz_world.specs.Disk.{TellsAsBefore}
 use Rattle.oz_world.specs.Faults.{Rose}
 use Rattle.oz_datanode.specs.Datanode.{State, DisksGoOn, meta_of, slots_of, count_of}
@@ -32,38 +32,19 @@ told_then : (one two three : Option (List ℕ)) → TellsAsBefore one two → Te
 told_then one two three first second = (λ none. second.0 (first.0 none), λ none. first.1 (second.1 none))
 
 module _ {D : Type 0} (told : D → Option (List ℕ)) (faults : D → ℕ) where
-  -- the disk of slots went on, and the journal is as it was
-  pub slots_go_on : (old new : State D) → meta_of new ≡ meta_of old → TellsAsBefore (told (slots_of old)) (told (slots_of new)) → faults (slots_of old) ≤ faults (slots_of new) → DisksGoOn told faults old new
-  slots_go_on old new same tell fell =
-      let count : faults (meta_of new) ≡ faults (meta_of old) = ap faults same in record {
-        meta_tells = told_as (told (meta_of old)) (told (meta_of new)) (ap told same);
-        slots_tell = tell;
-        meta_never_falls = omega (arith, count);
-        slots_never_fall = fell;
-      }
-
-  -- the journal went on, and the disk of slots is as it was
-  pub journal_goes_on : (old new : State D) → slots_of new ≡ slots_of old → TellsAsBefore (told (meta_of old)) (told (meta_of new)) → faults (meta_of old) ≤ faults (meta_of new) → DisksGoOn told faults old new
-  journal_goes_on old new same tell fell =
-      let count : faults (slots_of new) ≡ faults (slots_of old) = ap faults same in record {
-        meta_tells = tell;
-        slots_tell = told_as (told (slots_of old)) (told (slots_of new)) (ap told same);
-        meta_never_falls = fell;
-        slots_never_fall = omega (arith, count);
-      }
-
   -- neither disk was called
   pub disks_stay : (old new : State D) → meta_of new ≡ meta_of old → slots_of new ≡ slots_of old → DisksGoOn told faults old new
   disks_stay old new meta slots =
-      let count : faults (slots_of new) ≡ faults (slots_of old) = ap faults slots in
-      slots_go_on old new meta (told_as (told (slots_of old)) (told (slots_of new)) (ap told slots)) (omega (arith, count))
+      let first : faults (meta_of new) ≡ faults (meta_of old) = ap faults meta in
+      let second : faults (slots_of new) ≡ faults (slots_of old) = ap faults slots in record {
+        meta_tells = told_as (told (meta_of old)) (told (meta_of new)) (ap told meta);
+        slots_tell = told_as (told (slots_of old)) (told (slots_of new)) (ap told slots);
+        meta_never_falls = omega (arith, first);
+        slots_never_fall = omega (arith, second);
+      }
 
   pub disks_same : (old new : State D) → new ≡ old → DisksGoOn told faults old new
   disks_same old new same = disks_stay old new (ap (λ (n : State D). meta_of n) same) (ap (λ (n : State D). slots_of n) same)
-
-  -- the disk of slots was read, or made stable
-  pub slots_told : (old new : State D) → meta_of new ≡ meta_of old → told (slots_of new) ≡ told (slots_of old) → faults (slots_of old) ≤ faults (slots_of new) → DisksGoOn told faults old new
-  slots_told old new same tell fell = slots_go_on old new same (told_as (told (slots_of old)) (told (slots_of new)) tell) fell
 
   pub go_on_then : (one two three : State D) → DisksGoOn told faults one two → DisksGoOn told faults two three → DisksGoOn told faults one three
   go_on_then one two three first second = record {

@@ -8,4 +8,4 @@ returns-in_err-ready-clause-stands g c =
 pub returns-clause-stands : goal.returns-clause-stands
 returns-clause-stands g c =
     stopped_stands g.D.Disk.told g.D.Disk.clock g.D.Disk.image g.D.Disk.faults c.args.kept.now c.ready.new.self c.note.new.self c.args.node.now c.stop.new.self c.id-dn.result c.requires.stood
-    c.id-dn.ensures c.ready.ensures.number c.ready.ensures.mine c.note.ensures.number c.note.ensures.mine c.stop.ensures
+    c.id-dn.ensures c.ready.ensures.number c.ready.ensures.mine c.note.ensures.number c.note.ensures.mine c.stop.ensures.stopped

@@ -10,29 +10,36 @@ use Rattle.oz_core.specs.Seats.{datanode_seat}
 use Rattle.oz_core.specs.Stories.{last_told, newer}
 use Rattle.oz_datanode.specs.Datanode.{State, count_of, is_halted}
 use Rattle.oz_node_events.specs.NodeSeat.{SeatView, StandsFor}
-use Rattle.node_event_tests.specs.Three.{three_nodes}
+use Rattle.oz_buffer.specs.Openings.{no_script}
+use Rattle.oz_world.specs.Disk.{Images}
+use Rattle.oz_world.specs.Faults.{Rose}
+use Rattle.node_event_tests.specs.Three.{no_bytes, none_failed, three_nodes}
 
 -- the seat was made ready
-pub ready_stands : {D : Type 0} (told : D → Option (List ℕ)) (faults : D → ℕ) (view ready : SeatView) (node : State D) → StandsFor told faults ⊥ three_nodes view node
-    → ready.dn ≡ view.dn → ready.mine ≡ view.mine → StandsFor told faults ⊥ three_nodes ready node
-ready_stands told faults view ready node stood number mine = record {
+pub ready_stands : {D : Type 0} (told : D → Option (List ℕ)) (clock : D → ℕ) (image : D → Images) (faults : D → ℕ) (view ready : SeatView) (node : State D) → StandsFor told clock image faults ⊥ three_nodes no_bytes no_script none_failed view node
+    → ready.dn ≡ view.dn → ready.mine ≡ view.mine → StandsFor told clock image faults ⊥ three_nodes no_bytes no_script none_failed ready node
+ready_stands told clock image faults view ready node stood number mine = record {
   number = stood.number ∙ sym number;
   halt = at (λ n l. halt_of (Datanode n) l) ∙ stood.halt;
   line = at (λ n l. last_told (stopped_or_started n) true l) ∙ stood.line;
+  tells = λ never. absurd never;
+  no_fewer = stood.no_fewer;
+  rose = stood.rose;
   held = λ never. absurd never;
   whole = λ never. absurd never;
   closed = λ never. absurd never;
   journal = λ never. absurd never;
+  contents = λ never. absurd never;
 } where
   at : {X : Type 0} (f : ℕ → List Event → X) → f ready.dn ready.mine ≡ f view.dn view.mine
   at f = ap (λ (n : ℕ). f n ready.mine) number ∙ ap (f view.dn) mine
 
-pub stopped_stands : {D : Type 0} (told : D → Option (List ℕ)) (faults : D → ℕ) (view ready later : SeatView) (old new : State D) (dn : ℕ) → StandsFor told faults ⊥ three_nodes view old
+pub stopped_stands : {D : Type 0} (told : D → Option (List ℕ)) (clock : D → ℕ) (image : D → Images) (faults : D → ℕ) (view ready later : SeatView) (old new : State D) (dn : ℕ) → StandsFor told clock image faults ⊥ three_nodes no_bytes no_script none_failed view old
     → dn ≡ old.id → ready.dn ≡ view.dn → ready.mine ≡ view.mine → later.dn ≡ ready.dn
     → later.mine ≡ ready.mine ++ record { seat = datanode_seat ready.dn; kind = Stop dn } ∷ []
     → new ≡ record old { stopped = true }
-    → StandsFor told faults ⊥ three_nodes later new
-stopped_stands {D} told faults view ready later old new dn stood its number mine same noted stop = record {
+    → StandsFor told clock image faults ⊥ three_nodes no_bytes no_script none_failed later new
+stopped_stands {D} told clock image faults view ready later old new dn stood its number mine same noted stop = record {
   number = ap (λ (s : State D). s.id) stop ∙ (stood.number ∙ (sym number ∙ sym same));
   halt = at (λ n l. halt_of (Datanode n) l)
       ∙ (told-push (halt_count (Datanode view.dn)) None view.mine event
@@ -42,10 +49,14 @@ stopped_stands {D} told faults view ready later old new dn stood its number mine
       ∙ (told-push (stopped_or_started view.dn) true view.mine event
       ∙ (ap (λ (t : Bool). newer (cond t (Some false) None) (last_told (stopped_or_started view.dn) true view.mine)) (eq-eqb dn view.dn (its ∙ stood.number))
       ∙ sym (ap (λ (s : State D). not s.stopped) stop)));
+  tells = λ never. absurd never;
+  no_fewer = omega arith;
+  rose = subst (λ (s : State D). is_halted s ≡ true → Rose 0 (count_of faults s)) (sym stop) stood.rose;
   held = λ never. absurd never;
   whole = λ never. absurd never;
   closed = λ never. absurd never;
   journal = λ never. absurd never;
+  contents = λ never. absurd never;
 } where
   event : Event
   event = record { seat = datanode_seat view.dn; kind = Stop dn }

@@ -5,7 +5,7 @@ ghost use Rattle.oz_buffer.specs.Buffer.{IsNote};
 ghost use Rattle.oz_datanode.specs.Datanode.{is_halted};
 ghost use Rattle.oz_node_admin.specs.Commands.{MayCommand, own_after};
 ghost use Rattle.oz_node_events.specs.Commands.{run_event};
-ghost use Rattle.oz_node_events.specs.NodeSeat.{IsKept, StandsFor};
+ghost use Rattle.oz_node_events.specs.NodeSeat.{IsKept, StandsFor, is_bad};
 ghost use Rattle.oz_turn.specs.Seat.{IsSameSeat, mine_of, room_of, seen_of, taken_of, turn_of};
 ghost use Rattle.oz_turn.specs.Told.{BeginsWith};
 ghost use Rattle.oz_turn.specs.Turn.{turn_id};
@@ -33,14 +33,14 @@ pub(crate) fn see_to<D: Disk, O: Opened, R: Ring, W: Wait>(
     requires room { 1 ≤ kept.old.room }
     requires unhalted { is_halted node.old ≡ false }
     requires kept { IsKept O.coherent O.opening O.bytes O.script kept.old }
-    requires stood { StandsFor D.told D.faults O.coherent O.opening kept.old node.old }
+    requires stood { StandsFor D.told D.clock D.image D.faults O.coherent O.opening O.bytes O.script O.faults kept.old node.old }
     requires commanded { node.old.stopped ≡ runs
         → MayCommand O.coherent O.opening O.bytes O.script (seen_of seat.old) kept.old runs }
     ensures node { node.new ≡ record node.old { stopped = not runs } }
     ensures number { kept.new.dn ≡ kept.old.dn }
     ensures its { kept.new.mine ≡ own_after kept.old.dn runs node.old.stopped kept.old.mine }
     ensures kept { IsKept O.coherent O.opening O.bytes O.script kept.new }
-    ensures stands { StandsFor D.told D.faults O.coherent O.opening kept.new node.new }
+    ensures stands { StandsFor D.told D.clock D.image D.faults O.coherent O.opening O.bytes O.script O.faults kept.new node.new }
     ensures goes_on { BeginsWith kept.new.seen kept.old.seen }
     ensures seat { IsSameSeat seat.old seat.new }
     ensures seat_free { taken_of seat.new ≡ None }
@@ -73,13 +73,13 @@ fn change<D: Disk, O: Opened, R: Ring, W: Wait>(
     requires unhalted { is_halted node.old ≡ false }
     requires other { node.old.stopped ≡ runs }
     requires kept { IsKept O.coherent O.opening O.bytes O.script kept.old }
-    requires stood { StandsFor D.told D.faults O.coherent O.opening kept.old node.old }
+    requires stood { StandsFor D.told D.clock D.image D.faults O.coherent O.opening O.bytes O.script O.faults kept.old node.old }
     requires commanded { MayCommand O.coherent O.opening O.bytes O.script (seen_of seat.old) kept.old runs }
     ensures node { node.new ≡ record node.old { stopped = not runs } }
     ensures number { kept.new.dn ≡ kept.old.dn }
     ensures its { kept.new.mine ≡ own_after kept.old.dn runs node.old.stopped kept.old.mine }
     ensures kept { IsKept O.coherent O.opening O.bytes O.script kept.new }
-    ensures stands { StandsFor D.told D.faults O.coherent O.opening kept.new node.new }
+    ensures stands { StandsFor D.told D.clock D.image D.faults O.coherent O.opening O.bytes O.script O.faults kept.new node.new }
     ensures goes_on { BeginsWith kept.new.seen kept.old.seen }
     ensures seat { IsSameSeat seat.old seat.new }
     ensures seat_free { taken_of seat.new ≡ None }
@@ -109,6 +109,7 @@ fn have_run<D: Disk>(node: &mut Datanode<D>, runs: bool)
 fn run_event(dn: u8, runs: bool) -> EventKind
     ensures kind { result ≡ run_event dn runs }
     ensures noted { IsNote result }
+    ensures no_bad { is_bad result ≡ false }
 {
     if runs {
         EventKind::Start { dn }

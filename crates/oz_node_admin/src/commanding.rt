@@ -35,13 +35,13 @@ pub(crate) fn command<D: Disk, S: Disk, O: Opened, R: Ring, W: Wait>(
 ) -> Result<(), AdminFault>
     requires turn { turn_id turn.now ≡ R.turn }
     requires ready { IsReady R.turn (number_of seat.old) seat.old }
-    requires stood { StandsFor D.told D.faults O.coherent O.opening kept.old node.old }
+    requires stood { StandsFor D.told D.clock D.image D.faults O.coherent O.opening O.bytes O.script O.faults kept.old node.old }
     requires commanded { node.old.stopped ≡ runs
         → MayCommand O.coherent O.opening O.bytes O.script (seen_of seat.old) kept.old runs }
     ensures comes_to { ComesTo (record { node = node.old; kept = kept.old }) (record { node = node.new; kept = kept.new })
         scm.old scm.new D.faults O.coherent runs (seen_of seat.old) (seen_of seat.new) result }
     ensures shelf { node.new.shelf ≡ node.old.shelf }
-    ensures stands { StandsFor D.told D.faults O.coherent O.opening kept.new node.new }
+    ensures stands { StandsFor D.told D.clock D.image D.faults O.coherent O.opening O.bytes O.script O.faults kept.new node.new }
     ensures scm_goes_on { BeginsWith scm.new.seen scm.old.seen }
     ensures goes_on { BeginsWith kept.new.seen kept.old.seen }
     ensures scm_room { scm.new.room ≡ scm.old.room }
@@ -81,13 +81,13 @@ fn carry_out<D: Disk, S: Disk, O: Opened, R: Ring, W: Wait>(
     requires scm_room { 1 ≤ scm.old.room }
     requires unhalted { is_halted node.old ≡ false }
     requires kept { IsKept O.coherent O.opening O.bytes O.script kept.old }
-    requires stood { StandsFor D.told D.faults O.coherent O.opening kept.old node.old }
+    requires stood { StandsFor D.told D.clock D.image D.faults O.coherent O.opening O.bytes O.script O.faults kept.old node.old }
     requires commanded { node.old.stopped ≡ runs
         → MayCommand O.coherent O.opening O.bytes O.script (seen_of seat.old) kept.old runs }
     ensures node { node.new ≡ record node.old { stopped = not runs } }
     ensures number { kept.new.dn ≡ kept.old.dn }
     ensures its { kept.new.mine ≡ own_after kept.old.dn runs node.old.stopped kept.old.mine }
-    ensures stands { StandsFor D.told D.faults O.coherent O.opening kept.new node.new }
+    ensures stands { StandsFor D.told D.clock D.image D.faults O.coherent O.opening O.bytes O.script O.faults kept.new node.new }
     ensures goes_on { BeginsWith kept.new.seen kept.old.seen }
     ensures of_the_scm { IsTracked {E = Unit {0}} kept.old.dn runs scm.old.mine scm.new.mine (Ok result) }
     ensures scm { scm.new.scm ≡ record scm.old.scm { up = slice_set scm.old.scm.up kept.old.dn runs } }

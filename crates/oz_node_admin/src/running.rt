@@ -46,8 +46,8 @@ pub fn stop_at<D: Disk, S: Disk, O: Opened, R: Ring, W: Wait>(
     ensures begins { BeginsWith (seen_of seat.new) (seen_of seat.old) }
     ensures mine { mine_of seat.new ≡ mine_of seat.old }
     ensures room { room_of seat.new ≡ room_of seat.old }
-    ensures stood { StandsFor D.told D.faults O.coherent O.opening cell.old.kept cell.old.node }
-    ensures stands { StandsFor D.told D.faults O.coherent O.opening cell.new.kept cell.new.node }
+    ensures stood { StandsFor D.told D.clock D.image D.faults O.coherent O.opening O.bytes O.script O.faults cell.old.kept cell.old.node }
+    ensures stands { StandsFor D.told D.clock D.image D.faults O.coherent O.opening O.bytes O.script O.faults cell.new.kept cell.new.node }
 {
     command(
         rt,
@@ -86,8 +86,8 @@ pub fn start_at<D: Disk, S: Disk, O: Opened, R: Ring, W: Wait>(
     ensures begins { BeginsWith (seen_of seat.new) (seen_of seat.old) }
     ensures mine { mine_of seat.new ≡ mine_of seat.old }
     ensures room { room_of seat.new ≡ room_of seat.old }
-    ensures stood { StandsFor D.told D.faults O.coherent O.opening cell.old.kept cell.old.node }
-    ensures stands { StandsFor D.told D.faults O.coherent O.opening cell.new.kept cell.new.node }
+    ensures stood { StandsFor D.told D.clock D.image D.faults O.coherent O.opening O.bytes O.script O.faults cell.old.kept cell.old.node }
+    ensures stands { StandsFor D.told D.clock D.image D.faults O.coherent O.opening O.bytes O.script O.faults cell.new.kept cell.new.node }
 {
     command(
         rt,

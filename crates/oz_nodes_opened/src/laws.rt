@@ -16,7 +16,12 @@ ghost use Rattle.oz_store_opening.specs.Agreeing.{BlocksAgree};
 ghost use Rattle.oz_store_opening.specs.Openings.{opening_bytes, opening_of};
 ghost use Rattle.oz_world.specs.Disk.{seen};
 
-use oz_store_opening::{an_opening_has_what_was_loaded, each_row_has_the_length_of_its_block};
+use oz_block::a_disk_stands_for_one_node;
+use oz_full::a_journal_keeps_slots_apart;
+use oz_store_opening::{
+    an_opening_has_what_was_loaded, bytes_that_are_intact_have_their_digests,
+    each_row_has_the_length_of_its_block,
+};
 use oz_world::Disk;
 
 /// The storage container manager that was loaded for so many datanodes runs, takes each of them for up, and has the next id
@@ -45,8 +50,8 @@ pub fn a_loaded_scm_stands_for_the_opening<D: Disk>()
 }
 
 /// Each datanode that was loaded has the number of its place, which the opening has too, and runs. Where the journals told
-/// their bytes its own stands for what it holds, and where the blocks agree too that is what the opening says. No transaction
-/// of the opening's log has a number above the last.
+/// their bytes its own stands for what it holds; where the disks of slots did too, and the blocks agree, that is what the opening
+/// says, and the bytes of its blocks stand beside the opening. No transaction of the opening's log has a number above the last.
 pub fn loaded_datanodes_stand_for_the_opening<D: Disk>()
     ensures number { (disks : List (NodeDisks D)) (nodes : List (AnyDatanode D)) (dn : ℕ) (node : AnyDatanode D) →
         let see = (λ (d : D). seen (D.told d) (D.clock d) (D.image d) (D.faults d)) in
@@ -66,10 +71,15 @@ pub fn loaded_datanodes_stand_for_the_opening<D: Disk>()
     ensures opened { (all : AnyRows) (unseated : UnseatedView) (namespace : AnyNamespace) (made : Made)
         (disks : List (NodeDisks D)) (nodes : List (AnyDatanode D)) (dn : ℕ) (node : AnyDatanode D) →
         let see = (λ (d : D). seen (D.told d) (D.clock d) (D.image d) (D.faults d)) in
-        All (λ (own : NodeDisks D). IsSome (D.told own.meta)) disks → AreNodesFrom see 0 disks nodes →
+        All (λ (own : NodeDisks D). IsSome (D.told own.meta) × IsSome (D.told own.slots)) disks →
+        AreNodesFrom see 0 disks nodes →
         BlocksAgree all (opening_of unseated namespace made nodes) (opening_bytes see nodes) →
-        slice_get nodes dn ≡ Some node → IsAsOpened (opening_of unseated namespace made nodes) node }
+        slice_get nodes dn ≡ Some node → IsAsOpened D.told D.clock D.image D.faults
+        (opening_of unseated namespace made nodes) (opening_bytes see nodes) node }
 {
     an_opening_has_what_was_loaded::<D>();
     each_row_has_the_length_of_its_block::<D>();
+    bytes_that_are_intact_have_their_digests();
+    a_journal_keeps_slots_apart::<D>();
+    a_disk_stands_for_one_node();
 }

@@ -3,9 +3,9 @@ use Rattle.node_event_tests.proofs.stopping.stop_beside.Goals as goal
 
 pub returns-in_err-ready-clause-stands : goal.returns-in_err-ready-clause-stands
 returns-in_err-ready-clause-stands g c =
-    ready_stands g.D.Disk.told g.D.Disk.faults c.args.kept.now c.ready.new.self c.args.node.now c.requires.stood c.ready.ensures.number c.ready.ensures.mine
+    ready_stands g.D.Disk.told g.D.Disk.clock g.D.Disk.image g.D.Disk.faults c.args.kept.now c.ready.new.self c.args.node.now c.requires.stood c.ready.ensures.number c.ready.ensures.mine
 
 pub returns-clause-stands : goal.returns-clause-stands
 returns-clause-stands g c =
-    stopped_stands g.D.Disk.told g.D.Disk.faults c.args.kept.now c.ready.new.self c.note.new.self c.args.node.now c.stop.new.self c.id-dn.result c.requires.stood
+    stopped_stands g.D.Disk.told g.D.Disk.clock g.D.Disk.image g.D.Disk.faults c.args.kept.now c.ready.new.self c.note.new.self c.args.node.now c.stop.new.self c.id-dn.result c.requires.stood
     c.id-dn.ensures c.ready.ensures.number c.ready.ensures.mine c.note.ensures.number c.note.ensures.mine c.stop.ensures.stopped

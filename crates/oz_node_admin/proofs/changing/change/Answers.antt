@@ -26,6 +26,6 @@ returns-clause-stands g c =
     let kind : c.run_event.result ≡ run_event view.dn c.args.runs =
     c.run_event.ensures.kind ∙ ap (λ n. run_event n c.args.runs) (c.id-dn.ensures ∙ c.requires.stood.number) in
     let told = subst (λ (k : EventKind). IsAppended (by_node view.dn k) view.seen (seen_of c.args.seat.now) c.note.new.self.seen) kind note.told in
-    subst (λ s. StandsFor D.told D.faults O.coherent O.opening c.note.new.self s) (sym c.have_run.ensures)
+    subst (λ s. StandsFor D.told D.clock D.image D.faults O.coherent O.opening O.bytes O.script O.faults c.note.new.self s) (sym c.have_run.ensures)
     (c.a_line_has_it_run_or_not.ensures.stands view c.note.new.self c.args.node.now c.args.runs (seen_of c.args.seat.now) c.requires.kept note.kept c.requires.stood note.number
     (note.mine ∙ ap (λ (k : EventKind). view.mine ++ by_node view.dn k ∷ []) kind) told)

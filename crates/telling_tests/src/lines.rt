@@ -12,7 +12,9 @@ use oz_command::{AdminCommand, Command};
 use oz_flusher::Flusher;
 use oz_lines::Line;
 use oz_requests::{Answer, AskId, Values};
-use oz_telling::{Settlement, Untold, has_started, settle_line, tell, times_said};
+use oz_telling::{
+    Settlement, Still, Untold, Unwritten, has_started, settle_line, story_length, tell, times_said,
+};
 use oz_turn::{Seat, Turn, seats_stay_ready};
 use oz_world::MemoryDisk;
 use std::alloc::Global;
@@ -247,13 +249,22 @@ fn said<R: Wait>(rt: &R, turn: &Turn<Book>, seats: &mut Vec<Seat<Book>>, line: u
 fn who_knows_another_count_neither_asks_nor_is_told(rt: HostRuntime) -> Result<(), Fail> {
     let alloc = rt.alloc();
     let (turn, mut seats) = made(alloc)?;
-    say_wrote(&rt, alloc, &turn, &mut seats, 1)?;
+    let wrote = say_wrote(&rt, alloc, &turn, &mut seats, 1, 0);
+    holds(&rt, wrote.is_ok(), "written");
     holds(&rt, said(&rt, &turn, &mut seats, 1) == 1, "said once");
+    let wrote = say_wrote(&rt, alloc, &turn, &mut seats, 1, 0);
+    holds(&rt, wrote == Err(Unwritten::OtherBlocks), "not written");
     let asked = ask(&rt, alloc, &turn, &mut seats, 1);
     holds(&rt, asked == Err(AskFault::OtherBlocks), "not asked");
     let asked = ask_knowing(&rt, alloc, &turn, &mut seats, 1, 1);
     holds(&rt, asked.is_ok(), "asked");
     let asked = ask(&rt, alloc, &turn, &mut seats, 1);
+    holds(
+        &rt,
+        asked == Err(AskFault::OtherBlocks),
+        "nor while its ask stands",
+    );
+    let asked = ask_knowing(&rt, alloc, &turn, &mut seats, 1, 1);
     holds(&rt, asked.is_ok(), "its ask stands undecided");
     let memory = Answer::OutOfMemory;
     let other = told(&rt, alloc, &turn, &mut seats, 1, memory);
@@ -338,5 +349,70 @@ fn who_asks_behind_a_halt_is_told_so(rt: HostRuntime) -> Result<(), Fail> {
     );
     let made = told(&rt, alloc, &turn, &mut seats, 2, Answer::ManagerStopped);
     holds(&rt, made.is_ok(), "told");
+    Ok(())
+}
+
+/// A line that asked nothing is told, while a seat stands still.
+fn told_while<R: Wait>(
+    rt: &R,
+    alloc: Global,
+    turn: &Turn<Book>,
+    seats: &mut Vec<Seat<Book>>,
+    line: u16,
+    still: Still,
+) -> Result<(), Untold>
+    requires count { vec_len seats.old ≡ 3 }
+    requires ready { AreReady (turn_id turn.now) seats.old.items }
+    ensures count { vec_len seats.new ≡ 3 }
+    ensures ready { AreReady (turn_id turn.now) seats.new.items }
+{
+    seats_stay_ready::<Book>();
+    let stills = [still];
+    match tell(
+        rt,
+        alloc,
+        turn,
+        &mut seats[2],
+        2,
+        1,
+        line,
+        None,
+        0,
+        &stills,
+        Answer::OutOfMemory,
+    ) {
+        Ok(()) => Ok(()),
+        Err((_answer, cause)) => Err(cause),
+    }
+}
+
+/// How long the story is.
+fn length<R: Wait>(rt: &R, turn: &Turn<Book>, seats: &mut Vec<Seat<Book>>) -> u64
+    requires count { vec_len seats.old ≡ 3 }
+    requires ready { AreReady (turn_id turn.now) seats.old.items }
+    ensures count { vec_len seats.new ≡ 3 }
+    ensures ready { AreReady (turn_id turn.now) seats.new.items }
+{
+    seats_stay_ready::<Book>();
+    story_length(rt, turn, &mut seats[2], 2)
+}
+
+#[test]
+fn a_line_is_told_while_a_seat_stands_still(rt: HostRuntime) -> Result<(), Fail> {
+    let alloc = rt.alloc();
+    let (turn, mut seats) = made(alloc)?;
+    let wrote = say_wrote(&rt, alloc, &turn, &mut seats, 2, 0);
+    holds(&rt, wrote.is_ok(), "written");
+    let place = length(&rt, &turn, &mut seats);
+    holds(&rt, place == 1, "one event");
+    let before = Still { seat: 2, place: 0 };
+    let moved = told_while(&rt, alloc, &turn, &mut seats, 1, before);
+    holds(&rt, moved == Err(Untold::Moved), "it gave one since");
+    let since = Still { seat: 2, place };
+    let it = told_while(&rt, alloc, &turn, &mut seats, 1, since);
+    holds(&rt, it.is_ok(), "and none behind it");
+    let other = Still { seat: 1, place: 0 };
+    let it = told_while(&rt, alloc, &turn, &mut seats, 3, other);
+    holds(&rt, it.is_ok(), "another gave none");
     Ok(())
 }

@@ -6,12 +6,13 @@ ghost use Rattle.oz_turn.specs.Seat.{AreReady, IsReady};
 ghost use Rattle.oz_turn.specs.Turn.{turn_id};
 
 use oz_asker::{AskFault, put_ask};
-use oz_buffer::{Ledger, Opened, OutOfMemory, Ready, Reserve, a_reserve_is_room_enough};
+use oz_buffer::{Ledger, Opened, Ready, Reserve, a_reserve_is_room_enough};
 use oz_core::{Event, EventKind};
 use oz_fields::{Block, List, Name};
 use oz_flusher::Flusher;
 use oz_journal::Journal;
 use oz_requests::{AskId, Reply, Request};
+use oz_telling::{Unwritten, tell_written};
 use oz_turn::{Seat, Turn, new_seats_are_ready, seats_stay_ready};
 use oz_world::{MemoryDisk, OpenGate};
 use std::alloc::Global;
@@ -144,49 +145,27 @@ pub fn ask_knowing<R: Wait>(
     }
 }
 
-/// Its worker says that a block is written for a line.
+/// Its worker says that a block is written for a line, where it knows that so much was said of its blocks.
 pub fn say_wrote<R: Wait>(
     rt: &R,
     alloc: Global,
     turn: &Turn<Book>,
     seats: &mut Vec<Seat<Book>>,
     line: u16,
-) -> Result<(), OutOfMemory>
+    said: u64,
+) -> Result<(), Unwritten>
     requires count { vec_len seats.old ≡ 3 }
     requires ready { AreReady (turn_id turn.now) seats.old.items }
     ensures count { vec_len seats.new ≡ 3 }
     ensures ready { AreReady (turn_id turn.now) seats.new.items }
 {
     seats_stay_ready::<Book>();
-    say_wrote_by(rt, alloc, turn, &mut seats[2], line)
-}
-
-fn say_wrote_by<R: Wait>(
-    rt: &R,
-    alloc: Global,
-    turn: &Turn<Book>,
-    seat: &mut Seat<Book>,
-    line: u16,
-) -> Result<(), OutOfMemory>
-    requires { IsReady (turn_id turn.now) 2 seat.old }
-    ensures { IsReady (turn_id turn.now) 2 seat.new }
-{
-    let (mut ledger, held) = turn.take(rt, seat);
-    if let Err(refused) = ledger.reserve_notes(alloc, 2, 1) {
-        turn.give_back(seat, ledger, held);
-        return Err(refused);
-    }
     let block = Block {
         container: 1,
         local: 1,
     };
-    let kind = EventKind::Wrote {
-        block,
-        id: first_id(line),
-    };
-    ledger.note(Event { seat: 2, kind });
-    turn.give(seat, ledger, held);
-    Ok(())
+    let id = first_id(line);
+    tell_written(rt, alloc, turn, &mut seats[2], 2, id, block, said)
 }
 
 fn decide_of(line: u16, index: u64, batch: Vec<u8>) -> Event

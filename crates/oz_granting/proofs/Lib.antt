@@ -1,0 +1,4 @@
+pub mod Still
+pub mod Waiting
+pub mod Spent
+pub mod Refused

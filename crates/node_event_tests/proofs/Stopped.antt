@@ -1,5 +1,5 @@
 -- A datanode that a line stopped, and its seat has said so.
-use Rattle.std.proofs.Common.{◌≡◌, ℕ, Bool, true, false, ◌==◌, cond, not, List, [], ◌∷◌, ◌++◌, Option, None, Some, eq-eqb, sym, ap, ◌∙◌, subst}
+use Rattle.std.proofs.Common.{arith, ◌≡◌, ℕ, Bool, true, false, ◌==◌, cond, not, List, [], ◌∷◌, ◌++◌, Option, None, Some, eq-eqb, sym, ap, ◌∙◌, subst}
 use Rattle.oz_buffer.specs.laws.Following.{told-push}
 use Rattle.oz_core.specs.declared.event.Event.{Event}
 use Rattle.oz_core.specs.declared.event.EventKind.TheVariants.{Stop}

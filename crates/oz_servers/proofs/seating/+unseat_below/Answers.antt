@@ -1,6 +1,6 @@
-use Rattle.std.proofs.Common.{rules, ◌≡◌, ◌-◌, ◌∷◌, ◌++◌, [], ◌∙◌, length, sym, ap, arith}
+use Rattle.std.proofs.Common.{◌∷◌, ◌++◌, [], ◌∙◌, sym, ap}
 use Rattle.oz_servers.specs.Begun.{nodes_of}
-use Rattle.oz_servers.proofs.Placed.{map_push, one_more}
+use Rattle.oz_servers.proofs.Placed.{map_push}
 use Rattle.oz_servers.proofs.seating.+unseat_below.Goals as goal
 
 pub returns-clause-nodes : goal.returns-clause-nodes

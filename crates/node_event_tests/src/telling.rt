@@ -21,10 +21,10 @@ use std::process::Abort;
 use std::sync::Wait;
 use std::test::Fail;
 
-const MEMBERS: [u8; 3] = [0, 1, 2];
+pub const MEMBERS: [u8; 3] = [0, 1, 2];
 
 /// The datanodes have no blocks, and a container was granted.
-const EMPTY: &str = "nodes 3\ncontainer 1 0 open 64\nnext_id 65\n";
+pub const EMPTY: &str = "nodes 3\ncontainer 1 0 open 64\nnext_id 65\n";
 
 /// Each has the block that is granted.
 const HOLDING: &str = "node 1.1:3 -\nnode 1.1:3 -\nnodes 1\ncontainer 1 0 open 64\nnext_id 65\n";
@@ -102,7 +102,7 @@ fn reads_nothing<R: Ring, W: Wait + Abort>(
 }
 
 /// A line asks for a block and is granted it.
-fn begins<R: Ring, W: Wait>(
+pub fn begins<R: Ring, W: Wait>(
     rt: &W,
     alloc: Global,
     turn: &Turn<Book>,
@@ -139,7 +139,7 @@ fn reads_nothing_at<R: Ring, W: Wait + Abort>(
 }
 
 /// A line stops datanode 2.
-fn stop_last<R: Ring, W: Wait>(
+pub fn stop_last<R: Ring, W: Wait>(
     rt: &W,
     alloc: Global,
     turn: &Turn<Book>,

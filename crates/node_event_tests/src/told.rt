@@ -16,6 +16,7 @@ fn letters(kind: &EventKind) -> (u8, u8) {
         EventKind::Decide { .. } => (b'd', 0),
         EventKind::Put { dn, .. } => (b'p', *dn),
         EventKind::Refused { dn, .. } => (b'r', *dn),
+        EventKind::Wrote { .. } => (b'w', 0),
         EventKind::Halt {
             node: Node::Datanode(dn),
             ..

@@ -1,1 +1,2 @@
+mod Seated
 mod Standing

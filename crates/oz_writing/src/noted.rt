@@ -8,6 +8,7 @@ ghost use Rattle.oz_turn.specs.Seat.{IsReady, mine_of, room_of, seen_of};
 ghost use Rattle.oz_turn.specs.Told.{BeginsWith};
 ghost use Rattle.oz_turn.specs.Turn.{turn_id};
 
+use crate::fault::Unwritten;
 use oz_buffer::{Ledger, Opened};
 use oz_client::Written;
 use oz_fields::{Block, OutOfMemory};
@@ -33,7 +34,7 @@ pub(crate) fn write_noted<D: Disk, O: Opened, R: Ring, W: Wait, G: Gate>(
     block: Block,
     members: [u8; 3],
     bytes: &[u8],
-) -> Result<Written, OutOfMemory>
+) -> Result<Written, Unwritten>
     requires turn { turn_id turn.now ≡ R.turn }
     requires ready { IsReady R.turn by seat.old }
     requires members { All (λ dn. dn < nodes.now) members }
@@ -53,5 +54,8 @@ pub(crate) fn write_noted<D: Disk, O: Opened, R: Ring, W: Wait, G: Gate>(
     );
     let written = write_block(rt, alloc, nodes, members, block, bytes, gate, &mut noting);
     let _seat = noting.into_seat();
-    written
+    match written {
+        Ok(written) => Ok(written),
+        Err(OutOfMemory) => Err(Unwritten::OutOfMemory),
+    }
 }

@@ -81,9 +81,12 @@ pub fn write_to_members<D: Disk, O: Opened, R: Ring, W: Wait, G: Gate>(
     let noted = write_noted(
         rt, alloc, turn, nodes, gate, seat, by, id, first, block, members, bytes,
     );
-    let Ok(written) = noted else {
-        let _length = story_length(rt, turn, seat, by);
-        return Err(Unwritten::OutOfMemory);
+    let written = match noted {
+        Ok(written) => written,
+        Err(error) => {
+            let _length = story_length(rt, turn, seat, by);
+            return Err(error);
+        }
     };
     let put = wrote - 1;
     if !have_answered(rt, turn, seat, by, id, block, members, &written, from, put) {

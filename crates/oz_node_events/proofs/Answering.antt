@@ -7,14 +7,17 @@ use Rattle.std.proofs.lemmas.List.Folds.{list_any-append}
 use Rattle.std.specs.Prelude.{length, map, take}
 use Rattle.oz_core.specs.declared.event.Event.{Event}
 use Rattle.oz_core.specs.declared.event.EventKind.{EventKind}
+use Rattle.oz_core.specs.declared.event.Node.{Node}
 use Rattle.oz_core.specs.declared.event.PutRefusal.{PutRefusal}
 use Rattle.oz_core.specs.declared.opening.Opening.{Opening}
+use Rattle.oz_core.specs.Contents.{OpeningBytes}
 use Rattle.oz_core.specs.Law.{puts}
 use Rattle.oz_core.specs.Nodes.{holds, is_block}
 use Rattle.oz_core.specs.Stories.{has_event}
-use Rattle.oz_datanode.specs.Datanode.{State}
+use Rattle.oz_datanode.specs.Datanode.{State, count_of, is_halted}
 use Rattle.oz_fields.specs.declared.block.Block.{Block}
 use Rattle.oz_entries.specs.Node.{is_held}
+use Rattle.oz_lines.specs.declared.script.Script.{Script}
 use Rattle.oz_replicas.specs.Notes.{Goes, Subject}
 use Rattle.oz_replicas.specs.Outcomes.{HasAlready}
 use Rattle.oz_replicas.specs.Reading.{IsFirstGiven, ReadsShort}
@@ -28,6 +31,7 @@ use Rattle.oz_world.specs.Disk.{Images}
 use Rattle.oz_node_events.specs.Answers.{AnswerStands, AnswersStand, HadIt}
 use Rattle.oz_node_events.specs.NodeSeat.{SeatView, StandsFor}
 use Rattle.oz_node_events.specs.Noting.{AreTold, HasSeen, IsNotedBy, IsSameNoter, NotingView, StandIn, event_of}
+use Rattle.oz_node_events.proofs.Following.{not_halted}
 
 -- ---- an event that stands in a story
 
@@ -133,12 +137,12 @@ same_by : (one other : NotingView) (said : List Note) → IsNotedBy one said oth
 same_by one other said so = record { same = so.same; goes_on = (so.told.since, so.told.goes_on) }
 
 module _ {D : Type 0} (told : D → Option (List ℕ)) (clock : D → ℕ) (image : D → Images) (faults : D → ℕ) (Coherent : Type 0) (opening : Opening)
-    (subject : Subject) where
+    (bytes : OpeningBytes) (script : Script) (loaded : Node → ℕ) (subject : Subject) where
   abbrev Stands : SeatView → State D → Type 0
-  Stands = StandsFor told faults Coherent opening
+  Stands = StandsFor told clock image faults Coherent opening bytes script loaded
 
   pub all_same : (members : List ℕ) (answers : List (Option PutRefusal)) (before after : NotingView)
-      → AllAnswered told clock image faults (StandsFor told faults Coherent opening) IsNotedBy HasSeen subject members answers before after → IsSameNoter before after
+      → AllAnswered told clock image faults (StandsFor told clock image faults Coherent opening bytes script loaded) IsNotedBy HasSeen subject members answers before after → IsSameNoter before after
   all_same [] [] before after all = subst (IsSameNoter before) (sym all) (same_itself before)
   all_same [] (answer ∷ answers) before after all = absurd all
   all_same (dn ∷ members) [] before after all = absurd all
@@ -146,12 +150,12 @@ module _ {D : Type 0} (told : D → Option (List ℕ)) (clock : D → ℕ) (imag
       same_through before all.0 after (same_by before all.0 all.1.0.said all.1.0.told_so) (all_same members answers all.0 after all.1.1)
 
   pub short_same : (members : List ℕ) (before after : NotingView)
-      → StopsShort told clock image faults (StandsFor told faults Coherent opening) IsNotedBy HasSeen subject members before after → IsSameNoter before after
+      → StopsShort told clock image faults (StandsFor told clock image faults Coherent opening bytes script loaded) IsNotedBy HasSeen subject members before after → IsSameNoter before after
   short_same members before after short =
       same_through before short.reached after (all_same (take (length short.answers) members) short.answers before short.reached short.all) (same_by short.reached after [] short.none)
 
   pub given_same : (size : ℕ) (members : List ℕ) (given : Option (List ℕ)) (before after : NotingView)
-      → IsFirstGiven told clock image faults (StandsFor told faults Coherent opening) IsNotedBy subject size members given before after → IsSameNoter before after
+      → IsFirstGiven told clock image faults (StandsFor told clock image faults Coherent opening bytes script loaded) IsNotedBy HasSeen subject size members given before after → IsSameNoter before after
   given_same size [] given before after first = subst (IsSameNoter before) (sym first.1) (same_itself before)
   given_same size (dn ∷ members) given before after first =
       ⊎_elim
@@ -160,23 +164,24 @@ module _ {D : Type 0} (told : D → Option (List ℕ)) (clock : D → ℕ) (imag
       first
 
   pub reads_short_same : (size : ℕ) (members : List ℕ) (before after : NotingView)
-      → ReadsShort told clock image faults (StandsFor told faults Coherent opening) IsNotedBy subject size members before after → IsSameNoter before after
+      → ReadsShort told clock image faults (StandsFor told clock image faults Coherent opening bytes script loaded) IsNotedBy HasSeen subject size members before after → IsSameNoter before after
   reads_short_same size members before after short =
       same_through before short.reached after (given_same size (take short.count members) None before short.reached short.none_gave) (same_by short.reached after [] short.none)
 
   held_now : (dn : ℕ) (story : List Event) (old node : State D) (value : SeatView) → old.id ≡ dn → Stays told clock image faults old node
-      → StandsFor told faults Coherent opening value node → BeginsWith story value.seen → HasAlready faults subject.block old
+      → StandsFor told clock image faults Coherent opening bytes script loaded value node → BeginsWith story value.seen → HasAlready faults subject.block old
       → HadIt Coherent opening subject.block story dn
   held_now dn story old node value its same stood begins has = record {
     moment = value.seen;
     goes_on = begins;
     held = λ coherent.
         ap (λ (n : ℕ). holds opening value.seen n subject.block) (sym its ∙ (sym same.id ∙ stood.number))
-        ∙ (stood.held coherent subject.block ∙ (ap (λ n. is_held n subject.block) same.node ∙ has.held));
+        ∙ (stood.held coherent (same.halted ∙ not_halted (is_halted old) (count_of faults old) _ has.served.ran) subject.block
+        ∙ (ap (λ n. is_held n subject.block) same.node ∙ has.held));
   }
 
   one_stands : (id : AskId) (first dn : ℕ) (answer : Option PutRefusal) (before after : NotingView) → before.id ≡ id → before.first ≡ first
-      → Answered told clock image faults (StandsFor told faults Coherent opening) IsNotedBy HasSeen subject dn answer before after → AnswerStands Coherent opening id subject.block after.seen dn answer
+      → Answered told clock image faults (StandsFor told clock image faults Coherent opening bytes script loaded) IsNotedBy HasSeen subject dn answer before after → AnswerStands Coherent opening id subject.block after.seen dn answer
   one_stands id first dn answer before after its at so =
       let is = same_told id before.id first before.first so.said before.seen after.seen its at so.told_so.told in
       let comes = subst (λ (n : ℕ). ComesWith n subject.block (length subject.bytes) answer so.said) so.member so.answers.noted_so in
@@ -188,7 +193,7 @@ module _ {D : Type 0} (told : D → Option (List ℕ)) (clock : D → ℕ) (imag
       so.left.1.0 so.left.1.1 (so.answers.already none))))
 
   pub answers_stand : (id : AskId) (first : ℕ) (members : List ℕ) (answers : List (Option PutRefusal)) (before after : NotingView) → before.id ≡ id → before.first ≡ first
-      → AllAnswered told clock image faults (StandsFor told faults Coherent opening) IsNotedBy HasSeen subject members answers before after
+      → AllAnswered told clock image faults (StandsFor told clock image faults Coherent opening bytes script loaded) IsNotedBy HasSeen subject members answers before after
       → AnswersStand Coherent opening id subject.block after.seen members answers
   answers_stand id first [] [] before after its at all = tt
   answers_stand id first [] (answer ∷ answers) before after its at all = absurd all

@@ -5,17 +5,22 @@ use Rattle.oz_buffer.specs.Buffer.{AllFollow, Follows}
 use Rattle.oz_buffer.specs.laws.Following.{told-push}
 use Rattle.oz_core.specs.declared.event.Event.{Event}
 use Rattle.oz_core.specs.declared.event.EventKind.{EventKind}
+use Rattle.oz_core.specs.declared.event.Node.{Node}
 use Rattle.oz_core.specs.declared.event.Node.TheVariants.{Datanode}
 use Rattle.oz_core.specs.declared.opening.Opening.{Opening}
 use Rattle.oz_core.specs.Contents.{OpeningBytes}
 use Rattle.oz_core.specs.Fits.{EventFits}
 use Rattle.oz_core.specs.Manager.{halt_count, halt_of}
 use Rattle.oz_core.specs.Nodes.{closed_after, is_running, stopped_or_started, was_closed}
-use Rattle.oz_core.specs.Stories.{last_told, newer}
-use Rattle.oz_datanode.specs.Datanode.{State, count_of, is_halted}
+use Rattle.oz_core.specs.Stories.{has_event, last_told, newer}
+use Rattle.oz_datanode.specs.Datanode.{State, count_of, is_halted, node_in}
+use Rattle.oz_datanode.specs.Pairs.{Content, NodeHolds}
+use Rattle.oz_fields.specs.declared.block.Block.{Block}
 use Rattle.oz_lines.specs.declared.script.Script.{Script}
 use Rattle.oz_node_events.specs.Commands.{by_node, run_event}
-use Rattle.oz_node_events.specs.NodeSeat.{IsAppended, IsKept, NumbersAreOld, SeatView, StandsFor, events_of}
+use Rattle.oz_world.specs.Disk.{Images}
+use Rattle.oz_node_events.specs.NodeSeat.{HasContents, IsAppended, IsKept, NumbersAreOld, SeatView, StandsFor, events_of, is_bad}
+use Rattle.oz_node_events.specs.laws.Contents.{content_push, contents_move}
 use Rattle.oz_node_events.proofs.Holding.{holds_push}
 use Rattle.oz_node_events.proofs.Moving.{follow_behind, follow_front, length_longer, same_view, stands_on}
 use Rattle.oz_node_events.proofs.Noted.{own_before, own_behind}
@@ -25,12 +30,13 @@ follow_one : (Follow : List Event → Event → Type 0) (before : List Event) (e
 unfolding AllFollow
 follow_one Follow before event rest all = all.0
 
-module _ (Coherent : Type 0) (opening : Opening) (bytes : OpeningBytes) (script : Script) {D : Type 0} (told : D → Option (List ℕ)) (faults : D → ℕ) where
+module _ (Coherent : Type 0) (opening : Opening) (bytes : OpeningBytes) (script : Script) (loaded : Node → ℕ) {D : Type 0} (told : D → Option (List ℕ)) (clock : D → ℕ)
+    (image : D → Images) (faults : D → ℕ) where
   abbrev Follow : List Event → Event → Type 0
   Follow = Follows Coherent opening bytes script
 
   abbrev Stands : SeatView → State D → Type 0
-  Stands view node = StandsFor told faults Coherent opening view node
+  Stands view node = StandsFor told clock image faults Coherent opening bytes script loaded view node
 
   -- ---- whether it runs
 
@@ -94,11 +100,20 @@ module _ (Coherent : Type 0) (opening : Opening) (bytes : OpeningBytes) (script 
       let own = own_before view.dn event refl view.seen before more view.mine later.seen kept.own told_so.begins told_so.goes_on.1 given in
       let own_then = own_behind view.dn event refl view.seen before more view.mine later.seen kept.own told_so.begins told_so.goes_on.1 given in
       let behind : SeatView = record { dn = view.dn; seen = before ++ event ∷ []; mine = view.mine ++ event ∷ []; room = view.room } in
-      let stood_here = stands_on told faults Coherent opening old bytes script view kept stood before view.room told_so.begins all_before own in
+      let stood_here = stands_on told clock image faults Coherent opening bytes script loaded old view kept stood before view.room told_so.begins all_before own in
       let stood_behind : Stands behind new = step before all_before follows stood_here in
-      let kept_behind : IsKept Coherent opening bytes script behind = record { few = kept.few; there = kept.there; numbered = kept.numbered; own = own_then; follow = all_behind } in
-      same_view told faults Coherent opening new (record { dn = view.dn; seen = later.seen; mine = view.mine ++ event ∷ []; room = view.room }) later (sym number) refl (sym mine)
-      (stands_on told faults Coherent opening new bytes script behind kept_behind stood_behind later.seen view.room told_so.goes_on kept_later.follow given)
+      let kept_behind : IsKept Coherent opening bytes script behind = record { few = kept.few; there = kept.there; numbered = kept.numbered; own = own_then; follow = all_behind; no_bad = λ coherent. ap (has_event is_bad) (sym mine) ∙ kept_later.no_bad coherent } in
+      same_view told clock image faults Coherent opening bytes script loaded new (record { dn = view.dn; seen = later.seen; mine = view.mine ++ event ∷ []; room = view.room }) later (sym number) refl (sym mine)
+      (stands_on told clock image faults Coherent opening bytes script loaded new behind kept_behind stood_behind later.seen view.room told_so.goes_on kept_later.follow given)
+
+  -- what is held stays, and the story is one event longer
+  pub contents_behind : Coherent → (before : List Event) (event : Event) → AllFollow (Follows Coherent opening bytes script) [] before → Follows Coherent opening bytes script before event
+      → (old new : State D) → node_in new ≡ node_in old
+      → ((contents : Block → Content) → NodeHolds told clock image faults contents old → NodeHolds told clock image faults contents new)
+      → HasContents told clock image faults opening bytes script before old → HasContents told clock image faults opening bytes script (before ++ event ∷ []) new
+  contents_behind coherent before event all follows old new same holds had =
+      contents_move told clock image faults opening bytes script before (before ++ event ∷ []) old new same holds
+      (content_push Coherent opening bytes script coherent before event all follows) had
 
   -- ---- behind a Stop or a Start
 
@@ -112,10 +127,14 @@ module _ (Coherent : Type 0) (opening : Opening) (bytes : OpeningBytes) (script 
           halt = told-push (halt_count (Datanode dn)) None mine event ∙ stood.halt;
           line = told-push (stopped_or_started dn) true mine event
               ∙ ap (λ (t : Bool). newer (cond t (Some true) None) (last_told (stopped_or_started dn) true mine)) (eq-eqb dn dn refl);
-          held = λ coherent block. holds_push Coherent opening bytes script coherent (numbered coherent) dn block before event all follows ∙ stood.held coherent block;
-          whole = λ coherent block row is. length_longer opening block row.length before (event ∷ []) (stood.whole coherent block row is);
-          closed = λ coherent container. told-push (closed_after dn container) (was_closed opening dn container) before event ∙ stood.closed coherent container;
+          tells = stood.tells;
+          no_fewer = stood.no_fewer;
+          rose = stood.rose;
+          held = λ coherent up block. holds_push Coherent opening bytes script coherent (numbered coherent) dn block before event all follows ∙ stood.held coherent up block;
+          whole = λ coherent up block row is. length_longer opening block row.length before (event ∷ []) (stood.whole coherent up block row is);
+          closed = λ coherent up container. told-push (closed_after dn container) (was_closed opening dn container) before event ∙ stood.closed coherent up container;
           journal = stood.journal;
+          contents = λ coherent up. contents_behind coherent before event all follows old (record old { stopped = false }) refl (λ contents holds. holds) (stood.contents coherent up);
         }
     run_step false follows old stood =
         let event = by_node dn (run_event dn false) in
@@ -124,10 +143,14 @@ module _ (Coherent : Type 0) (opening : Opening) (bytes : OpeningBytes) (script 
           halt = told-push (halt_count (Datanode dn)) None mine event ∙ stood.halt;
           line = told-push (stopped_or_started dn) true mine event
               ∙ ap (λ (t : Bool). newer (cond t (Some false) None) (last_told (stopped_or_started dn) true mine)) (eq-eqb dn dn refl);
-          held = λ coherent block. holds_push Coherent opening bytes script coherent (numbered coherent) dn block before event all follows ∙ stood.held coherent block;
-          whole = λ coherent block row is. length_longer opening block row.length before (event ∷ []) (stood.whole coherent block row is);
-          closed = λ coherent container. told-push (closed_after dn container) (was_closed opening dn container) before event ∙ stood.closed coherent container;
+          tells = stood.tells;
+          no_fewer = stood.no_fewer;
+          rose = stood.rose;
+          held = λ coherent up block. holds_push Coherent opening bytes script coherent (numbered coherent) dn block before event all follows ∙ stood.held coherent up block;
+          whole = λ coherent up block row is. length_longer opening block row.length before (event ∷ []) (stood.whole coherent up block row is);
+          closed = λ coherent up container. told-push (closed_after dn container) (was_closed opening dn container) before event ∙ stood.closed coherent up container;
           journal = stood.journal;
+          contents = λ coherent up. contents_behind coherent before event all follows old (record old { stopped = true }) refl (λ contents holds. holds) (stood.contents coherent up);
         }
 
   pub run_stands : (view later : SeatView) (node : State D) (runs : Bool) (other : List Event) → IsKept Coherent opening bytes script view → IsKept Coherent opening bytes script later

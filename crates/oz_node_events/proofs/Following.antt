@@ -8,6 +8,7 @@ use Rattle.oz_container.specs.declared.state.State.TheVariants as states
 use Rattle.oz_core.specs.declared.event.Event.{Event}
 use Rattle.oz_core.specs.declared.event.EventKind.{EventKind}
 use Rattle.oz_core.specs.declared.event.EventKind.TheVariants as events
+use Rattle.oz_core.specs.declared.event.Node.{Node}
 use Rattle.oz_core.specs.declared.event.Node.TheVariants.{Datanode}
 use Rattle.oz_core.specs.declared.event.PutRefusal.{PutRefusal}
 use Rattle.oz_core.specs.declared.event.PutRefusal.TheVariants as refusals
@@ -70,7 +71,7 @@ counted count one two is some = ⊎_elim (λ le. grind (arith, is, le)) (λ le. 
 open_state : (state : ReplicaState) → is_open state ≡ false → state ≢ states.Open
 open_state state shut is = absurd (false≢true (sym shut ∙ ap is_open is))
 
-held_row : (o : Option BlockRow) (row : BlockRow) → o ≡ Some row → is_some o ≡ true
+pub held_row : (o : Option BlockRow) (row : BlockRow) → o ≡ Some row → is_some o ≡ true
 held_row o row is = ap is_some is
 
 -- ---- the kinds of a note
@@ -102,7 +103,8 @@ module _ (Coherent : Type 0) (opening : Opening) (bytes : OpeningBytes) (script 
     (clock : D → ℕ) (image : D → Images) (faults : D → ℕ) (view : SeatView) (there : view.dn < length opening.nodes)
     (all : AllFollow (Follows Coherent opening bytes script) [] view.seen) (own : events_of view.dn view.seen ≡ view.mine)
     (id : AskId) (first : ℕ) (subject : Subject) (may : Coherent → MayNote opening bytes script id first subject view.seen)
-    (filled : FilledIsFull told faults) (most : length subject.bytes ≤ LONGEST_PIECE) (old : State D) (stood : StandsFor told faults Coherent opening view old) where
+    (filled : FilledIsFull told faults) (most : length subject.bytes ≤ LONGEST_PIECE) (loaded : Node → ℕ) (old : State D)
+    (stood : StandsFor told clock image faults Coherent opening bytes script loaded view old) where
   abbrev May : EventKind → Type 0
   May kind = Follows Coherent opening bytes script view.seen (record { seat = datanode_seat view.dn; kind = kind })
 
@@ -130,17 +132,19 @@ module _ (Coherent : Type 0) (opening : Opening) (bytes : OpeningBytes) (script 
       stopped (is_halted old) old.stopped (count_of faults old) count (halt_of (Datanode view.dn) view.seen) (last_told (stopped_or_started view.dn) true view.seen)
       halt_now (line_now coherent) why
   reason coherent (refusals.Full used asked capacity) why =
+      let up = not_halted (is_halted old) (count_of faults old) _ why.took.served.ran in
       filled opening view.seen view.dn old subject.block subject.bytes used asked capacity
-      (stood.journal coherent (not_halted (is_halted old) (count_of faults old) _ why.took.served.ran))
-      (record { held = stood.held coherent; lengths = stood.whole coherent }) most why
+      (stood.journal coherent up) (record { held = stood.held coherent up; lengths = stood.whole coherent up }) most why
   reason coherent (refusals.NotOpen state) why = (
-    stood.closed coherent subject.block.container ∙ ap not (ap is_open (sym why.is) ∙ why.not_open),
+    stood.closed coherent (not_halted (is_halted old) (count_of faults old) _ why.ran) subject.block.container
+        ∙ ap not (ap is_open (sym why.is) ∙ why.not_open),
     open_state state why.not_open,
   )
 
   pub note_follows : (note : Note) (new : State D) → Leads told clock image faults subject note old new → May (event_of id first note).kind
   note_follows (notes.Put n block size) new leads =
       let took = leads.4.took in
+      let up = not_halted (is_halted old) (count_of faults old) _ took.served.ran in
       subst May (sym (put_kind id first n view.dn block subject.block size (length subject.bytes) (leads.0.its ∙ stood.number) leads.1 leads.2))
       (record {
         of_seat = tt;
@@ -150,8 +154,8 @@ module _ (Coherent : Type 0) (opening : Opening) (bytes : OpeningBytes) (script 
               of_datanode = of_datanode;
               runs = runs coherent took.served.ran;
               member = piece.members view.dn (subst (λ (m : ℕ). Contains subject.members m) (leads.0.its ∙ stood.number) leads.0.member);
-              unclosed = stood.closed coherent subject.block.container ∙ ap not took.served.is;
-              new = stood.held coherent subject.block ∙ took.absent;
+              unclosed = stood.closed coherent up subject.block.container ∙ ap not took.served.is;
+              new = stood.held coherent up subject.block ∙ took.absent;
               before = piece.before;
               granted = piece.granted;
               place = piece.place;
@@ -190,7 +194,8 @@ module _ (Coherent : Type 0) (opening : Opening) (bytes : OpeningBytes) (script 
         of_seat = tt;
         enabled = λ coherent. record {
           of_datanode = of_datanode;
-          held = stood.held coherent subject.block ∙ held_row ((node_in old).rows subject.block) leads.2.bad.row leads.2.bad.held;
+          held = stood.held coherent (not_halted (is_halted old) (count_of faults old) _ leads.2.bad.ran) subject.block
+              ∙ held_row ((node_in old).rows subject.block) leads.2.bad.row leads.2.bad.held;
           named = (may coherent).named;
         };
         fits = λ coherent. (may coherent).started;

@@ -10,3 +10,5 @@ pub mod Noted
 pub mod Lasting
 pub mod Commanding
 pub mod Wiping
+pub mod Sound
+pub mod Given

@@ -1,9 +1,10 @@
 -- A seat stands for its datanode in each story that goes on by others' events.
-use Rattle.std.proofs.Common.{◌≡◌, Option, ℕ, List, [], ◌∷◌, ◌++◌, Some, sym, ap, ◌∙◌, subst, append_assoc, append-nil}
+use Rattle.std.proofs.Common.{◌≡◌, Option, ℕ, List, [], ◌∷◌, ◌++◌, Some, refl, sym, ap, ◌∙◌, subst, append_assoc, append-nil}
 use Rattle.std.proofs.lemmas.List.Elements.{filter_map-append}
 use Rattle.std.specs.List.{flat_map}
 use Rattle.oz_buffer.specs.Buffer.{AllFollow, Follows}
 use Rattle.oz_core.specs.declared.event.Event.{Event}
+use Rattle.oz_core.specs.declared.event.Node.{Node}
 use Rattle.oz_core.specs.declared.opening.Opening.{Opening}
 use Rattle.oz_core.specs.Contents.{OpeningBytes}
 use Rattle.oz_core.specs.Nodes.{holds, is_closed, length_in, length_of, put_length}
@@ -12,7 +13,9 @@ use Rattle.oz_datanode.specs.Datanode.{State}
 use Rattle.oz_fields.specs.declared.block.Block.{Block}
 use Rattle.oz_lines.specs.declared.script.Script.{Script}
 use Rattle.oz_turn.specs.Told.{BeginsWith}
-use Rattle.oz_node_events.specs.NodeSeat.{IsKept, SeatView, StandsFor, events_of}
+use Rattle.oz_world.specs.Disk.{Images}
+use Rattle.oz_node_events.specs.NodeSeat.{HasContents, IsKept, SeatView, StandsFor, events_of}
+use Rattle.oz_node_events.specs.laws.Contents.{content_more, contents_move}
 use Rattle.oz_node_events.proofs.Telling.{closed_more, others_go_on}
 use Rattle.oz_node_events.proofs.Holding.{holds_more}
 
@@ -51,11 +54,12 @@ length_longer opening block size seen more is =
 
 -- ---- views
 
-module _ {D : Type 0} (told : D → Option (List ℕ)) (faults : D → ℕ) (Coherent : Type 0) (opening : Opening) (node : State D) where
+module _ {D : Type 0} (told : D → Option (List ℕ)) (clock : D → ℕ) (image : D → Images) (faults : D → ℕ) (Coherent : Type 0) (opening : Opening)
+    (bytes : OpeningBytes) (script : Script) (loaded : Node → ℕ) (node : State D) where
   abbrev Stands : SeatView → Type 0
-  Stands view = StandsFor told faults Coherent opening view node
+  Stands view = StandsFor told clock image faults Coherent opening bytes script loaded view node
 
-  pub same_view : (a b : SeatView) → a.dn ≡ b.dn → a.seen ≡ b.seen → a.mine ≡ b.mine → StandsFor told faults Coherent opening a node → StandsFor told faults Coherent opening b node
+  pub same_view : (a b : SeatView) → a.dn ≡ b.dn → a.seen ≡ b.seen → a.mine ≡ b.mine → StandsFor told clock image faults Coherent opening bytes script loaded a node → StandsFor told clock image faults Coherent opening bytes script loaded b node
   same_view a b dn seen mine stood =
       let one : Stands (record { dn = b.dn; seen = a.seen; mine = a.mine; room = a.room }) =
       subst (λ (n : ℕ). Stands (record { dn = n; seen = a.seen; mine = a.mine; room = a.room })) dn stood in
@@ -63,12 +67,12 @@ module _ {D : Type 0} (told : D → Option (List ℕ)) (faults : D → ℕ) (Coh
       subst (λ (l : List Event). Stands (record { dn = b.dn; seen = l; mine = a.mine; room = a.room })) seen one in
       let three : Stands (record { dn = b.dn; seen = b.seen; mine = b.mine; room = a.room }) =
       subst (λ (l : List Event). Stands (record { dn = b.dn; seen = b.seen; mine = l; room = a.room })) mine two in
-      record { number = three.number; halt = three.halt; line = three.line; held = three.held; whole = three.whole; closed = three.closed; journal = three.journal }
+      record { number = three.number; halt = three.halt; line = three.line; held = three.held; whole = three.whole; closed = three.closed; tells = three.tells; no_fewer = three.no_fewer; rose = three.rose; journal = three.journal; contents = three.contents }
 
-  pub stands_on : (bytes : OpeningBytes) (script : Script) (view : SeatView) → IsKept Coherent opening bytes script view → StandsFor told faults Coherent opening view node
+  pub stands_on : (view : SeatView) → IsKept Coherent opening bytes script view → StandsFor told clock image faults Coherent opening bytes script loaded view node
       → (story : List Event) (room : ℕ) → BeginsWith story view.seen → AllFollow (Follows Coherent opening bytes script) [] story → events_of view.dn story ≡ view.mine
-      → StandsFor told faults Coherent opening (record { dn = view.dn; seen = story; mine = view.mine; room = room }) node
-  stands_on bytes script view kept stood story room begins all own =
+      → StandsFor told clock image faults Coherent opening bytes script loaded (record { dn = view.dn; seen = story; mine = view.mine; room = room }) node
+  stands_on view kept stood story room begins all own =
       let Follow = Follows Coherent opening bytes script in
       let more = begins.0 in
       let whole : AllFollow Follow [] (view.seen ++ more) = subst (λ (l : List Event). AllFollow Follow [] l) begins.1 all in
@@ -78,16 +82,23 @@ module _ {D : Type 0} (told : D → Option (List ℕ)) (faults : D → ℕ) (Coh
         number = stood.number;
         halt = stood.halt;
         line = stood.line;
-        held = λ coherent block.
+        tells = stood.tells;
+        no_fewer = stood.no_fewer;
+        rose = stood.rose;
+        held = λ coherent runs block.
             ap (λ (l : List Event). holds opening l view.dn block) begins.1
             ∙ (holds_more Coherent opening bytes script coherent (kept.numbered coherent) view.dn block more view.seen kept.follow behind none
-            ∙ stood.held coherent block);
-        whole = λ coherent block row is.
+            ∙ stood.held coherent runs block);
+        whole = λ coherent runs block row is.
             ap (λ (l : List Event). length_of opening l block) begins.1
-            ∙ length_longer opening block row.length view.seen more (stood.whole coherent block row is);
-        closed = λ coherent container.
+            ∙ length_longer opening block row.length view.seen more (stood.whole coherent runs block row is);
+        closed = λ coherent runs container.
             ap (λ (l : List Event). is_closed opening l view.dn container) begins.1
             ∙ (closed_more Coherent opening bytes script view.dn coherent container view.seen more behind none
-            ∙ stood.closed coherent container);
+            ∙ stood.closed coherent runs container);
         journal = stood.journal;
+        contents = λ coherent runs.
+            subst (λ (l : List Event). HasContents told clock image faults opening bytes script l node) (sym begins.1)
+            (contents_move told clock image faults opening bytes script view.seen (view.seen ++ more) node node refl (λ contents holds. holds)
+            (content_more Coherent opening bytes script coherent more view.seen kept.follow behind) (stood.contents coherent runs));
       }

@@ -4,9 +4,11 @@ use Rattle.std.proofs.Common.{Option}
 use Rattle.std.specs.Borrow.{GName}
 use Rattle.oz_buffer.specs.Buffer.{AllFollow, Follows}
 use Rattle.oz_core.specs.declared.event.Event.{Event}
+use Rattle.oz_core.specs.declared.event.Node.{Node}
 use Rattle.oz_core.specs.declared.opening.Opening.{Opening}
 use Rattle.oz_core.specs.Contents.{OpeningBytes}
 use Rattle.oz_core.specs.Seats.{datanode_seat}
+use Rattle.oz_core.specs.Stories.{has_event}
 use Rattle.oz_datanode.specs.Datanode.{State}
 use Rattle.oz_lines.specs.declared.script.Script.{Script}
 use Rattle.oz_replicas.specs.Notes.{Subject, Leads}
@@ -15,7 +17,7 @@ use Rattle.oz_replicas.specs.declared.note.Note.TheVariants as notes
 use Rattle.oz_requests.specs.declared.request.AskId.{AskId}
 use Rattle.oz_turn.specs.Told.{BeginsWith}
 use Rattle.oz_world.specs.Disk.{Images}
-use Rattle.oz_node_events.specs.NodeSeat.{IsAppended, IsKept, SeatView, StandsFor, events_of}
+use Rattle.oz_node_events.specs.NodeSeat.{IsAppended, IsKept, SeatView, StandsFor, events_of, is_bad}
 use Rattle.oz_node_events.specs.Noting.{AreTold, IsNotedBy, IsNoting, NotingView, event_of}
 use Rattle.oz_node_events.proofs.Following.{FilledIsFull, note_follows}
 use Rattle.oz_node_events.proofs.Leading.{PutStands, stands_after}
@@ -74,16 +76,16 @@ module _ (dn : ℕ) (event : Event) (its : event.seat ≡ datanode_seat dn) (see
   pub own_behind : events_of dn (before ++ event ∷ []) ≡ mine ++ event ∷ []
   own_behind = its_parts dn before (event ∷ []) ∙ (ap (λ l. l ++ events_of dn (event ∷ [])) own_before ∙ ap (λ l. mine ++ l) one_own)
 
-module _ (Coherent : Type 0) (opening : Opening) (bytes : OpeningBytes) (script : Script) {D : Type 0} (told : D → Option (List ℕ))
+module _ (Coherent : Type 0) (opening : Opening) (bytes : OpeningBytes) (script : Script) (loaded : Node → ℕ) {D : Type 0} (told : D → Option (List ℕ))
     (clock : D → ℕ) (image : D → Images) (faults : D → ℕ) where
   abbrev Follow : List Event → Event → Type 0
   Follow = Follows Coherent opening bytes script
 
   pub ready_stands : (node : State D) (view new : SeatView) → IsKept Coherent opening bytes script view → IsKept Coherent opening bytes script new
-      → new.dn ≡ view.dn → new.mine ≡ view.mine → BeginsWith new.seen view.seen → StandsFor told faults Coherent opening view node → StandsFor told faults Coherent opening new node
+      → new.dn ≡ view.dn → new.mine ≡ view.mine → BeginsWith new.seen view.seen → StandsFor told clock image faults Coherent opening bytes script loaded view node → StandsFor told clock image faults Coherent opening bytes script loaded new node
   ready_stands node view new kept kept_new number mine begins stood =
-      same_view told faults Coherent opening node (record { dn = view.dn; seen = new.seen; mine = view.mine; room = view.room }) new (sym number) refl (sym mine)
-      (stands_on told faults Coherent opening node bytes script view kept stood new.seen view.room begins kept_new.follow
+      same_view told clock image faults Coherent opening bytes script loaded node (record { dn = view.dn; seen = new.seen; mine = view.mine; room = view.room }) new (sym number) refl (sym mine)
+      (stands_on told clock image faults Coherent opening bytes script loaded node view kept stood new.seen view.room begins kept_new.follow
       (ap (λ (n : ℕ). events_of n new.seen) (sym number) ∙ (kept_new.own ∙ mine)))
 
   pub noting_later : (id : AskId) (first : ℕ) (subject : Subject) (seen later : List Event) → BeginsWith later seen
@@ -94,7 +96,7 @@ module _ (Coherent : Type 0) (opening : Opening) (bytes : OpeningBytes) (script 
   }
 
   module _ (filled : FilledIsFull told faults) (puts : PutStands told clock image faults) (id : AskId) (first : ℕ) (subject : Subject) (other : List Event) (noting : IsNoting Coherent opening bytes script id first subject other)
-      (view : SeatView) (kept : IsKept Coherent opening bytes script view) (note : Note) (old new : State D) (stood : StandsFor told faults Coherent opening view old)
+      (view : SeatView) (kept : IsKept Coherent opening bytes script view) (note : Note) (old new : State D) (stood : StandsFor told clock image faults Coherent opening bytes script loaded view old)
       (leads : Leads told clock image faults subject note old new) where
     abbrev event : Event
     event = record { seat = datanode_seat view.dn; kind = (event_of id first note).kind }
@@ -103,13 +105,13 @@ module _ (Coherent : Type 0) (opening : Opening) (bytes : OpeningBytes) (script 
         → Follows Coherent opening bytes script story (record { seat = datanode_seat view.dn; kind = (event_of id first note).kind })
     noted_follows story begins others all own =
         note_follows Coherent opening bytes script told clock image faults (record { dn = view.dn; seen = story; mine = view.mine; room = view.room }) kept.there all own id first subject
-        (λ coherent. noting.may coherent story others all) filled noting.most old
-        (stands_on told faults Coherent opening old bytes script view kept stood story view.room begins all own) note new leads
+        (λ coherent. noting.may coherent story others all) filled noting.most loaded old
+        (stands_on told clock image faults Coherent opening bytes script loaded old view kept stood story view.room begins all own) note new leads
 
     pub noted_stands : (later : SeatView) → IsKept Coherent opening bytes script later → later.dn ≡ view.dn
         → later.mine ≡ view.mine ++ record { seat = datanode_seat view.dn; kind = (event_of id first note).kind } ∷ []
         → IsAppended (record { seat = datanode_seat view.dn; kind = (event_of id first note).kind }) view.seen other later.seen
-        → StandsFor told faults Coherent opening later new
+        → StandsFor told clock image faults Coherent opening bytes script loaded later new
     noted_stands later kept_later number mine told_so =
         let before = told_so.before in
         let more = told_so.goes_on.0 in
@@ -122,13 +124,13 @@ module _ (Coherent : Type 0) (opening : Opening) (bytes : OpeningBytes) (script 
         let own_then = own_behind view.dn event refl view.seen before more view.mine later.seen kept.own told_so.begins told_so.goes_on.1 given in
         let here : SeatView = record { dn = view.dn; seen = before; mine = view.mine; room = view.room } in
         let behind : SeatView = record { dn = view.dn; seen = before ++ event ∷ []; mine = view.mine ++ event ∷ []; room = view.room } in
-        let stood_here : StandsFor told faults Coherent opening here old = stands_on told faults Coherent opening old bytes script view kept stood before view.room told_so.begins all_before own in
-        let stood_behind : StandsFor told faults Coherent opening behind new =
-        stands_after Coherent opening bytes script told clock image faults puts here kept.numbered all_before id first subject
+        let stood_here : StandsFor told clock image faults Coherent opening bytes script loaded here old = stands_on told clock image faults Coherent opening bytes script loaded old view kept stood before view.room told_so.begins all_before own in
+        let stood_behind : StandsFor told clock image faults Coherent opening bytes script loaded behind new =
+        stands_after Coherent opening bytes script loaded told clock image faults puts here kept.numbered all_before id first subject
         (λ coherent. noting.may coherent before told_so.begins_other all_before) old new stood_here note leads follows in
-        let kept_behind : IsKept Coherent opening bytes script behind = record { few = kept.few; there = kept.there; numbered = kept.numbered; own = own_then; follow = all_behind } in
-        same_view told faults Coherent opening new (record { dn = view.dn; seen = later.seen; mine = view.mine ++ event ∷ []; room = view.room }) later (sym number) refl (sym mine)
-        (stands_on told faults Coherent opening new bytes script behind kept_behind stood_behind later.seen view.room told_so.goes_on kept_later.follow given)
+        let kept_behind : IsKept Coherent opening bytes script behind = record { few = kept.few; there = kept.there; numbered = kept.numbered; own = own_then; follow = all_behind; no_bad = λ coherent. ap (has_event is_bad) (sym mine) ∙ kept_later.no_bad coherent } in
+        same_view told clock image faults Coherent opening bytes script loaded new (record { dn = view.dn; seen = later.seen; mine = view.mine ++ event ∷ []; room = view.room }) later (sym number) refl (sym mine)
+        (stands_on told clock image faults Coherent opening bytes script loaded new behind kept_behind stood_behind later.seen view.room told_so.goes_on kept_later.follow given)
 
     pub noted_told : (later : List Event) → IsAppended (record { seat = datanode_seat view.dn; kind = (event_of id first note).kind }) view.seen other later
         → AreTold id first (note ∷ []) other later

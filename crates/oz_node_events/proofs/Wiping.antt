@@ -5,6 +5,7 @@ use Rattle.oz_buffer.specs.Buffer.{AllFollow, Follows}
 use Rattle.oz_buffer.specs.laws.Following.{told-push}
 use Rattle.oz_core.specs.declared.event.Event.{Event}
 use Rattle.oz_core.specs.declared.event.EventKind.TheVariants.{Halt, Wipe}
+use Rattle.oz_core.specs.declared.event.Node.{Node}
 use Rattle.oz_core.specs.declared.event.Node.TheVariants.{Datanode}
 use Rattle.oz_core.specs.declared.opening.Opening.{Opening}
 use Rattle.oz_core.specs.Contents.{OpeningBytes}
@@ -13,14 +14,16 @@ use Rattle.oz_core.specs.Manager.{halt_count, halt_of}
 use Rattle.oz_core.specs.Nodes.{closed_after, holds, is_closed, stopped_or_started, was_closed}
 use Rattle.oz_core.specs.Stories.{newer}
 use Rattle.oz_datanode.specs.Datanode.{State, count_of, is_halted}
-use Rattle.oz_datanode.specs.Writing.{is_open}
-use Rattle.oz_entries.specs.Node.{Node, is_held}
+use Rattle.oz_datanode.specs.Writing.{intact, is_open}
+use Rattle.oz_datanode.specs.laws.GoingOn.{count_rose, rose_since}
+use Rattle.oz_entries.specs.Node.{Node as Held, is_held}
 use Rattle.oz_lines.specs.declared.script.Script.{Script}
+use Rattle.oz_world.specs.Disk.{Images}
 use Rattle.oz_node_events.specs.Commands.{HaltsSo, IsWipedSo, by_node}
 use Rattle.oz_node_events.specs.NodeSeat.{IsAppended, IsKept, NumbersAreOld, SeatView, StandsFor, events_of}
+use Rattle.oz_node_events.specs.laws.Disks.{both_tell, no_fewer_then}
 use Rattle.oz_node_events.proofs.Commanding.{event_stands}
 use Rattle.oz_node_events.proofs.Holding.{holds_push}
-use Rattle.oz_node_events.proofs.Moving.{length_longer}
 use Rattle.oz_node_events.proofs.Telling.{halt_own}
 
 none_some : {X : Type 0} (x : X) → None ≡ Some x → ⊥
@@ -29,12 +32,13 @@ none_some x is = cc
 true_false : true ≡ false → ⊥
 true_false is = cc
 
-module _ (Coherent : Type 0) (opening : Opening) (bytes : OpeningBytes) (script : Script) {D : Type 0} (told : D → Option (List ℕ)) (faults : D → ℕ) where
+module _ (Coherent : Type 0) (opening : Opening) (bytes : OpeningBytes) (script : Script) (loaded : Node → ℕ) {D : Type 0} (told : D → Option (List ℕ)) (clock : D → ℕ)
+    (image : D → Images) (faults : D → ℕ) where
   abbrev Follow : List Event → Event → Type 0
   Follow = Follows Coherent opening bytes script
 
   abbrev Stands : SeatView → State D → Type 0
-  Stands view node = StandsFor told faults Coherent opening view node
+  Stands view node = StandsFor told clock image faults Coherent opening bytes script loaded view node
 
   -- ---- they may be told
 
@@ -65,7 +69,7 @@ module _ (Coherent : Type 0) (opening : Opening) (bytes : OpeningBytes) (script 
 
   module _ (numbered : Coherent → NumbersAreOld opening) (dn room : ℕ) (before mine : List Event) (all : AllFollow Follow [] before) (old new : State D)
       (stood : Stands (record { dn = dn; seen = before; mine = mine; room = room }) old) where
-    wipe_step : Follow before (by_node dn (Wipe dn)) → IsWipedSo told old new
+    wipe_step : Follow before (by_node dn (Wipe dn)) → IsWipedSo told clock image faults old new
         → Stands (record { dn = dn; seen = before ++ by_node dn (Wipe dn) ∷ []; mine = mine ++ by_node dn (Wipe dn) ∷ []; room = room }) new
     wipe_step follows wiped =
         let event = by_node dn (Wipe dn) in
@@ -77,19 +81,28 @@ module _ (Coherent : Type 0) (opening : Opening) (bytes : OpeningBytes) (script 
               ∙ (ap (λ (t : Bool). cond t (Some (count_of faults old)) None) wiped.ran
               ∙ sym (ap (λ (t : Bool). cond t (Some (count_of faults new)) None) wiped.unhalted)));
           line = told-push (stopped_or_started dn) true mine event ∙ (stood.line ∙ sym (ap not wiped.line));
-          held = λ coherent block.
+          tells = λ coherent. both_tell told faults old new wiped.goes_on (stood.tells coherent);
+          no_fewer = no_fewer_then told faults old new wiped.goes_on (loaded (Datanode dn)) stood.no_fewer;
+          rose = λ halted. absurd (true_false (sym halted ∙ wiped.unhalted));
+          held = λ coherent up block.
               holds_push Coherent opening bytes script coherent (numbered coherent) dn block before event all follows
               ∙ (ap (λ (t : Bool). newer (cond t (Some false) None) (holds opening before dn block)) its
-              ∙ sym (ap (λ (n : Node). is_held n block) wiped.empty));
-          whole = λ coherent block row is. absurd (none_some row (sym (ap (λ (n : Node). n.rows block) wiped.empty) ∙ is));
-          closed = λ coherent container.
+              ∙ sym (ap (λ (n : Held). is_held n block) wiped.empty));
+          whole = λ coherent up block row is. absurd (none_some row (sym (ap (λ (n : Held). n.rows block) wiped.empty) ∙ is));
+          closed = λ coherent up container.
               told-push (closed_after dn container) (was_closed opening dn container) before event
               ∙ (ap (λ (t : Bool). newer (cond t (Some false) None) (is_closed opening before dn container)) its
-              ∙ sym (ap (λ (n : Node). not (is_open (n.states container))) wiped.empty));
-          journal = λ coherent running. wiped.journal;
+              ∙ sym (ap (λ (n : Held). not (is_open (n.states container))) wiped.empty));
+          journal = λ coherent up. wiped.journal;
+          contents = λ coherent up. record {
+            contents = λ block. intact [];
+            holds = wiped.pairs (λ block. intact []);
+            intact = λ block is. refl;
+            its = λ block is. absurd (true_false (sym is ∙ ap (λ (n : Held). is_held n block) wiped.empty));
+          };
         }
 
-    halt_step : (count : ℕ) → Follow before (by_node dn (Halt (Datanode dn) count)) → HaltsSo faults old new count
+    halt_step : (count : ℕ) → Follow before (by_node dn (Halt (Datanode dn) count)) → HaltsSo told faults old new count
         → Stands (record { dn = dn; seen = before ++ by_node dn (Halt (Datanode dn) count) ∷ []; mine = mine ++ by_node dn (Halt (Datanode dn) count) ∷ []; room = room }) new
     halt_step count follows halts =
         let event = by_node dn (Halt (Datanode dn) count) in
@@ -99,27 +112,26 @@ module _ (Coherent : Type 0) (opening : Opening) (bytes : OpeningBytes) (script 
               ∙ (ap (λ (t : Bool). newer (cond t (Some (Some count)) None) (halt_of (Datanode dn) mine)) (eq-eqb dn dn refl)
               ∙ (ap (λ (n : ℕ). Some n) halts.counted ∙ sym (ap (λ (t : Bool). cond t (Some (count_of faults new)) None) halts.halted)));
           line = told-push (stopped_or_started dn) true mine event ∙ (stood.line ∙ sym (ap not halts.line));
-          held = λ coherent block.
-              holds_push Coherent opening bytes script coherent (numbered coherent) dn block before event all follows
-              ∙ (stood.held coherent block ∙ sym (ap (λ (n : Node). is_held n block) halts.node));
-          whole = λ coherent block row is.
-              length_longer opening block row.length before (event ∷ []) (stood.whole coherent block row (sym (ap (λ (n : Node). n.rows block) halts.node) ∙ is));
-          closed = λ coherent container.
-              told-push (closed_after dn container) (was_closed opening dn container) before event
-              ∙ (stood.closed coherent container ∙ sym (ap (λ (n : Node). not (is_open (n.states container))) halts.node));
-          journal = λ coherent running. absurd (true_false (sym halts.halted ∙ running));
+          tells = λ coherent. both_tell told faults old new halts.goes_on (stood.tells coherent);
+          no_fewer = no_fewer_then told faults old new halts.goes_on (loaded (Datanode dn)) stood.no_fewer;
+          rose = λ halted. rose_since (loaded (Datanode dn)) (count_of faults old) (count_of faults new) stood.no_fewer (count_rose told faults old new halts.goes_on halts.cause);
+          held = λ coherent up. absurd (true_false (sym halts.halted ∙ up));
+          whole = λ coherent up. absurd (true_false (sym halts.halted ∙ up));
+          closed = λ coherent up. absurd (true_false (sym halts.halted ∙ up));
+          journal = λ coherent up. absurd (true_false (sym halts.halted ∙ up));
+          contents = λ coherent up. absurd (true_false (sym halts.halted ∙ up));
         }
 
   pub wipe_stands : (view later : SeatView) (old new : State D) (other : List Event) → IsKept Coherent opening bytes script view → IsKept Coherent opening bytes script later
-      → Stands view old → IsWipedSo told old new → later.dn ≡ view.dn → later.mine ≡ view.mine ++ by_node view.dn (Wipe view.dn) ∷ []
+      → Stands view old → IsWipedSo told clock image faults old new → later.dn ≡ view.dn → later.mine ≡ view.mine ++ by_node view.dn (Wipe view.dn) ∷ []
       → IsAppended (by_node view.dn (Wipe view.dn)) view.seen other later.seen → Stands later new
   wipe_stands view later old new other kept kept_later stood wiped number mine told_so =
-      event_stands Coherent opening bytes script told faults (Wipe view.dn) view later old new other kept kept_later stood number mine told_so
+      event_stands Coherent opening bytes script loaded told clock image faults (Wipe view.dn) view later old new other kept kept_later stood number mine told_so
       (λ before all follows here. wipe_step kept.numbered view.dn view.room before view.mine all old new here follows wiped)
 
   pub halt_stands : (view later : SeatView) (old new : State D) (count : ℕ) (other : List Event) → IsKept Coherent opening bytes script view → IsKept Coherent opening bytes script later
-      → Stands view old → HaltsSo faults old new count → later.dn ≡ view.dn → later.mine ≡ view.mine ++ by_node view.dn (Halt (Datanode view.dn) count) ∷ []
+      → Stands view old → HaltsSo told faults old new count → later.dn ≡ view.dn → later.mine ≡ view.mine ++ by_node view.dn (Halt (Datanode view.dn) count) ∷ []
       → IsAppended (by_node view.dn (Halt (Datanode view.dn) count)) view.seen other later.seen → Stands later new
   halt_stands view later old new count other kept kept_later stood halts number mine told_so =
-      event_stands Coherent opening bytes script told faults (Halt (Datanode view.dn) count) view later old new other kept kept_later stood number mine told_so
+      event_stands Coherent opening bytes script loaded told clock image faults (Halt (Datanode view.dn) count) view later old new other kept kept_later stood number mine told_so
       (λ before all follows here. halt_step kept.numbered view.dn view.room before view.mine all old new here count follows halts)

@@ -1,6 +1,6 @@
 //! What a datanode's seat does while it holds the turn.
 
-ghost use Rattle.std.specs.Prelude.{◌≡◌, ◌+◌, ◌<◌, ◌≤◌, ◌++◌, ◌∷◌, [], List, None, OnOk, OnErr};
+ghost use Rattle.std.specs.Prelude.{◌≡◌, ◌+◌, ◌<◌, ◌≤◌, ◌++◌, ◌∷◌, [], List, None, OnOk, OnErr, length};
 ghost use Rattle.oz_buffer.specs.Buffer.{AllFollow, Follows, IsNote};
 ghost use Rattle.oz_core.specs.declared.event.Event.{Event as AnyEvent};
 ghost use Rattle.oz_node_events.specs.NodeSeat.{IsAppended};
@@ -11,7 +11,7 @@ ghost use Rattle.oz_turn.specs.Turn.{turn_id};
 use oz_buffer::{Ledger, Opened};
 use oz_core::{Event, EventKind};
 use oz_fields::OutOfMemory;
-use oz_turn::{Seat, Turn};
+use oz_turn::{Seat, Told, Turn};
 use std::alloc::Global;
 use std::sync::Wait;
 
@@ -93,14 +93,14 @@ pub(crate) fn append<O: Opened, W: Wait>(
     seat.knows_own();
 }
 
-/// Another seat sees all that this one has.
+/// Another seat sees all that this one has, and the answer is how many events that is.
 pub(crate) fn show<O: Opened, W: Wait>(
     rt: &W,
     turn: &Turn<Ledger<O>>,
     seat: &mut Seat<Ledger<O>>,
     other: &mut Seat<Ledger<O>>,
     by: u16,
-)
+) -> u64
     requires ready { IsReady (turn_id turn.now) by seat.old }
     requires other_turn { turn_of other.old ≡ turn_id turn.now }
     requires other_free { taken_of other.old ≡ None }
@@ -116,10 +116,13 @@ pub(crate) fn show<O: Opened, W: Wait>(
     ensures other_seen { seen_of other.new ≡ seen_of seat.new }
     ensures other_mine { mine_of other.new ≡ mine_of other.old }
     ensures other_room { room_of other.new ≡ room_of other.old }
+    ensures length { result ≡ length (seen_of seat.new) }
 {
     let (ledger, held) = turn.take(rt, seat);
     ledger.all_follow();
     turn.show(seat, other);
+    let length = ledger.entries().len() as u64;
     turn.give_back(seat, ledger, held);
     seat.knows_own();
+    length
 }

@@ -11,8 +11,8 @@ mod seat;
 pub use laws::{
     a_failed_disk_halts_it, a_line_has_it_run_or_not, a_line_wipes_it, a_loaded_datanode_stands,
     a_noter_stays_the_same, a_quorum_may_be_written, each_answer_is_in_the_story,
-    it_stands_where_it_saw_more, its_seat_alone_tells, what_may_be_noted_stays,
-    what_was_granted_came_in_the_story,
+    it_stands_where_it_saw_more, its_seat_alone_tells, what_is_given_is_the_content,
+    what_may_be_noted_stays, what_was_granted_came_in_the_story,
 };
 pub use noting::Noting;
 pub use seat::NodeSeat;

@@ -1,12 +1,12 @@
 //! The seat of a datanode, which is kept beside it.
 
-ghost use Rattle.std.specs.Prelude.{◌≡◌, ◌+◌, ◌<◌, ◌≤◌, ◌++◌, ◌∷◌, [], List, length, slice_set, None, Ok, OnOk, OnErr};
+ghost use Rattle.std.specs.Prelude.{◌≡◌, ◌+◌, ◌<◌, ◌≤◌, ◌++◌, ◌∷◌, [], List, length, slice_set, false, None, Ok, OnOk, OnErr};
 ghost use Rattle.oz_buffer.specs.Buffer.{AllFollow, Follows, IsNote};
 ghost use Rattle.oz_core.specs.declared.event.Event.{Event as AnyEvent};
 ghost use Rattle.oz_core.specs.Nodes.{is_running};
 ghost use Rattle.oz_core.specs.Seats.{datanode_seat};
 ghost use Rattle.oz_nodes.specs.declared.nodes.TheConstants.{MOST_NODES};
-ghost use Rattle.oz_node_events.specs.NodeSeat.{IsAppended, IsKept, NumbersAreOld, events_of};
+ghost use Rattle.oz_node_events.specs.NodeSeat.{IsAppended, IsKept, NumbersAreOld, events_of, is_bad};
 ghost use Rattle.oz_node_events.specs.Beside.{ShareAPlace};
 ghost use Rattle.oz_scm_events.specs.Tracked.{IsTracked};
 ghost use Rattle.oz_turn.specs.Seat.{IsNewSeat, IsReady, IsSameSeat, mine_of, room_of, seen_of, taken_of, turn_of};
@@ -59,12 +59,13 @@ impl<D: Disk, T: Told<Entry = Event>, O: Opened, R: Ring> Kept<D> for NodeSeat<T
     ghost use Rattle.oz_node_events.specs.NodeSeat.{StandsFor};
     ghost use Rattle.oz_node_events.specs.laws.Standing.{stands_still};
 
-    ghost stands = { λ kept node. StandsFor D.told D.faults O.coherent O.opening kept node };
+    ghost stands = { λ kept node.
+        StandsFor D.told D.clock D.image D.faults O.coherent O.opening O.bytes O.script O.faults kept node };
 
     ghost room = { λ kept. kept.room };
 
     ghost stays = { λ kept old new same stood.
-        stands_still D.told D.clock D.image D.faults O.coherent O.opening kept old new same stood };
+        stands_still D.told D.clock D.image D.faults O.coherent O.opening O.bytes O.script O.faults kept old new same stood };
 }
 
 impl<T: Told<Entry = Event>, O: Opened, R: Ring> NodeSeat<T, O, R> {
@@ -159,6 +160,7 @@ impl<O: Opened, R: Ring> NodeSeat<Ledger<O>, O, R> {
         requires other_free { taken_of other.old ≡ None }
         requires room { 1 ≤ self.old.room }
         requires kind { IsNote kind }
+        requires no_bad { O.coherent → is_bad kind ≡ false }
         requires follows { (story : List AnyEvent) → BeginsWith story self.old.seen → BeginsWith story (seen_of other.old)
             → AllFollow (Follows O.coherent O.opening O.bytes O.script) [] story
             → events_of self.old.dn story ≡ self.old.mine
@@ -226,8 +228,13 @@ impl<O: Opened, R: Ring> NodeSeat<Ledger<O>, O, R> {
         changed
     }
 
-    /// Another seat sees all that the datanode's has seen by then. It takes no memory.
-    pub fn show<W: Wait>(&mut self, rt: &W, turn: &Turn<Ledger<O>>, other: &mut Seat<Ledger<O>>)
+    /// Another seat sees all that the datanode's has seen by then, and the answer is how many events that is. It takes no memory.
+    pub fn show<W: Wait>(
+        &mut self,
+        rt: &W,
+        turn: &Turn<Ledger<O>>,
+        other: &mut Seat<Ledger<O>>,
+    ) -> u64
         requires turn { turn_id turn.now ≡ R.turn }
         requires other_turn { turn_of other.old ≡ R.turn }
         requires other_free { taken_of other.old ≡ None }
@@ -243,8 +250,9 @@ impl<O: Opened, R: Ring> NodeSeat<Ledger<O>, O, R> {
         ensures other_seen { seen_of other.new ≡ self.new.seen }
         ensures other_mine { mine_of other.new ≡ mine_of other.old }
         ensures other_room { room_of other.new ≡ room_of other.old }
+        ensures length { result ≡ length self.new.seen }
     {
         let number = FIRST_DATANODE_SEAT + u16::from(self.dn);
-        show(rt, turn, &mut self.seat, other, number);
+        show(rt, turn, &mut self.seat, other, number)
     }
 }

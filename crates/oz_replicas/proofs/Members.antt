@@ -43,10 +43,10 @@ module _ {D K N : Type 0} (told : D → Option (List ℕ)) (clock : D → ℕ) (
     none = none;
   }
 
-module _ {D K N : Type 0} (told : D → Option (List ℕ)) (clock : D → ℕ) (image : D → Images) (faults : D → ℕ) (stands : K → State D → Type 0) (noted : N → List Note → N → Type 0) (subject : Subject) where
+module _ {D K N : Type 0} (told : D → Option (List ℕ)) (clock : D → ℕ) (image : D → Images) (faults : D → ℕ) (stands : K → State D → Type 0) (noted : N → List Note → N → Type 0) (knows : N → K → Type 0) (subject : Subject) where
   -- one more gave none
-  pub first_more : (members : List ℕ) (size dn : ℕ) (start now next : N) → IsFirstGiven told clock image faults stands noted subject size members None start now → Gave told clock image faults stands noted subject size dn None now next → IsFirstGiven told clock image faults stands noted subject size (members ++ dn ∷ []) None start next
-  first_more [] size dn start now next none gave = inr (next, (subst (λ (n : N). Gave told clock image faults stands noted subject size dn None n next) none.1 gave, (refl, refl)))
+  pub first_more : (members : List ℕ) (size dn : ℕ) (start now next : N) → IsFirstGiven told clock image faults stands noted knows subject size members None start now → Gave told clock image faults stands noted knows subject size dn None now next → IsFirstGiven told clock image faults stands noted knows subject size (members ++ dn ∷ []) None start next
+  first_more [] size dn start now next none gave = inr (next, (subst (λ (n : N). Gave told clock image faults stands noted knows subject size dn None n next) none.1 gave, (refl, refl)))
   first_more (x ∷ members) size dn start now next (inl found) gave = absurd (never found.0 found.1.0)
     where
       never : (bytes : List ℕ) → ◌≡◌ {A = Option (List ℕ)} None (Some bytes) → ⊥
@@ -54,8 +54,8 @@ module _ {D K N : Type 0} (told : D → Option (List ℕ)) (clock : D → ℕ) (
   first_more (x ∷ members) size dn start now next (inr none) gave = inr (none.0, (none.1.0, first_more members size dn none.0 now next none.1.1 gave))
 
   -- and the next one gave these bytes
-  pub first_found : (members : List ℕ) (size dn : ℕ) (rest bytes : List ℕ) (start now next : N) → IsFirstGiven told clock image faults stands noted subject size members None start now → Gave told clock image faults stands noted subject size dn (Some bytes) now next → IsFirstGiven told clock image faults stands noted subject size (members ++ dn ∷ rest) (Some bytes) start next
-  first_found [] size dn rest bytes start now next none gave = inl (bytes, (refl, subst (λ (n : N). Gave told clock image faults stands noted subject size dn (Some bytes) n next) none.1 gave))
+  pub first_found : (members : List ℕ) (size dn : ℕ) (rest bytes : List ℕ) (start now next : N) → IsFirstGiven told clock image faults stands noted knows subject size members None start now → Gave told clock image faults stands noted knows subject size dn (Some bytes) now next → IsFirstGiven told clock image faults stands noted knows subject size (members ++ dn ∷ rest) (Some bytes) start next
+  first_found [] size dn rest bytes start now next none gave = inl (bytes, (refl, subst (λ (n : N). Gave told clock image faults stands noted knows subject size dn (Some bytes) n next) none.1 gave))
   first_found (x ∷ members) size dn rest bytes start now next (inl found) gave = absurd (never found.0 found.1.0)
     where
       never : (bytes : List ℕ) → ◌≡◌ {A = Option (List ℕ)} None (Some bytes) → ⊥

@@ -24,15 +24,15 @@ IsGiven told clock image faults subject size old new (Some bytes) said =
     (said ≡ []) × Gives told clock image faults subject.block size bytes old new
 IsGiven told clock image faults subject size old new None said = IsLost told faults subject size old new said
 
--- The member of this number gave them under its lock, and that was noted.
+-- The member of this number gave them under its lock, and that was noted. The noter then knows all that is kept beside it.
 pub record Gave {D K N : Type 0} (told : D → Option (List ℕ)) (clock : D → ℕ) (image : D → Images) (faults : D → ℕ)
-    (stands : K → State D → Type 0) (noted : N → List Note → N → Type 0) (subject : Subject) (size dn : ℕ)
+    (stands : K → State D → Type 0) (noted : N → List Note → N → Type 0) (knows : N → K → Type 0) (subject : Subject) (size dn : ℕ)
     (given : Option (List ℕ)) (before after : N) : Type 0 where
   pub old : State D
   pub new : State D
   pub member : old.id ≡ dn
   pub kept : (value : K) × stands value old
-  pub left : (value : K) × stands value new
+  pub left : (value : K) × (stands value new × knows after value)
   pub said : List Note
   pub told_so : noted before said after
   pub goes : Goes told clock image faults subject said old new
@@ -40,20 +40,20 @@ pub record Gave {D K N : Type 0} (told : D → Option (List ℕ)) (clock : D →
 
 -- The first of these members that gave bytes gave these. It is none where none did.
 abbrev pub IsFirstGiven : {D K N : Type 0} → (D → Option (List ℕ)) → (D → ℕ) → (D → Images) → (D → ℕ)
-    → (K → State D → Type 0) → (N → List Note → N → Type 0) → Subject → ℕ → List ℕ → Option (List ℕ) → N → N → Type 0
-IsFirstGiven told clock image faults stands noted subject size [] given before after = (given ≡ None) × (after ≡ before)
-IsFirstGiven {D} {K} {N} told clock image faults stands noted subject size (dn ∷ members) given before after =
+    → (K → State D → Type 0) → (N → List Note → N → Type 0) → (N → K → Type 0) → Subject → ℕ → List ℕ → Option (List ℕ) → N → N → Type 0
+IsFirstGiven told clock image faults stands noted knows subject size [] given before after = (given ≡ None) × (after ≡ before)
+IsFirstGiven {D} {K} {N} told clock image faults stands noted knows subject size (dn ∷ members) given before after =
     ((bytes : List ℕ) × ((given ≡ Some bytes)
-    × Gave told clock image faults stands noted subject size dn (Some bytes) before after))
-    ⊎ ((next : N) × (Gave told clock image faults stands noted subject size dn None before next
-    × IsFirstGiven told clock image faults stands noted subject size members given next after))
+    × Gave told clock image faults stands noted knows subject size dn (Some bytes) before after))
+    ⊎ ((next : N) × (Gave told clock image faults stands noted knows subject size dn None before next
+    × IsFirstGiven told clock image faults stands noted knows subject size members given next after))
 
 -- Some of the members gave none, and the next one's lock was let go with nothing noted for want of memory.
 pub record ReadsShort {D K N : Type 0} (told : D → Option (List ℕ)) (clock : D → ℕ) (image : D → Images) (faults : D → ℕ)
-    (stands : K → State D → Type 0) (noted : N → List Note → N → Type 0) (subject : Subject) (size : ℕ)
+    (stands : K → State D → Type 0) (noted : N → List Note → N → Type 0) (knows : N → K → Type 0) (subject : Subject) (size : ℕ)
     (members : List ℕ) (before after : N) : Type 0 where
   pub count : ℕ
   pub fewer : count < length members
   pub reached : N
-  pub none_gave : IsFirstGiven told clock image faults stands noted subject size (take count members) None before reached
+  pub none_gave : IsFirstGiven told clock image faults stands noted knows subject size (take count members) None before reached
   pub none : noted reached [] after

@@ -26,9 +26,9 @@ pub fn read_piece<D: Disk, K: Kept<D>, N: Noter<D, K>, W: Wait>(
     requires members { All (λ dn. dn < nodes.now) members }
     requires its_members { (N.subject noter.old).members ≡ members }
     requires its_block { (N.subject noter.old).block ≡ piece.block }
-    ensures given { IfOk result (λ given. IsFirstGiven D.told D.clock D.image D.faults K.stands N.noted
+    ensures given { IfOk result (λ given. IsFirstGiven D.told D.clock D.image D.faults K.stands N.noted N.knows
         (N.subject noter.old) piece.length members (option_map (λ bytes. bytes.items) given) noter.old noter.new) }
-    ensures lacks { OnErr result (ReadsShort D.told D.clock D.image D.faults K.stands N.noted (N.subject noter.old)
+    ensures lacks { OnErr result (ReadsShort D.told D.clock D.image D.faults K.stands N.noted N.knows (N.subject noter.old)
         piece.length members noter.old noter.new) }
     ensures subject { N.subject noter.new ≡ N.subject noter.old }
 {
@@ -52,7 +52,7 @@ fn read_member<D: Disk, K: Kept<D>, N: Noter<D, K>, W: Wait>(
     requires there { dn < nodes.now }
     requires member { Contains (N.subject noter.old).members dn }
     requires its_block { (N.subject noter.old).block ≡ piece.block }
-    ensures gave { IfOk result (λ given. Gave D.told D.clock D.image D.faults K.stands N.noted
+    ensures gave { IfOk result (λ given. Gave D.told D.clock D.image D.faults K.stands N.noted N.knows
         (N.subject noter.old) piece.length dn (option_map (λ bytes. bytes.items) given) noter.old noter.new) }
     ensures lacks { OnErr result (N.noted noter.old [] noter.new) }
     ensures subject { N.subject noter.new ≡ N.subject noter.old }

@@ -23,7 +23,7 @@ use oz_world::Disk;
 use std::alloc::Global;
 
 /// Reads a piece from the datanode of a cell whose lock is held, and notes what came of it. It is None where the datanode
-/// doesn't give so many bytes.
+/// doesn't give so many bytes. The noter knows then what is kept beside it.
 pub fn read_at<D: Disk, K: Kept<D>, N: Noter<D, K>>(
     alloc: Global,
     cell: &mut NodeCell<D, K>,
@@ -38,6 +38,7 @@ pub fn read_at<D: Disk, K: Kept<D>, N: Noter<D, K>>(
         (option_map (λ bytes. bytes.items) given) notes)) }
     ensures lacks { OnErr result (N.noted noter.old [] noter.new
         × Stays D.told D.clock D.image D.faults cell.old.node cell.new.node) }
+    ensures knows { N.knows noter.new cell.new.kept }
     ensures subject { N.subject noter.new ≡ N.subject noter.old }
     ensures before { IsAtRest K.stands cell.old.node cell.old.kept }
     ensures after { IsAtRest K.stands cell.new.node cell.new.kept }
@@ -63,6 +64,7 @@ fn read_beside<D: Disk, K: Kept<D>, N: Noter<D, K>>(
         (option_map (λ bytes. bytes.items) given) notes)) }
     ensures lacks { OnErr result (N.noted noter.old [] noter.new
         × Stays D.told D.clock D.image D.faults node.old node.new) }
+    ensures knows { N.knows noter.new kept.new }
     ensures subject { N.subject noter.new ≡ N.subject noter.old }
     ensures idle { IsIdle node.new }
     ensures stands { K.stands kept.new node.new }

@@ -1,6 +1,6 @@
 //! Laws of what loaded disks stand for together.
 
-ghost use Rattle.std.specs.Prelude.{◌≡◌, ◌↔◌, ◌<◌, ◌≤◌, ℕ, List, [], None, Some, IsSome, All, Contains, not, map, option_map, slice_get};
+ghost use Rattle.std.specs.Prelude.{◌≡◌, ◌↔◌, ◌<◌, ◌≤◌, ℕ, List, [], None, Some, IsSome, All, Contains, length, not, map, option_map, slice_get};
 ghost use Rattle.std.specs.FinMap.{get};
 ghost use Rattle.oz_core.specs.Coherent.{IdsAreFresh, LogIsCoherent};
 ghost use Rattle.oz_core.specs.Contents.{OpeningBytes};
@@ -139,6 +139,20 @@ pub fn each_row_has_the_length_of_its_block<D: Disk>()
         BlocksAgree all (opening_of unseated namespace made nodes) (opening_bytes see nodes) →
         slice_get nodes dn ≡ Some node → (node_in node).rows block ≡ Some row →
         length_of (opening_of unseated namespace made nodes) [] block ≡ Some row.length }
+{
+    blocks_have_slots_of_their_own();
+}
+
+/// Where the blocks agree, and the journals of all datanodes told their bytes as they were loaded, an opening has the length of
+/// a block that the bytes have which the disks had of it.
+pub fn each_block_has_the_length_of_its_bytes<D: Disk>()
+    ensures { (all : AnyRows) (unseated : UnseatedView) (namespace : AnyNamespace) (made : Made) (disks : List (NodeDisks D))
+        (nodes : List (AnyDatanode D)) (block : AnyBlock) (dn count : ℕ) (content : List ℕ) →
+        let see = (λ (d : D). seen (D.told d) (D.clock d) (D.image d) (D.faults d)) in
+        All (λ (own : NodeDisks D). IsSome (D.told own.meta)) disks → AreNodesFrom see 0 disks nodes →
+        BlocksAgree all (opening_of unseated namespace made nodes) (opening_bytes see nodes) →
+        opening_bytes see nodes dn block ≡ Some content →
+        length_of (opening_of unseated namespace made nodes) [] block ≡ Some count → count ≡ length content }
 {
     blocks_have_slots_of_their_own();
 }

@@ -21,7 +21,7 @@ pub use saying::times_said;
 pub use seeing::story_length;
 pub use settlement::{Settlement, settle_line};
 pub use starting::has_started;
-pub use still::Still;
+pub use still::{Still, stands_still};
 pub use telling::tell;
 pub use untold::Untold;
 pub use writing::{Unwritten, tell_written};

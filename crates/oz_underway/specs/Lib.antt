@@ -1,3 +1,4 @@
 pub mod GoingOn
+pub mod Lengths
 pub mod UnderWay
 pub mod laws

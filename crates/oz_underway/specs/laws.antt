@@ -21,3 +21,7 @@ pub mod Granted
 pub mod Piece
 pub mod Answered
 pub mod Writing
+pub mod Replied
+pub mod Made
+pub mod Reading
+pub mod Lengths

@@ -1,7 +1,8 @@
 //! What stays of a line that is under way.
 
 ghost use Rattle.std.specs.Prelude.{◌≡◌, ◌≢◌, ◌+◌, ◌≤◌, ◌<◌, ◌==◌, ◌++◌, ◌∷◌, ℕ, [], Bool, List, Option, true, false};
-ghost use Rattle.std.specs.Prelude.{None, Some, length, if◌then◌else◌, All, Contains, count_by, is_none, nat_le};
+ghost use Rattle.std.specs.Prelude.{None, Some, length, if◌then◌else◌, All, Contains, IsSome, count_by, is_none, nat_le};
+ghost use Rattle.std.specs.FinMap.{get};
 ghost use Rattle.std.specs.List.{list_all};
 ghost use Rattle.oz_asker.specs.Decided.{IsDecideAt};
 ghost use Rattle.oz_buffer.specs.Buffer.{AllFollow, Follows};
@@ -21,14 +22,16 @@ ghost use Rattle.oz_core.specs.declared.event.Event.{Event as AnyEvent};
 ghost use Rattle.oz_core.specs.declared.event.EventKind.TheVariants.{Ask, Told, Wrote};
 ghost use Rattle.oz_core.specs.declared.limits.TheConstants.{SERVICE_CLIENT};
 ghost use Rattle.oz_core.specs.declared.event.PutRefusal.{PutRefusal as AnyPutRefusal};
-ghost use Rattle.oz_core.specs.Asks.{asks_of, is_of_line, is_told, last_ask, pending};
+ghost use Rattle.oz_core.specs.Asks.{asks_of, is_of_line, is_own, is_told, last_ask, pending};
 ghost use Rattle.oz_core.specs.Coherent.{IsCoherent};
-ghost use Rattle.oz_core.specs.Contents.{HasContent, WasGranted, written_for};
+ghost use Rattle.oz_core.specs.Contents.{HasContent, WasGranted, WasThere, written_for};
 ghost use Rattle.oz_core.specs.Due.{IsDue};
 ghost use Rattle.oz_core.specs.Fits.{EventFits, Fits};
-ghost use Rattle.oz_core.specs.Law.{AskIsEnabled, puts, writes};
+ghost use Rattle.oz_core.specs.Law.{AskIsEnabled, IsNamed, puts, writes};
 ghost use Rattle.oz_core.specs.Lines.{HasStarted};
-ghost use Rattle.oz_core.specs.Scm.{members};
+ghost use Rattle.oz_core.specs.Manager.{namespace_of};
+ghost use Rattle.oz_core.specs.Nodes.{holds, is_intact, length_of};
+ghost use Rattle.oz_core.specs.Scm.{containers, members};
 ghost use Rattle.oz_core.specs.Seats.{IsLineSeat};
 ghost use Rattle.oz_core.specs.Steps.{GrantedBlock, commit_step, is_open_at, opening_line, refuses_so, was_told_ok};
 ghost use Rattle.oz_core.specs.Stories.{has_event};
@@ -38,10 +41,12 @@ ghost use Rattle.oz_granted.specs.Granted.{AreNumbered};
 ghost use Rattle.oz_lines.specs.declared.script.Line.{Line as AnyLine};
 ghost use Rattle.oz_lines.specs.Numbered.{IsNumbered};
 ghost use Rattle.oz_model.specs.Answers.{Answers};
+ghost use Rattle.oz_model.specs.Reach.{IsReached};
 ghost use Rattle.oz_namespace.specs.declared.namespace.Namespace.{Namespace as AnyNamespace};
 ghost use Rattle.oz_nodes.specs.Pipelines.{AreApart, members_of, pipelines_of};
 ghost use Rattle.oz_nodes.specs.declared.nodes.TheConstants.{FEWEST_NODES};
 ghost use Rattle.oz_requests.specs.declared.answer.Answer.{Answer as AnyAnswer};
+ghost use Rattle.oz_requests.specs.declared.answer.Answer.TheVariants as told;
 ghost use Rattle.oz_requests.specs.declared.reply.Reply.TheVariants as replies;
 ghost use Rattle.oz_requests.specs.declared.reply.Reply.{Reply as AnyReply};
 ghost use Rattle.oz_requests.specs.declared.request.AskId.{AskId as AnyId};
@@ -57,6 +62,7 @@ ghost use Rattle.oz_steps.specs.Lines.{IsLabel, commit_of_label};
 ghost use Rattle.oz_steps.specs.Requests.{request_by};
 ghost use Rattle.oz_turn.specs.Told.{BeginsWith};
 ghost use Rattle.oz_underway.specs.GoingOn.{FromHereOn};
+ghost use Rattle.oz_underway.specs.Lengths.{LengthsAreOfBytes};
 ghost use Rattle.oz_underway.specs.UnderWay.{HaveAnswered, IsPieceFor, IsLast, IsSaid, IsUnderWay, LabelStays, WhileStill};
 ghost use Rattle.oz_underway.specs.UnderWay.{ask_of, is_all_written, times_asked};
 
@@ -269,6 +275,78 @@ pub fn a_piece_is_read<O: Opened>()
         HasContent O.opening O.bytes O.script later piece.block content →
         IsUnderWay O.coherent O.opening O.bytes O.script later line asked said command
         (record progress { read = progress.read ++ content ∷ [] }) }
+{}
+
+/// The members of a container stay once it is made. It has three, and each block that a Decide named, or that a key, a
+/// session or a snapshot has, lies in a container that is made.
+pub fn members_stay<O: Opened>()
+    ensures stay { (number : ℕ) (seen : List AnyEvent) → IsSome (get (containers O.opening seen) number) →
+        FromHereOn O.coherent O.opening O.bytes O.script seen (λ story.
+        members O.opening story number ≡ members O.opening seen number) }
+    ensures three { (number : ℕ) (story : List AnyEvent) → IsSome (get (containers O.opening story) number) →
+        length (members O.opening story number) ≡ 3 }
+    ensures named { O.coherent → IsCoherent O.opening O.bytes → (story : List AnyEvent) (id : AnyId) (block : AnyBlock) →
+        AllFollow (Follows O.coherent O.opening O.bytes O.script) [] story → IsNamed story id block →
+        IsSome (get (containers O.opening story) block.container) }
+    ensures reached { O.coherent → IsCoherent O.opening O.bytes → (story : List AnyEvent) (block : AnyBlock) →
+        AllFollow (Follows O.coherent O.opening O.bytes O.script) [] story →
+        IsReached (namespace_of O.opening story) block →
+        IsSome (get (containers O.opening story) block.container) }
+{}
+
+/// Who holds a block is a member of its container.
+pub fn holders_are_members<O: Opened>()
+    ensures { O.coherent → IsCoherent O.opening O.bytes → (story : List AnyEvent) (dn : ℕ) (block : AnyBlock) →
+        AllFollow (Follows O.coherent O.opening O.bytes O.script) [] story → holds O.opening story dn block ≡ true →
+        Contains (members O.opening story block.container) dn }
+{}
+
+/// What a line reads next was replied to its last Ask, which isn't the line's own id: a Decide of it named the block.
+pub fn what_is_read_is_named<O: Opened>()
+    ensures { O.coherent → (seen : List AnyEvent) (line : AnyLine) (asked said : ℕ) (command : AnyCommand)
+        (progress : AnyProgress) (piece : AnyPiece) →
+        IsUnderWay O.coherent O.opening O.bytes O.script seen line asked said command progress →
+        IsReading command progress piece →
+        FromHereOn O.coherent O.opening O.bytes O.script seen (λ story.
+        IsNamed story (ask_of line asked) piece.block × (is_own (ask_of line asked) ≡ false)) }
+{}
+
+/// The content of the block that a line reads next is as long as the piece says. So is the block itself, where no disk had
+/// it, or where each block of the opening is as long as the bytes that disks had of it.
+pub fn a_piece_has_the_length_of_its_block<O: Opened>()
+    ensures content { O.coherent → IsCoherent O.opening O.bytes → IsNumbered O.script → (seen : List AnyEvent)
+        (line : AnyLine) (asked said : ℕ) (command : AnyCommand) (progress : AnyProgress) (piece : AnyPiece) →
+        IsUnderWay O.coherent O.opening O.bytes O.script seen line asked said command progress →
+        IsReading command progress piece →
+        FromHereOn O.coherent O.opening O.bytes O.script seen (λ story. (content : List ℕ) →
+        HasContent O.opening O.bytes O.script story piece.block content → length content ≡ piece.length) }
+    ensures new { O.coherent → IsCoherent O.opening O.bytes → IsNumbered O.script → (seen : List AnyEvent)
+        (line : AnyLine) (asked said : ℕ) (command : AnyCommand) (progress : AnyProgress) (piece : AnyPiece) →
+        IsUnderWay O.coherent O.opening O.bytes O.script seen line asked said command progress →
+        IsReading command progress piece → (WasThere O.opening piece.block → ⊥) →
+        FromHereOn O.coherent O.opening O.bytes O.script seen (λ story. (count : ℕ) →
+        length_of O.opening story piece.block ≡ Some count → count ≡ piece.length) }
+    ensures length { O.coherent → IsCoherent O.opening O.bytes → IsNumbered O.script →
+        LengthsAreOfBytes O.opening O.bytes → (seen : List AnyEvent) (line : AnyLine) (asked said : ℕ)
+        (command : AnyCommand) (progress : AnyProgress) (piece : AnyPiece) →
+        IsUnderWay O.coherent O.opening O.bytes O.script seen line asked said command progress →
+        IsReading command progress piece →
+        FromHereOn O.coherent O.opening O.bytes O.script seen (λ story. (count : ℕ) →
+        length_of O.opening story piece.block ≡ Some count → count ≡ piece.length) }
+{}
+
+/// A line is told that no replica gives a piece where no member of its block's container is intact for the line's last Ask,
+/// as long as no more is said of the line's blocks.
+pub fn nobody_has_a_piece<O: Opened>()
+    ensures { O.coherent → IsCoherent O.opening O.bytes → (seen : List AnyEvent) (line : AnyLine) (asked said : ℕ)
+        (command : AnyCommand) (progress : AnyProgress) (piece : AnyPiece) →
+        IsUnderWay O.coherent O.opening O.bytes O.script seen line asked said command progress →
+        IsReading command progress piece →
+        FromHereOn O.coherent O.opening O.bytes O.script seen (λ story.
+        last_ask line.client line.number story ≡ Some (ask_of line asked) → IsSaid story line said progress →
+        All (λ dn. is_intact O.opening story (ask_of line asked) piece.block dn ≡ false)
+        (members O.opening story piece.block.container) →
+        IsDue O.opening O.bytes O.script story line (told.NoReplica (length progress.read) piece.block)) }
 {}
 
 /// Only who asked for a block is granted one.

@@ -1,6 +1,7 @@
 -- The length of a row is that of the block's bytes.
 use Rattle.std.proofs.Common.{◌≡◌, ℕ, zero, suc, ◌+◌, ◌-◌, ◌*◌, ◌≤◌, min, eqb, Bool, true, false, cond, List, [], ◌∷◌, length, drop, map, Option, None, Some, is_some, IfSome, All, option_and_then, refl, sym, ◌∙◌, ap, subst, arith, length-append, length-drop, length-take}
 use Rattle.std.proofs.lemmas.Bool.{eq-eqb, false≢true}
+use Rattle.std.proofs.lemmas.Option.{same_Some}
 use Rattle.std.specs.Prelude.{IsSome}
 use Rattle.std.specs.List.{list_any, slice_get}
 use Rattle.std.specs.Option.{option_map_or}
@@ -172,3 +173,19 @@ module _ {D : Type 0} (see : D → Seen) (apart : (bytes : List ℕ) (node : Nod
       (sym (its_bytes first.dn first.node block first.there) ∙ (agree.alike block first.dn dn also held ∙ found.1)) in
       let same : first.row.length ≡ row.length = sym its ∙ own in
       lengths_by_nodes nodes block ∙ (first.is ∙ ap (λ (n : ℕ). Some n) same)
+
+  pub lengths_of_bytes : (block : Block) (dn count : ℕ) (content : List ℕ) → opening_bytes see nodes dn block ≡ Some content → length_of opening [] block ≡ Some count → count ≡ length content
+  lengths_of_bytes block dn count content gives is = by_node (slice_get nodes dn) refl gives
+    where
+      by_row : (node : Datanode D) → slice_get nodes dn ≡ Some node → (o : Option BlockRow) → (node_in node).rows block ≡ o
+          → option_and_then (λ (row : BlockRow). option_and_then (intact_bytes row) (see (slots_of node)).told) o ≡ Some content → count ≡ length content
+      by_row node at None none e = absurd cc
+      by_row node at (Some row) has e =
+          let own = content_length see apart node block row content (told_at see apart 0 disks nodes tell are dn node at) has
+          (ap (λ (o : Option BlockRow). option_and_then (λ (row : BlockRow). option_and_then (intact_bytes row) (see (slots_of node)).told) o) has ∙ e) in
+          let agreed = lengths_agree dn node block row at has in
+          same_Some count row.length (sym is ∙ agreed) ∙ sym own
+
+      by_node : (o : Option (Datanode D)) → slice_get nodes dn ≡ o → option_and_then (λ (node : Datanode D). bytes_on see node block) o ≡ Some content → count ≡ length content
+      by_node None none e = absurd cc
+      by_node (Some node) at e = by_row node at ((node_in node).rows block) refl e

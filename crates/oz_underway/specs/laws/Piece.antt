@@ -50,7 +50,7 @@ use Rattle.oz_underway.specs.laws.Order.{fits_from}
 
 -- ---- a block that no disk had has no length there
 
-none_in : (block : Block) (held : List Piece) → list_any (λ (piece : Piece). is_block block piece.block) held ≡ false
+pub none_in : (block : Block) (held : List Piece) → list_any (λ (piece : Piece). is_block block piece.block) held ≡ false
     → filter_map (λ (piece : Piece). cond (is_block block piece.block) (Some piece.length) None) held ≡ []
 none_in block [] none = refl
 none_in block (first ∷ held) none = by (is_block block first.block) refl (λ rest. none_in block held rest) none
@@ -75,7 +75,7 @@ none_had block (node ∷ nodes) none =
     by false is = refl
     by true is = absurd (none zero is)
 
-is_first : {X : Type 0} (l : List X) (x : X) → first_in l ≡ Some x → Contains l x
+pub is_first : {X : Type 0} (l : List X) (x : X) → first_in l ≡ Some x → Contains l x
 is_first [] x is = absurd (none-some x is)
 is_first (y ∷ l) x is = (0, omega arith, same_Some y x is)
 

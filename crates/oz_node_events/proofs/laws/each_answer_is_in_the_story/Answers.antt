@@ -6,4 +6,4 @@ pub returns : goal.returns
 returns g c subject members answers before after all =
     let O = g.O.Opened in
     let D = g.D.Disk in
-    answers_stand D.told D.clock D.image D.faults O.coherent O.opening subject before.id before.first members answers before after refl refl all
+    answers_stand D.told D.clock D.image D.faults O.coherent O.opening O.bytes O.script O.faults subject before.id before.first members answers before after refl refl all

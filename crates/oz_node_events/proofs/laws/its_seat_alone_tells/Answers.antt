@@ -20,4 +20,4 @@ returns-clause-closed g c coherent story dn container all =
 pub returns-clause-stands : goal.returns-clause-stands
 returns-clause-stands g c view node story kept stood begins all own =
     let O = g.O.Opened in
-    stands_on g.D.Disk.told g.D.Disk.faults O.coherent O.opening node O.bytes O.script view kept stood story view.room begins all own
+    stands_on g.D.Disk.told g.D.Disk.clock g.D.Disk.image g.D.Disk.faults O.coherent O.opening O.bytes O.script O.faults node view kept stood story view.room begins all own

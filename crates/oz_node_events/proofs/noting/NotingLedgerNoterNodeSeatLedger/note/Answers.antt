@@ -5,10 +5,11 @@ use Rattle.oz_core.specs.declared.event.EventKind.{EventKind}
 use Rattle.oz_core.specs.Seats.{datanode_seat}
 use Rattle.oz_replicas.specs.Notes.{Subject, Leads}
 use Rattle.oz_turn.specs.Seat.{mine_of, number_of, room_of, seen_of}
-use Rattle.oz_node_events.specs.NodeSeat.{IsAppended}
+use Rattle.oz_node_events.specs.NodeSeat.{IsAppended, is_bad}
 use Rattle.oz_node_events.specs.Noting.{AreTold, NotingView}
 use Rattle.oz_node_events.proofs.Following.{FilledIsFull}
 use Rattle.oz_node_events.proofs.Noted.{appended_begins, same_noting, noted_follows, noted_stands, noted_as, noted_told, noting_later, seen_alike}
+use Rattle.oz_node_events.proofs.Sound.{none_noted}
 use Rattle.oz_node_events.proofs.noting.NotingLedgerNoterNodeSeatLedger.note.Goals as goal
 
 pub note-requires-clause-follows : goal.note-requires-clause-follows
@@ -24,8 +25,20 @@ note-requires-clause-follows g c story begins other all own =
     let happened = c.requires.happened in
     let leads = subst (λ (s : Subject). Leads D.told D.clock D.image D.faults s c.args.note happened.0 happened.1.0) (sym (ap (λ v. v.subject) c.self.view_is)) happened.1.1.1 in
     subst (λ (k : EventKind). Follows O.coherent O.opening O.bytes O.script story (record { seat = datanode_seat c.args.kept.now.dn; kind = k })) (sym c.kind_of-kind.ensures.kind)
-    (noted_follows O.coherent O.opening O.bytes O.script D.told D.clock D.image D.faults filled puts inside.id inside.first subject (seen_of inside.seat.now) c.self.invariant.3
+    (noted_follows O.coherent O.opening O.bytes O.script O.faults D.told D.clock D.image D.faults filled puts inside.id inside.first subject (seen_of inside.seat.now) c.self.invariant.3
     c.args.kept.now c.is_kept.ensures c.args.note happened.0 happened.1.0 happened.1.1.0 leads story begins other all own)
+
+pub note-requires-clause-no_bad : goal.note-requires-clause-no_bad
+note-requires-clause-no_bad g c coherent =
+    let O = g.O.Opened in
+    let D = g.D.Disk in
+    let inside = c.self.inside in
+    let subject : Subject = record { block = inside.block; members = inside.members; bytes = inside.bytes.now } in
+    let happened = c.requires.happened in
+    let leads = subst (λ (s : Subject). Leads D.told D.clock D.image D.faults s c.args.note happened.0 happened.1.0) (sym (ap (λ v. v.subject) c.self.view_is)) happened.1.1.1 in
+    ap (λ (k : EventKind). is_bad k) c.kind_of-kind.ensures.kind
+    ∙ none_noted O.coherent O.opening O.bytes O.script O.faults D.told D.clock D.image D.faults coherent c.args.kept.now happened.0 happened.1.1.0 inside.id inside.first
+    subject c.args.note happened.1.0 leads
 
 pub invariant_of-self : goal.invariant_of-self
 invariant_of-self g c =
@@ -39,7 +52,7 @@ invariant_of-self g c =
       c.self.invariant.0,
       note.other.0 ∙ c.self.invariant.1,
       note.other_free,
-      noting_later O.coherent O.opening O.bytes O.script D.told D.clock D.image D.faults inside.id inside.first subject (seen_of inside.seat.now) (seen_of c.note.new.other)
+      noting_later O.coherent O.opening O.bytes O.script O.faults D.told D.clock D.image D.faults inside.id inside.first subject (seen_of inside.seat.now) (seen_of c.note.new.other)
           (begins.0, note.other_seen ∙ begins.1) c.self.invariant.3,
     )
 
@@ -57,7 +70,7 @@ returns-clause-noted g c =
     let leads = subst (λ (s : Subject). Leads D.told D.clock D.image D.faults s c.args.note happened.0 happened.1.0) (sym (ap (λ v. v.subject) c.self.view_is)) happened.1.1.1 in
     let note = c.note.ensures in
     let told_so = subst (λ (k : EventKind). IsAppended (record { seat = datanode_seat c.args.kept.now.dn; kind = k }) c.args.kept.now.seen (seen_of inside.seat.now) c.note.new.self.seen) c.kind_of-kind.ensures.kind note.told in
-    let told = noted_told O.coherent O.opening O.bytes O.script D.told D.clock D.image D.faults filled puts inside.id inside.first subject (seen_of inside.seat.now) c.self.invariant.3
+    let told = noted_told O.coherent O.opening O.bytes O.script O.faults D.told D.clock D.image D.faults filled puts inside.id inside.first subject (seen_of inside.seat.now) c.self.invariant.3
     c.args.kept.now c.is_kept.ensures c.args.note happened.0 happened.1.0 happened.1.1.0 leads c.note.new.self.seen told_so in
     let before : NotingView = record { reference = inside.seat.ghost_name; by = number_of inside.seat.now; seen = seen_of inside.seat.now; mine = mine_of inside.seat.now; room = room_of inside.seat.now; id = inside.id; first = inside.first; subject = subject } in
     let after : NotingView = record { reference = inside.seat.ghost_name; by = number_of c.note.new.other; seen = seen_of c.note.new.other; mine = mine_of c.note.new.other; room = room_of c.note.new.other; id = inside.id; first = inside.first; subject = subject } in
@@ -78,7 +91,7 @@ returns-clause-stands g c old new stood leads_so =
     let leads = subst (λ (s : Subject). Leads D.told D.clock D.image D.faults s c.args.note old new) (sym (ap (λ v. v.subject) c.self.view_is)) leads_so in
     let note = c.note.ensures in
     let told_so = subst (λ (k : EventKind). IsAppended (record { seat = datanode_seat c.args.kept.now.dn; kind = k }) c.args.kept.now.seen (seen_of inside.seat.now) c.note.new.self.seen) c.kind_of-kind.ensures.kind note.told in
-    noted_stands O.coherent O.opening O.bytes O.script D.told D.clock D.image D.faults filled puts inside.id inside.first subject (seen_of inside.seat.now) c.self.invariant.3
+    noted_stands O.coherent O.opening O.bytes O.script O.faults D.told D.clock D.image D.faults filled puts inside.id inside.first subject (seen_of inside.seat.now) c.self.invariant.3
     c.args.kept.now c.is_kept.ensures c.args.note old new stood leads c.note.new.self note.kept note.number
     (note.mine ∙ ap (λ (k : EventKind). c.args.kept.now.mine ++ record { seat = datanode_seat c.args.kept.now.dn; kind = k } ∷ []) c.kind_of-kind.ensures.kind)
     told_so

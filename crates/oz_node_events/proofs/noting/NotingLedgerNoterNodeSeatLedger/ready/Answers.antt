@@ -15,7 +15,7 @@ invariant_of-self g c =
       c.self.invariant.0,
       ready.other.0 ∙ c.self.invariant.1,
       ready.other_free,
-      noting_later O.coherent O.opening O.bytes O.script D.told D.clock D.image D.faults inside.id inside.first subject (seen_of inside.seat.now) (seen_of c.ready.new.other)
+      noting_later O.coherent O.opening O.bytes O.script O.faults D.told D.clock D.image D.faults inside.id inside.first subject (seen_of inside.seat.now) (seen_of c.ready.new.other)
           ready.other_begins c.self.invariant.3,
     )
 
@@ -38,5 +38,5 @@ returns-clause-stands g c node stood =
     let O = g.O.Opened in
     let D = g.D.Disk in
     let ready = c.ready.ensures in
-    ready_stands O.coherent O.opening O.bytes O.script D.told D.clock D.image D.faults node c.args.kept.now c.ready.new.self
+    ready_stands O.coherent O.opening O.bytes O.script O.faults D.told D.clock D.image D.faults node c.args.kept.now c.ready.new.self
     ready.kept_before ready.kept ready.number ready.mine ready.goes_on stood

@@ -1,8 +1,6 @@
-use Rattle.std.proofs.Common.{◌≡◌, ℕ, ◌+◌, Bool, true, cond, sym, ap, ◌∙◌, arith}
+use Rattle.std.proofs.Common.{◌≡◌, ◌+◌, Bool, true, cond, refl, sym, ap, ◌∙◌, arith}
 use Rattle.oz_buffer.specs.Courses.{times_said}
 use Rattle.oz_turn.specs.Seat.{seen_of}
-use Rattle.oz_turn.specs.Told.{BeginsWith}
-use Rattle.oz_underway.specs.UnderWay.{HaveAnswered}
 use Rattle.oz_underway.specs.laws.Going.{begins_through}
 use Rattle.oz_writing.specs.Written.{is_quorum}
 use Rattle.oz_writing.proofs.Standing.{all_answered_later}
@@ -23,7 +21,7 @@ tell_wrote-requires-clause-follows g c story begins all now =
     let whole = begins_through story (seen_of c.have_answered.new.seat) (seen_of c.args.seat.now) begins looked in
     let so : times_said c.args.id.client c.args.id.line story ≡ c.args.said + 3 = omega (arith, now, c.in-Some.ensures) in
     let have = all_answered_later c.args.id c.args.block story (seen_of c.have_answered.new.seat) begins c.args.members c.in-Ok.written.answers
-    (c.if-not-have_answered.ensures.answered tt) in
+    (c.if-not-have_answered.ensures.answered refl) in
     let may = λ (coherent : g.O.Opened.coherent). c.requires.may coherent story c.in-Ok.written.answers whole all so have (sym c.if-not-two_put_it.ensures) in
     record { of_seat = tt; enabled = λ coherent. (may coherent).enabled coherent; fits = λ coherent. (may coherent).fits coherent }
 
@@ -34,7 +32,7 @@ returns-clause-written g c =
     record {
       answered =
           all_answered_later c.args.id c.args.block (seen_of c.tell_wrote.new.seat) (seen_of c.have_answered.new.seat) c.tell_wrote.ensures.goes_on c.args.members c.in-Ok.written.answers
-          (c.if-not-have_answered.ensures.answered tt);
+          (c.if-not-have_answered.ensures.answered refl);
       still = c.in_ok-tell_wrote.ensures.still;
       more = wrote ∙ sym (ap (λ (t : Bool). cond t (c.args.said + 4) (c.args.said + 3)) two);
       written = λ it. c.in_ok-tell_wrote.ensures.written;

@@ -32,6 +32,7 @@ ghost use Rattle.oz_core.specs.Lines.{HasStarted};
 ghost use Rattle.oz_core.specs.Manager.{namespace_of};
 ghost use Rattle.oz_core.specs.Nodes.{holds, is_intact, length_of};
 ghost use Rattle.oz_core.specs.Scm.{containers, members};
+ghost use Rattle.oz_core.specs.Seats.{IsLineSeat};
 ghost use Rattle.oz_core.specs.Steps.{GrantedBlock, commit_step, is_open_at, opening_line, refuses_so, was_told_ok};
 ghost use Rattle.oz_core.specs.Stories.{has_event};
 ghost use Rattle.oz_fields.specs.declared.block.Block.{Block as AnyBlock};
@@ -217,6 +218,21 @@ pub fn a_quorum_fits<O: Opened>()
         HaveAnswered story (ask_of line asked) granted.block (members_of progress.nodes granted.pipeline) answers →
         times_said line.client line.number story ≡ said + 3 →
         EventFits O.opening O.bytes O.script story (Wrote granted.block (ask_of line asked))) }
+{}
+
+/// So it may be written by a line's seat where two of them put it.
+pub fn a_quorum_follows<O: Opened>()
+    ensures { FEWEST_NODES ≤ length O.opening.nodes → (seen : List AnyEvent) (line : AnyLine)
+        (asked said seat : ℕ) (command : AnyCommand) (progress : AnyProgress) (granted : AnyGranted)
+        (answers : List (Option AnyPutRefusal)) →
+        IsUnderWay O.coherent O.opening O.bytes O.script seen line asked said command progress →
+        progress.came.writing ≡ Some granted → progress.nodes ≡ length O.opening.nodes → IsLineSeat seat →
+        nat_le 2 (count_by is_none answers) ≡ true →
+        FromHereOn O.coherent O.opening O.bytes O.script seen (λ story.
+        HaveAnswered story (ask_of line asked) granted.block (members_of progress.nodes granted.pipeline) answers →
+        times_said line.client line.number story ≡ said + 3 →
+        Follows O.coherent O.opening O.bytes O.script story
+        (record { seat = seat; kind = Wrote granted.block (ask_of line asked) })) }
 {}
 
 /// The answers of a block's three members have come back to a line that asked no more since, where no more was said of its

@@ -1,10 +1,11 @@
 -- A line whose block's members have answered.
-use Rattle.std.proofs.Common.{◌≡◌, ◌⊎◌, ⊎_elim, inl, inr, ℕ, ◌+◌, ◌%◌, ◌≤◌, ◌<◌, Bool, true, false, ◌||◌, ◌&&◌, is_none, cond, List, [], ◌∷◌, ◌++◌, map, filter, length, take, Option, None, Some, Contains, refl, sym, ap, ◌∙◌, subst, append-nil, arith}
+use Rattle.std.proofs.Common.{◌≡◌, ◌⊎◌, ⊎_elim, inl, inr, ℕ, ◌+◌, ◌%◌, ◌≤◌, ◌<◌, ◌==◌, Bool, true, false, ◌||◌, ◌&&◌, is_none, cond, List, [], ◌∷◌, ◌++◌, map, filter, length, take, Option, None, Some, All, Contains, eq-eqb, refl, sym, ap, ◌∙◌, subst, append-nil, arith}
 use Rattle.std.proofs.Math.Bool.{or-false}
-use Rattle.std.proofs.lemmas.Bool.{and_parts, false≢true}
+use Rattle.std.proofs.lemmas.Bool.{and_from, and_parts, false≢true, leb-true, or_left, or_right}
 use Rattle.std.proofs.lemmas.List.{map-append}
-use Rattle.std.proofs.lemmas.List.Elements.{Contains-append_left, Contains-push, filter-append}
+use Rattle.std.proofs.lemmas.List.Elements.{All-cons, All-nil, Contains-append_left, Contains-push, filter-append}
 use Rattle.std.proofs.lemmas.List.Folds.{list_any-append}
+use Rattle.std.proofs.lemmas.List.Sums.{sum_by-cons}
 use Rattle.std.specs.Prelude.{count_by, nat_le}
 use Rattle.std.specs.List.{list_all, list_any}
 use Rattle.oz_command.specs.declared.command.Command.{Command}
@@ -18,16 +19,17 @@ use Rattle.oz_requests.specs.declared.reply.Reply.TheVariants as replies
 use Rattle.oz_requests.specs.declared.request.AskId.{AskId}
 use Rattle.oz_core.specs.declared.event.Event.{Event}
 use Rattle.oz_core.specs.declared.event.EventKind.{EventKind}
-use Rattle.oz_core.specs.declared.event.EventKind.TheVariants.{Decide, Wrote}
+use Rattle.oz_core.specs.declared.event.EventKind.TheVariants.{Decide, Refused, Wrote}
 use Rattle.oz_core.specs.declared.event.PutRefusal.{PutRefusal}
 use Rattle.oz_core.specs.declared.opening.Opening.{Opening}
 use Rattle.oz_core.specs.Asks.{is_id, is_of_line, reply_to, replies_to}
 use Rattle.oz_core.specs.Contents.{OpeningBytes, WasGranted, written_for, wrote}
 use Rattle.oz_core.specs.Due.{AreContents}
 use Rattle.oz_core.specs.Fits.{EventFits}
-use Rattle.oz_core.specs.Law.{KindIsEnabled, writes}
+use Rattle.oz_core.specs.Law.{KindIsEnabled, WroteIsEnabled, puts, refuses, writes}
 use Rattle.oz_core.specs.Nodes.{is_block}
 use Rattle.oz_core.specs.Scm.{members}
+use Rattle.oz_core.specs.Seats.{IsLineSeat, datanode_seat}
 use Rattle.oz_core.specs.Steps.{GrantedBlock, granted_to, is_abandoned, is_settled, is_written}
 use Rattle.oz_core.specs.Stories.{all_told, has_event}
 use Rattle.oz_steps.specs.declared.came.Attempt.{Attempt}
@@ -48,7 +50,7 @@ use Rattle.oz_kept.specs.laws.Deleted.{enabled_at, first_or_later, found_at}
 use Rattle.oz_kept.specs.laws.Granted.{one_id, told_among}
 use Rattle.oz_reopened.specs.laws.Placed.{event_there}
 use Rattle.oz_turn.specs.Told.{BeginsWith}
-use Rattle.oz_underway.specs.UnderWay.{HaveAnswered, IsSaid, IsToBeWritten, IsUnderWay, ask_of, is_all_written, times_asked}
+use Rattle.oz_underway.specs.UnderWay.{HasAnswered, HaveAnswered, IsSaid, IsToBeWritten, IsUnderWay, ask_of, is_all_written, times_asked}
 use Rattle.oz_underway.specs.laws.Answered.{AreCounted, IsAnswerIn, are_counted, its_answer, its_id, refused_as_before, refusing_as_answered, same_block, since_then}
 use Rattle.oz_underway.specs.laws.Asks.{its_line, of_line}
 use Rattle.oz_underway.specs.laws.Contents.{content_still}
@@ -106,6 +108,51 @@ three_answers story id block a b c (x ∷ []) have = absurd have.1
 three_answers story id block a b c (x ∷ y ∷ []) have = absurd have.1.1
 three_answers story id block a b c (x ∷ y ∷ z ∷ []) have = record { x = x; y = y; z = z; are = refl; answered = have }
 three_answers story id block a b c (x ∷ y ∷ z ∷ w ∷ more) have = absurd have.1.1.1
+
+-- ---- what the law wants of the answers
+
+module _ (story : List Event) (id : AskId) (block : Block) where
+  abbrev PutOrRefused : ℕ → Type 0
+  PutOrRefused dn = (has_event (puts dn block) story ≡ true) ⊎ (has_event (refuses dn block id) story ≡ true)
+
+  refused_there : (dn : ℕ) (refusal : PutRefusal) (l : List Event) → Contains l (record { seat = datanode_seat dn; kind = Refused dn block id refusal })
+      → has_event (refuses dn block id) l ≡ true
+  refused_there dn refusal [] there = absurd (omega (arith, there.1))
+  refused_there dn refusal (first ∷ l) there =
+      ⊎_elim
+      (λ (same : first ≡ record { seat = datanode_seat dn; kind = Refused dn block id refusal }).
+      or_left (refuses dn block id first.kind) (has_event (refuses dn block id) l)
+      (ap (λ (e : Event). refuses dn block id e.kind) same
+      ∙ and_from (dn == dn && is_block block block) (is_id id id) (and_from (dn == dn) (is_block block block) (eq-eqb dn dn refl) (same_block block)) (same_id id)))
+      (λ later. or_right (refuses dn block id first.kind) (has_event (refuses dn block id) l) (refused_there dn refusal l later))
+      (first_or_later first (record { seat = datanode_seat dn; kind = Refused dn block id refusal }) l there)
+
+  answered_one : (dn : ℕ) (answer : Option PutRefusal) → HasAnswered story id block dn answer → PutOrRefused dn
+  answered_one dn None put = inl put
+  answered_one dn (Some refusal) there = inr (refused_there dn refusal story there)
+
+  answered_each : (dns : List ℕ) (answers : List (Option PutRefusal)) → HaveAnswered story id block dns answers → All PutOrRefused dns
+  answered_each [] [] have = All-nil PutOrRefused
+  answered_each [] (answer ∷ answers) have = absurd have
+  answered_each (dn ∷ dns) [] have = absurd have
+  answered_each (dn ∷ dns) (answer ∷ answers) have =
+      All-cons PutOrRefused dn dns (answered_one dn answer have.0) (answered_each dns answers have.1)
+
+  put_one : (dn : ℕ) (answer : Option PutRefusal) → HasAnswered story id block dn answer → cond (is_none answer) 1 0 ≤ cond (has_event (puts dn block) story) 1 0
+  put_one dn None put = subst (λ (t : Bool). 1 ≤ cond t 1 0) (sym put) (omega arith)
+  put_one dn (Some refusal) there = omega arith
+
+  put_by_as_many : (dns : List ℕ) (answers : List (Option PutRefusal)) → HaveAnswered story id block dns answers
+      → count_by is_none answers ≤ count_by (λ (dn : ℕ). has_event (puts dn block) story) dns
+  put_by_as_many [] [] have = omega arith
+  put_by_as_many [] (answer ∷ answers) have = absurd have
+  put_by_as_many (dn ∷ dns) [] have = absurd have
+  put_by_as_many (dn ∷ dns) (answer ∷ answers) have =
+      let one = sum_by-cons (λ (a : Option PutRefusal). cond (is_none a) 1 0) answer answers in
+      let other = sum_by-cons (λ (dn : ℕ). cond (has_event (puts dn block) story) 1 0) dn dns in
+      let rest = put_by_as_many dns answers have.1 in
+      let first = put_one dn answer have.0 in
+      omega (arith, one, other, rest, first)
 
 module _ (Coherent : Type 0) (opening : Opening) (bytes : OpeningBytes) (script : Script) where
   abbrev Follow : List Event → Event → Type 0
@@ -426,6 +473,34 @@ module _ (Coherent : Type 0) (opening : Opening) (bytes : OpeningBytes) (script 
             (ap (λ (t : Bool). cond t (Some block) None) of ∙ ap Some (sym same))
         by place seat kind among enabled so = absurd (false≢true so)
 
+    -- where three things were said since, it isn't written
+    not_written : times_said line.client line.number later ≡ said + 3 → has_event (writes granted.block) later ≡ false
+    not_written now = by (has_event (writes granted.block) later) refl
+      where
+        by : (t : Bool) → has_event (writes granted.block) later ≡ t → t ≡ false
+        by false is = refl
+        by true is =
+            let there = wrote_there is in
+            let none : ◌≡◌ {A = ℕ} (length (all_told (wrote line.client line.number) since.0)) 0 = ap length (none_written now) in
+            absurd (omega (arith, there.1, none))
+
+    pub may_be_written : (seat : ℕ) → IsLineSeat seat → nat_le 2 (count_by is_none (x ∷ y ∷ z ∷ [])) ≡ true → times_said line.client line.number later ≡ said + 3
+        → WroteIsEnabled opening later seat granted.block (ask_of line asked)
+    may_be_written seat of_line two now =
+        let its_members = members_story Coherent opening bytes script seen line asked said command progress granted coherent way writing later begins all nodes in
+        let many = put_by_as_many later (ask_of line asked) granted.block (members_of progress.nodes granted.pipeline) (x ∷ y ∷ z ∷ []) answered in
+        let least_two : 2 ≤ count_by is_none (x ∷ y ∷ z ∷ []) = leb-true _ _ two in
+        let quorum : 2 ≤ count_by (λ (dn : ℕ). has_event (puts dn granted.block) later) (members_of progress.nodes granted.pipeline) = omega (arith, many, least_two) in
+        record {
+          of_line = of_line;
+          before = to_write.before;
+          granted = granted_later;
+          answered = subst (λ (l : List ℕ). All (λ (dn : ℕ). (has_event (puts dn granted.block) later ≡ true) ⊎ (has_event (refuses dn granted.block (ask_of line asked)) later ≡ true)) l)
+              (sym its_members) (answered_each later (ask_of line asked) granted.block (members_of progress.nodes granted.pipeline) (x ∷ y ∷ z ∷ []) answered);
+          quorum = subst (λ (l : List ℕ). 2 ≤ count_by (λ (dn : ℕ). has_event (puts dn granted.block) later) l) (sym its_members) quorum;
+          unwritten = not_written now;
+        }
+
     pub written_way : IsNumbered script → times_asked later line ≡ asked → nat_le 2 (count_by is_none (x ∷ y ∷ z ∷ [])) ≡ true → has_event (writes granted.block) later ≡ true
         → (now : ℕ) → now ≡ said + 4 → times_said line.client line.number later ≡ now
         → IsUnderWay Coherent opening bytes script later line asked now command (record progress { came = with_answers progress.came granted (x ∷ y ∷ z ∷ []) })
@@ -478,3 +553,22 @@ module _ (Coherent : Type 0) (opening : Opening) (bytes : OpeningBytes) (script 
       let they = three_answers story (ask_of line asked) granted.block (granted.pipeline % progress.nodes) ((granted.pipeline + 1) % progress.nodes) ((granted.pipeline + 2) % progress.nodes)
       answers answered in
       quorum_fits seen line asked said command progress granted coherent way writing nodes least story begins all they.x they.y they.z they.answered now
+
+  pub quorum_may_follow : (seen : List Event) (line : Line) (asked said seat : ℕ) (command : Command) (progress : Progress) (granted : Granted) (answers : List (Option PutRefusal))
+      → IsUnderWay Coherent opening bytes script seen line asked said command progress → progress.came.writing ≡ Some granted
+      → progress.nodes ≡ length opening.nodes → 3 ≤ length opening.nodes → IsLineSeat seat → nat_le 2 (count_by is_none answers) ≡ true
+      → (story : List Event) → BeginsWith story seen → AllFollow Follow [] story
+      → HaveAnswered story (ask_of line asked) granted.block (members_of progress.nodes granted.pipeline) answers
+      → times_said line.client line.number story ≡ said + 3
+      → Follow story (record { seat = seat; kind = Wrote granted.block (ask_of line asked) })
+  quorum_may_follow seen line asked said seat command progress granted answers way writing nodes least of_line two story begins all answered now =
+      let they = three_answers story (ask_of line asked) granted.block (granted.pipeline % progress.nodes) ((granted.pipeline + 1) % progress.nodes) ((granted.pipeline + 2) % progress.nodes)
+      answers answered in
+      record {
+        of_seat = tt;
+        enabled = λ coherent.
+            may_be_written seen line asked said command progress granted coherent way writing nodes least story begins all they.x they.y they.z they.answered seat of_line
+            (sym (ap (λ (l : List (Option PutRefusal)). nat_le 2 (count_by is_none l)) they.are) ∙ two) now;
+        fits = λ coherent.
+            quorum_fits seen line asked said command progress granted coherent way writing nodes least story begins all they.x they.y they.z they.answered now;
+      }

@@ -1,0 +1,2 @@
+mod Seated
+mod Standing

@@ -1,0 +1,115 @@
+//! Whether the answers of a block's members stand in a story.
+
+ghost use Rattle.std.specs.Prelude.{◌≡◌, true, length, Contains, IsTrue};
+ghost use Rattle.oz_core.specs.declared.event.EventKind.TheVariants.{Refused};
+ghost use Rattle.oz_core.specs.Law.{puts};
+ghost use Rattle.oz_core.specs.Seats.{datanode_seat};
+ghost use Rattle.oz_core.specs.Stories.{has_event};
+ghost use Rattle.oz_underway.specs.UnderWay.{HasAnswered, HaveAnswered};
+
+use oz_client::Written;
+use oz_core::{Event, EventKind, PutRefusal};
+use oz_fields::Block;
+use oz_requests::AskId;
+
+/// The seat of datanode 0. Those of the others follow it.
+const FIRST_DATANODE_SEAT: u16 = 4;
+
+/// Whether the answers of a block's members stand in the story. It looks at the events behind the first `from` alone.
+pub(crate) fn all_stand(
+    story: &[Event],
+    from: u64,
+    id: AskId,
+    block: Block,
+    members: [u8; 3],
+    written: &Written,
+) -> bool
+    ensures { IsTrue result → HaveAnswered story.now id block members written.now.answers }
+{
+    let [first, second, third] = members;
+    let [one, two, three] = written.answers;
+    stands(story, from, id, block, first, one)
+        && stands(story, from, id, block, second, two)
+        && stands(story, from, id, block, third, three)
+}
+
+/// Whether the answer of one member does.
+fn stands(
+    story: &[Event],
+    from: u64,
+    id: AskId,
+    block: Block,
+    dn: u8,
+    answer: Option<PutRefusal>,
+) -> bool
+    ensures { IsTrue result → HasAnswered story.now id block dn answer }
+{
+    let start = from as usize;
+    if start > story.len() {
+        return false;
+    }
+    let since = &story[start..];
+    match answer {
+        None => has_put(since, dn, block),
+        Some(refusal) => has_refused(since, id, block, dn, refusal),
+    }
+}
+
+/// Whether a datanode put a block in these events.
+fn has_put(events: &[Event], dn: u8, block: Block) -> bool
+    ensures { IsTrue result → has_event (puts dn block) events.now ≡ true }
+{
+    for event in events {
+        if is_put(&event.kind, dn, block) {
+            return true;
+        }
+    }
+    false
+}
+
+fn is_put(kind: &EventKind, dn: u8, block: Block) -> bool
+    ensures { IsTrue result → puts dn block kind.now ≡ true }
+{
+    match kind {
+        EventKind::Put {
+            dn: other,
+            block: put,
+            ..
+        } => *other == dn && *put == block,
+        _ => false,
+    }
+}
+
+/// Whether a datanode refused a block so for this ask in them.
+fn has_refused(events: &[Event], id: AskId, block: Block, dn: u8, refusal: PutRefusal) -> bool
+    ensures { IsTrue result →
+        Contains events.now (record { seat = datanode_seat dn; kind = Refused dn block id refusal }) }
+{
+    for event in events {
+        if is_refused(event, id, block, dn, refusal) {
+            return true;
+        }
+    }
+    false
+}
+
+fn is_refused(event: &Event, id: AskId, block: Block, dn: u8, refusal: PutRefusal) -> bool
+    ensures { IsTrue result →
+        event.now ≡ record { seat = datanode_seat dn; kind = Refused dn block id refusal } }
+{
+    match &event.kind {
+        EventKind::Refused {
+            dn: other,
+            block: refused,
+            id: asked,
+            refusal: why,
+        } => {
+            event.seat == FIRST_DATANODE_SEAT + u16::from(dn)
+                && *other == dn
+                && *refused == block
+                && *asked == id
+                && *why == refusal
+        }
+        _ => false,
+    }
+}

@@ -1,5 +1,5 @@
 -- A line that is told something else than its steps say.
-use Rattle.std.proofs.Common.{◌≡◌, ◌≢◌, inr, ℕ, true, false, List, [], ◌∷◌, ◌++◌, None, Some, refl, sym, ap, ◌∙◌, subst, cond, ◌==◌, Bool, is_some}
+use Rattle.std.proofs.Common.{◌≡◌, ◌≢◌, inl, inr, ℕ, true, false, List, [], ◌∷◌, ◌++◌, None, Some, refl, sym, ap, ◌∙◌, subst, cond, ◌==◌, Bool, is_some}
 use Rattle.std.proofs.lemmas.Bool.{eqb-true, false≢true}
 use Rattle.oz_asker.specs.laws.Halts.{late_means_halted}
 use Rattle.oz_buffer.specs.Buffer.{AllFollow, Follows}
@@ -33,8 +33,8 @@ label_none story line (commands.KeyOpen name volume bucket key payload) shut = s
 label_none story line command shut = tt
 
 -- who is cut has gone on
-pub cut_goes_on : (work new : WorkView) (asked : ℕ) (answer : Answer) → new ≡ record work { asked = asked; next = steps.Tell answer; is_cut = true } → HasGoneOn work new
-cut_goes_on work new asked answer is = inr (subst (λ (w : WorkView). IsTelling w.next) (sym is) tt)
+pub cut_goes_on : (before work new : WorkView) (asked : ℕ) (answer : Answer) → new ≡ record work { asked = asked; next = steps.Tell answer; is_cut = true; refused = None } → HasGoneOn before new
+cut_goes_on before work new asked answer is = inr (inl (subst (λ (w : WorkView). IsTelling w.next) (sym is) tt))
 
 end_not_ok : (asked : ℕ) (answer : Answer) → IsOfEnd asked answer → was_told_ok (Some answer) ≡ false
 end_not_ok asked (answers.Ok values) of_end = absurd of_end
@@ -72,7 +72,7 @@ module _ (Coherent : Type 0) (opening : Opening) (bytes : OpeningBytes) (script 
       ∙ open_as_told before seat line answer
 
   end_fits : (seen : List Event) (line : Line) (asked : ℕ) (answer : Answer) → Coherent → IsStarted script seen line → IsOfEnd asked answer
-      → MayBeTold Coherent opening bytes script seen line (last_of line asked) answer None
+      → MayBeTold Coherent opening bytes script seen line (last_of line asked) [] answer None
   end_fits seen line asked answer coherent begun of_end = record {
     fits = λ story begins all said may. record {
       line = line;
@@ -87,17 +87,18 @@ module _ (Coherent : Type 0) (opening : Opening) (bytes : OpeningBytes) (script 
   -- whatever comes next, a line may be told such an answer
   cut_works : (later seen : List Event) (work : WorkView) (asked : ℕ) (answer : Answer) → Coherent → BeginsWith later seen
       → IsOfEnd asked answer → IsAtWork Coherent opening bytes script seen work
-      → IsAtWork Coherent opening bytes script later (record work { asked = asked; next = steps.Tell answer; is_cut = true })
+      → IsAtWork Coherent opening bytes script later (record work { asked = asked; next = steps.Tell answer; is_cut = true; refused = None })
   cut_works later seen work asked answer coherent begins of_end at_work =
       let begun = begun_still script later seen work.line begins at_work.begun in
       record {
         begun = begun;
         does = at_work.does;
         next = end_fits later work.line asked answer coherent begun of_end;
+        refusal = tt;
       }
 
   pub cut_so : (later seen : List Event) (work new : WorkView) (asked : ℕ) (answer : Answer) → Coherent → BeginsWith later seen → IsOfEnd asked answer
-      → new ≡ record work { asked = asked; next = steps.Tell answer; is_cut = true }
+      → new ≡ record work { asked = asked; next = steps.Tell answer; is_cut = true; refused = None }
       → IsAtWork Coherent opening bytes script seen work → IsAtWork Coherent opening bytes script later new
   cut_so later seen work new asked answer coherent begins of_end is at_work =
       subst (IsAtWork Coherent opening bytes script later) (sym is) (cut_works later seen work asked answer coherent begins of_end at_work)

@@ -18,6 +18,7 @@ use Rattle.oz_requests.specs.declared.answer.Answer.TheVariants as answers
 use Rattle.oz_requests.specs.declared.request.AskId.{AskId}
 use Rattle.oz_steps.specs.declared.label.Label.{Label}
 use Rattle.oz_steps.specs.Lines.{IsLabel}
+use Rattle.oz_telling.specs.declared.still.Still.{Still}
 use Rattle.oz_telling.specs.Tells.{IsTold, MayTell}
 use Rattle.oz_telling.specs.laws.Told.{told_now}
 use Rattle.oz_turn.specs.Told.{BeginsWith}
@@ -25,7 +26,7 @@ use Rattle.oz_underway.specs.UnderWay.{LabelStays}
 use Rattle.oz_underway.specs.laws.Going.{begins_through}
 use Rattle.oz_underway.specs.laws.Told.{told_still}
 use Rattle.oz_at_work.specs.AtWork.{HasLeft, IsAtWork, IsLabelOf, IsNextFit, MayBeTold, WorkView, last_of, left_of}
-use Rattle.oz_at_work.proofs.Staying.{begun_still}
+use Rattle.oz_at_work.proofs.Staying.{begun_still, refusal_still}
 
 -- ---- the label of a line that commits
 
@@ -64,15 +65,26 @@ label_left Coherent opening bytes script seen line opened name left does its has
 
 -- ---- a line that was told
 
+module _ (Coherent : Type 0) (opening : Opening) (bytes : OpeningBytes) (script : Script) (seen after mine mine_after : List Event) (line : Line) (last : Option AskId) (said seat : ℕ)
+    (stills : List Still) (answer : Answer) (goes : BeginsWith after seen)
+    (told : IsTold opening seat line.client line.number last said stills answer seen mine after mine_after) where
+  is_told_now : is_told line.client line.number after ≡ true
+  is_told_now = subst (λ (l : List Event). is_told line.client line.number l ≡ true) (sym told.story) (told_now told.before seat line.client line.number answer)
+
+  pub told_left : (left : Option Label) → MayBeTold Coherent opening bytes script seen line last stills answer left → HasLeft Coherent opening bytes script after line left
+  told_left left fit = record {
+    told = is_told_now;
+    stays = λ story begins all. fit.leaves story (begins_through story after seen begins goes) all told.before seat said told.begins told.may
+        (subst (BeginsWith story) told.story begins);
+  }
+
 module _ (Coherent : Type 0) (opening : Opening) (bytes : OpeningBytes) (script : Script) (seen after mine mine_after : List Event) (work : WorkView) (seat : ℕ) (answer : Answer)
     (goes : BeginsWith after seen) (at_work : IsAtWork Coherent opening bytes script seen work) (is : work.next ≡ steps.Tell answer)
     (told : IsTold opening seat work.line.client work.line.number (last_of work.line work.asked) work.said [] answer seen mine after mine_after) where
-  is_told_now : is_told work.line.client work.line.number after ≡ true
-  is_told_now = subst (λ (l : List Event). is_told work.line.client work.line.number l ≡ true) (sym told.story) (told_now told.before seat work.line.client work.line.number answer)
-
   untold_no_more : (story : List Event) (last : Option AskId) (said : ℕ) (other : Answer) → BeginsWith story after → MayTell opening story work.line.client work.line.number last said [] other → ⊥
   untold_no_more story last said other begins may =
-      false≢true (sym may.untold ∙ told_still work.line.client work.line.number story after begins is_told_now)
+      let now = is_told_now Coherent opening bytes script seen after mine mine_after work.line (last_of work.line work.asked) work.said seat [] answer goes told in
+      false≢true (sym may.untold ∙ told_still work.line.client work.line.number story after begins now)
 
   pub told_works : IsAtWork Coherent opening bytes script after (record work { next = steps.Tell answers.OutOfMemory })
   told_works = record {
@@ -82,13 +94,10 @@ module _ (Coherent : Type 0) (opening : Opening) (bytes : OpeningBytes) (script 
       fits = λ story begins all said may. absurd (untold_no_more story _ said _ begins may);
       leaves = λ story begins all before by said from may behind. absurd (untold_no_more before _ said _ from may);
     };
+    refusal = refusal_still Coherent opening bytes script after seen goes work.line work.refused at_work.refusal;
   }
 
   pub has_left : HasLeft Coherent opening bytes script after work.line (left_of work)
   has_left =
-      let fit : MayBeTold Coherent opening bytes script seen work.line (last_of work.line work.asked) answer (left_of work) = subst (IsNextFit Coherent opening bytes script seen work) is at_work.next in
-      record {
-        told = is_told_now;
-        stays = λ story begins all. fit.leaves story (begins_through story after seen begins goes) all told.before seat work.said told.begins told.may
-            (subst (BeginsWith story) told.story begins);
-      }
+      told_left Coherent opening bytes script seen after mine mine_after work.line (last_of work.line work.asked) work.said seat [] answer goes told (left_of work)
+      (subst (IsNextFit Coherent opening bytes script seen work) is at_work.next)

@@ -2,3 +2,4 @@ mod Staying
 mod Cutting
 mod Stepping
 mod Leaving
+mod Refusing

@@ -182,9 +182,10 @@ module _ (Coherent : Type 0) (opening : Opening) (bytes : OpeningBytes) (script 
 
     pub next_fits : (state : LineState) (step : Step) → state.progress ≡ progress → state.left ≡ left_by line.command progress.came step
         → (IsNoCode step → HasRepliesAlone progress) → IsNext line.command progress got step → IsStepEverywhere line.command progress got step
-        → IsNextFit Coherent opening bytes script seen (record { line = line; state = state; asked = asked; said = said; next = step; is_cut = false }) step
+        → IsNextFit Coherent opening bytes script seen (record { line = line; state = state; asked = asked; said = said; next = step; is_cut = false; refused = None }) step
     next_fits state (steps.Ask request) same left alone next everywhere =
         subst (λ (p : Progress). IsNextAsk Coherent opening bytes script seen line asked said request p) (sym same) (record {
+          its = (onward line.command progress got (steps.Ask request) plain next tt).1;
           under_way = way;
           alone = alone tt;
           fits = λ story goes all seat enabled. ask_fits Coherent opening bytes script seen line asked said line.command progress got request coherent way everywhere
@@ -193,7 +194,7 @@ module _ (Coherent : Type 0) (opening : Opening) (bytes : OpeningBytes) (script 
               (has_plain opening bytes script line line.command progress got plain) begun.numbered story goes all (said_of_written story line said progress written);
         })
     next_fits state (steps.Tell answer) same left alone next everywhere =
-        subst (MayBeTold Coherent opening bytes script seen line (last_of line asked) answer) (sym left) (record {
+        subst (MayBeTold Coherent opening bytes script seen line (last_of line asked) [] answer) (sym left) (record {
           fits = λ story goes all known may. told_fits Coherent opening bytes script seen line asked said line.command progress got answer (last_of line asked) coherent way everywhere
               (last_of_times line.client line.number asked) story goes all may.asked (said_of_written story line said progress written) (has_plain opening bytes script line line.command progress got plain story);
           leaves = step_leaves answer next (λ other. (alone other).no_code);
@@ -206,7 +207,7 @@ module _ (Coherent : Type 0) (opening : Opening) (bytes : OpeningBytes) (script 
       → AllFollow Follow [] seen
       → IsNext line.command (nothing_yet nodes label) gots.Start step → IsStepEverywhere line.command (nothing_yet nodes label) gots.Start step
       → IsAtWork Coherent opening bytes script seen
-      (record { line = line; state = state_after (state_before line.command nodes label) gots.Start step; asked = 0; said = 0; next = step; is_cut = false })
+      (record { line = line; state = state_after (state_before line.command nodes label) gots.Start step; asked = 0; said = 0; next = step; is_cut = false; refused = None })
   begin_works seen line nodes label step coherent may all next everywhere =
       let way = begins_started Coherent opening bytes script may.begun.numbered seen line 0 line.command nodes label coherent may.begun.there all may.begun.started refl
       (may.labelled seen (begins_itself seen) all) in
@@ -216,18 +217,19 @@ module _ (Coherent : Type 0) (opening : Opening) (bytes : OpeningBytes) (script 
         next = next_fits seen line 0 0 (nothing_yet nodes label) gots.Start coherent may.begun tt refl way
             (state_after (state_before line.command nodes label) gots.Start step) step refl refl
             (λ other. record { no_code = refl; no_attempts = refl; unwritten = refl; unread = refl }) next everywhere;
+        refusal = tt;
       }
 
   pub begin_so : (seen : List Event) (line : Line) (nodes : ℕ) (label : Option Label) (before after : LineState) (step : Step) → Coherent
       → MayBegin Coherent opening bytes script seen line label → AllFollow Follow [] seen
       → before ≡ state_before line.command nodes label → after ≡ state_after before gots.Start step
       → IsNext before.command after.progress gots.Start step → IsStepEverywhere before.command after.progress gots.Start step
-      → IsAtWork Coherent opening bytes script seen (record { line = line; state = after; asked = 0; said = 0; next = step; is_cut = false })
+      → IsAtWork Coherent opening bytes script seen (record { line = line; state = after; asked = 0; said = 0; next = step; is_cut = false; refused = None })
   begin_so seen line nodes label before after step coherent may all is_before is_after next everywhere =
       let first : after ≡ state_after (state_before line.command nodes label) gots.Start step = is_after ∙ ap (λ (s : LineState). state_after s gots.Start step) is_before in
       let command : before.command ≡ line.command = ap (λ (s : LineState). s.command) is_before in
       let progress : after.progress ≡ nothing_yet nodes label = ap (λ (s : LineState). s.progress) first in
-      subst (λ (s : LineState). IsAtWork Coherent opening bytes script seen (record { line = line; state = s; asked = 0; said = 0; next = step; is_cut = false })) (sym first)
+      subst (λ (s : LineState). IsAtWork Coherent opening bytes script seen (record { line = line; state = s; asked = 0; said = 0; next = step; is_cut = false; refused = None })) (sym first)
       (begin_works seen line nodes label step coherent may all
       (subst (λ (p : Progress). IsNext line.command p gots.Start step) progress (subst (λ (c : Command). IsNext c after.progress gots.Start step) command next))
       (subst (λ (p : Progress). IsStepEverywhere line.command p gots.Start step) progress
@@ -245,7 +247,7 @@ module _ (Coherent : Type 0) (opening : Opening) (bytes : OpeningBytes) (script 
       → IsNext work.state.command (progress_after work.state.progress (gots.Reply reply)) (gots.Reply reply) step
       → IsStepEverywhere work.state.command (progress_after work.state.progress (gots.Reply reply)) (gots.Reply reply) step
       → IsAtWork Coherent opening bytes script later
-      (record work { state = state_after work.state (gots.Reply reply) step; asked = work.asked + 1; next = step; is_cut = false })
+      (record work { state = state_after work.state (gots.Reply reply) step; asked = work.asked + 1; next = step; is_cut = false; refused = None })
   reply_works later before work reply step coherent at_work asks was none next everywhere =
       let line = work.line in
       let fit = (asked_so before work work.next asks at_work.next).1 in
@@ -263,4 +265,5 @@ module _ (Coherent : Type 0) (opening : Opening) (bytes : OpeningBytes) (script 
         next = next_fits later line (work.asked + 1) work.said after (gots.Reply reply) coherent begun tt now_written way
             (state_after work.state (gots.Reply reply) step) step refl (ap (λ (c : Command). left_by c after.came step) at_work.does)
             (λ other. alone_still work.state.progress reply fit.alone none (not_code line.command after reply step next_of other)) next_of so;
+        refusal = tt;
       }

@@ -1,6 +1,6 @@
 -- A line that a worker works for, what it may do next, and what it leaves.
 use Rattle.std.specs.Prelude.{◌≡◌, ◌⊎◌, ℕ, ◌+◌, ◌==◌, Bool, true, false, List, [], ◌∷◌, ◌++◌, None, Option, Some}
-use Rattle.std.specs.Prelude.{if◌then◌else◌, Contains}
+use Rattle.std.specs.Prelude.{if◌then◌else◌, Contains, IsSome}
 use Rattle.std.specs.List.{list_any}
 use Rattle.oz_client.specs.declared.progress.Progress.{Progress}
 use Rattle.oz_client.specs.declared.step.Step.{Step}
@@ -25,13 +25,16 @@ use Rattle.oz_requests.specs.declared.request.AskId.{AskId}
 use Rattle.oz_requests.specs.declared.request.Request.{Request}
 use Rattle.oz_steps.specs.declared.label.Label.{Label}
 use Rattle.oz_steps.specs.Lines.{commit_of_label}
+use Rattle.oz_steps.specs.Requests.{request_by}
+use Rattle.oz_telling.specs.declared.still.Still.{Still}
 use Rattle.oz_telling.specs.Tells.{MayTell, told_event}
 use Rattle.oz_turn.specs.Told.{BeginsWith}
 use Rattle.oz_underway.specs.GoingOn.{FromHereOn}
 use Rattle.oz_underway.specs.UnderWay.{IsUnderWay, LabelStays}
+use Rattle.oz_at_work.specs.declared.refused.Refused.{Refused}
 
 -- A line, what came back to it, how often it has asked, how often something was said of its blocks at its last look, what it
--- does next, and whether that isn't of its steps.
+-- does next, whether that isn't of its steps, and with what it is refused for now, if it is.
 pub record WorkView : Type 0 where
   pub line : Line
   pub state : LineState
@@ -39,6 +42,7 @@ pub record WorkView : Type 0 where
   pub said : ℕ
   pub next : Step
   pub is_cut : Bool
+  pub refused : Option Refused
 
 -- the id of a line's Ask of this number, and of the last of so many
 abbrev pub id_of : Line → ℕ → AskId
@@ -56,9 +60,9 @@ abbrev pub IsTelling : Step → Type 0
 IsTelling (steps.Tell answer) = Unit {0}
 IsTelling _ = ⊥
 
--- it has asked once more, or is told something next
+-- it has asked once more, or there is something that it is told next
 abbrev pub HasGoneOn : WorkView → WorkView → Type 0
-HasGoneOn before after = (after.asked ≡ before.asked + 1) ⊎ IsTelling after.next
+HasGoneOn before after = (after.asked ≡ before.asked + 1) ⊎ IsTelling after.next ⊎ IsSome after.refused
 
 -- The label that a line opened stands for this; for nothing where the line was told something else than OK.
 abbrev pub IsLabelOf : List Event → Line → Command → Option Label → Type 0
@@ -86,8 +90,10 @@ module _ (Coherent : Type 0) (opening : Opening) (bytes : OpeningBytes) (script 
     pub begun : IsStarted script seen line
     pub labelled : LabelStays Coherent opening bytes script seen line line.command label
 
-  -- From here on the request is the line's next wherever the law lets it ask, and nothing else is asked by its id.
+  -- The request comes next by what came back; from here on it is the line's next wherever the law lets it ask, and nothing
+  -- else is asked by its id.
   pub record IsNextAsk (line : Line) (asked said : ℕ) (request : Request) (progress : Progress) : Type 0 where
+    pub its : request_by line.command progress.label progress.came ≡ Some request
     pub under_way : IsUnderWay Coherent opening bytes script seen line asked said line.command progress
     pub alone : HasRepliesAlone progress
     pub fits : FromHereOn Coherent opening bytes script seen (λ story. (seat : ℕ)
@@ -96,27 +102,35 @@ module _ (Coherent : Type 0) (opening : Opening) (bytes : OpeningBytes) (script 
     pub same : FromHereOn Coherent opening bytes script seen (λ story. (other : Request)
         → pending (id_of line (asked + 1)) story ≡ Some other → other ≡ request)
 
-  -- From here on the answer is the line's wherever it may be told it, and once it is told this is what it left.
-  pub record MayBeTold (line : Line) (last : Option AskId) (answer : Answer) (left : Option Label) : Type 0 where
+  -- From here on the answer is the line's wherever it may be told it, for which these seats have to stand still, and once it
+  -- is told this is what it left.
+  pub record MayBeTold (line : Line) (last : Option AskId) (stills : List Still) (answer : Answer) (left : Option Label)
+      : Type 0 where
     pub fits : FromHereOn Coherent opening bytes script seen (λ story. (said : ℕ)
-        → MayTell opening story line.client line.number last said [] answer
+        → MayTell opening story line.client line.number last said stills answer
         → EventFits opening bytes script story (Told line.client line.number answer))
     pub leaves : FromHereOn Coherent opening bytes script seen (λ story. (before : List Event) (seat said : ℕ)
-        → BeginsWith before seen → MayTell opening before line.client line.number last said [] answer
+        → BeginsWith before seen → MayTell opening before line.client line.number last said stills answer
         → BeginsWith story (before ++ told_event seat line.client line.number answer ∷ [])
         → IsLabelOf story line line.command left)
 
   -- What comes next may come, if it asks or ends the line. Of other steps nothing is said.
   abbrev pub IsNextFit : WorkView → Step → Type 0
   IsNextFit work (steps.Ask request) = IsNextAsk work.line work.asked work.said request work.state.progress
-  IsNextFit work (steps.Tell answer) = MayBeTold work.line (last_of work.line work.asked) answer (left_of work)
+  IsNextFit work (steps.Tell answer) = MayBeTold work.line (last_of work.line work.asked) [] answer (left_of work)
   IsNextFit work step = Unit {0}
+
+  -- What a line is refused with it may be told, and leaves nothing then.
+  abbrev pub IsRefusalFit : Line → Option Refused → Type 0
+  IsRefusalFit line None = Unit {0}
+  IsRefusalFit line (Some refused) = MayBeTold line (last_of line refused.asked) refused.still refused.answer None
 
   -- What is known of a line that is worked for.
   pub record IsAtWork (work : WorkView) : Type 0 where
     pub begun : IsStarted script seen work.line
     pub does : work.state.command ≡ work.line.command
     pub next : IsNextFit work work.next
+    pub refusal : IsRefusalFit work.line work.refused
 
   -- The line was told, and from here on this is what it left.
   pub record HasLeft (line : Line) (left : Option Label) : Type 0 where

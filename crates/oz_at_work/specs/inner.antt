@@ -1,2 +1,3 @@
 -- For private calls: no public contract rests on these.
 pub mod Replied
+pub mod Short

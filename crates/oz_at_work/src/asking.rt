@@ -1,14 +1,12 @@
 //! How a line asks the manager.
 
-ghost use Rattle.std.specs.Prelude.{◌≡◌, ◌≢◌, ◌<◌, ◌≤◌, ◌+◌, ℕ, true, false, IfSome, List, None};
+ghost use Rattle.std.specs.Prelude.{◌≡◌, ◌≢◌, ◌<◌, ◌+◌, true, IfSome, None, Some};
 ghost use Rattle.oz_at_work.specs.AtWork.{HasGoneOn, IsAtWork, id_of};
-ghost use Rattle.oz_at_work.specs.inner.Replied.{IsAsking, WasReplied};
+ghost use Rattle.oz_at_work.specs.inner.Short.{IsShort};
 ghost use Rattle.oz_client.specs.declared.step.Step.TheVariants as steps;
-ghost use Rattle.oz_core.specs.declared.event.Event.{Event as AnyEvent};
 ghost use Rattle.oz_core.specs.Asks.{is_script};
 ghost use Rattle.oz_core.specs.Seats.{IsLineSeat};
 ghost use Rattle.oz_deciding.specs.Decided.{is_decided};
-ghost use Rattle.oz_steps.specs.Came.{granted_by};
 ghost use Rattle.oz_turn.specs.Seat.{IsReady, room_of, seen_of};
 ghost use Rattle.oz_turn.specs.Told.{BeginsWith};
 ghost use Rattle.oz_turn.specs.Turn.{turn_id};
@@ -16,24 +14,28 @@ ghost use Rattle.oz_turn.specs.Turn.{turn_id};
 use crate::at_work::LineAtWork;
 use crate::outcome::Did;
 use oz_buffer::{Ledger, Opened};
-use oz_client::{Got, Step};
+use oz_client::Step;
 use oz_core::SERVICE_CLIENT;
 use oz_fields::TryClone;
 use oz_locks::Loaded;
-use oz_om::Manager;
-use oz_requests::{Answer, AskId, Family, Reply, Request};
+use oz_om::Refusal;
+use oz_requests::{Answer, AskId, Family, Request};
+use oz_servers::Servers;
+use oz_telling::story_length;
 use oz_turn::{Ring, Seat, Turn};
+use oz_world::Disk;
 use std::alloc::Global;
 use std::sync::Wait;
 
 impl<'s> LineAtWork<'s> {
-    /// The line asks its next request. Where that is refused for good it is told so next.
-    pub(crate) fn ask<O: Opened, L: Loaded, R: Ring, W: Wait>(
+    /// The line asks its next request, for which its stripe is granted blocks where it has none. Where that is refused
+    /// for good, or where no block is granted, it is told so next.
+    pub(crate) fn ask<D: Disk, O: Opened, L: Loaded, R: Ring, W: Wait>(
         &mut self,
         rt: &W,
         alloc: Global,
         turn: &Turn<Ledger<O>>,
-        manager: &Manager<Ledger<O>, O, L, R>,
+        servers: &Servers<D, Ledger<O>, O, L, R>,
         seat: &mut Seat<Ledger<O>>,
         by: u16,
     ) -> Did
@@ -50,16 +52,86 @@ impl<'s> LineAtWork<'s> {
         ensures went_on { result ≡ Did.WentOn → HasGoneOn self.old self.new }
         ensures unended { result ≢ Did.Ended }
     {
+        match self.ask_once(rt, alloc, turn, servers, seat, by) {
+            Some(did) => did,
+            None => self.ask_for_more(rt, alloc, turn, servers, seat, by),
+        }
+    }
+
+    /// Its stripe had no block for it: it asks again, knowing how long the story is, and where there is none still, once
+    /// more behind a grant. Where others took what was granted it asks later.
+    fn ask_for_more<D: Disk, O: Opened, L: Loaded, R: Ring, W: Wait>(
+        &mut self,
+        rt: &W,
+        alloc: Global,
+        turn: &Turn<Ledger<O>>,
+        servers: &Servers<D, Ledger<O>, O, L, R>,
+        seat: &mut Seat<Ledger<O>>,
+        by: u16,
+    ) -> Did
+        requires turn { turn_id turn.now ≡ R.turn }
+        requires ready { IsReady R.turn by seat.old }
+        requires seats { by < 64 }
+        requires of_line { IsLineSeat by }
+        requires works { O.coherent → IsAtWork O.coherent O.opening O.bytes O.script (seen_of seat.old) self.old }
+        ensures ready { IsReady R.turn by seat.new }
+        ensures room { room_of seat.new ≡ room_of seat.old }
+        ensures goes_on { BeginsWith (seen_of seat.new) (seen_of seat.old) }
+        ensures line { self.new.line ≡ self.old.line }
+        ensures works { O.coherent → IsAtWork O.coherent O.opening O.bytes O.script (seen_of seat.new) self.new }
+        ensures went_on { result ≡ Did.WentOn → HasGoneOn self.old self.new }
+        ensures unended { result ≢ Did.Ended }
+    {
+        let place = story_length(rt, turn, seat, by);
+        if let Some(did) = self.ask_once(rt, alloc, turn, servers, seat, by) {
+            return did;
+        }
+        if let Some(did) = self.be_granted(rt, alloc, turn, servers, seat, by, place) {
+            return did;
+        }
+        match self.ask_once(rt, alloc, turn, servers, seat, by) {
+            Some(did) => did,
+            None => Did::Waits,
+        }
+    }
+
+    /// The line asks its next request once. Where its stripe has no block for it there is nothing to tell.
+    fn ask_once<D: Disk, O: Opened, L: Loaded, R: Ring, W: Wait>(
+        &mut self,
+        rt: &W,
+        alloc: Global,
+        turn: &Turn<Ledger<O>>,
+        servers: &Servers<D, Ledger<O>, O, L, R>,
+        seat: &mut Seat<Ledger<O>>,
+        by: u16,
+    ) -> Option<Did>
+        requires turn { turn_id turn.now ≡ R.turn }
+        requires ready { IsReady R.turn by seat.old }
+        requires seats { by < 64 }
+        requires of_line { IsLineSeat by }
+        requires works { O.coherent → IsAtWork O.coherent O.opening O.bytes O.script (seen_of seat.old) self.old }
+        ensures ready { IsReady R.turn by seat.new }
+        ensures room { room_of seat.new ≡ room_of seat.old }
+        ensures goes_on { BeginsWith (seen_of seat.new) (seen_of seat.old) }
+        ensures line { self.new.line ≡ self.old.line }
+        ensures works { O.coherent → IsAtWork O.coherent O.opening O.bytes O.script (seen_of seat.new) self.new }
+        ensures same { result ≡ None → self.new ≡ self.old }
+        ensures short { result ≡ None → O.coherent → IsShort O.opening (seen_of seat.new) self.new }
+        ensures went_on { result ≡ Some Did.WentOn → HasGoneOn self.old self.new }
+        ensures unended { result ≢ Some Did.Ended }
+    {
         let Some((id, request)) = self.next_ask(alloc) else {
             self.cut(self.asked, Answer::OutOfMemory);
-            return Did::WentOn;
+            return Some(Did::WentOn);
         };
+        let manager = &servers.manager;
         match manager.ask(rt, alloc, turn, seat, by, id, request, self.said) {
             Ok(reply) => {
                 self.reply::<O>(alloc, id.step, reply);
-                Did::WentOn
+                Some(Did::WentOn)
             }
-            Err(refusal) => self.refuse(rt, turn, seat, by, id.step, refusal),
+            Err(Refusal::PoolEmpty { .. }) => None,
+            Err(refusal) => Some(self.refuse(rt, turn, seat, by, id.step, refusal)),
         }
     }
 
@@ -74,41 +146,26 @@ impl<'s> LineAtWork<'s> {
         let Step::Ask(request) = &self.next else {
             return None;
         };
-        if self.line.client == SERVICE_CLIENT || !is_decided(request) {
+        if !is_decided(request) {
             return None;
         }
-        let id = self.id(self.asked.checked_add(1)?);
+        let id = self.next_id()?;
         let Ok(copy) = request.try_clone(alloc) else {
             return None;
         };
         Some((id, copy))
     }
 
-    /// Goes on with what was replied to its next Ask, which has this number.
-    fn reply<O: Opened>(&mut self, alloc: Global, step: u16, reply: Reply)
-        requires step { step ≡ self.old.asked + 1 }
-        requires asks { IsAsking self.old.next }
-        ensures line { self.new.line ≡ self.old.line }
-        ensures went_on { HasGoneOn self.old self.new }
-        ensures works { O.coherent → (before later : List AnyEvent) →
-            IsAtWork O.coherent O.opening O.bytes O.script before self.old →
-            WasReplied O.coherent O.opening O.bytes O.script later before self.old reply →
-            IsAtWork O.coherent O.opening O.bytes O.script later self.new }
+    /// The id of its next Ask. There is none of the service job, and where the line has asked too often.
+    pub(crate) fn next_id(&self) -> Option<AskId>
+        ensures id { IfSome result (λ id. id ≡ id_of self.now.line (self.now.asked + 1)) }
+        ensures script { IfSome result (λ id. is_script id ≡ true) }
     {
-        let grants = grants(&reply);
-        let got = Got::Reply(reply);
-        if grants || !self.steps.fits(&got) {
-            self.cut(step, Answer::OutOfMemory);
-            return;
+        if self.line.client == SERVICE_CLIENT {
+            return None;
         }
-        match self.steps.next(alloc, got) {
-            Ok(next) => {
-                self.asked = step;
-                self.next = next;
-                self.is_cut = false;
-            }
-            Err(_error) => self.cut(step, Answer::OutOfMemory),
-        }
+        let step = self.asked.checked_add(1)?;
+        Some(self.id(step))
     }
 }
 
@@ -117,11 +174,4 @@ fn is_decided(request: &Request) -> bool
     ensures { result ≡ is_decided request.now }
 {
     !matches!(request.family(), Family::Snapshots | Family::Service)
-}
-
-/// Whether a block is granted.
-fn grants(reply: &Reply) -> bool
-    ensures { result ≡ false → granted_by reply.now ≡ None }
-{
-    matches!(reply, Reply::Granted(..))
 }

@@ -1,9 +1,10 @@
 //! A line that is worked for, as a type.
 
-ghost use Rattle.std.specs.Prelude.{◌≡◌, true};
+ghost use Rattle.std.specs.Prelude.{◌≡◌, true, false, None};
 ghost use Rattle.oz_at_work.specs.AtWork.{id_of, last_of, left_of};
 ghost use Rattle.oz_client.specs.declared.step.Step.TheVariants as steps;
 
+use crate::refused::Refused;
 use oz_client::{LineSteps, Step};
 use oz_lines::Line;
 use oz_requests::{Answer, AskId};
@@ -21,6 +22,8 @@ pub struct LineAtWork<'s> {
     pub(crate) next: Step,
     /// Whether what comes next is not of its steps, but comes of want of memory or of the manager's end.
     pub(crate) is_cut: bool,
+    /// With what it is refused for now: it is told that, or tries again what comes next.
+    pub(crate) refused: Option<Refused>,
 }
 
 impl<'s> Model for LineAtWork<'s> {
@@ -35,6 +38,7 @@ impl<'s> Model for LineAtWork<'s> {
       said = w.said;
       next = w.next;
       is_cut = w.is_cut;
+      refused = w.refused;
     } };
 }
 
@@ -57,6 +61,7 @@ impl<'s> LineAtWork<'s> {
             said: _,
             next: _,
             is_cut,
+            refused: _,
         } = self;
         if is_cut { None } else { steps.label() }
     }
@@ -72,23 +77,34 @@ impl<'s> LineAtWork<'s> {
         }
     }
 
-    /// What it asked last.
-    pub(crate) fn last(&self) -> Option<AskId>
-        ensures { result ≡ last_of self.now.line self.now.asked }
+    /// What it asked last where it asked so often.
+    pub(crate) fn last_of(&self, asked: u16) -> Option<AskId>
+        ensures { result ≡ last_of self.now.line asked }
     {
-        if self.asked == 0 {
+        if asked == 0 {
             None
         } else {
-            Some(self.id(self.asked))
+            Some(self.id(asked))
         }
     }
 
     /// It is told this next, whatever its steps say.
     pub(crate) fn cut(&mut self, asked: u16, answer: Answer)
-        ensures { self.new ≡ record self.old { asked = asked; next = steps.Tell answer; is_cut = true } }
+        ensures { self.new ≡ record self.old { asked = asked; next = steps.Tell answer; is_cut = true; refused = None } }
     {
         self.asked = asked;
         self.next = Step::Tell(answer);
         self.is_cut = true;
+        self.refused = None;
+    }
+
+    /// This comes next by its steps, once it has asked so often.
+    pub(crate) fn comes_to(&mut self, asked: u16, next: Step)
+        ensures { self.new ≡ record self.old { asked = asked; next = next; is_cut = false; refused = None } }
+    {
+        self.asked = asked;
+        self.next = next;
+        self.is_cut = false;
+        self.refused = None;
     }
 }

@@ -41,6 +41,7 @@ impl<'s> LineAtWork<'s> {
             said: 0,
             next,
             is_cut: false,
+            refused: None,
         })
     }
 }

@@ -4,8 +4,12 @@
 mod asking;
 mod at_work;
 mod beginning;
+mod going;
+mod granting;
 mod laws;
 mod outcome;
+mod refused;
+mod replying;
 mod telling;
 mod waiting;
 

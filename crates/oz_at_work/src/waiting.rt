@@ -17,7 +17,7 @@ use oz_turn::{Seat, Turn};
 use std::sync::Wait;
 
 impl<'s> LineAtWork<'s> {
-    /// Its next Ask, which has this number, wasn't decided.
+    /// Its next Ask, which has this number, wasn't decided. That its stripe has no block for it is seen to before.
     pub(crate) fn refuse<O: Opened, W: Wait>(
         &mut self,
         rt: &W,
@@ -38,20 +38,17 @@ impl<'s> LineAtWork<'s> {
         ensures went_on { result ≡ Did.WentOn → HasGoneOn self.old self.new }
         ensures unended { result ≢ Did.Ended }
     {
+        let asked = self.asked;
         match refusal {
             Refusal::OtherBlocks => self.look_again(rt, turn, seat, by),
-            Refusal::Early => self.wait(rt, turn, seat, by),
+            Refusal::Early => self.wait(rt, turn, seat, by, asked),
             Refusal::Later { .. } => self.wait_for_room(rt, turn, seat, by, step),
             Refusal::Stopped { .. } => {
                 self.cut(step, Answer::ManagerStopped);
                 Did::WentOn
             }
-            Refusal::PoolEmpty { .. } => {
-                self.cut(step, Answer::OutOfMemory);
-                Did::WentOn
-            }
-            Refusal::OutOfMemory => {
-                self.cut(self.asked, Answer::OutOfMemory);
+            Refusal::PoolEmpty { .. } | Refusal::OutOfMemory => {
+                self.cut(asked, Answer::OutOfMemory);
                 Did::WentOn
             }
         }
@@ -80,13 +77,15 @@ impl<'s> LineAtWork<'s> {
         Did::Waits
     }
 
-    /// Waits until all that was decided for the line is stable. Where that never will be it is told so next.
+    /// Waits until all that was decided for the line, which has asked so often, is stable. Where that never will be it is told
+    /// so next.
     pub(crate) fn wait<O: Opened, W: Wait>(
         &mut self,
         rt: &W,
         turn: &Turn<Ledger<O>>,
         seat: &mut Seat<Ledger<O>>,
         by: u16,
+        asked: u16,
     ) -> Did
         requires ready { IsReady (turn_id turn.now) by seat.old }
         requires works { O.coherent → IsAtWork O.coherent O.opening O.bytes O.script (seen_of seat.old) self.old }
@@ -98,10 +97,10 @@ impl<'s> LineAtWork<'s> {
         ensures went_on { result ≡ Did.WentOn → HasGoneOn self.old self.new }
         ensures unended { result ≢ Did.Ended }
     {
-        let (client, line, last) = (self.line.client, self.line.number, self.last());
+        let (client, line, last) = (self.line.client, self.line.number, self.last_of(asked));
         match settle_line(rt, turn, seat, by, client, line, last) {
             Settlement::Unacknowledged { .. } => {
-                self.cut(self.asked, Answer::Unacknowledged);
+                self.cut(asked, Answer::Unacknowledged);
                 Did::WentOn
             }
             Settlement::Stable | Settlement::Waits | Settlement::Stopped { .. } => Did::Waits,

@@ -7,9 +7,9 @@ use Rattle.oz_at_work.proofs.at_work.LineAtWork.go_on.Goals as goal
 pub returns-in-Write-clause-works : goal.returns-in-Write-clause-works
 returns-in-Write-clause-works g c coherent =
     let O = g.O.Opened in
-    let seen = seen_of c.args.seat.now in
-    cut_so O.coherent O.opening O.bytes O.script seen seen c.args.self.now c.cut-in-Write.new.self _
-    answers.OutOfMemory coherent (begins_itself seen) tt c.cut-in-Write.ensures (c.requires.works coherent)
+    let seen = seen_of c.tell_refused.new.seat in
+    cut_so O.coherent O.opening O.bytes O.script seen seen c.tell_refused.new.self c.cut-in-Write.new.self _
+    answers.OutOfMemory coherent (begins_itself seen) tt c.cut-in-Write.ensures (c.tell_refused.ensures.works coherent)
 
 pub returns-in-Write-clause-went_on : goal.returns-in-Write-clause-went_on
-returns-in-Write-clause-went_on g c went = cut_goes_on c.args.self.now c.cut-in-Write.new.self _ _ c.cut-in-Write.ensures
+returns-in-Write-clause-went_on g c went = cut_goes_on c.args.self.now c.tell_refused.new.self c.cut-in-Write.new.self _ _ c.cut-in-Write.ensures

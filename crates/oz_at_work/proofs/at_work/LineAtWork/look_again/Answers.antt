@@ -10,7 +10,7 @@ returns-clause-works g c coherent =
     let inside = c.self.inside in
     let look = c.times_said-self-inside in
     let seen = seen_of c.args.seat.now in
-    let work : WorkView = record { line = inside.line.now; state = inside.steps; asked = inside.asked; said = inside.said; next = inside.next; is_cut = inside.is_cut } in
+    let work : WorkView = record { line = inside.line.now; state = inside.steps; asked = inside.asked; said = inside.said; next = inside.next; is_cut = inside.is_cut; refused = inside.refused } in
     let at_work : IsAtWork O.coherent O.opening O.bytes O.script seen work =
     subst (IsAtWork O.coherent O.opening O.bytes O.script seen) (sym c.self.view_is) (c.requires.works coherent) in
     said_still O.coherent O.opening O.bytes O.script (seen_of look.new.seat) seen look.ensures.goes_on work look.result at_work

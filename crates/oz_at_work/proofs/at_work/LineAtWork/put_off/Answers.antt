@@ -12,4 +12,4 @@ returns-in-OtherAsk-Some-clause-works g c coherent =
     answers.OutOfMemory coherent (begins_itself seen) tt c.cut.ensures (c.requires.works coherent)
 
 pub returns-in-OtherAsk-Some-clause-went_on : goal.returns-in-OtherAsk-Some-clause-went_on
-returns-in-OtherAsk-Some-clause-went_on g c went = cut_goes_on c.args.self.now c.cut.new.self _ _ c.cut.ensures
+returns-in-OtherAsk-Some-clause-went_on g c went = cut_goes_on c.args.self.now c.args.self.now c.cut.new.self _ _ c.cut.ensures

@@ -15,21 +15,11 @@ pub returns-in-PoolEmpty-clause-works : goal.returns-in-PoolEmpty-clause-works
 returns-in-PoolEmpty-clause-works g c coherent =
     let O = g.O.Opened in
     let seen = seen_of c.args.seat.now in
-    cut_so O.coherent O.opening O.bytes O.script seen seen c.args.self.now c.cut-in-PoolEmpty.new.self c.args.step
+    cut_so O.coherent O.opening O.bytes O.script seen seen c.args.self.now c.cut-in-PoolEmpty.new.self _
     answers.OutOfMemory coherent (begins_itself seen) tt c.cut-in-PoolEmpty.ensures (c.requires.works coherent)
 
-pub returns-in-OutOfMemory-clause-works : goal.returns-in-OutOfMemory-clause-works
-returns-in-OutOfMemory-clause-works g c coherent =
-    let O = g.O.Opened in
-    let seen = seen_of c.args.seat.now in
-    cut_so O.coherent O.opening O.bytes O.script seen seen c.args.self.now c.cut-in-OutOfMemory-2.new.self _
-    answers.OutOfMemory coherent (begins_itself seen) tt c.cut-in-OutOfMemory-2.ensures (c.requires.works coherent)
-
 pub returns-in-Stopped-clause-went_on : goal.returns-in-Stopped-clause-went_on
-returns-in-Stopped-clause-went_on g c went = cut_goes_on c.args.self.now c.cut.new.self _ _ c.cut.ensures
+returns-in-Stopped-clause-went_on g c went = cut_goes_on c.args.self.now c.args.self.now c.cut.new.self _ _ c.cut.ensures
 
 pub returns-in-PoolEmpty-clause-went_on : goal.returns-in-PoolEmpty-clause-went_on
-returns-in-PoolEmpty-clause-went_on g c went = cut_goes_on c.args.self.now c.cut-in-PoolEmpty.new.self _ _ c.cut-in-PoolEmpty.ensures
-
-pub returns-in-OutOfMemory-clause-went_on : goal.returns-in-OutOfMemory-clause-went_on
-returns-in-OutOfMemory-clause-went_on g c went = cut_goes_on c.args.self.now c.cut-in-OutOfMemory-2.new.self _ _ c.cut-in-OutOfMemory-2.ensures
+returns-in-PoolEmpty-clause-went_on g c went = cut_goes_on c.args.self.now c.args.self.now c.cut-in-PoolEmpty.new.self _ _ c.cut-in-PoolEmpty.ensures

@@ -14,13 +14,13 @@ tell-requires-clause-fits g c coherent story begins all may =
     let O = g.O.Opened in
     let inside = c.self.inside in
     let seen = seen_of c.args.seat.now in
-    let work : WorkView = record { line = inside.line.now; state = inside.steps; asked = inside.asked; said = inside.said; next = inside.next; is_cut = inside.is_cut } in
+    let work : WorkView = record { line = inside.line.now; state = inside.steps; asked = inside.asked; said = inside.said; next = inside.next; is_cut = inside.is_cut; refused = inside.refused } in
     let at_work : IsAtWork O.coherent O.opening O.bytes O.script seen work =
     subst (IsAtWork O.coherent O.opening O.bytes O.script seen) (sym c.self.view_is) (c.requires.works coherent) in
-    let fit : MayBeTold O.coherent O.opening O.bytes O.script seen work.line (last_of work.line work.asked) c.in-Tell.answer (left_of work) =
+    let fit : MayBeTold O.coherent O.opening O.bytes O.script seen work.line (last_of work.line work.asked) [] c.in-Tell.answer (left_of work) =
     subst (IsNextFit O.coherent O.opening O.bytes O.script seen work) (sym c.in-Tell.ensures.value) at_work.next in
     fit.fits story begins all inside.said
-    (subst (λ (last : Option AskId). MayTell O.opening story work.line.client work.line.number last inside.said [] c.in-Tell.answer) c.last-last.ensures may)
+    (subst (λ (last : Option AskId). MayTell O.opening story work.line.client work.line.number last inside.said [] c.in-Tell.answer) c.last_of-last.ensures may)
 
 pub put_off-requires-clause-works : goal.put_off-requires-clause-works
 put_off-requires-clause-works g c coherent =
@@ -28,7 +28,7 @@ put_off-requires-clause-works g c coherent =
     let inside = c.self.inside in
     let seen = seen_of c.args.seat.now in
     let later = seen_of c.tell.new.seat in
-    let work : WorkView = record { line = inside.line.now; state = inside.steps; asked = inside.asked; said = inside.said; next = inside.next; is_cut = inside.is_cut } in
+    let work : WorkView = record { line = inside.line.now; state = inside.steps; asked = inside.asked; said = inside.said; next = inside.next; is_cut = inside.is_cut; refused = inside.refused } in
     let at_work : IsAtWork O.coherent O.opening O.bytes O.script seen work =
     subst (IsAtWork O.coherent O.opening O.bytes O.script seen) (sym c.self.view_is) (c.requires.works coherent) in
     let same : steps.Tell c.in-Err.answer ≡ inside.next = ap steps.Tell c.in-Err.ensures.answer ∙ c.in-Tell.ensures.value in
@@ -41,11 +41,11 @@ returns-in-Ok-clause-works g c coherent =
     let inside = c.self.inside in
     let seen = seen_of c.args.seat.now in
     let later = seen_of c.tell.new.seat in
-    let work : WorkView = record { line = inside.line.now; state = inside.steps; asked = inside.asked; said = inside.said; next = inside.next; is_cut = inside.is_cut } in
+    let work : WorkView = record { line = inside.line.now; state = inside.steps; asked = inside.asked; said = inside.said; next = inside.next; is_cut = inside.is_cut; refused = inside.refused } in
     let at_work : IsAtWork O.coherent O.opening O.bytes O.script seen work =
     subst (IsAtWork O.coherent O.opening O.bytes O.script seen) (sym c.self.view_is) (c.requires.works coherent) in
     let told = subst (λ (last : Option AskId). IsTold O.opening c.args.by work.line.client work.line.number last work.said [] c.in-Tell.answer seen (mine_of c.args.seat.now) later (mine_of c.tell.new.seat))
-    c.last-last.ensures c.in-Ok.ensures.told in
+    c.last_of-last.ensures c.in-Ok.ensures.told in
     subst (λ (step : Step). IsAtWork O.coherent O.opening O.bytes O.script later (record work { next = step })) (sym c.replace-next.ensures.after)
     (told_works O.coherent O.opening O.bytes O.script seen later (mine_of c.args.seat.now) (mine_of c.tell.new.seat) work c.args.by c.in-Tell.answer
     c.in-Ok.ensures.goes_on at_work (sym c.in-Tell.ensures.value) told)
@@ -56,10 +56,10 @@ returns-in-Ok-clause-ended g c ended coherent =
     let inside = c.self.inside in
     let seen = seen_of c.args.seat.now in
     let later = seen_of c.tell.new.seat in
-    let work : WorkView = record { line = inside.line.now; state = inside.steps; asked = inside.asked; said = inside.said; next = inside.next; is_cut = inside.is_cut } in
+    let work : WorkView = record { line = inside.line.now; state = inside.steps; asked = inside.asked; said = inside.said; next = inside.next; is_cut = inside.is_cut; refused = inside.refused } in
     let at_work : IsAtWork O.coherent O.opening O.bytes O.script seen work =
     subst (IsAtWork O.coherent O.opening O.bytes O.script seen) (sym c.self.view_is) (c.requires.works coherent) in
     let told = subst (λ (last : Option AskId). IsTold O.opening c.args.by work.line.client work.line.number last work.said [] c.in-Tell.answer seen (mine_of c.args.seat.now) later (mine_of c.tell.new.seat))
-    c.last-last.ensures c.in-Ok.ensures.told in
+    c.last_of-last.ensures c.in-Ok.ensures.told in
     has_left O.coherent O.opening O.bytes O.script seen later (mine_of c.args.seat.now) (mine_of c.tell.new.seat) work c.args.by c.in-Tell.answer
     c.in-Ok.ensures.goes_on at_work (sym c.in-Tell.ensures.value) told

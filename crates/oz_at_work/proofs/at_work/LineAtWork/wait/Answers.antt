@@ -8,8 +8,8 @@ use Rattle.oz_at_work.proofs.at_work.LineAtWork.wait.Goals as goal
 pub returns-in-Unacknowledged-clause-works : goal.returns-in-Unacknowledged-clause-works
 returns-in-Unacknowledged-clause-works g c coherent =
     let O = g.O.Opened in
-    cut_so O.coherent O.opening O.bytes O.script (seen_of c.settle_line.new.seat) (seen_of c.args.seat.now) c.args.self.now c.cut-in-Unacknowledged.new.self _
-    answers.Unacknowledged coherent c.settle_line.ensures.goes_on tt c.cut-in-Unacknowledged.ensures (c.requires.works coherent)
+    cut_so O.coherent O.opening O.bytes O.script (seen_of c.settle_line.new.seat) (seen_of c.args.seat.now) c.args.self.now c.cut.new.self _
+    answers.Unacknowledged coherent c.settle_line.ensures.goes_on tt c.cut.ensures (c.requires.works coherent)
 
 pub returns-in-Stable : goal.returns-in-Stable
 returns-in-Stable g c =
@@ -26,4 +26,4 @@ returns-in-Stable g c =
     }
 
 pub returns-in-Unacknowledged-clause-went_on : goal.returns-in-Unacknowledged-clause-went_on
-returns-in-Unacknowledged-clause-went_on g c went = cut_goes_on c.args.self.now c.cut-in-Unacknowledged.new.self _ _ c.cut-in-Unacknowledged.ensures
+returns-in-Unacknowledged-clause-went_on g c went = cut_goes_on c.args.self.now c.args.self.now c.cut.new.self _ _ c.cut.ensures

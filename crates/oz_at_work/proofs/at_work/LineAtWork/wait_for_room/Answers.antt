@@ -17,4 +17,4 @@ returns-in-Stable-clause-works g c coherent =
     c.settle_line.ensures.goes_on c.args.self.now (c.requires.works coherent)
 
 pub returns-in-Stopped-clause-went_on : goal.returns-in-Stopped-clause-went_on
-returns-in-Stopped-clause-went_on g c went = cut_goes_on c.args.self.now c.cut.new.self _ _ c.cut.ensures
+returns-in-Stopped-clause-went_on g c went = cut_goes_on c.args.self.now c.args.self.now c.cut.new.self _ _ c.cut.ensures

@@ -1,0 +1,62 @@
+use Rattle.std.proofs.Common.{◌≡◌, false, Err, IfErr, Result, ap, ◌∙◌, subst}
+use Rattle.oz_asker.specs.Decided.{IsDecideAt}
+use Rattle.oz_core.specs.Manager.{asked_late}
+use Rattle.oz_om.specs.declared.refusal.Refusal.{Refusal}
+use Rattle.oz_om.specs.declared.refusal.Refusal.TheVariants as refusals
+use Rattle.oz_om.specs.Refusals.{AskStands, IsOfStripe}
+use Rattle.oz_requests.specs.declared.answer.Answer.TheVariants as answers
+use Rattle.oz_requests.specs.declared.reply.Reply.{Reply}
+use Rattle.oz_requests.specs.declared.request.AskId.{AskId}
+use Rattle.oz_turn.specs.Seat.{seen_of}
+use Rattle.oz_underway.specs.laws.Going.{begins_itself}
+use Rattle.oz_at_work.specs.inner.Replied.{WasReplied}
+use Rattle.oz_at_work.proofs.Cutting.{cut_goes_on, cut_so}
+use Rattle.oz_at_work.proofs.Refusing.{is_short}
+use Rattle.oz_at_work.proofs.Staying.{work_still}
+use Rattle.oz_at_work.proofs.at_work.LineAtWork.ask_once.Goals as goal
+
+pub returns-in_default-clause-works : goal.returns-in_default-clause-works
+returns-in_default-clause-works g c coherent =
+    let O = g.O.Opened in
+    let seen = seen_of c.args.seat.now in
+    cut_so O.coherent O.opening O.bytes O.script seen seen c.args.self.now c.cut-in_default.new.self _
+    answers.OutOfMemory coherent (begins_itself seen) tt c.cut-in_default.ensures (c.requires.works coherent)
+
+pub refuse-requires-clause-works : goal.refuse-requires-clause-works
+refuse-requires-clause-works g c coherent =
+    let O = g.O.Opened in
+    work_still O.coherent O.opening O.bytes O.script (seen_of c.ask.new.seat) (seen_of c.args.seat.now) c.ask.ensures.goes_on c.args.self.now (c.requires.works coherent)
+
+pub returns-in-Ok-clause-works : goal.returns-in-Ok-clause-works
+returns-in-Ok-clause-works g c coherent =
+    let O = g.O.Opened in
+    let before = seen_of c.args.seat.now in
+    let later = seen_of c.ask.new.seat in
+    let so = c.in-Ok.ensures.ok coherent in
+    let was : WasReplied O.coherent O.opening O.bytes O.script later before c.args.self.now c.in-Ok.reply = record {
+      goes_on = c.in-Ok.ensures.goes_on;
+      follow = c.in-Ok.ensures.follow;
+      place = so.place;
+      decided = subst (λ (i : AskId). IsDecideAt later so.place i c.in-Ok.reply) c.in-Some.ensures.id (_, so.index, so.batch, so.there);
+    } in
+    c.reply.ensures.works coherent before later (c.requires.works coherent) was
+
+pub returns-in_default-clause-went_on : goal.returns-in_default-clause-went_on
+returns-in_default-clause-went_on g c went = cut_goes_on c.args.self.now c.args.self.now c.cut-in_default.new.self _ _ c.cut-in_default.ensures
+
+pub returns-in-Err-PoolEmpty-clause-works : goal.returns-in-Err-PoolEmpty-clause-works
+returns-in-Err-PoolEmpty-clause-works g c coherent =
+    let O = g.O.Opened in
+    work_still O.coherent O.opening O.bytes O.script (seen_of c.ask.new.seat) (seen_of c.args.seat.now) c.ask.ensures.goes_on c.args.self.now (c.requires.works coherent)
+
+pub returns-in-Err-PoolEmpty-clause-short : goal.returns-in-Err-PoolEmpty-clause-short
+returns-in-Err-PoolEmpty-clause-short g c same coherent =
+    let O = g.O.Opened in
+    let seen = seen_of c.ask.new.seat in
+    let stripe = c.in-Err-PoolEmpty.field-0-0 in
+    let refused : c.ask.result ≡ Err (refusals.PoolEmpty stripe) =
+    c.in-Err-PoolEmpty.is ∙ ap (λ (r : Refusal). Err r) c.in-Err-PoolEmpty.field-0-is in
+    let stands = subst (AskStands seen c.in-Some.id c.in-Some.request) refused (c.ask.ensures.stands coherent) in
+    let in_time = subst (λ (r : Result Reply Refusal). IfErr r (λ refusal. IsOfStripe refusal → asked_late c.in-Some.id seen ≡ false)) refused c.ask.ensures.in_time in
+    is_short O.coherent O.opening O.bytes O.script seen c.args.self.now c.in-Some.id c.in-Some.request stripe coherent c.ask.ensures.follow
+    c.in-Some.ensures.id c.in-Some.ensures.script c.in-Some.ensures.next stands (c.ask.ensures.pool_empty stripe refused coherent) (in_time tt)

@@ -1,0 +1,103 @@
+use Rattle.std.proofs.Common.{◌≡◌, Option, None, Some, sym, ap, ◌∙◌, subst}
+use Rattle.std.proofs.lemmas.Option.{same_Some}
+use Rattle.oz_requests.specs.declared.answer.Answer.{Answer}
+use Rattle.oz_requests.specs.declared.answer.Answer.TheVariants as answers
+use Rattle.oz_requests.specs.declared.request.AskId.{AskId}
+use Rattle.oz_telling.specs.Tells.{IsTold, MayTell}
+use Rattle.oz_turn.specs.Seat.{mine_of, seen_of}
+use Rattle.oz_underway.specs.laws.Going.{begins_through}
+use Rattle.oz_at_work.specs.declared.refused.Refused.{Refused}
+use Rattle.oz_at_work.specs.AtWork.{HasGoneOn, HasLeft, IsAtWork, IsRefusalFit, MayBeTold, WorkView, last_of, left_of}
+use Rattle.oz_at_work.proofs.Cutting.{cut_so}
+use Rattle.oz_at_work.proofs.Leaving.{told_left}
+use Rattle.oz_at_work.proofs.Staying.{refusal_still, with_refused, work_still}
+use Rattle.oz_at_work.proofs.at_work.LineAtWork.tell_refused.Goals as goal
+
+pub tell-requires-clause-fits : goal.tell-requires-clause-fits
+tell-requires-clause-fits g c coherent story begins all may =
+    let O = g.O.Opened in
+    let inside = c.self.inside in
+    let seen = seen_of c.args.seat.now in
+    let refused = c.in_ok-answer.field-0 in
+    let work : WorkView = record { line = inside.line.now; state = inside.steps; asked = inside.asked; said = inside.said; next = inside.next; is_cut = inside.is_cut; refused = inside.refused } in
+    let at_work : IsAtWork O.coherent O.opening O.bytes O.script seen work =
+    subst (IsAtWork O.coherent O.opening O.bytes O.script seen) (sym c.self.view_is) (c.requires.works coherent) in
+    let fit : MayBeTold O.coherent O.opening O.bytes O.script seen work.line (last_of work.line refused.asked) refused.still refused.answer None =
+    subst (IsRefusalFit O.coherent O.opening O.bytes O.script seen work.line) (sym c.take.ensures.value ∙ c.in_ok-answer.was) at_work.refusal in
+    fit.fits story begins all inside.said
+    (subst (λ (last : Option AskId). MayTell O.opening story work.line.client work.line.number last inside.said refused.still refused.answer) c.last_of-last.ensures may)
+
+pub put_off-requires : goal.put_off-requires
+put_off-requires g c =
+    let O = g.O.Opened in
+    let inside = c.self.inside in
+    let seen = seen_of c.args.seat.now in
+    let later = seen_of c.tell.new.seat in
+    let refused = c.in_ok-answer.field-0 in
+    let work : WorkView = record { line = inside.line.now; state = inside.steps; asked = inside.asked; said = inside.said; next = inside.next; is_cut = inside.is_cut; refused = inside.refused } in
+    record {
+      ready = c.in-Err.ensures.ready;
+      works = λ coherent.
+          let at_work : IsAtWork O.coherent O.opening O.bytes O.script seen work =
+          subst (IsAtWork O.coherent O.opening O.bytes O.script seen) (sym c.self.view_is) (c.requires.works coherent) in
+          let fit : IsRefusalFit O.coherent O.opening O.bytes O.script seen work.line (Some refused) =
+          subst (IsRefusalFit O.coherent O.opening O.bytes O.script seen work.line) (sym c.take.ensures.value ∙ c.in_ok-answer.was) at_work.refusal in
+          let still : MayBeTold O.coherent O.opening O.bytes O.script later work.line (last_of work.line refused.asked) refused.still refused.answer None =
+          refusal_still O.coherent O.opening O.bytes O.script later seen c.in-Err.ensures.goes_on work.line (Some refused) fit in
+          with_refused O.coherent O.opening O.bytes O.script later work (Some (record { answer = c.in-Err.answer; asked = refused.asked; still = refused.still }))
+          (subst (λ (a : Answer). MayBeTold O.coherent O.opening O.bytes O.script later work.line (last_of work.line refused.asked) refused.still a None) (sym c.in-Err.ensures.answer) still)
+          (work_still O.coherent O.opening O.bytes O.script later seen c.in-Err.ensures.goes_on work at_work);
+    }
+
+pub returns-in-Ok-clause-works : goal.returns-in-Ok-clause-works
+returns-in-Ok-clause-works g c coherent =
+    let O = g.O.Opened in
+    let inside = c.self.inside in
+    let seen = seen_of c.args.seat.now in
+    let work : WorkView = record { line = inside.line.now; state = inside.steps; asked = inside.asked; said = inside.said; next = inside.next; is_cut = inside.is_cut; refused = inside.refused } in
+    let at_work : IsAtWork O.coherent O.opening O.bytes O.script seen work =
+    subst (IsAtWork O.coherent O.opening O.bytes O.script seen) (sym c.self.view_is) (c.requires.works coherent) in
+    cut_so O.coherent O.opening O.bytes O.script (seen_of c.tell.new.seat) seen work c.cut.new.self _
+    answers.OutOfMemory coherent c.in-Ok.ensures.goes_on tt c.cut.ensures at_work
+
+pub returns-in-Ok-clause-ended : goal.returns-in-Ok-clause-ended
+returns-in-Ok-clause-ended g c ended coherent =
+    let O = g.O.Opened in
+    let inside = c.self.inside in
+    let seen = seen_of c.args.seat.now in
+    let later = seen_of c.tell.new.seat in
+    let refused = c.in_ok-answer.field-0 in
+    let work : WorkView = record { line = inside.line.now; state = inside.steps; asked = inside.asked; said = inside.said; next = inside.next; is_cut = inside.is_cut; refused = inside.refused } in
+    let at_work : IsAtWork O.coherent O.opening O.bytes O.script seen work =
+    subst (IsAtWork O.coherent O.opening O.bytes O.script seen) (sym c.self.view_is) (c.requires.works coherent) in
+    let fit : IsRefusalFit O.coherent O.opening O.bytes O.script seen work.line (Some refused) =
+    subst (IsRefusalFit O.coherent O.opening O.bytes O.script seen work.line) (sym c.take.ensures.value ∙ c.in_ok-answer.was) at_work.refusal in
+    let told = subst (λ (last : Option AskId). IsTold O.opening c.args.by work.line.client work.line.number last inside.said refused.still refused.answer seen (mine_of c.args.seat.now) later (mine_of c.tell.new.seat))
+    c.last_of-last.ensures c.in-Ok.ensures.told in
+    subst (λ (w : WorkView). HasLeft O.coherent O.opening O.bytes O.script later w.line (left_of w)) (sym c.cut.ensures)
+    (told_left O.coherent O.opening O.bytes O.script seen later (mine_of c.args.seat.now) (mine_of c.tell.new.seat) work.line (last_of work.line refused.asked) inside.said c.args.by refused.still refused.answer
+    c.in-Ok.ensures.goes_on told None fit)
+
+pub returns-in-Err-default-Moved-clause-works : goal.returns-in-Err-default-Moved-clause-works
+returns-in-Err-default-Moved-clause-works g c coherent =
+    let O = g.O.Opened in
+    let inside = c.self.inside in
+    let seen = seen_of c.args.seat.now in
+    let later = seen_of c.tell.new.seat in
+    let work : WorkView = record { line = inside.line.now; state = inside.steps; asked = inside.asked; said = inside.said; next = inside.next; is_cut = inside.is_cut; refused = inside.refused } in
+    let at_work : IsAtWork O.coherent O.opening O.bytes O.script seen work =
+    subst (IsAtWork O.coherent O.opening O.bytes O.script seen) (sym c.self.view_is) (c.requires.works coherent) in
+    subst (λ (refused : Option Refused). IsAtWork O.coherent O.opening O.bytes O.script later (record work { refused = refused })) (sym c.take.ensures.after)
+    (with_refused O.coherent O.opening O.bytes O.script later work None tt (work_still O.coherent O.opening O.bytes O.script later seen c.tell.ensures.goes_on work at_work))
+
+pub returns-in-Err : goal.returns-in-Err
+returns-in-Err g c = record {
+  ready = c.put_off.ensures.ready;
+  room = c.put_off.ensures.room ∙ c.in-Err.ensures.room;
+  goes_on = begins_through (seen_of c.put_off.new.seat) (seen_of c.tell.new.seat) (seen_of c.args.seat.now) c.put_off.ensures.goes_on c.in-Err.ensures.goes_on;
+  line = c.put_off.ensures.line ∙ ap (λ (w : WorkView). w.line) c.self.view_is;
+  works = c.put_off.ensures.works;
+  tries = λ wrong. absurd cc;
+  went_on = λ is. subst (λ (w : WorkView). HasGoneOn w c.put_off.new.self) c.self.view_is (c.put_off.ensures.went_on (same_Some _ _ is));
+  ended = λ is. absurd (c.put_off.ensures.unended (same_Some _ _ is));
+}

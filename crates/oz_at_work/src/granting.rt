@@ -1,0 +1,128 @@
+//! How a line's stripe is granted blocks, or the line is refused.
+
+ghost use Rattle.std.specs.Prelude.{◌≡◌, ◌≢◌, ◌<◌, ◌≤◌, ◌+◌, true, length, IfSome, None, Some};
+ghost use Rattle.oz_at_work.specs.AtWork.{HasGoneOn, IsAtWork, id_of};
+ghost use Rattle.oz_at_work.specs.inner.Short.{IsShort, WantsBlock};
+ghost use Rattle.oz_core.specs.Asks.{is_script};
+ghost use Rattle.oz_core.specs.Steps.{was_told_ok};
+ghost use Rattle.oz_names.specs.declared.limits.TheConstants.{STRIPES};
+ghost use Rattle.oz_turn.specs.Seat.{IsReady, room_of, seen_of};
+ghost use Rattle.oz_turn.specs.Told.{BeginsWith};
+ghost use Rattle.oz_turn.specs.Turn.{turn_id};
+
+use crate::at_work::LineAtWork;
+use crate::outcome::Did;
+use crate::refused::Refused;
+use oz_buffer::{Ledger, Opened};
+use oz_client::Step;
+use oz_granting::{Granting, grant_for};
+use oz_locks::Loaded;
+use oz_names::stripe_of;
+use oz_requests::{Answer, AskId, Exclude, Request};
+use oz_servers::Servers;
+use oz_turn::{Ring, Seat, Turn};
+use oz_world::Disk;
+use std::alloc::Global;
+use std::sync::Wait;
+
+/// A block that is wanted: of this stripe, for this id, and none that is excluded.
+struct Wanted<'e> {
+    id: AskId,
+    stripe: u8,
+    exclude: &'e Exclude,
+}
+
+impl<'s> LineAtWork<'s> {
+    /// Has its stripe granted blocks, which had none for its next Ask when the story had so many events, or more. Where none
+    /// is granted the line knows with what it is refused. There is nothing to tell where it may ask again.
+    pub(crate) fn be_granted<D: Disk, O: Opened, L: Loaded, R: Ring, W: Wait>(
+        &mut self,
+        rt: &W,
+        alloc: Global,
+        turn: &Turn<Ledger<O>>,
+        servers: &Servers<D, Ledger<O>, O, L, R>,
+        seat: &mut Seat<Ledger<O>>,
+        by: u16,
+        place: u64,
+    ) -> Option<Did>
+        requires turn { turn_id turn.now ≡ R.turn }
+        requires ready { IsReady R.turn by seat.old }
+        requires works { O.coherent → IsAtWork O.coherent O.opening O.bytes O.script (seen_of seat.old) self.old }
+        requires short { O.coherent → IsShort O.opening (seen_of seat.old) self.old }
+        requires reached { place ≤ length (seen_of seat.old) }
+        ensures ready { IsReady R.turn by seat.new }
+        ensures room { room_of seat.new ≡ room_of seat.old }
+        ensures goes_on { BeginsWith (seen_of seat.new) (seen_of seat.old) }
+        ensures line { self.new.line ≡ self.old.line }
+        ensures works { O.coherent → IsAtWork O.coherent O.opening O.bytes O.script (seen_of seat.new) self.new }
+        ensures same { result ≡ None → self.new ≡ self.old }
+        ensures went_on { result ≡ Some Did.WentOn → HasGoneOn self.old self.new }
+        ensures unended { result ≢ Some Did.Ended }
+    {
+        let Some(wanted) = self.wanted() else {
+            self.cut(self.asked, Answer::OutOfMemory);
+            return Some(Did::WentOn);
+        };
+        let Wanted {
+            id,
+            stripe,
+            exclude,
+        } = wanted;
+        match grant_for(
+            rt,
+            alloc,
+            turn,
+            &servers.scm,
+            seat,
+            by,
+            id,
+            stripe,
+            exclude,
+            place,
+        ) {
+            Ok(Granting::Granted | Granting::Moved) => None,
+            Ok(Granting::Refused(answer, still)) if !is_ok(&answer) => {
+                self.refused = Some(Refused {
+                    answer,
+                    asked: id.step,
+                    still,
+                });
+                Some(Did::WentOn)
+            }
+            Ok(Granting::Refused(_, _)) | Err(_) => {
+                self.cut(id.step, Answer::OutOfMemory);
+                Some(Did::WentOn)
+            }
+        }
+    }
+
+    /// The block that its next Ask wants, if it wants one.
+    fn wanted(&self) -> Option<Wanted<'_>>
+        ensures id { IfSome result (λ wanted. wanted.id ≡ id_of self.now.line (self.now.asked + 1)) }
+        ensures script { IfSome result (λ wanted. is_script wanted.id ≡ true) }
+        ensures stripe { IfSome result (λ wanted. wanted.stripe < STRIPES) }
+        ensures wants { IfSome result (λ wanted. WantsBlock self.now.next wanted.stripe wanted.exclude.now) }
+    {
+        let Step::Ask(
+            Request::AllocateBlock {
+                volume,
+                exclude,
+                ..
+            },
+        ) = &self.next
+        else {
+            return None;
+        };
+        Some(Wanted {
+            id: self.next_id()?,
+            stripe: stripe_of(volume.bytes()),
+            exclude,
+        })
+    }
+}
+
+fn is_ok(answer: &Answer) -> bool
+    ensures { result ≡ was_told_ok (Some answer.now) }
+{
+    matches!(answer, Answer::Ok(_))
+}

@@ -13,3 +13,5 @@ mod stopping;
 mod telling;
 #[cfg(test)]
 mod told;
+#[cfg(test)]
+mod writing;

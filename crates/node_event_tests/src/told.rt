@@ -22,6 +22,7 @@ fn letters(kind: &EventKind) -> (u8, u8) {
         } => (b'h', *dn),
         EventKind::Bad { dn, .. } => (b'b', *dn),
         EventKind::Stop { dn } => (b's', *dn),
+        EventKind::Wrote { .. } => (b'w', 0),
         _ => (b'?', 0),
     }
 }

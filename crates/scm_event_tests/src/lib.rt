@@ -10,6 +10,8 @@ mod failing;
 #[cfg(test)]
 mod granting;
 #[cfg(test)]
+mod lines;
+#[cfg(test)]
 mod nodes;
 #[cfg(test)]
 mod said;

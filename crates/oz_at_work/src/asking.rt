@@ -18,7 +18,7 @@ use oz_client::Step;
 use oz_core::SERVICE_CLIENT;
 use oz_fields::TryClone;
 use oz_locks::Loaded;
-use oz_om::Refusal;
+use oz_om::{Manager, Refusal};
 use oz_requests::{Answer, AskId, Family, Request};
 use oz_servers::Servers;
 use oz_telling::story_length;
@@ -52,7 +52,7 @@ impl<'s> LineAtWork<'s> {
         ensures went_on { result ≡ Did.WentOn → HasGoneOn self.old self.new }
         ensures unended { result ≢ Did.Ended }
     {
-        match self.ask_once(rt, alloc, turn, servers, seat, by) {
+        match self.ask_once(rt, alloc, turn, &servers.manager, seat, by) {
             Some(did) => did,
             None => self.ask_for_more(rt, alloc, turn, servers, seat, by),
         }
@@ -83,25 +83,25 @@ impl<'s> LineAtWork<'s> {
         ensures unended { result ≢ Did.Ended }
     {
         let place = story_length(rt, turn, seat, by);
-        if let Some(did) = self.ask_once(rt, alloc, turn, servers, seat, by) {
+        if let Some(did) = self.ask_once(rt, alloc, turn, &servers.manager, seat, by) {
             return did;
         }
         if let Some(did) = self.be_granted(rt, alloc, turn, servers, seat, by, place) {
             return did;
         }
-        match self.ask_once(rt, alloc, turn, servers, seat, by) {
+        match self.ask_once(rt, alloc, turn, &servers.manager, seat, by) {
             Some(did) => did,
             None => Did::Waits,
         }
     }
 
     /// The line asks its next request once. Where its stripe has no block for it there is nothing to tell.
-    fn ask_once<D: Disk, O: Opened, L: Loaded, R: Ring, W: Wait>(
+    pub(crate) fn ask_once<O: Opened, L: Loaded, R: Ring, W: Wait>(
         &mut self,
         rt: &W,
         alloc: Global,
         turn: &Turn<Ledger<O>>,
-        servers: &Servers<D, Ledger<O>, O, L, R>,
+        manager: &Manager<Ledger<O>, O, L, R>,
         seat: &mut Seat<Ledger<O>>,
         by: u16,
     ) -> Option<Did>
@@ -124,7 +124,6 @@ impl<'s> LineAtWork<'s> {
             self.cut(self.asked, Answer::OutOfMemory);
             return Some(Did::WentOn);
         };
-        let manager = &servers.manager;
         match manager.ask(rt, alloc, turn, seat, by, id, request, self.said) {
             Ok(reply) => {
                 self.reply::<O>(alloc, id.step, reply);

@@ -1,6 +1,7 @@
 //! A line of a script that a worker works for: how far it is, and what it does next.
 #![tactic(auto)]
 
+mod alone;
 mod asking;
 mod at_work;
 mod beginning;

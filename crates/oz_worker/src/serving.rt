@@ -49,7 +49,7 @@ impl<'s> Client<'s> {
         let Some(mut work) = self.work.take() else {
             return self.begin::<O, W>(rt, alloc, turn, seat, by, nodes);
         };
-        match work.go_on(rt, alloc, turn, manager, seat, by) {
+        match work.go_on_with_manager(rt, alloc, turn, manager, seat, by) {
             Did::Ended => self.end::<O>(alloc, work),
             did => {
                 self.keep(work);

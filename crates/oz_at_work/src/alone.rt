@@ -1,0 +1,85 @@
+//! How a line goes on where the manager alone serves it.
+
+ghost use Rattle.std.specs.Prelude.{◌≡◌, ◌≢◌, ◌<◌};
+ghost use Rattle.oz_at_work.specs.AtWork.{HasGoneOn, HasLeft, IsAtWork, left_of};
+ghost use Rattle.oz_core.specs.Seats.{IsLineSeat};
+ghost use Rattle.oz_turn.specs.Seat.{IsReady, room_of, seen_of};
+ghost use Rattle.oz_turn.specs.Told.{BeginsWith};
+ghost use Rattle.oz_turn.specs.Turn.{turn_id};
+
+use crate::at_work::LineAtWork;
+use crate::outcome::Did;
+use oz_buffer::{Ledger, Opened};
+use oz_client::Step;
+use oz_locks::Loaded;
+use oz_om::Manager;
+use oz_requests::Answer;
+use oz_turn::{Ring, Seat, Turn};
+use std::alloc::Global;
+use std::sync::Wait;
+
+impl<'s> LineAtWork<'s> {
+    /// The line asks what it asks next, or is told its answer, where nobody grants blocks. `by` is the seat's number.
+    pub fn go_on_with_manager<O: Opened, L: Loaded, R: Ring, W: Wait>(
+        &mut self,
+        rt: &W,
+        alloc: Global,
+        turn: &Turn<Ledger<O>>,
+        manager: &Manager<Ledger<O>, O, L, R>,
+        seat: &mut Seat<Ledger<O>>,
+        by: u16,
+    ) -> Did
+        requires turn { turn_id turn.now ≡ R.turn }
+        requires ready { IsReady R.turn by seat.old }
+        requires seats { by < 64 }
+        requires of_line { IsLineSeat by }
+        requires works { O.coherent → IsAtWork O.coherent O.opening O.bytes O.script (seen_of seat.old) self.old }
+        ensures ready { IsReady R.turn by seat.new }
+        ensures room { room_of seat.new ≡ room_of seat.old }
+        ensures goes_on { BeginsWith (seen_of seat.new) (seen_of seat.old) }
+        ensures line { self.new.line ≡ self.old.line }
+        ensures works { O.coherent → IsAtWork O.coherent O.opening O.bytes O.script (seen_of seat.new) self.new }
+        ensures went_on { result ≡ Did.WentOn → HasGoneOn self.old self.new }
+        ensures ended { result ≡ Did.Ended → O.coherent →
+            HasLeft O.coherent O.opening O.bytes O.script (seen_of seat.new) self.new.line (left_of self.new) }
+    {
+        match &self.next {
+            Step::Ask(_) => self.ask_manager(rt, alloc, turn, manager, seat, by),
+            Step::Tell(_) => self.tell(rt, alloc, turn, seat, by),
+            Step::Write { .. } | Step::Read { .. } | Step::Admin(_) => {
+                self.cut(self.asked, Answer::OutOfMemory);
+                Did::WentOn
+            }
+        }
+    }
+
+    /// The line asks its next request. Where its stripe has no block for it, it is told next that there is no memory.
+    fn ask_manager<O: Opened, L: Loaded, R: Ring, W: Wait>(
+        &mut self,
+        rt: &W,
+        alloc: Global,
+        turn: &Turn<Ledger<O>>,
+        manager: &Manager<Ledger<O>, O, L, R>,
+        seat: &mut Seat<Ledger<O>>,
+        by: u16,
+    ) -> Did
+        requires turn { turn_id turn.now ≡ R.turn }
+        requires ready { IsReady R.turn by seat.old }
+        requires seats { by < 64 }
+        requires of_line { IsLineSeat by }
+        requires works { O.coherent → IsAtWork O.coherent O.opening O.bytes O.script (seen_of seat.old) self.old }
+        ensures ready { IsReady R.turn by seat.new }
+        ensures room { room_of seat.new ≡ room_of seat.old }
+        ensures goes_on { BeginsWith (seen_of seat.new) (seen_of seat.old) }
+        ensures line { self.new.line ≡ self.old.line }
+        ensures works { O.coherent → IsAtWork O.coherent O.opening O.bytes O.script (seen_of seat.new) self.new }
+        ensures went_on { result ≡ Did.WentOn → HasGoneOn self.old self.new }
+        ensures unended { result ≢ Did.Ended }
+    {
+        if let Some(did) = self.ask_once(rt, alloc, turn, manager, seat, by) {
+            return did;
+        }
+        self.cut(self.asked.saturating_add(1), Answer::OutOfMemory);
+        Did::WentOn
+    }
+}

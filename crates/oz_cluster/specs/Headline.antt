@@ -6,6 +6,7 @@ use Rattle.oz_cluster.specs.Streams.{IsReadThrough}
 use Rattle.oz_core.specs.declared.event.Event.{Event}
 use Rattle.oz_core.specs.Fits.{AllAreTold}
 use Rattle.oz_disk_run.specs.declared.disks.Disks.{Disks}
+use Rattle.oz_disk_run.specs.Coherent.{IsCoherentStore}
 use Rattle.oz_disk_run.specs.StoreRun.{IsStoreRun}
 use Rattle.oz_headline.specs.declared.status.Status.{Status}
 use Rattle.oz_headline.specs.declared.status.Status.TheVariants.{OutOfMemory}
@@ -16,18 +17,16 @@ use Rattle.oz_headline.specs.Printed.{IsPrinted}
 use Rattle.oz_headline.specs.Statuses.{status_number}
 use Rattle.oz_lines.specs.declared.script.Script.{Script}
 use Rattle.oz_namespace.specs.declared.namespace.Namespace.{Namespace}
-use Rattle.oz_opening.specs.Openings.{no_bytes, opening_over}
 use Rattle.oz_rows.specs.RowMaps.{row_of}
-use Rattle.oz_sound.specs.Sound.{IsSoundButRenames}
-use Rattle.oz_sound.specs.StandsFor.{StandsFor}
+use Rattle.oz_store_opening.specs.Openings.{opening_bytes, opening_of}
 use Rattle.oz_words.specs.Words.{IsRunWith}
 use Rattle.oz_world.specs.Disk.{Seen}
 
 module _ {D : Type 0} (see : D → Seen) (words : List (List ℕ)) (left left_after : Option (List ℕ))
     (before after : Disks D) (held_before held_after : Option (List ℕ)) (sink_rose : Type 0) (story : List Event) where
-  -- A run of a script over disks, all of which it loads, and of which it writes to the manager's alone. What it wrote is
-  -- the report of its story, in which each line is told unless memory ran out. Where the rows of that disk stand for a
-  -- namespace, and are sound but for what renamed rows say, the story is one history from there.
+  -- A run of a script over disks, all of which it loads, and of which it writes to the manager's alone. What it wrote
+  -- is the report of its story, in which each line is told unless memory ran out. Where all disks are a coherent store
+  -- over a namespace, the story is one history from their opening.
   pub record IsOneRun (status : Status) : Type 0 where
     pub script : Script
     pub workers : ℕ
@@ -42,9 +41,11 @@ module _ {D : Type 0} (see : D → Seen) (words : List (List ℕ)) (left left_af
     pub ended : StatusNamesHalts status story
     pub told : status ≢ OutOfMemory → AreToldAsMany script story
     pub halted : HaltsAreNamed (disks_of_run see before after store.over.faults store.over.first stopped) story
-    pub headline : (namespace : Namespace) → StandsFor (row_of store.over.loaded.all) namespace
-        → IsSoundButRenames (row_of store.over.loaded.all)
-        → Headline (opening_over store.over.unseated namespace (length before.nodes.items)) no_bytes script
+    pub headline : (namespace : Namespace)
+        → let opening = opening_of store.over.unseated namespace store.scm.made store.nodes in
+        let bytes = opening_bytes see store.nodes in
+        IsCoherentStore see before.nodes.items (row_of store.over.loaded.all) opening bytes
+        → Headline opening bytes script
         (disks_of_run see before after store.over.faults store.over.first stopped) story
         × (status ≢ OutOfMemory → AllAreTold script story)
 

@@ -5,3 +5,4 @@ pub mod Disks
 pub mod Wrong
 pub mod Headline
 pub mod StatusCauses
+pub mod Unwritten

@@ -1,17 +1,23 @@
-//! What a run comes to that nothing disturbs, and what an empty disk opens as.
+//! What a run comes to that nothing disturbs, and what empty disks open as.
 
-ghost use Rattle.std.specs.Prelude.{◌≡◌, ◌⊎◌, ◌≤◌, ℕ, List, Some, length};
+ghost use Rattle.std.specs.Prelude.{◌≡◌, ◌⊎◌, ◌≤◌, ℕ, Bool, List, Some, length};
 ghost use Rattle.oz_cluster.specs.Disks.{ADiskRose};
 ghost use Rattle.oz_cluster.specs.StatusCauses.{StatusCauses, StoreLoads};
 ghost use Rattle.oz_cluster.specs.Stopped.{IsScript};
+ghost use Rattle.oz_cluster.specs.Unwritten.{AreUnwritten};
+ghost use Rattle.oz_core.specs.declared.event.Event.{Event as AnyEvent};
+ghost use Rattle.oz_disk_run.specs.Coherent.{IsCoherentStore};
+ghost use Rattle.oz_disk_run.specs.StoreRun.{IsStoreRun};
 ghost use Rattle.oz_disk_run.specs.declared.disks.Disks.{Disks};
 ghost use Rattle.oz_journal.specs.Grammar.{IsJournal};
+ghost use Rattle.oz_lines.specs.declared.script.Script.{Script as AnyScript};
 ghost use Rattle.oz_loaded.specs.Loads.{IsLoaded};
 ghost use Rattle.oz_loaded.specs.Unseated.{UnseatedView};
 ghost use Rattle.oz_namespace.specs.Namespace.{nothing};
 ghost use Rattle.oz_rows.specs.RowMaps.{row_of};
 ghost use Rattle.oz_sound.specs.Sound.{IsSoundButRenames};
 ghost use Rattle.oz_sound.specs.StandsFor.{StandsFor};
+ghost use Rattle.oz_store_opening.specs.Openings.{opening_bytes, opening_of};
 ghost use Rattle.oz_words.specs.Words.{IsRun};
 ghost use Rattle.oz_world.specs.Disk.{seen};
 ghost use Rattle.oz_world.specs.Faults.{Rose};
@@ -20,6 +26,7 @@ use oz_build::bodies_make_one_thing;
 use oz_loaded::a_disk_loads_as_one_thing;
 use oz_nodes_loaded::what_loads_is_not_refused;
 use oz_store::an_empty_store_is_one;
+use oz_store_opening::{all_disks_are_a_store, unwritten_disks_are_a_store};
 use oz_words::words_of_a_run_have_no_fault;
 use oz_world::Disk;
 
@@ -45,4 +52,17 @@ pub fn an_empty_disk_opens_as_nothing()
 {
     an_empty_store_is_one();
     bodies_make_one_thing();
+}
+
+/// Disks to which nothing was written are a coherent store over the namespace of nothing, whatever was loaded of them:
+/// so what is taken for granted of the disks of a run can be met, and the story of a run over such disks is one history.
+pub fn unwritten_disks_are_coherent<D: Disk>()
+    ensures { (script : AnyScript) (before after : Disks D) (stopped : Bool) (story : List AnyEvent) (all_told : Bool) →
+        let see = (λ (d : D). seen (D.told d) (D.clock d) (D.image d) (D.faults d)) in
+        AreUnwritten see before → (store : IsStoreRun see script before after stopped story all_told) →
+        IsCoherentStore see before.nodes.items (row_of store.over.loaded.all)
+        (opening_of store.over.unseated nothing store.scm.made store.nodes) (opening_bytes see store.nodes) }
+{
+    unwritten_disks_are_a_store::<D>();
+    all_disks_are_a_store::<D>();
 }

@@ -7,7 +7,10 @@ mod streams;
 mod texts;
 mod top;
 
-pub use laws::{a_run_that_nothing_disturbs_is_done, an_empty_disk_opens_as_nothing};
+pub use laws::{
+    a_run_that_nothing_disturbs_is_done, an_empty_disk_opens_as_nothing,
+    unwritten_disks_are_coherent,
+};
 pub use oz_datanode::NodeDisks;
 pub use oz_disk_run::Disks;
 pub use oz_headline::Status;

@@ -1,5 +1,5 @@
 -- The disks that come back, by their parts.
-use Rattle.std.proofs.Common.{◌≡◌, ℕ, ◌+◌, List, [], ◌∷◌, map, refl, subst}
+use Rattle.std.proofs.Common.{◌≡◌, ℕ, suc, ◌+◌, List, [], ◌∷◌, length, map, refl, ap, subst}
 use Rattle.std.specs.List.{AllZip}
 use Rattle.oz_datanode.specs.declared.disks.NodeDisks.{NodeDisks}
 use Rattle.oz_datanode.specs.Datanode.{State as Datanode}
@@ -21,3 +21,10 @@ module _ {D : Type 0} (see : D → Seen) where
   loaded_left dn [] (node ∷ nodes) are = absurd are
   loaded_left dn (own ∷ disks) [] are = absurd are
   loaded_left dn (own ∷ disks) (node ∷ nodes) are = ((are.0.meta, are.0.slots), loaded_left (dn + 1) disks nodes are.1)
+
+  -- there are as many as were loaded
+  pub so_many : (dn : ℕ) (disks : List (NodeDisks D)) (nodes : List (Datanode D)) → AreNodesFrom see dn disks nodes → length nodes ≡ length disks
+  so_many dn [] [] are = refl
+  so_many dn [] (node ∷ nodes) are = absurd are
+  so_many dn (own ∷ disks) [] are = absurd are
+  so_many dn (own ∷ disks) (node ∷ nodes) are = ap (λ (n : ℕ). suc n) (so_many (dn + 1) disks nodes are.1)

@@ -1,18 +1,24 @@
 -- What a run over what was loaded leaves.
-use Rattle.std.proofs.Common.{◌≡◌, inl, inr, ℕ, ◌<◌, ◌≤◌, Bool, true, false, List, [], ◌++◌, append-nil, Option, None, Some, IfSome, IsSome, IsSomeAnd, is_some, refl, sym, ◌∙◌, ap, subst, arith}
+use Rattle.std.proofs.Common.{◌≡◌, inl, inr, ℕ, ◌+◌, ◌<◌, ◌≤◌, Bool, true, false, List, [], ◌∷◌, ◌++◌, append-nil, All, map, Option, None, Some, IfSome, IsSome, IsSomeAnd, is_some, refl, sym, ◌∙◌, ap, subst, arith}
 use Rattle.std.specs.Prelude.{nat_lt}
 use Rattle.std.proofs.lemmas.Bool.{cases_lt, false≢true, lt-ltb, ltb-true}
+use Rattle.std.proofs.lemmas.List.Elements.{All-cons, All-head, All-tail}
 use Rattle.oz_core.specs.declared.event.Event.{Event}
 use Rattle.oz_core.specs.declared.opening.Opening.{Opening}
+use Rattle.oz_core.specs.Contents.{OpeningBytes}
 use Rattle.oz_core.specs.Law.{IsLegal}
 use Rattle.oz_core.specs.Manager.{durable_index}
+use Rattle.oz_datanode.specs.declared.disks.NodeDisks.{NodeDisks}
+use Rattle.oz_datanode.specs.Datanode.{State as Datanode}
 use Rattle.oz_decision.specs.Meets.{AreInGrammar}
+use Rattle.oz_disk_run.specs.Coherent.{BothTell, IsCoherentStore}
 use Rattle.oz_disk_run.specs.RunOver.{IsOneHistory, LoadingKeeps, OpensAs}
 use Rattle.oz_disk_run.specs.Shown.{ShowStore, bodies_shown, opening_shown, rows_shown}
 use Rattle.oz_disk_run.specs.Told.{IsTold}
 use Rattle.oz_disk_run.proofs.Bodies.{told_shows}
 use Rattle.oz_flusher.specs.Stops.{IsPrefix}
 use Rattle.oz_flusher.specs.Taken.{bodies_of}
+use Rattle.oz_grants.specs.Made.{Made}
 use Rattle.oz_journal.specs.Grammar.{IsJournal}
 use Rattle.oz_journal.specs.Load.{IsLeftAlone, IsLoadable, loaded_at}
 use Rattle.oz_lines.specs.declared.script.Script.{Script}
@@ -20,8 +26,8 @@ use Rattle.oz_loaded.specs.Loads.{IsLoaded}
 use Rattle.oz_loaded.specs.Unseated.{UnseatedView}
 use Rattle.oz_namespace.specs.declared.namespace.Namespace.{Namespace}
 use Rattle.oz_names.specs.declared.limits.TheConstants.{STRIPES}
+use Rattle.oz_nodes_loaded.specs.Loads.{AreNodesFrom, disks_in}
 use Rattle.oz_om.specs.Keeps.{HasRun}
-use Rattle.oz_opening.specs.Openings.{no_bytes, opening_over}
 use Rattle.oz_restored.specs.laws.Images.{front_opens, image_opens}
 use Rattle.oz_restored.specs.laws.Whole.{all_stood}
 use Rattle.oz_restored.specs.Opens.{StandUpTo}
@@ -31,6 +37,8 @@ use Rattle.oz_sound.specs.Sound.{IsSoundButRenames}
 use Rattle.oz_sound.specs.StandsFor.{StandsFor}
 use Rattle.oz_standing.specs.Shown.{namespace_shown}
 use Rattle.oz_store.specs.Store.{IsStore}
+use Rattle.oz_store_opening.specs.Agreeing.{BlocksAgree}
+use Rattle.oz_store_opening.specs.Openings.{opening_bytes, opening_of}
 use Rattle.oz_world.specs.Disk.{Seen, TellsAsBefore}
 use Rattle.oz_world.specs.Moments.{Elapses, Spans}
 
@@ -67,24 +75,43 @@ module _ (before mounted after : Seen) (time : Elapses mounted.clock after.clock
 
 -- ---- where the disks agree
 
-module _ {D : Type 0} (see : D → Seen) (script : Script) (nodes : ℕ) (before mounted after : D) (bodies : List (List ℕ)) (unseated : UnseatedView)
-    (this : IsLoaded bodies unseated) (rows_are : rows_shown unseated.parts ≡ row_of this.all)
+module _ {D : Type 0} (see : D → Seen) where
+  -- the disks of datanodes tell their bytes still, once they were loaded
+  told_still : (dn : ℕ) (disks : List (NodeDisks D)) (nodes : List (Datanode D)) → AreNodesFrom see dn disks nodes → All (BothTell see) disks → All (BothTell see) (map disks_in nodes)
+  told_still dn [] [] are tell = λ k own within. absurd (omega (arith, within))
+  told_still dn [] (node ∷ nodes) are tell = absurd are
+  told_still dn (own ∷ disks) [] are tell = absurd are
+  told_still dn (own ∷ disks) (node ∷ nodes) are tell =
+      let first = All-head (BothTell see) own disks tell in
+      let slots : IsSome (see (disks_in node).slots).told = subst (λ (o : Option (List ℕ)). IsSome o) (sym are.0.slots.contents) first.1 in
+      All-cons (BothTell see) (disks_in node) (map disks_in nodes) (tells_still (see own.meta).told (see (disks_in node).meta).told are.0.meta.telling first.0, slots)
+      (told_still (dn + 1) disks nodes are.1 (All-tail (BothTell see) own disks tell))
+
+module _ {D : Type 0} (see : D → Seen) (script : Script) (disks : List (NodeDisks D)) (made : Made) (nodes : List (Datanode D)) (before mounted after : D)
+    (bodies : List (List ℕ)) (unseated : UnseatedView) (this : IsLoaded bodies unseated) (rows_are : rows_shown unseated.parts ≡ row_of this.all)
     (journal : IfSome (see mounted).told (λ bytes. IsJournal bytes bodies)) (telling : TellsAsBefore (see before).told (see mounted).told)
     (seats : ℕ) (story : List Event) (stopped all_told : Bool) where
+  abbrev contents : OpeningBytes
+  contents = opening_bytes see nodes
+
   abbrev Told : Opening → Rows → Type 0
-  Told opening loaded = IsTold see (ShowStore unseated.parts) opening no_bytes (bodies_shown (see mounted).told) script (see mounted) loaded seats story stopped after all_told
+  Told opening loaded = IsTold see (ShowStore see unseated made nodes) opening contents (bodies_shown (see mounted).told) script (see mounted) loaded seats story stopped after all_told
 
-  module _ (namespace : Namespace) (shown : namespace_shown unseated.parts ≡ namespace) (stands : StandsFor (row_of this.all) namespace)
-      (sound : IsSoundButRenames (row_of this.all)) (store : IsStore (row_of this.all) (opening_over unseated namespace nodes) no_bytes)
-      (fit : AreInGrammar (row_of this.all)) (its : Told (opening_over unseated namespace nodes) (row_of this.all)) where
+  module _ (namespace : Namespace) (shown : namespace_shown unseated.parts ≡ namespace) (are : AreNodesFrom see 0 disks nodes)
+      (coherent : IsCoherentStore see disks (row_of this.all) (opening_of unseated namespace made nodes) contents)
+      (store : IsStore (row_of this.all) (opening_of unseated namespace made nodes) contents)
+      (fit : AreInGrammar (row_of this.all)) (its : Told (opening_of unseated namespace made nodes) (row_of this.all)) where
     abbrev opening : Opening
-    opening = opening_over unseated namespace nodes
+    opening = opening_of unseated namespace made nodes
 
-    agree : ShowStore unseated.parts
-    agree = (
-      subst (λ (rows : Rows). StandsFor rows (namespace_shown unseated.parts)) (sym rows_are) (subst (StandsFor (row_of this.all)) (sym shown) stands),
-      subst IsSoundButRenames (sym rows_are) sound,
-    )
+    agree : ShowStore see unseated made nodes
+    agree = record {
+      stands = subst (λ (rows : Rows). StandsFor rows (namespace_shown unseated.parts)) (sym rows_are) (subst (StandsFor (row_of this.all)) (sym shown) coherent.stands);
+      sound = subst IsSoundButRenames (sym rows_are) coherent.sound;
+      agree = subst (λ (rows : Rows). BlocksAgree rows (opening_shown unseated made nodes) contents) (sym rows_are)
+          (subst (λ (n : Namespace). BlocksAgree (row_of this.all) (opening_of unseated n made nodes) contents) (sym shown) coherent.agree);
+      told = told_still see 0 disks nodes are coherent.told;
+    }
 
     legal : IsLegal opening story
     legal = (its.headline agree before [] (λ k other less. absurd (omega (arith, less)))).one_history.0
@@ -104,7 +131,7 @@ module _ {D : Type 0} (see : D → Seen) (script : Script) (nodes : ℕ) (before
     runs stripe less = (run_of stripe).1 less
 
     stood : AllStood opening (row_of this.all) story (together rows)
-    stood = all_stood opening no_bytes (row_of this.all) store fit story rows legal runs
+    stood = all_stood opening contents (row_of this.all) store fit story rows legal runs
 
     some_mounted : IsSome (see before).told → IsSome (see mounted).told
     some_mounted some = tells_still (see before).told (see mounted).told telling some
@@ -121,7 +148,7 @@ module _ {D : Type 0} (see : D → Seen) (script : Script) (nodes : ℕ) (before
         subst (StandUpTo opening story (bodies ++ bodies_of story)) (its.all_flushed agree running)
         (front_opens opening (row_of this.all) bodies this.all this.builds refl story legal (together rows) stood story [] (sym (append-nil story)))
 
-    pub one_history : IsOneHistory see script opening (see mounted).faults (see mounted).clock before after stopped story
+    pub one_history : IsOneHistory see script opening contents (see mounted).faults (see mounted).clock before after stopped story
     one_history = record {
       headline = λ others apart. its.headline agree before others apart;
       stops = λ some moment left from by h.
@@ -134,8 +161,8 @@ module _ {D : Type 0} (see : D → Seen) (script : Script) (nodes : ℕ) (before
     }
 
   -- what the rows and the namespace show is what they are
-  pub told_of : (namespace : Namespace) → namespace_shown unseated.parts ≡ namespace → Told (opening_shown unseated nodes) (rows_shown unseated.parts)
-      → Told (opening_over unseated namespace nodes) (row_of this.all)
+  pub told_of : (namespace : Namespace) → namespace_shown unseated.parts ≡ namespace → Told (opening_shown unseated made nodes) (rows_shown unseated.parts)
+      → Told (opening_of unseated namespace made nodes) (row_of this.all)
   told_of namespace shown told =
-      subst (λ (n : Namespace). Told (opening_over unseated n nodes) (row_of this.all)) shown
-      (subst (λ (loaded : Rows). Told (opening_shown unseated nodes) loaded) rows_are told)
+      subst (λ (n : Namespace). Told (opening_of unseated n made nodes) (row_of this.all)) shown
+      (subst (λ (loaded : Rows). Told (opening_shown unseated made nodes) loaded) rows_are told)

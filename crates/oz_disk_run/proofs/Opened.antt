@@ -1,40 +1,50 @@
 -- What was loaded is what a run opens by it.
 use Rattle.std.proofs.Common.{◌≡◌, ℕ, List, length, map, Option, None, Some, IfSome, IsSome, refl, sym, subst}
 use Rattle.std.proofs.lemmas.Bool.{false≢true}
-use Rattle.std.proofs.lemmas.List.FromFn.{length-map-range_with_len}
-use Rattle.std.specs.List.{range_with_len}
-use Rattle.oz_cache.specs.Cache.{CacheView}
+use Rattle.std.proofs.lemmas.List.{length-map}
+use Rattle.oz_datanode.specs.Datanode.{State as Datanode}
+use Rattle.oz_core.specs.declared.opening.Opening.{Opening}
+use Rattle.oz_core.specs.Contents.{OpeningBytes}
 use Rattle.oz_decision.specs.Meets.{AreInGrammar}
 use Rattle.oz_disk_run.specs.Shown.{ShowStore, bodies_shown, opening_shown, rows_shown}
 use Rattle.oz_disk_run.proofs.Bodies.{told_shows}
+use Rattle.oz_grants.specs.Made.{Made}
 use Rattle.oz_journal.specs.Grammar.{IsJournal, TellsBodies}
 use Rattle.oz_loaded.specs.Loads.{IsLoaded}
 use Rattle.oz_loaded.specs.Unseated.{UnseatedView}
 use Rattle.oz_namespace.specs.declared.namespace.Namespace.{Namespace}
 use Rattle.oz_om.specs.Keeps.{KeepsRows}
 use Rattle.oz_om.specs.Opens.{Opens}
-use Rattle.oz_opening.specs.Openings.{holds_nothing, no_bytes, opening_over}
 use Rattle.oz_rows.specs.RowMaps.{Rows, row_of}
 use Rattle.oz_sound.specs.Sound.{IsSoundButRenames}
 use Rattle.oz_sound.specs.StandsFor.{StandsFor}
 use Rattle.oz_standing.specs.Shown.{namespace_shown}
 use Rattle.oz_store.specs.Store.{IsStore}
-use Rattle.oz_world.specs.Disk.{TellsAsBefore}
+use Rattle.oz_store_opening.specs.Agreeing.{BlocksAgree}
+use Rattle.oz_store_opening.specs.Openings.{opened_node, opening_bytes, opening_of}
+use Rattle.oz_world.specs.Disk.{Seen, TellsAsBefore}
 
-module _ (bodies : List (List ℕ)) (unseated : UnseatedView) (this : IsLoaded bodies unseated) (nodes : ℕ)
+module _ {D : Type 0} (see : D → Seen) (bodies : List (List ℕ)) (unseated : UnseatedView) (this : IsLoaded bodies unseated) (made : Made) (nodes : List (Datanode D))
     (rows_are : rows_shown unseated.parts ≡ row_of this.all) (fit : AreInGrammar (row_of this.all))
     (store : (namespace : Namespace) → StandsFor (row_of this.all) namespace → IsSoundButRenames (row_of this.all)
-    → IsStore (row_of this.all) (opening_over unseated namespace nodes) no_bytes) where
-  abbrev parts : List CacheView
-  parts = unseated.parts
+    → BlocksAgree (row_of this.all) (opening_of unseated namespace made nodes) (opening_bytes see nodes)
+    → IsStore (row_of this.all) (opening_of unseated namespace made nodes) (opening_bytes see nodes)) where
+  abbrev opening : Opening
+  opening = opening_shown unseated made nodes
 
-  pub opens : Opens (ShowStore parts) (opening_shown unseated nodes) no_bytes (rows_shown parts) unseated.last_index (ShowStore parts)
-      (KeepsRows (ShowStore parts) (opening_shown unseated nodes) (rows_shown parts))
+  abbrev contents : OpeningBytes
+  contents = opening_bytes see nodes
+
+  abbrev Agree : Type 0
+  Agree = ShowStore see unseated made nodes
+
+  pub opens : Opens Agree opening contents (rows_shown unseated.parts) unseated.last_index Agree (KeepsRows Agree opening (rows_shown unseated.parts))
   opens = record {
     last = refl;
     fit = subst AreInGrammar (sym rows_are) fit;
-    store = λ agree. subst (λ (rows : Rows). IsStore rows (opening_shown unseated nodes) no_bytes) (sym rows_are)
-        (store (namespace_shown parts) (subst (λ (rows : Rows). StandsFor rows (namespace_shown parts)) rows_are agree.0) (subst IsSoundButRenames rows_are agree.1));
+    store = λ agree. subst (λ (rows : Rows). IsStore rows opening contents) (sym rows_are)
+        (store (namespace_shown unseated.parts) (subst (λ (rows : Rows). StandsFor rows (namespace_shown unseated.parts)) rows_are agree.stands) (subst IsSoundButRenames rows_are agree.sound)
+        (subst (λ (rows : Rows). BlocksAgree rows opening contents) rows_are agree.agree));
     agrees = (λ agree. agree, λ agree. agree);
     keeps = λ stripe mine seen now. (λ kept. kept, λ kept. kept);
   }
@@ -65,5 +75,5 @@ told_some (Some bytes) some = (bytes, refl)
 pub journal_at : (told : Option (List ℕ)) (P : List ℕ → Type 0) (bytes : List ℕ) → told ≡ Some bytes → IfSome told P → P bytes
 journal_at told P bytes is holds = subst (λ (o : Option (List ℕ)). IfSome o P) is holds
 
-pub node_count : (nodes : ℕ) → length (map (λ (dn : ℕ). holds_nothing) (range_with_len 0 nodes)) ≡ nodes
-node_count nodes = length-map-range_with_len (λ (dn : ℕ). holds_nothing) 0 nodes
+pub node_count : {D : Type 0} (nodes : List (Datanode D)) → length (map (λ (node : Datanode D). opened_node node.blocks.held) nodes) ≡ length nodes
+node_count {D} nodes = length-map nodes (λ (node : Datanode D). opened_node node.blocks.held)

@@ -1,3 +1,4 @@
+pub mod Coherent
 pub mod Disks
 pub mod Refused
 pub mod RunOver

@@ -1,18 +1,24 @@
--- What was loaded, as it shows itself: its rows out of the parts, its bodies out of bytes, and the store of both.
-use Rattle.std.specs.Prelude.{ℕ, zero, suc, ◌==◌, List, [], ◌∷◌, length, take, drop, slice_get, Option, None, Some}
+-- What was loaded, as it shows itself: its rows out of the parts, its bodies out of bytes, and the store of all disks.
+use Rattle.std.specs.Prelude.{ℕ, zero, suc, ◌==◌, List, [], ◌∷◌, length, map, take, drop, slice_get, Option, None, Some}
 use Rattle.std.specs.Prelude.{if◌then◌else◌}
 use Rattle.oz_cache.specs.Cache.{CacheView, newest}
+use Rattle.oz_core.specs.declared.event.Node.{Node}
+use Rattle.oz_core.specs.declared.event.Node.TheVariants as node
 use Rattle.oz_core.specs.declared.opening.Opening.{Opening}
+use Rattle.oz_datanode.specs.Datanode.{State as Datanode, count_of}
+use Rattle.oz_disk_run.specs.Coherent.{IsCoherentStore}
 use Rattle.oz_fields.specs.Number.{u32_at}
+use Rattle.oz_grants.specs.Made.{Made}
 use Rattle.oz_loaded.specs.Unseated.{UnseatedView}
-use Rattle.oz_opening.specs.Openings.{opening_over}
+use Rattle.oz_nodes_loaded.specs.Loads.{disks_in}
 use Rattle.oz_rows.specs.declared.key.RowKey.{RowKey}
 use Rattle.oz_rows.specs.declared.row.Row.{Row}
 use Rattle.oz_rows.specs.RowMaps.{Rows}
-use Rattle.oz_sound.specs.Sound.{IsSoundButRenames}
-use Rattle.oz_sound.specs.StandsFor.{StandsFor}
+use Rattle.oz_scm.specs.Scm.{State as Scm}
 use Rattle.oz_standing.specs.Shown.{namespace_shown}
+use Rattle.oz_store_opening.specs.Openings.{opening_bytes, opening_of}
 use Rattle.oz_stripes.specs.Stripes.{stripe_of_key}
+use Rattle.oz_world.specs.Disk.{Seen}
 
 -- ---- rows
 
@@ -24,13 +30,29 @@ row_in (Some part) key = newest part key
 abbrev pub rows_shown : List CacheView → Rows
 rows_shown parts key = row_in (slice_get parts (stripe_of_key key)) key
 
--- The rows stand for the namespace that the parts show, and are sound but for what renamed rows say.
-abbrev pub ShowStore : List CacheView → Type 0
-ShowStore parts = StandsFor (rows_shown parts) (namespace_shown parts) × IsSoundButRenames (rows_shown parts)
+-- ---- the store
 
--- the opening over that namespace, with so many datanodes
-abbrev pub opening_shown : UnseatedView → ℕ → Opening
-opening_shown unseated nodes = opening_over unseated (namespace_shown unseated.parts) nodes
+-- the opening over the namespace that the parts show
+abbrev pub opening_shown : {D : Type 0} → UnseatedView → Made → List (Datanode D) → Opening
+opening_shown unseated made nodes = opening_of unseated (namespace_shown unseated.parts) made nodes
+
+-- how often the disks of a datanode failed, if it is there
+abbrev pub count_in : {D : Type 0} → (D → ℕ) → Option (Datanode D) → ℕ
+count_in faults None = 0
+count_in faults (Some node) = count_of faults node
+
+module _ {D : Type 0} (see : D → Seen) where
+  -- what was loaded is a coherent store with that opening
+  abbrev pub ShowStore : UnseatedView → Made → List (Datanode D) → Type 0
+  ShowStore unseated made nodes =
+      IsCoherentStore see (map disks_in nodes) (rows_shown unseated.parts) (opening_shown unseated made nodes)
+      (opening_bytes see nodes)
+
+  -- how often the disks of a node had failed once they were loaded, those of a datanode together
+  abbrev pub faults_shown : D → Scm D → List (Datanode D) → Node → ℕ
+  faults_shown manager scm nodes node.Manager = (see manager).faults
+  faults_shown manager scm nodes node.Scm = (see scm.disk).faults
+  faults_shown manager scm nodes (node.Datanode dn) = count_in (λ disk. (see disk).faults) (slice_get nodes dn)
 
 -- ---- bodies
 

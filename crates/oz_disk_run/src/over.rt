@@ -16,9 +16,9 @@ use oz_journal::LoadFault;
 use oz_lines::Script;
 use oz_loaded::{load, the_parts_are_the_whole};
 use oz_nodes_loaded::{DiskName, LoadedNodes, RefusedNodes, StoreFault, load_nodes};
-use oz_opening::the_managers_disk_alone_is_a_store;
 use oz_running::Ran;
 use oz_standing::parts_show_their_namespace;
+use oz_store_opening::all_disks_are_a_store;
 use oz_world::{Disk, Gate};
 use std::alloc::Global;
 use std::sync::Wait;
@@ -36,8 +36,9 @@ pub struct StoreRan<D> {
 
 /// Runs the lines of a script over the disks of a store, by so many workers and a flusher on threads, and then by this
 /// thread what they leave. First all disks are loaded: the manager's, the storage container manager's, and of each
-/// datanode its journal and its slots; and no block id on one of them may be granted again. Where one of this can't be
-/// had, or memory ran out before the work, the disks come back as loading left them, and nothing else was done.
+/// datanode its journal and its slots; and no block id on one of them may be granted again. The run opens by all of
+/// them, and writes to the manager's alone. Where one of this can't be had, or memory ran out before the work, the
+/// disks come back as loading left them, and nothing else was done.
 pub fn run_over_disks<D: Disk + Send, W: Threads + Wait + Sync, G: Gate + Sync>(
     rt: &W,
     alloc: Global,
@@ -61,8 +62,7 @@ pub fn run_over_disks<D: Disk + Send, W: Threads + Wait + Sync, G: Gate + Sync>(
     a_batch_makes_a_body();
     the_parts_are_the_whole();
     parts_show_their_namespace();
-    the_managers_disk_alone_is_a_store();
-    let count = disks.nodes.len() as u8;
+    all_disks_are_a_store::<D>();
     let Disks {
         manager,
         scm,
@@ -80,7 +80,7 @@ pub fn run_over_disks<D: Disk + Send, W: Threads + Wait + Sync, G: Gate + Sync>(
             return Err(refused(flusher.into_journal().into_disk(), scm, nodes, fault));
         }
     };
-    let ran = run_loaded(rt, alloc, gate, script, unseated, flusher, workers, count);
+    let ran = run_loaded(rt, alloc, gate, script, unseated, flusher, workers, &loaded);
     let (scm, nodes) = loaded.into_disks();
     match ran {
         Ok(ran) => Ok(ran_over(ran, scm, nodes)),

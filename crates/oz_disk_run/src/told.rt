@@ -21,13 +21,14 @@ use oz_journal::Journal;
 use oz_lines::Script;
 use oz_loaded::Unseated;
 use oz_locks::Loaded;
+use oz_nodes_loaded::LoadedNodes;
 use oz_running::{Ran, run_lines};
 use oz_world::{Disk, Gate};
 use std::alloc::Global;
 use std::sync::Wait;
 use std::thread::Threads;
 
-/// Runs the lines of a script over what these types name.
+/// Runs the lines of a script over what these types name. What was loaded of the other disks shows it, with the rest.
 pub(crate) fn run_told<
     D: Disk + Send,
     O: Opened + Send + Sync,
@@ -43,7 +44,7 @@ pub(crate) fn run_told<
     unseated: Unseated,
     flusher: Flusher<D>,
     workers: u8,
-    nodes: u8,
+    others: &LoadedNodes<D>,
 ) -> Result<Ran<D>, (Journal<D>, OutOfMemory)>
     requires opens { Opens O.coherent O.opening O.bytes L.rows L.last_index L.coherent L.keeps }
     requires few_nodes { length O.opening.nodes ≤ MOST_NODES }
@@ -53,8 +54,8 @@ pub(crate) fn run_told<
     requires numbered { IsNumbered O.script }
     requires some { 1 ≤ workers }
     requires few { workers ≤ 16 }
-    requires least { FEWEST_NODES ≤ nodes }
-    requires most { nodes ≤ MOST_NODES }
+    requires least { FEWEST_NODES ≤ length others.now.nodes.items }
+    requires most { length others.now.nodes.items ≤ MOST_NODES }
     requires running { flusher.stopped ≡ false }
     requires faults { D.faults flusher.disk ≡ M.disk.faults }
     requires telling { TellsAsBefore M.disk.told (D.told flusher.disk) }
@@ -70,5 +71,6 @@ pub(crate) fn run_told<
     the_story_keeps_the_headline::<D, O, M>();
     halts_are_named::<D, O, M>();
     the_flusher_alone_tells::<O>();
+    let nodes = others.nodes.len() as u8;
     run_lines::<D, O, L, M, W, G>(rt, alloc, gate, script, unseated, flusher, workers, nodes)
 }

@@ -106,8 +106,8 @@ returns-clause-one_run g c =
         ended = names_halts status story ran.stopped c.finish-status.ensures.done c.finish-status.ensures.disk store.over.status;
         told = told_of status script story ran.all_told store.over.counted c.finish-status.ensures.told;
         halted = store.over.halted others apart;
-        headline = λ namespace stands sound.
-            let history = (store.over.coherent namespace stands sound).headline others apart in (
+        headline = λ namespace coherent.
+            let history = (store.over.coherent namespace coherent).headline others apart in (
               history,
               λ ne. c.all_are_told_by_count.ensures.all _ _ script story c.in-Ok.ensures.numbered history.one_history.1 (told_of status script story ran.all_told store.over.counted c.finish-status.ensures.told ne),
             );

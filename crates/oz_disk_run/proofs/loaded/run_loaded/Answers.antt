@@ -4,20 +4,23 @@ use Rattle.oz_disk_run.proofs.Bodies.{told_shows}
 use Rattle.oz_disk_run.proofs.Opened.{journal_at, node_count, opens, shows_journal, told_some}
 use Rattle.oz_disk_run.proofs.Rows.{are_parts, rows_are}
 use Rattle.oz_flusher.specs.Stops.{StopsHold}
+use Rattle.oz_world.specs.Disk.{seen}
 use Rattle.oz_disk_run.proofs.loaded.run_loaded.Goals as goal
 
 pub run_told-requires-clause-opens : goal.run_told-requires-clause-opens
 run_told-requires-clause-opens g c lives within =
+    let see = (λ (d : g.row.D.Denot). seen (g.D.Disk.told d) (g.D.Disk.clock d) (g.D.Disk.image d) (g.D.Disk.faults d)) in
     let bodies = c.requires.loaded.0 in
     let this = c.requires.loaded.1 in
     let unseated = c.args.unseated in
+    let others = c.args.others.now in
     let law = c.the_parts_are_the_whole.ensures in
-    opens bodies unseated this c.args.nodes (rows_are bodies unseated this (law.there bodies unseated this) (law.same bodies unseated this))
+    opens see bodies unseated this others.scm.made others.nodes.items (rows_are bodies unseated this (law.there bodies unseated this) (law.same bodies unseated this))
     (c.a_batch_makes_a_body.ensures.fit bodies this.all unseated.last_index this.builds)
-    (λ namespace. c.the_managers_disk_alone_is_a_store.ensures bodies unseated this namespace c.args.nodes)
+    (λ namespace stands sound agree. c.all_disks_are_a_store.ensures.store bodies unseated this namespace others.scm.made others.nodes.items stands sound c.requires.fresh agree)
 
 pub run_told-requires-clause-few_nodes : goal.run_told-requires-clause-few_nodes
-run_told-requires-clause-few_nodes g c lives within = omega (arith, node_count c.args.nodes, c.requires.most)
+run_told-requires-clause-few_nodes g c lives within = omega (arith, node_count c.args.others.now.nodes.items, c.requires.most)
 
 pub run_told-requires-clause-parts : goal.run_told-requires-clause-parts
 run_told-requires-clause-parts g c lives within =

@@ -1,28 +1,34 @@
 use Rattle.oz_om.specs.Keeps.{KeepsRows}
-use Rattle.oz_opening.specs.Openings.{no_bytes}
-use Rattle.oz_disk_run.specs.Shown.{ShowStore, bodies_shown, opening_shown, rows_shown}
+use Rattle.oz_disk_run.specs.Shown.{ShowStore, bodies_shown, faults_shown, opening_shown, rows_shown}
+use Rattle.oz_store_opening.specs.Openings.{opening_bytes}
 use Rattle.oz_world.specs.Disk.{seen}
 use Rattle.oz_disk_run.proofs.loaded.run_loaded.Given as goal
 
--- what the parts and the bytes show is opened
+-- what the parts, the bytes and the other nodes show is opened
 abbrev pub ghosts-run_told-O-Opened : goal.ghosts-run_told-O-Opened
-ghosts-run_told-O-Opened g a = record {
-  opening = opening_shown a.unseated a.nodes;
-  bodies = bodies_shown (g.D.Disk.told a.flusher.disk);
-  bytes = no_bytes;
-  faults = λ node. 0;
-  script = a.script.now;
-  coherent = ShowStore a.unseated.parts;
-}
+ghosts-run_told-O-Opened g a =
+    let see = (λ (d : g.row.D.Denot). seen (g.D.Disk.told d) (g.D.Disk.clock d) (g.D.Disk.image d) (g.D.Disk.faults d)) in
+    record {
+      opening = opening_shown a.unseated a.others.now.scm.made a.others.now.nodes.items;
+      bodies = bodies_shown (g.D.Disk.told a.flusher.disk);
+      bytes = opening_bytes see a.others.now.nodes.items;
+      faults = faults_shown see a.flusher.disk a.others.now.scm a.others.now.nodes.items;
+      script = a.script.now;
+      coherent = ShowStore see a.unseated a.others.now.scm.made a.others.now.nodes.items;
+    }
 
 -- and loaded
 abbrev pub ghosts-run_told-L-Loaded : goal.ghosts-run_told-L-Loaded
-ghosts-run_told-L-Loaded g a = record {
-  rows = rows_shown a.unseated.parts;
-  last_index = a.unseated.last_index;
-  coherent = ShowStore a.unseated.parts;
-  keeps = KeepsRows (ShowStore a.unseated.parts) (opening_shown a.unseated a.nodes) (rows_shown a.unseated.parts);
-}
+ghosts-run_told-L-Loaded g a =
+    let see = (λ (d : g.row.D.Denot). seen (g.D.Disk.told d) (g.D.Disk.clock d) (g.D.Disk.image d) (g.D.Disk.faults d)) in
+    let made = a.others.now.scm.made in
+    let nodes = a.others.now.nodes.items in
+    record {
+      rows = rows_shown a.unseated.parts;
+      last_index = a.unseated.last_index;
+      coherent = ShowStore see a.unseated made nodes;
+      keeps = KeepsRows (ShowStore see a.unseated made nodes) (opening_shown a.unseated made nodes) (rows_shown a.unseated.parts);
+    }
 
 -- the disk as it is handed in
 abbrev pub ghosts-run_told-M-Mounted : goal.ghosts-run_told-M-Mounted

@@ -1,24 +1,19 @@
-use Rattle.std.proofs.Common.{rules, ◌≡◌, inr, ℕ, ◌+◌, Bool, List, length, map, ap, sym, ◌∙◌, subst}
+use Rattle.std.proofs.Common.{inr, ℕ, Bool, List, length, map, ap, sym, ◌∙◌, subst, arith}
 use Rattle.std.specs.List.{AllZip}
-use Rattle.std.specs.Prelude.{vec_len}
 use Rattle.oz_core.specs.declared.event.Event.{Event}
-use Rattle.oz_core.specs.Seats.{first_worker_seat}
 use Rattle.oz_datanode.specs.declared.disks.NodeDisks.{NodeDisks}
 use Rattle.oz_datanode.specs.Datanode.{node_in}
 use Rattle.oz_disk_run.specs.declared.disks.Disks.{Disks}
 use Rattle.oz_disk_run.specs.Refused.{AreAtMostLoaded, IsRefusedFor}
-use Rattle.oz_disk_run.specs.Shown.{ShowStore, bodies_shown, opening_shown, rows_shown}
 use Rattle.oz_disk_run.specs.StoreRun.{IsStoreRun}
-use Rattle.oz_disk_run.specs.Told.{IsTold}
 use Rattle.oz_disk_run.specs.laws.Untouched.{nodes_as_are, scm_as_is}
-use Rattle.oz_disk_run.proofs.Coming.{disks_same, loaded_left}
+use Rattle.oz_disk_run.proofs.Coming.{disks_same, loaded_left, so_many}
 use Rattle.oz_disk_run.proofs.History.{loading_keeps, one_history, told_of}
 use Rattle.oz_disk_run.proofs.Opened.{first_journal, tells_journal}
 use Rattle.oz_disk_run.proofs.Rows.{are_stripes, rows_are}
 use Rattle.oz_nodes_loaded.specs.Disks.{LeavesNode}
 use Rattle.oz_nodes_loaded.specs.Ids.{AreBelow}
 use Rattle.oz_nodes_loaded.specs.declared.fault.StoreFault.{StoreFault}
-use Rattle.oz_opening.specs.Openings.{no_bytes}
 use Rattle.oz_rows.specs.RowMaps.{row_of}
 use Rattle.oz_world.specs.Disk.{seen}
 use Rattle.oz_disk_run.proofs.over.run_over_disks.Goals as goal
@@ -81,6 +76,27 @@ run_loaded-ran-requires-clause-loaded g c κs within =
     let load = c.in-Ok.ensures in
     (load.loads.0, load.loads.1, tells_journal (g.D.Disk.told c.args.disks.manager) (g.D.Disk.told c.in-Ok.loaded.1.disk) load.loads.0 load.telling load.loads.2)
 
+pub run_loaded-ran-requires-clause-fresh : goal.run_loaded-ran-requires-clause-fresh
+run_loaded-ran-requires-clause-fresh g c κs within =
+    let loaded = c.in-Ok-load_nodes in
+    subst (λ (n : ℕ). AreBelow n (map node_in loaded.loaded.nodes.items) loaded.loaded.scm.made.next_id) c.greatest_id.ensures loaded.ensures.fresh
+
+pub run_loaded-ran-requires-clause-least : goal.run_loaded-ran-requires-clause-least
+run_loaded-ran-requires-clause-least g c κs within =
+    let D = g.D.Disk in
+    let see = (λ (d : g.row.D.Denot). seen (D.told d) (D.clock d) (D.image d) (D.faults d)) in
+    let loaded = c.in-Ok-load_nodes in
+    let many = so_many see 0 c.args.disks.nodes.items loaded.loaded.nodes.items loaded.ensures.nodes in
+    omega (arith, many, c.requires.least)
+
+pub run_loaded-ran-requires-clause-most : goal.run_loaded-ran-requires-clause-most
+run_loaded-ran-requires-clause-most g c κs within =
+    let D = g.D.Disk in
+    let see = (λ (d : g.row.D.Denot). seen (D.told d) (D.clock d) (D.image d) (D.faults d)) in
+    let loaded = c.in-Ok-load_nodes in
+    let many = so_many see 0 c.args.disks.nodes.items loaded.loaded.nodes.items loaded.ensures.nodes in
+    omega (arith, many, c.requires.most)
+
 pub returns-in-Ok-ran-clause-ran : goal.returns-in-Ok-ran-clause-ran
 returns-in-Ok-ran-clause-ran g c =
     let D = g.D.Disk in
@@ -90,27 +106,30 @@ returns-in-Ok-ran-clause-ran g c =
     let this = load.loads.1 in
     let both = load.loads.2 in
     let disks = c.args.disks in
-    let nodes = length disks.nodes.items in
     let before = disks.manager in
     let unseated = c.in-Ok.loaded.0 in
     let mounted = c.in-Ok.loaded.1.disk in
     let ran = c.in-Ok-ran.ran in
     let after = ran.journal.disk in
     let script = c.args.script.now in
-    let listed : vec_len disks.nodes ≡ nodes = search rules in
-    let count_is : c.len-count.result ≡ nodes = c.len-count.ensures ∙ listed in
-    let told = subst (λ (n : ℕ). IsTold see (ShowStore unseated.parts) (opening_shown unseated n) no_bytes (bodies_shown (D.told mounted)) script (see mounted) (rows_shown unseated.parts) (first_worker_seat + c.args.workers) ran.story.items ran.journal.stopped after ran.all_told)
-    count_is c.in-Ok-ran.ensures.told in
+    let told = c.in-Ok-ran.ensures.told in
     let law = c.the_parts_are_the_whole.ensures in
     let rows = rows_are bodies unseated this (law.there bodies unseated this) (law.same bodies unseated this) in
     let stripes = are_stripes bodies unseated this (law.there bodies unseated this) (law.same bodies unseated this) in
     let journal = tells_journal (D.told before) (D.told mounted) bodies load.telling both in
     let fit = c.a_batch_makes_a_body.ensures.fit bodies this.all unseated.last_index this.builds in
     let loaded = c.in-Ok-load_nodes in
+    let made = loaded.loaded.scm.made in
+    let nodes = loaded.loaded.nodes.items in
+    let fresh = subst (λ (n : ℕ). AreBelow n (map node_in nodes) made.next_id) c.greatest_id.ensures loaded.ensures.fresh in
     let left : Disks g.row.D.Denot = record { manager = after; scm = c.into_disks-scm.result.0; nodes = c.into_disks-scm.result.1 } in
     let its = c.ran_over.ensures in
     let same = disks_same c.ran_over.result.disks left its.manager its.scm its.nodes in
     let run : IsStoreRun see script disks left ran.journal.stopped ran.story.items ran.all_told = record {
+      scm = loaded.loaded.scm;
+      scm_loaded = loaded.ensures.scm;
+      nodes = nodes;
+      nodes_loaded = loaded.ensures.nodes;
       over = record {
         bodies = bodies;
         unseated = unseated;
@@ -120,21 +139,17 @@ returns-in-Ok-ran-clause-ran g c =
         first = D.clock mounted;
         no_fewer = load.never_falls;
         ended = load.ended;
-        coherent = λ namespace stands sound.
-            let shown = c.parts_show_their_namespace.ensures (row_of this.all) unseated.parts namespace stripes stands in
-            one_history see script nodes before mounted after bodies unseated this rows journal load.telling _ ran.story.items ran.journal.stopped ran.all_told
-            namespace shown stands sound (c.the_managers_disk_alone_is_a_store.ensures bodies unseated this namespace nodes stands sound) fit
-            (told_of see script nodes before mounted after bodies unseated this rows journal load.telling _ ran.story.items ran.journal.stopped ran.all_told namespace shown told);
+        coherent = λ namespace coherent.
+            let shown = c.parts_show_their_namespace.ensures (row_of this.all) unseated.parts namespace stripes coherent.stands in
+            one_history see script disks.nodes.items made nodes before mounted after bodies unseated this rows journal load.telling _ ran.story.items ran.journal.stopped ran.all_told
+            namespace shown loaded.ensures.nodes coherent (c.all_disks_are_a_store.ensures.store bodies unseated this namespace made nodes coherent.stands coherent.sound fresh coherent.agree) fit
+            (told_of see script disks.nodes.items made nodes before mounted after bodies unseated this rows journal load.telling _ ran.story.items ran.journal.stopped ran.all_told namespace shown told);
         halted = λ others apart. told.halted before others apart;
         status = told.status;
         counted = told.run.told;
         loading = loading_keeps (see before) (see mounted) (see after) told.run.kept.time (D.told before) load.ended load.moments;
       };
-      scm = loaded.loaded.scm;
-      scm_loaded = loaded.ensures.scm;
-      nodes = loaded.loaded.nodes.items;
-      nodes_loaded = loaded.ensures.nodes;
-      fresh = subst (λ (n : ℕ). AreBelow n (map node_in loaded.loaded.nodes.items) loaded.loaded.scm.made.next_id) c.greatest_id.ensures loaded.ensures.fresh;
+      fresh = fresh;
       scm_left = c.into_disks-scm.ensures.scm;
       nodes_left = c.into_disks-scm.ensures.nodes;
     } in

@@ -1,2 +1,0 @@
--- Laws with their proofs. A reader has nothing to believe here.
-pub mod Stores

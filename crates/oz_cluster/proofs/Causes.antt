@@ -17,11 +17,14 @@ use Rattle.oz_cluster.specs.Streams.{script_limit}
 use Rattle.oz_cluster.specs.Wrong.{IsWrong}
 use Rattle.oz_cluster.proofs.Right.{OneThing, nothing_is_wrong}
 use Rattle.oz_cluster.proofs.Rising.{disk_rose, manager_rose}
+use Rattle.oz_datanode.specs.declared.disks.NodeDisks.{NodeDisks}
+use Rattle.oz_datanode.specs.Datanode.{State as Datanode}
 use Rattle.oz_disk_run.specs.declared.disks.Disks.{Disks}
 use Rattle.oz_disk_run.specs.Refused.{IsRefusedFor}
 use Rattle.oz_disk_run.specs.RunOver.{IsRunOver}
 use Rattle.oz_draft.specs.declared.fault.Cause.{Cause}
 use Rattle.oz_draft.specs.declared.fault.ScriptFault.TheVariants.{At}
+use Rattle.oz_grants.specs.Made.{Made}
 use Rattle.oz_headline.specs.declared.status.Status.{Status}
 use Rattle.oz_headline.specs.declared.status.Status.TheVariants as ends
 use Rattle.oz_headline.specs.Halts.{StatusNamesHalts}
@@ -60,12 +63,13 @@ loads_of None bodies unseated loaded journal = tt
 loads_of (Some bytes) bodies unseated loaded journal = (bodies, journal, (unseated, loaded))
 
 -- the manager's disk failed where a write of its journal did
-over_rose : {D : Type 0} (see : D → Seen) (script : Lines) (nodes : ℕ) (before after : D) (stopped : Bool) (story : List Event) (all_told : Bool) → IsRunOver see script nodes before after stopped story all_told
+over_rose : {D : Type 0} (see : D → Seen) (script : Lines) (disks : List (NodeDisks D)) (made : Made) (nodes : List (Datanode D)) (before after : D) (stopped : Bool) (story : List Event) (all_told : Bool)
+    → IsRunOver see script disks made nodes before after stopped story all_told
     → stopped ≡ true → Rose (see before).faults (see after).faults
-over_rose see script nodes before after true story all_told over is =
+over_rose see script disks made nodes before after true story all_told over is =
     let rose = (over.halted [] (All-nil (λ other. other.0 ≢ disk.Manager)) Manager).rose refl in
     let fewer = over.no_fewer in omega (arith, fewer, rose)
-over_rose see script nodes before after false story all_told over is = absurd (cc is)
+over_rose see script disks made nodes before after false story all_told over is = absurd (cc is)
 
 -- where the status is Disk a write has failed
 stopped_disk : (status : Status) (story : List Event) (stopped : Bool) → status ≡ ends.Disk → StatusNamesHalts status story → StatusNamesHalts (if stopped then ends.Disk else ends.Done) story → stopped ≡ true
@@ -217,5 +221,5 @@ module _ (one : OneThing) (run_has_no_fault : (words : List (List ℕ)) (place :
       (nothing_is_wrong see one before over.bodies over.unseated over.loaded over.journal store.scm store.scm_loaded store.nodes store.nodes_loaded store.fresh)
       ending.0 story held_before held_after ending.1 run.printed
       (λ is. manager_rose see before after
-      (over_rose see run.script (length before.nodes.items) before.manager after.manager run.stopped story run.all_told over (stopped_disk ending.0 story run.stopped is run.ended over.status))))
+      (over_rose see run.script before.nodes.items store.scm.made store.nodes before.manager after.manager run.stopped story run.all_told over (stopped_disk ending.0 story run.stopped is run.ended over.status))))
       ending.2

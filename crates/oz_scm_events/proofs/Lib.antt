@@ -5,3 +5,4 @@ mod Ups
 mod Kept
 mod Enabled
 mod Needed
+mod Members

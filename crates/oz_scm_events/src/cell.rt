@@ -1,14 +1,17 @@
 //! The storage container manager with its seat.
 
-ghost use Rattle.std.specs.Prelude.{◌≡◌, ◌≤◌, [], length, replicate, true, false};
+ghost use Rattle.std.specs.Prelude.{◌≡◌, ◌≤◌, [], length, replicate, true, false, IfSome, None};
+ghost use Rattle.std.specs.FinMap.{get};
 ghost use Rattle.oz_buffer.specs.Buffer.{AllFollow, Follows};
 ghost use Rattle.oz_core.specs.declared.event.Node.TheVariants.{Scm as ScmNode};
+ghost use Rattle.oz_core.specs.Scm.{containers, members};
 ghost use Rattle.oz_core.specs.Seats.{scm_seat};
 ghost use Rattle.oz_scm_events.specs.Kept.{AreContainers, IsKept};
 ghost use Rattle.oz_turn.specs.Seat.{IsNewSeat, IsReady, mine_of, number_of, room_of, seen_of};
 ghost use Rattle.oz_turn.specs.Told.{own_entries, BeginsWith};
 ghost use Rattle.oz_turn.specs.Turn.{turn_id};
 
+use crate::laws::the_scm_alone_tells;
 use crate::noting::show;
 use oz_buffer::{Ledger, Opened};
 use oz_core::Event;
@@ -105,5 +108,35 @@ impl<D: Disk, O: Opened, R: Ring> ScmCell<D, Ledger<O>, O, R> {
         ensures room { room_of seat.new ≡ room_of seat.old }
     {
         show(rt, turn, &mut self.seat, seat);
+    }
+
+    /// The datanodes that have a container's replicas, None where it wasn't made. Another seat sees all that happened until now.
+    pub fn members<W: Wait>(
+        &mut self,
+        rt: &W,
+        turn: &Turn<Ledger<O>>,
+        seat: &mut Seat<Ledger<O>>,
+        container: u64,
+    ) -> Option<[u8; 3]>
+        requires turn { turn_id turn.now ≡ R.turn }
+        requires ready { IsReady R.turn (number_of seat.old) seat.old }
+        ensures made { O.coherent → IfSome result (λ dns. members O.opening (seen_of seat.new) container ≡ dns) }
+        ensures none { O.coherent → result ≡ None → get (containers O.opening (seen_of seat.new)) container ≡ None }
+
+        // As of `show`.
+        ensures same { (self.new.scm ≡ self.old.scm) × (self.new.mine ≡ self.old.mine) }
+        ensures same_room { self.new.room ≡ self.old.room }
+        ensures goes_on { BeginsWith self.new.seen self.old.seen }
+        ensures shown { own_entries (λ event. event.seat) scm_seat (seen_of seat.new) ≡ self.new.mine }
+        ensures follow { AllFollow (Follows O.coherent O.opening O.bytes O.script) [] (seen_of seat.new) }
+        ensures ready { IsReady R.turn (number_of seat.old) seat.new }
+        ensures begins { BeginsWith (seen_of seat.new) (seen_of seat.old) }
+        ensures mine { mine_of seat.new ≡ mine_of seat.old }
+        ensures room { room_of seat.new ≡ room_of seat.old }
+    {
+        the_scm_alone_tells::<O>();
+        self.show(rt, turn, seat);
+        self.is_kept();
+        self.scm.members(container)
     }
 }

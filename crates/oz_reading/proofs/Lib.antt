@@ -1,0 +1,7 @@
+mod Outcomes
+mod Told
+mod Three
+mod Standing
+mod Doubts
+mod Lacking
+mod Known

@@ -1,4 +1,4 @@
-# A script that is refused: its third line puts bytes, which no run serves yet. So no line is served.
+# A script that is refused: its third line makes a snapshot, which no run serves yet. So no line is served.
 a volume create /vol1
 a bucket create /vol1/bk1
-a key put /vol1/bk1/greeting text hello
+a snapshot create /vol1/bk1 day1

@@ -59,8 +59,8 @@ mod tests {
             ),
             ("a admin close\nb volume info /v", "1 later"),
             ("a volume info /v\nb volume info /v", "2 of 2"),
-            ("a volume info /v\na key put /v/b/k text x", "2 later"),
-            ("a key put /v/b/k fill 1 0\na key get /v/b/k", "2 of 1"),
+            ("a key put /v/b/k text x\na admin wipe 2", "2 later"),
+            ("a key put /v/b/k fill 1 65537\na key get /v/b/k", "2 of 1"),
             ("a key list /v/b\na snapshot list /v/b", "2 later"),
             ("a key get /v/b/.snapshot/s/k", "1 later"),
             (

@@ -12,7 +12,7 @@ use oz_world::{MemoryDisk, OutOfMemory};
 use std::alloc::Global;
 
 /// The most bytes that a disk holds.
-const ROOM: u64 = 65_536;
+const ROOM: u64 = 1_048_576;
 
 /// The call of a disk that fails, from 1.
 #[derive(Clone, Copy)]

@@ -1,5 +1,5 @@
 -- Which lines are served today.
-use Rattle.std.specs.Prelude.{ℕ, ◌==◌, Bool, true, false, not, is_none, List, length, Option}
+use Rattle.std.specs.Prelude.{ℕ, Bool, true, false, not, is_none, List, Option}
 use Rattle.std.specs.List.{position}
 use Rattle.oz_command.specs.declared.command.Command.{Command}
 use Rattle.oz_command.specs.declared.command.Command.TheVariants.{VolumeCreate, VolumeDelete, VolumeInfo, BucketCreate}
@@ -7,16 +7,9 @@ use Rattle.oz_command.specs.declared.command.Command.TheVariants.{BucketDelete, 
 use Rattle.oz_command.specs.declared.command.Command.TheVariants.{KeyCommit, KeyGet, KeyDelete, KeyRename, KeyList}
 use Rattle.oz_command.specs.declared.command.Command.TheVariants.{KeyExpire, SnapshotCreate, SnapshotDelete, SnapshotInfo}
 use Rattle.oz_command.specs.declared.command.Command.TheVariants.{SnapshotList, Admin}
-use Rattle.oz_command.specs.declared.command.Data.{Data}
-use Rattle.oz_command.specs.declared.command.Data.TheVariants.{Text, Fill}
 use Rattle.oz_lines.specs.declared.script.Line.{Line}
 
--- no byte is put
-abbrev pub is_empty_data : Data → Bool
-is_empty_data (Text text) = length text == 0
-is_empty_data (Fill number count) = count == 0
-
--- The command is served: all but those that put bytes, that ask for a snapshot, and those of the admin.
+-- The command is served: all but those that ask for a snapshot, and those of the admin.
 abbrev pub is_served_command : Command → Bool
 is_served_command (VolumeCreate volume) = true
 is_served_command (VolumeDelete volume) = true
@@ -25,8 +18,8 @@ is_served_command (BucketCreate volume bucket) = true
 is_served_command (BucketDelete volume bucket) = true
 is_served_command (BucketInfo volume bucket) = true
 is_served_command (BucketList volume) = true
-is_served_command (KeyPut volume bucket key payload) = is_empty_data payload
-is_served_command (KeyOpen label volume bucket key payload) = is_empty_data payload
+is_served_command (KeyPut volume bucket key payload) = true
+is_served_command (KeyOpen label volume bucket key payload) = true
 is_served_command (KeyCommit label) = true
 is_served_command (KeyGet volume bucket snapshot key) = is_none snapshot
 is_served_command (KeyDelete volume bucket key) = true

@@ -1,9 +1,9 @@
 //! Which lines are served today.
 
 ghost use Rattle.std.specs.Prelude.{◌≡◌};
-ghost use Rattle.oz_placed.specs.Served.{is_empty_data, is_served, is_served_command, later_index};
+ghost use Rattle.oz_placed.specs.Served.{is_served, is_served_command, later_index};
 
-use oz_command::{Command, Data};
+use oz_command::Command;
 use oz_fields::List;
 use oz_lines::Line;
 
@@ -32,30 +32,17 @@ fn is_served_command(command: &Command) -> bool
         | Command::BucketDelete { .. }
         | Command::BucketInfo { .. }
         | Command::BucketList { .. }
+        | Command::KeyPut { .. }
+        | Command::KeyOpen { .. }
         | Command::KeyCommit { .. }
         | Command::KeyDelete { .. }
         | Command::KeyRename { .. }
         | Command::KeyExpire { .. } => true,
-        Command::KeyPut { payload, .. } | Command::KeyOpen { payload, .. } => {
-            is_empty_data(payload)
-        }
         Command::KeyGet { snapshot, .. } | Command::KeyList { snapshot, .. } => snapshot.is_none(),
         Command::SnapshotCreate { .. }
         | Command::SnapshotDelete { .. }
         | Command::SnapshotInfo { .. }
         | Command::SnapshotList { .. }
         | Command::Admin(_) => false,
-    }
-}
-
-fn is_empty_data(payload: &Data) -> bool
-    ensures { result ≡ is_empty_data payload.now }
-{
-    match payload {
-        Data::Text(text) => text.bytes().is_empty(),
-        Data::Fill { number, length } => {
-            let _number = *number;
-            *length == 0
-        }
     }
 }

@@ -5,6 +5,8 @@
 #[cfg(test)]
 mod agreeing;
 #[cfg(test)]
+mod bytes;
+#[cfg(test)]
 mod damage;
 #[cfg(test)]
 mod failing;

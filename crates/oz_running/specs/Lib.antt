@@ -1,4 +1,5 @@
 pub mod Jobs
+pub mod Left
 pub mod Run
 pub mod Seats
 pub mod Staff

@@ -1,17 +1,16 @@
 -- For private calls: the seats of a run as its threads begin, and as they leave it.
-use Rattle.std.specs.Prelude.{◌≡◌, ℕ, ◌+◌, ◌<◌, Bool, List, [], ◌++◌, length}
+use Rattle.std.specs.Prelude.{◌≡◌, ℕ, ◌+◌, ◌<◌, List, [], ◌++◌, length}
 use Rattle.oz_core.specs.declared.event.Event.{Event}
 use Rattle.oz_core.specs.declared.opening.Opening.{Opening}
-use Rattle.oz_core.specs.Seats.{flusher_seat, stripe_seat}
-use Rattle.oz_flushing.specs.Kept.{IsKept}
+use Rattle.oz_core.specs.Seats.{IsDatanodeSeat, flusher_seat, scm_seat, stripe_seat}
 use Rattle.oz_names.specs.declared.limits.TheConstants.{STRIPES}
 use Rattle.oz_om.specs.Seated.{ArePlaced, HasStoodIn}
 use Rattle.oz_rows.specs.RowMaps.{Rows}
+use Rattle.oz_running.specs.Run.{IsQuietSeat}
 use Rattle.oz_turn.specs.declared.seat.Seat.{Seat}
 use Rattle.oz_turn.specs.declared.told.Told.{Ghosts}
 use Rattle.oz_turn.specs.Ring.{TurnId}
 use Rattle.oz_turn.specs.Seat.{IsNewSeat, IsReady, mine_of, seen_of}
-use Rattle.oz_world.specs.Disk.{Seen}
 
 module _ {T : Type 0} {told : Ghosts T Event} where
   -- new seats with the numbers from this one on
@@ -24,15 +23,18 @@ module _ {T : Type 0} {told : Ghosts T Event} where
     pub behind : after ≡ before ++ more
     pub ready : ArePlaced (λ n s. IsReady turn (length before + n) s) more
 
-  module _ (turn : TurnId) (Coherent : Type 0) (opening : Opening) (bodies : List (List ℕ)) (begun : Seen)
-      (loaded : Rows) (stopped : Bool) (disk : Seen) where
-    -- What a seat of this number leaves with: the flusher's with what is kept of the disk, a stripe's with its rows.
-    -- Those between them gave nothing.
+  -- What is kept of the manager's disk, and of the storage container manager, by what a seat has seen and given; and of
+  -- a datanode by its seat.
+  module _ (turn : TurnId) (Coherent : Type 0) (opening : Opening) (loaded : Rows)
+      (FlusherKept ScmKept : List Event → List Event → Type 0) (IsServed : ℕ → Seat T Event told → Type 0) where
+    -- What a seat of this number leaves with: the flusher's, the storage container manager's and a datanode's with what
+    -- is kept of them, a stripe's with its rows. A quiet one gave nothing.
     pub record HasLeft (number : ℕ) (s : Seat T Event told) : Type 0 where
       pub ready : IsReady turn number s
-      pub flusher : number ≡ flusher_seat
-          → IsKept Coherent opening bodies begun stopped (seen_of s) (mine_of s) disk
-      pub quiet : flusher_seat < number → number < stripe_seat 0 → mine_of s ≡ []
+      pub flusher : number ≡ flusher_seat → FlusherKept (seen_of s) (mine_of s)
+      pub scm : number ≡ scm_seat → ScmKept (seen_of s) (mine_of s)
+      pub datanode : (dn : ℕ) → IsDatanodeSeat opening dn number → IsServed dn s
+      pub quiet : IsQuietSeat opening number → mine_of s ≡ []
       pub stripe : Coherent → (stripe : ℕ) → stripe < STRIPES → number ≡ stripe_seat stripe
           → HasStoodIn opening loaded stripe s
 

@@ -1,50 +1,97 @@
-//! All seats leave.
+//! All nodes leave, and all seats.
 
-ghost use Rattle.std.specs.Prelude.{◌≡◌, ◌≤◌, ◌+◌, ◌-◌, ◌++◌, [], length, vec_capacity, vec_len};
-ghost use Rattle.oz_core.specs.Seats.{first_worker_seat};
+ghost use Rattle.std.specs.Prelude.{◌≡◌, ◌≤◌, ◌+◌, ◌-◌, ◌++◌, ◌∷◌, [], length, vec_capacity, vec_len};
+ghost use Rattle.oz_core.specs.Seats.{datanode_seat, first_worker_seat, service_seat};
+ghost use Rattle.oz_nodes.specs.declared.nodes.TheConstants.{MOST_NODES};
 ghost use Rattle.oz_running.specs.Jobs.{AreJobs};
-ghost use Rattle.oz_running.specs.Seats.{AddsReady, AreNewFrom, HaveLeft};
-ghost use Rattle.oz_world.specs.Disk.{seen};
+ghost use Rattle.oz_running.specs.Left.{IsLeft};
+ghost use Rattle.oz_running.specs.Seats.{AddsReady, AreNewFrom};
 
 use oz_buffer::{Ledger, Opened};
 use oz_core::Event;
+use oz_datanode::Datanode;
 use oz_flushing::{Flushing, Mounted};
 use oz_journal::Journal;
 use oz_locks::Loaded;
-use oz_om::Manager;
+use oz_scm::Scm;
+use oz_servers::{Parts, Servers};
 use oz_turn::{Ring, Seat, Told};
 use oz_worker::Job;
 use oz_world::Disk;
 use std::sync::Wait;
 
-/// The journal, and all seats in order, in the list that they came in. It takes no memory.
-pub(crate) fn all_seats<D: Disk, O: Opened, L: Loaded, M: Mounted, R: Ring, W: Wait>(
+/// What the threads of a run leave: the manager's journal, the storage container manager, the datanodes in the order of
+/// their numbers, and so all seats.
+#[derive(Drop)]
+pub(crate) struct Left<D: Disk, T: Told<Entry = Event>> {
+    pub(crate) journal: Journal<D>,
+    pub(crate) scm: Scm<D>,
+    pub(crate) nodes: Vec<Datanode<D>>,
+    pub(crate) seats: Vec<Seat<T>>,
+}
+
+/// All nodes leave, and all seats, in the list that they came in: those of the servers, of the flusher, of who gave
+/// nothing, and of the jobs. It takes no memory.
+pub(crate) fn all_leave<D: Disk, O: Opened, L: Loaded, M: Mounted, R: Ring, W: Wait>(
     rt: &W,
-    manager: Manager<Ledger<O>, O, L, R>,
+    servers: Servers<D, Ledger<O>, O, L, R>,
     flushing: Flushing<D, Ledger<O>, O, M, R>,
     mut jobs: Vec<Job<'_, Ledger<O>, O, R>>,
     quiet: Vec<Seat<Ledger<O>>>,
+    absent: Vec<Seat<Ledger<O>>>,
     mut all: Vec<Seat<Ledger<O>>>,
-) -> (Journal<D>, Vec<Seat<Ledger<O>>>)
+) -> Left<D, Ledger<O>>
     requires some { 1 ≤ length jobs.items }
     requires jobs { AreJobs (length jobs.items - 1) jobs.items }
-    requires quiet_count { length quiet.items ≡ 19 }
-    requires quiet { AreNewFrom R.turn 1 quiet.items }
+    requires quiet_count { length quiet.items ≡ 2 }
+    requires quiet { AreNewFrom R.turn service_seat quiet.items }
+    requires absent_count { length O.opening.nodes + length absent.items ≡ MOST_NODES }
+    requires absent { AreNewFrom R.turn (datanode_seat (length O.opening.nodes)) absent.items }
     requires none { all.items ≡ [] }
     requires room { first_worker_seat + (length jobs.items - 1) ≤ vec_capacity all }
-    ensures count { length result.1.items ≡ first_worker_seat + (length jobs.entry.items - 1) }
-    ensures left { HaveLeft R.turn O.coherent O.opening O.bodies M.disk L.rows result.0.stopped
-        (seen (D.told result.0.disk) (D.clock result.0.disk) (D.image result.0.disk) (D.faults result.0.disk))
-        result.1.items }
+    ensures count { length result.seats.items ≡ first_worker_seat + (length jobs.entry.items - 1) }
+    ensures left { IsLeft D.told D.clock D.image D.faults O.coherent O.opening O.bytes O.script O.faults R.turn O.bodies
+        M.disk L.rows result.journal.stopped result.journal.disk result.scm result.nodes.items result.seats.items }
 {
     let (journal, flusher) = flushing.into_parts();
+    let Parts {
+        manager,
+        scm,
+        seat_of_scm,
+        nodes,
+        seats_of_nodes,
+    } = servers.into_parts(rt);
     let stripes = manager.into_seats(rt);
-    all.push_reserved(flusher);
-    add_all(&mut all, quiet);
+    add_first(&mut all, flusher, quiet, seat_of_scm);
+    add_all(&mut all, seats_of_nodes);
+    add_all(&mut all, absent);
     add_all(&mut all, stripes);
     let _flusher = jobs.pop();
     add_workers(jobs, &mut all);
-    (journal, all)
+    Left {
+        journal,
+        scm,
+        nodes,
+        seats: all,
+    }
+}
+
+/// The seats before those of the datanodes come into a list that has room for all: that of the flusher, those of the
+/// service job and the caller, and that of the storage container manager.
+fn add_first<T: Told<Entry = Event>>(
+    all: &mut Vec<Seat<T>>,
+    flusher: Seat<T>,
+    quiet: Vec<Seat<T>>,
+    scm: Seat<T>,
+)
+    requires none { all.old.items ≡ [] }
+    requires room { vec_len quiet + 2 ≤ vec_capacity all.old }
+    ensures items { all.new.items ≡ (flusher ∷ quiet.items) ++ scm ∷ [] }
+    ensures room { vec_capacity all.old ≤ vec_capacity all.new }
+{
+    all.push_reserved(flusher);
+    add_all(all, quiet);
+    all.push_reserved(scm);
 }
 
 /// Seats are added behind the others of a list that has room for them.

@@ -1,4 +1,4 @@
-//! The middle of a run: from the manager's loaded disk to the story that all threads made, and the disk they leave.
+//! The middle of a run: from the loaded nodes to the story that all threads made, and the nodes as they leave them.
 #![tactic(auto)]
 
 mod closing;
@@ -9,7 +9,9 @@ mod parting;
 mod ran;
 mod running;
 mod staff;
+mod unstarted;
 mod working;
 
 pub use ran::Ran;
 pub use running::run_lines;
+pub use unstarted::Unstarted;

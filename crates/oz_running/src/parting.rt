@@ -1,8 +1,9 @@
 //! Who takes which seat of a turn.
 
 ghost use Rattle.std.specs.Prelude.{◌≡◌, ◌≤◌, ◌+◌, [], length, vec_capacity, vec_len, IfOk, OnOk};
-ghost use Rattle.oz_core.specs.Seats.{first_worker_seat, flusher_seat};
-ghost use Rattle.oz_om.specs.Seated.{AreNewStripeSeats};
+ghost use Rattle.oz_core.specs.Seats.{datanode_seat, first_worker_seat, flusher_seat, scm_seat, service_seat};
+ghost use Rattle.oz_nodes.specs.declared.nodes.TheConstants.{MOST_NODES};
+ghost use Rattle.oz_om.specs.Seated.{AreNewStripeSeats, ArePlaced};
 ghost use Rattle.oz_running.specs.Seats.{AreNewFrom};
 ghost use Rattle.oz_turn.specs.Seat.{AreNewSeats, IsNewSeat};
 
@@ -13,8 +14,10 @@ use oz_turn::{Ring, Seat, Told};
 /// The first seat of the workers.
 pub(crate) const FIRST_WORKER_SEAT: u16 = 36;
 
-// The first seat of the stripes, and that of those who give nothing yet.
+// The first seats of the stripes, of the datanodes, and of the service job and the caller.
 const FIRST_STRIPE_SEAT: usize = 20;
+
+const FIRST_DATANODE_SEAT: usize = 4;
 
 const FIRST_QUIET_SEAT: usize = 1;
 
@@ -22,21 +25,33 @@ const FIRST_QUIET_SEAT: usize = 1;
 #[derive(Drop)]
 pub(crate) struct Parted<T: Told<Entry = Event>> {
     pub(crate) flusher: Seat<T>,
-    /// Of the service job, the caller, the SCM and the datanodes.
+    /// Of the service job and the caller.
     pub(crate) quiet: Vec<Seat<T>>,
+    pub(crate) scm: Seat<T>,
+    pub(crate) nodes: Vec<Seat<T>>,
+    /// Of datanodes that aren't there.
+    pub(crate) absent: Vec<Seat<T>>,
     pub(crate) stripes: Vec<Seat<T>>,
     pub(crate) workers: Vec<Seat<T>>,
 }
 
-/// The seats leave their list, by who takes them.
+/// The seats leave their list, by who takes them, where there are so many datanodes.
 pub(crate) fn parted_seats<T: Told<Entry = Event>, R: Ring>(
     seats: &mut Vec<Seat<T>>,
+    count: u8,
 ) -> Result<Parted<T>, OutOfMemory>
     requires many { first_worker_seat ≤ vec_len seats.old }
     requires new { AreNewSeats R.turn seats.old.items }
+    requires most { count ≤ MOST_NODES }
     ensures flusher { IfOk result (λ parted. IsNewSeat R.turn flusher_seat parted.flusher) }
-    ensures quiet_count { IfOk result (λ parted. vec_len parted.quiet ≡ 19) }
-    ensures quiet { IfOk result (λ parted. AreNewFrom R.turn 1 parted.quiet.items) }
+    ensures quiet_count { IfOk result (λ parted. vec_len parted.quiet ≡ 2) }
+    ensures quiet { IfOk result (λ parted. AreNewFrom R.turn service_seat parted.quiet.items) }
+    ensures scm { IfOk result (λ parted. IsNewSeat R.turn scm_seat parted.scm) }
+    ensures node_count { IfOk result (λ parted. vec_len parted.nodes ≡ count) }
+    ensures nodes { IfOk result (λ parted. ArePlaced (λ dn s. IsNewSeat R.turn (datanode_seat dn) s)
+        parted.nodes.items) }
+    ensures absent_count { IfOk result (λ parted. count + vec_len parted.absent ≡ MOST_NODES) }
+    ensures absent { IfOk result (λ parted. AreNewFrom R.turn (datanode_seat count) parted.absent.items) }
     ensures stripes { IfOk result (λ parted. AreNewStripeSeats R.turn parted.stripes.items) }
     ensures worker_count { IfOk result (λ parted. first_worker_seat + vec_len parted.workers ≡ vec_len seats.old) }
     ensures workers { IfOk result (λ parted. AreNewFrom R.turn first_worker_seat parted.workers.items) }
@@ -45,6 +60,11 @@ pub(crate) fn parted_seats<T: Told<Entry = Event>, R: Ring>(
 {
     let workers = seats_from::<T, R>(seats, usize::from(FIRST_WORKER_SEAT))?;
     let stripes = seats_from::<T, R>(seats, FIRST_STRIPE_SEAT)?;
+    let absent = seats_from::<T, R>(seats, FIRST_DATANODE_SEAT + usize::from(count))?;
+    let nodes = seats_from::<T, R>(seats, FIRST_DATANODE_SEAT)?;
+    let Some(scm) = seats.pop() else {
+        unreachable!()
+    };
     let quiet = seats_from::<T, R>(seats, FIRST_QUIET_SEAT)?;
     let Some(flusher) = seats.pop() else {
         unreachable!()
@@ -52,6 +72,9 @@ pub(crate) fn parted_seats<T: Told<Entry = Event>, R: Ring>(
     Ok(Parted {
         flusher,
         quiet,
+        scm,
+        nodes,
+        absent,
         stripes,
         workers,
     })

@@ -1,14 +1,18 @@
 //! What a run leaves.
 
 use oz_core::Event;
+use oz_datanode::Datanode;
 use oz_journal::Journal;
+use oz_scm::Scm;
 use oz_world::Disk;
 
-/// The story that all threads made, the manager's journal behind it, and whether each client of the script was told as
-/// many lines as it has.
+/// The story that all threads made, and the nodes behind it: the manager's journal, the storage container manager, and each
+/// datanode in the place of its number. And whether each client of the script was told as many lines as it has.
 #[derive(Drop)]
 pub struct Ran<D: Disk> {
     pub story: Vec<Event>,
     pub journal: Journal<D>,
+    pub scm: Scm<D>,
+    pub nodes: Vec<Datanode<D>>,
     pub all_told: bool,
 }

@@ -1,34 +1,39 @@
 //! From the loaded disk to the story.
 
-ghost use Rattle.std.specs.Prelude.{◌≡◌, ◌≤◌, ◌+◌, [], false, vec_len, vec_capacity, IfOk, IfErr, IfSome, IsSome};
+ghost use Rattle.std.specs.Prelude.{◌≡◌, ◌≤◌, ◌+◌, [], false, length, vec_len, vec_capacity};
+ghost use Rattle.std.specs.Prelude.{IfOk, IfErr, IfSome, IsSome};
+ghost use Rattle.oz_core.specs.declared.event.Node.TheVariants.{Scm as ScmNode};
 ghost use Rattle.oz_core.specs.Seats.{first_worker_seat};
 ghost use Rattle.oz_flusher.specs.Stops.{StopsHold};
 ghost use Rattle.oz_journal.specs.Grammar.{IsJournal};
 ghost use Rattle.oz_lines.specs.Numbered.{IsNumbered};
-ghost use Rattle.oz_nodes.specs.declared.nodes.TheConstants.{FEWEST_NODES, MOST_NODES};
+ghost use Rattle.oz_node_events.specs.NodeSeat.{NumbersAreOld, StandsFor};
 ghost use Rattle.oz_om.specs.Opens.{Opens};
 ghost use Rattle.oz_om.specs.Seated.{ArePartsOf};
 ghost use Rattle.oz_running.specs.Run.{IsRun};
 ghost use Rattle.oz_running.specs.Staff.{IsStaff};
+ghost use Rattle.oz_servers.specs.Begun.{NodesStand, ScmStands};
 ghost use Rattle.oz_turn.specs.Seat.{AreNewSeats};
 ghost use Rattle.oz_turn.specs.Turn.{seats_of, turn_id};
-ghost use Rattle.oz_world.specs.Disk.{seen, TellsAsBefore};
+ghost use Rattle.oz_world.specs.Disk.{TellsAsBefore};
 ghost use Rattle.oz_world.specs.Moments.{Elapses};
 
 use crate::closing::ended;
-use crate::leaving::all_seats;
+use crate::leaving::all_leave;
 use crate::parting::FIRST_WORKER_SEAT;
 use crate::ran::Ran;
 use crate::staff::{Staff, staffed};
+use crate::unstarted::Unstarted;
 use crate::working::work;
 use oz_buffer::{Ledger, Opened};
+use oz_datanode::Datanode;
 use oz_fields::OutOfMemory;
 use oz_flusher::Flusher;
 use oz_flushing::{Flushing, Mounted};
-use oz_journal::Journal;
 use oz_lines::Script;
 use oz_loaded::Unseated;
 use oz_locks::Loaded;
+use oz_scm::Scm;
 use oz_turn::{Ring, Seat, Turn};
 use oz_world::{Disk, Gate};
 use std::alloc::Global;
@@ -36,9 +41,10 @@ use std::marker::Brand;
 use std::sync::{Mutex, Wait};
 use std::thread::Threads;
 
-/// Runs the lines of a script over a manager that was loaded, by so many workers and a flusher beside each other, and
-/// then by this thread what they leave. Where memory runs out before any of them starts, the journal comes back, and
-/// nothing was done. Where no threads can be made this one does it all.
+/// Runs the lines of a script over nodes that were loaded, by so many workers and a flusher beside each other, and then
+/// by this thread what they leave. Each datanode stands in the place of its number. Where memory runs out before any of
+/// them starts, the manager's journal and the other nodes come back as they were. Where no threads can be made this one
+/// does it all.
 pub fn run_lines<
     D: Disk + Send,
     O: Opened + Send + Sync,
@@ -53,9 +59,10 @@ pub fn run_lines<
     script: &Script,
     unseated: Unseated,
     flusher: Flusher<D>,
+    scm: Scm<D>,
+    nodes: Vec<Datanode<D>>,
     workers: u8,
-    nodes: u8,
-) -> Result<Ran<D>, (Journal<D>, OutOfMemory)>
+) -> Result<Ran<D>, (Unstarted<D>, OutOfMemory)>
     requires opens { Opens O.coherent O.opening O.bytes L.rows L.last_index L.coherent L.keeps }
     requires parts { ArePartsOf L.rows L.last_index unseated.parts }
     requires last_index { unseated.last_index ≡ O.opening.last_index }
@@ -63,8 +70,10 @@ pub fn run_lines<
     requires numbered { IsNumbered O.script }
     requires some { 1 ≤ workers }
     requires few { workers ≤ 16 }
-    requires least { FEWEST_NODES ≤ nodes }
-    requires most { nodes ≤ MOST_NODES }
+    requires scm { ScmStands O.opening (O.faults ScmNode) scm (D.faults scm.disk) }
+    requires nodes { NodesStand (StandsFor D.told D.clock D.image D.faults O.coherent O.opening O.bytes O.script O.faults)
+        O.opening nodes.items }
+    requires old { O.coherent → NumbersAreOld O.opening }
     requires running { flusher.stopped ≡ false }
     requires faults { D.faults flusher.disk ≡ M.disk.faults }
     requires telling { TellsAsBefore M.disk.told (D.told flusher.disk) }
@@ -72,12 +81,11 @@ pub fn run_lines<
     requires journal { O.coherent → IfSome (D.told flusher.disk) (λ bytes. IsJournal bytes O.bodies) }
     requires stops { O.coherent → IsSome (D.told flusher.disk) →
         StopsHold O.bodies [] M.disk.clock (D.clock flusher.disk) (D.image flusher.disk) }
-    ensures ran { IfOk result (λ ran. IsRun O.coherent O.opening O.bytes O.bodies O.script M.disk L.rows
-        (first_worker_seat + workers) ran.story.items ran.journal.stopped
-        (seen (D.told ran.journal.disk) (D.clock ran.journal.disk) (D.image ran.journal.disk)
-        (D.faults ran.journal.disk))
-        ran.all_told) }
-    ensures err { IfErr result (λ refused. refused.0 ≡ flusher) }
+    ensures ran { IfOk result (λ ran. IsRun D.told D.clock D.image D.faults O.coherent O.opening O.bytes O.bodies O.script
+        O.faults M.disk L.rows (first_worker_seat + workers) ran) }
+    ensures journal { IfErr result (λ refused. refused.0.journal ≡ flusher) }
+    ensures scm { IfErr result (λ refused. refused.0.scm ≡ scm) }
+    ensures nodes { IfErr result (λ refused. refused.0.nodes.items ≡ nodes.items) }
 {
     let seats = FIRST_WORKER_SEAT + u16::from(workers);
     match Turn::make(
@@ -87,10 +95,10 @@ pub fn run_lines<
     ) {
         Ok((turn, seats)) => {
             run_in_turn::<D, O, L, M, Brand, W, G>(
-                rt, alloc, gate, script, unseated, flusher, nodes, turn, seats,
+                rt, alloc, gate, script, unseated, flusher, scm, nodes, turn, seats,
             )
         }
-        Err((_ledger, error)) => Err((flusher.into_journal(), error)),
+        Err((_ledger, error)) => Err((given_back(flusher, scm, nodes), error)),
     }
 }
 
@@ -110,16 +118,19 @@ fn run_in_turn<
     script: &Script,
     unseated: Unseated,
     flusher: Flusher<D>,
-    nodes: u8,
+    scm: Scm<D>,
+    nodes: Vec<Datanode<D>>,
     turn: Turn<Ledger<O>>,
     seats: Vec<Seat<Ledger<O>>>,
-) -> Result<Ran<D>, (Journal<D>, OutOfMemory)>
+) -> Result<Ran<D>, (Unstarted<D>, OutOfMemory)>
     requires opens { Opens O.coherent O.opening O.bytes L.rows L.last_index L.coherent L.keeps }
     requires parts { ArePartsOf L.rows L.last_index unseated.parts }
     requires script { script.now ≡ O.script }
     requires numbered { IsNumbered O.script }
-    requires least { FEWEST_NODES ≤ nodes }
-    requires most { nodes ≤ MOST_NODES }
+    requires scm { ScmStands O.opening (O.faults ScmNode) scm (D.faults scm.disk) }
+    requires nodes { NodesStand (StandsFor D.told D.clock D.image D.faults O.coherent O.opening O.bytes O.script O.faults)
+        O.opening nodes.items }
+    requires old { O.coherent → NumbersAreOld O.opening }
     requires running { flusher.stopped ≡ false }
     requires faults { D.faults flusher.disk ≡ M.disk.faults }
     requires telling { TellsAsBefore M.disk.told (D.told flusher.disk) }
@@ -132,18 +143,30 @@ fn run_in_turn<
     requires many { first_worker_seat ≤ vec_len seats }
     requires few_seats { vec_len seats ≤ first_worker_seat + 16 }
     requires seats { AreNewSeats R.turn seats.items }
-    ensures ran { IfOk result (λ ran. IsRun O.coherent O.opening O.bytes O.bodies O.script M.disk L.rows
-        (seats_of turn) ran.story.items ran.journal.stopped
-        (seen (D.told ran.journal.disk) (D.clock ran.journal.disk) (D.image ran.journal.disk)
-        (D.faults ran.journal.disk))
-        ran.all_told) }
-    ensures err { IfErr result (λ refused. refused.0 ≡ flusher) }
+    ensures ran { IfOk result (λ ran. IsRun D.told D.clock D.image D.faults O.coherent O.opening O.bytes O.bodies O.script
+        O.faults M.disk L.rows (seats_of turn) ran) }
+    ensures journal { IfErr result (λ refused. refused.0.journal ≡ flusher) }
+    ensures scm { IfErr result (λ refused. refused.0.scm ≡ scm) }
+    ensures nodes { IfErr result (λ refused. refused.0.nodes.items ≡ nodes.items) }
 {
-    match staffed::<O, L, R>(alloc, script, unseated, seats, nodes) {
+    match staffed::<D, O, L, R>(alloc, script, unseated, scm, nodes, seats) {
         Ok(staff) => Ok(run_staffed::<D, O, L, M, R, W, G>(
             rt, alloc, gate, script, flusher, turn, staff,
         )),
-        Err(error) => Err((flusher.into_journal(), error)),
+        Err((scm, nodes, error)) => Err((given_back(flusher, scm, nodes), error)),
+    }
+}
+
+/// What comes back of a run that didn't start. It takes no memory.
+fn given_back<D: Disk>(flusher: Flusher<D>, scm: Scm<D>, nodes: Vec<Datanode<D>>) -> Unstarted<D>
+    ensures journal { result.journal ≡ flusher }
+    ensures scm { result.scm ≡ scm }
+    ensures nodes { result.nodes ≡ nodes }
+{
+    Unstarted {
+        journal: flusher.into_journal(),
+        scm,
+        nodes,
     }
 }
 
@@ -163,7 +186,7 @@ fn run_staffed<
     script: &Script,
     flusher: Flusher<D>,
     turn: Turn<Ledger<O>>,
-    staff: Staff<'_, Ledger<O>, O, L, R>,
+    staff: Staff<'_, D, Ledger<O>, O, L, R>,
 ) -> Ran<D>
     requires script { script.now ≡ O.script }
     requires numbered { IsNumbered O.script }
@@ -176,19 +199,17 @@ fn run_staffed<
         StopsHold O.bodies [] M.disk.clock (D.clock flusher.disk) (D.image flusher.disk) }
     requires turn { turn_id turn ≡ R.turn }
     requires many { first_worker_seat ≤ seats_of turn }
-    requires staff { IsStaff R.turn (seats_of turn) staff.jobs.items staff.flusher staff.quiet.items staff.all.items
-        (vec_capacity staff.all) }
-    ensures { IsRun O.coherent O.opening O.bytes O.bodies O.script M.disk L.rows (seats_of turn)
-        result.story.items result.journal.stopped
-        (seen (D.told result.journal.disk) (D.clock result.journal.disk) (D.image result.journal.disk)
-        (D.faults result.journal.disk))
-        result.all_told }
+    requires staff { IsStaff R.turn (seats_of turn) (length O.opening.nodes) staff.jobs.items staff.flusher
+        staff.quiet.items staff.absent.items staff.all.items (vec_capacity staff.all) }
+    ensures { IsRun D.told D.clock D.image D.faults O.coherent O.opening O.bytes O.bodies O.script O.faults M.disk L.rows
+        (seats_of turn) result }
 {
     let Staff {
-        manager,
+        servers,
         mut jobs,
         flusher: seat,
         quiet,
+        absent,
         all,
     } = staff;
     let flushing = Mutex::new(Flushing::<D, Ledger<O>, O, M, R>::make(flusher, seat));
@@ -196,11 +217,11 @@ fn run_staffed<
         rt,
         alloc,
         &turn,
-        &manager,
+        &servers,
         &flushing,
         gate,
         jobs.as_mut_slice(),
     );
-    let (journal, seats) = all_seats(rt, manager, flushing.into_inner(), jobs, quiet, all);
-    ended::<D, O, L, M, R>(turn, script, journal, seats)
+    let left = all_leave(rt, servers, flushing.into_inner(), jobs, quiet, absent, all);
+    ended::<D, O, L, M, R>(turn, script, left)
 }

@@ -1,46 +1,120 @@
 //! What a run is made of before its threads start.
 
-ghost use Rattle.std.specs.Prelude.{◌≡◌, ◌≤◌, ◌+◌, vec_capacity, vec_len, IfOk};
-ghost use Rattle.oz_core.specs.Seats.{first_worker_seat};
+ghost use Rattle.std.specs.Prelude.{◌≡◌, ◌≤◌, ◌+◌, length, vec_capacity, vec_len, IfErr, IfOk};
+ghost use Rattle.oz_core.specs.declared.event.Node.TheVariants.{Scm as ScmNode};
+ghost use Rattle.oz_core.specs.Seats.{datanode_seat, first_worker_seat, scm_seat};
 ghost use Rattle.oz_lines.specs.Numbered.{IsNumbered};
+ghost use Rattle.oz_node_events.specs.NodeSeat.{NumbersAreOld, StandsFor};
 ghost use Rattle.oz_nodes.specs.declared.nodes.TheConstants.{FEWEST_NODES, MOST_NODES};
 ghost use Rattle.oz_om.specs.Opens.{Opens};
-ghost use Rattle.oz_om.specs.Seated.{ArePartsOf};
+ghost use Rattle.oz_om.specs.Seated.{ArePartsOf, ArePlaced};
 ghost use Rattle.oz_running.specs.Staff.{IsStaff};
-ghost use Rattle.oz_turn.specs.Seat.{AreNewSeats};
+ghost use Rattle.oz_servers.specs.Begun.{NodesStand, ScmStands};
+ghost use Rattle.oz_turn.specs.Seat.{AreNewSeats, IsNewSeat};
 
 use crate::hiring::hired;
 use crate::parting::{Parted, parted_seats};
 use oz_buffer::{Ledger, Opened};
 use oz_core::Event;
+use oz_datanode::Datanode;
 use oz_fields::OutOfMemory;
 use oz_lines::Script;
 use oz_loaded::Unseated;
 use oz_locks::Loaded;
 use oz_om::Manager;
+use oz_scm::Scm;
+use oz_servers::Servers;
 use oz_turn::{Ring, Seat, Told};
 use oz_worker::Job;
+use oz_world::Disk;
 use std::alloc::Global;
 
-/// The manager in its stripes' seats, the jobs in those of the workers, the seats of the flusher and of those who give
-/// nothing, and the list that all came in, empty.
+/// The servers and the jobs in their seats, the seats of the flusher, of the service job and the caller, and of the
+/// datanodes that aren't there, and the list that all came in, empty.
 #[derive(Drop)]
-pub(crate) struct Staff<'s, T: Told<Entry = Event>, O: Opened, L: Loaded, R: Ring> {
-    pub(crate) manager: Manager<T, O, L, R>,
+pub(crate) struct Staff<'s, D: Disk, T: Told<Entry = Event>, O: Opened, L: Loaded, R: Ring> {
+    pub(crate) servers: Servers<D, T, O, L, R>,
     pub(crate) jobs: Vec<Job<'s, T, O, R>>,
     pub(crate) flusher: Seat<T>,
     pub(crate) quiet: Vec<Seat<T>>,
+    pub(crate) absent: Vec<Seat<T>>,
     pub(crate) all: Vec<Seat<T>>,
 }
 
-/// Takes all memory that a run needs to hand out what it made.
-pub(crate) fn staffed<'s, O: Opened, L: Loaded, R: Ring>(
+/// The manager alone of the servers, and the seats of the others.
+#[derive(Drop)]
+struct Seated<'s, T: Told<Entry = Event>, O: Opened, L: Loaded, R: Ring> {
+    manager: Manager<T, O, L, R>,
+    jobs: Vec<Job<'s, T, O, R>>,
+    flusher: Seat<T>,
+    quiet: Vec<Seat<T>>,
+    scm: Seat<T>,
+    nodes: Vec<Seat<T>>,
+    absent: Vec<Seat<T>>,
+    all: Vec<Seat<T>>,
+}
+
+/// Takes all memory that a run needs to hand out what it made. Where there is none the storage container manager and the
+/// datanodes come back.
+pub(crate) fn staffed<'s, D: Disk, O: Opened, L: Loaded, R: Ring>(
+    alloc: Global,
+    script: &'s Script,
+    unseated: Unseated,
+    scm: Scm<D>,
+    nodes: Vec<Datanode<D>>,
+    seats: Vec<Seat<Ledger<O>>>,
+) -> Result<Staff<'s, D, Ledger<O>, O, L, R>, (Scm<D>, Vec<Datanode<D>>, OutOfMemory)>
+    requires opens { Opens O.coherent O.opening O.bytes L.rows L.last_index L.coherent L.keeps }
+    requires parts { ArePartsOf L.rows L.last_index unseated.parts }
+    requires script { script.now ≡ O.script }
+    requires numbered { IsNumbered O.script }
+    requires scm { ScmStands O.opening (O.faults ScmNode) scm (D.faults scm.disk) }
+    requires nodes { NodesStand (StandsFor D.told D.clock D.image D.faults O.coherent O.opening O.bytes O.script O.faults)
+        O.opening nodes.items }
+    requires old { O.coherent → NumbersAreOld O.opening }
+    requires many { first_worker_seat ≤ vec_len seats }
+    requires few { vec_len seats ≤ first_worker_seat + 16 }
+    requires seats { AreNewSeats R.turn seats.items }
+    ensures staff { IfOk result (λ staff. IsStaff R.turn (vec_len seats) (length O.opening.nodes) staff.jobs.items
+        staff.flusher staff.quiet.items staff.absent.items staff.all.items (vec_capacity staff.all)) }
+    ensures scm { IfErr result (λ refused. refused.0 ≡ scm) }
+    ensures nodes { IfErr result (λ refused. refused.1.items ≡ nodes.items) }
+{
+    let count = nodes.len() as u8;
+    let Seated {
+        manager,
+        jobs,
+        flusher,
+        quiet,
+        scm: seat_of_scm,
+        nodes: seats_of_nodes,
+        absent,
+        all,
+    } = match seat_all::<O, L, R>(alloc, script, unseated, seats, count) {
+        Ok(seated) => seated,
+        Err(error) => return Err((scm, nodes, error)),
+    };
+    match Servers::make(alloc, manager, scm, nodes, seat_of_scm, seats_of_nodes) {
+        Ok(servers) => Ok(Staff {
+            servers,
+            jobs,
+            flusher,
+            quiet,
+            absent,
+            all,
+        }),
+        Err(refused) => Err(refused),
+    }
+}
+
+/// The same without the servers, where there are so many datanodes.
+fn seat_all<'s, O: Opened, L: Loaded, R: Ring>(
     alloc: Global,
     script: &'s Script,
     unseated: Unseated,
     mut seats: Vec<Seat<Ledger<O>>>,
-    nodes: u8,
-) -> Result<Staff<'s, Ledger<O>, O, L, R>, OutOfMemory>
+    count: u8,
+) -> Result<Seated<'s, Ledger<O>, O, L, R>, OutOfMemory>
     requires opens { Opens O.coherent O.opening O.bytes L.rows L.last_index L.coherent L.keeps }
     requires parts { ArePartsOf L.rows L.last_index unseated.parts }
     requires script { script.now ≡ O.script }
@@ -48,24 +122,34 @@ pub(crate) fn staffed<'s, O: Opened, L: Loaded, R: Ring>(
     requires many { first_worker_seat ≤ vec_len seats }
     requires few { vec_len seats ≤ first_worker_seat + 16 }
     requires seats { AreNewSeats R.turn seats.items }
-    requires least { FEWEST_NODES ≤ nodes }
-    requires most { nodes ≤ MOST_NODES }
-    ensures { IfOk result (λ staff. IsStaff R.turn (vec_len seats) staff.jobs.items staff.flusher staff.quiet.items
-        staff.all.items (vec_capacity staff.all)) }
+    requires least { FEWEST_NODES ≤ count }
+    requires most { count ≤ MOST_NODES }
+    ensures staff { IfOk result (λ seated. IsStaff R.turn (vec_len seats) count seated.jobs.items seated.flusher
+        seated.quiet.items seated.absent.items seated.all.items (vec_capacity seated.all)) }
+    ensures scm { IfOk result (λ seated. IsNewSeat R.turn scm_seat seated.scm) }
+    ensures node_count { IfOk result (λ seated. length seated.nodes.items ≡ count) }
+    ensures nodes { IfOk result (λ seated. ArePlaced (λ dn s. IsNewSeat R.turn (datanode_seat dn) s)
+        seated.nodes.items) }
 {
     let Parted {
         flusher,
         quiet,
+        scm,
+        nodes,
+        absent,
         stripes,
         workers,
-    } = parted_seats::<Ledger<O>, R>(&mut seats)?;
-    let jobs = hired::<O, R>(alloc, script, workers, nodes)?;
+    } = parted_seats::<Ledger<O>, R>(&mut seats, count)?;
+    let jobs = hired::<O, R>(alloc, script, workers, count)?;
     match Manager::seat(alloc, unseated, stripes) {
-        Ok(manager) => Ok(Staff {
+        Ok(manager) => Ok(Seated {
             manager,
             jobs,
             flusher,
             quiet,
+            scm,
+            nodes,
+            absent,
             all: seats,
         }),
         Err((_unseated, _seats, error)) => Err(error),

@@ -6,7 +6,7 @@ ghost use Rattle.oz_turn.specs.Turn.{turn_id};
 use oz_buffer::{Ledger, Opened};
 use oz_flushing::{Flushing, Mounted};
 use oz_locks::Loaded;
-use oz_om::Manager;
+use oz_servers::Servers;
 use oz_turn::{Ring, Turn};
 use oz_worker::{Job, finish, work_together};
 use oz_world::{Disk, Gate};
@@ -27,7 +27,7 @@ pub(crate) fn work<
     rt: &W,
     alloc: Global,
     turn: &Turn<Ledger<O>>,
-    manager: &Manager<Ledger<O>, O, L, R>,
+    servers: &Servers<D, Ledger<O>, O, L, R>,
     flushing: &Mutex<Flushing<D, Ledger<O>, O, M, R>>,
     gate: &G,
     jobs: &mut [Job<'_, Ledger<O>, O, R>],
@@ -35,6 +35,6 @@ pub(crate) fn work<
     requires { turn_id turn.now ≡ R.turn }
     ensures { jobs.new ≡ jobs.old }
 {
-    work_together(rt, alloc, turn, manager, flushing, gate, jobs);
-    let _all_done = finish(rt, alloc, turn, manager, flushing, gate, jobs);
+    work_together(rt, alloc, turn, servers, flushing, gate, jobs);
+    let _all_done = finish(rt, alloc, turn, servers, flushing, gate, jobs);
 }

@@ -9,7 +9,7 @@ use oz_buffer::{Ledger, Opened};
 use oz_core::Event;
 use oz_flushing::{Flushing, Mounted};
 use oz_locks::Loaded;
-use oz_om::Manager;
+use oz_servers::Servers;
 use oz_turn::{Ring, Told, Turn};
 use oz_world::{Disk, Gate};
 use std::alloc::Global;
@@ -45,7 +45,7 @@ impl<'s, O: Opened, R: Ring> Job<'s, Ledger<O>, O, R> {
         rt: &W,
         alloc: Global,
         turn: &Turn<Ledger<O>>,
-        manager: &Manager<Ledger<O>, O, L, R>,
+        servers: &Servers<D, Ledger<O>, O, L, R>,
         flushing: &Mutex<Flushing<D, Ledger<O>, O, M, R>>,
         gate: &G,
         at_work: &AtomicU64,
@@ -55,7 +55,7 @@ impl<'s, O: Opened, R: Ring> Job<'s, Ledger<O>, O, R> {
     {
         match self {
             Job::Worker(worker) => {
-                worker.work(rt, alloc, turn, manager, flushing, gate);
+                worker.work(rt, alloc, turn, servers, flushing, gate);
                 at_work.fetch_sub(1, Ordering::SeqCst);
             }
             Job::Flusher => flush_for(rt, turn, flushing, gate, at_work),
@@ -68,7 +68,7 @@ impl<'s, O: Opened, R: Ring> Job<'s, Ledger<O>, O, R> {
         rt: &W,
         alloc: Global,
         turn: &Turn<Ledger<O>>,
-        manager: &Manager<Ledger<O>, O, L, R>,
+        servers: &Servers<D, Ledger<O>, O, L, R>,
         flushing: &Mutex<Flushing<D, Ledger<O>, O, M, R>>,
         gate: &G,
     ) -> bool
@@ -77,7 +77,7 @@ impl<'s, O: Opened, R: Ring> Job<'s, Ledger<O>, O, R> {
     {
         match self {
             Job::Worker(worker) => {
-                worker.serve(rt, alloc, turn, manager, flushing, gate, FEWEST_LOOKS)
+                worker.serve(rt, alloc, turn, servers, flushing, gate, FEWEST_LOOKS)
             }
             Job::Flusher => false,
         }

@@ -12,8 +12,9 @@ use crate::client::Client;
 use oz_at_work::{Did, what_is_at_work_stays};
 use oz_buffer::{Ledger, Opened};
 use oz_locks::Loaded;
-use oz_om::Manager;
+use oz_servers::Servers;
 use oz_turn::{Ring, Seat, Turn};
+use oz_world::Disk;
 use std::alloc::Global;
 use std::sync::Wait;
 
@@ -30,11 +31,11 @@ pub(crate) enum Pass {
 
 /// Each client's next line goes on by one thing, so that what many of them ask is flushed together. `by` is the seat's
 /// number, and `nodes` that of the datanodes.
-pub(crate) fn each_goes_on<O: Opened, L: Loaded, R: Ring, W: Wait>(
+pub(crate) fn each_goes_on<D: Disk, O: Opened, L: Loaded, R: Ring, W: Wait>(
     rt: &W,
     alloc: Global,
     turn: &Turn<Ledger<O>>,
-    manager: &Manager<Ledger<O>, O, L, R>,
+    servers: &Servers<D, Ledger<O>, O, L, R>,
     seat: &mut Seat<Ledger<O>>,
     by: u16,
     nodes: u8,
@@ -52,7 +53,7 @@ pub(crate) fn each_goes_on<O: Opened, L: Loaded, R: Ring, W: Wait>(
     what_is_at_work_stays::<O>();
     let mut pass = Pass::Waits;
     for client in clients.iter_mut() {
-        match client.go_on(rt, alloc, turn, manager, seat, by, nodes) {
+        match client.go_on(rt, alloc, turn, servers, seat, by, nodes) {
             Did::WentOn | Did::Ended => pass = Pass::WentOn,
             Did::Waits => {}
             Did::OutOfMemory => return Pass::OutOfMemory,

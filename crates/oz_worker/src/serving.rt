@@ -15,20 +15,21 @@ use crate::client::Client;
 use oz_at_work::{Did, LineAtWork, a_label_was_left, what_is_at_work_stays};
 use oz_buffer::{Ledger, Opened};
 use oz_locks::Loaded;
-use oz_om::Manager;
+use oz_servers::Servers;
 use oz_telling::has_started;
 use oz_turn::{Ring, Seat, Turn};
+use oz_world::Disk;
 use std::alloc::Global;
 use std::sync::Wait;
 
 impl<'s> Client<'s> {
     /// The next line starts, or goes on by one thing. `by` is the seat's number, and `nodes` that of the datanodes.
-    pub(crate) fn go_on<O: Opened, L: Loaded, R: Ring, W: Wait>(
+    pub(crate) fn go_on<D: Disk, O: Opened, L: Loaded, R: Ring, W: Wait>(
         &mut self,
         rt: &W,
         alloc: Global,
         turn: &Turn<Ledger<O>>,
-        manager: &Manager<Ledger<O>, O, L, R>,
+        servers: &Servers<D, Ledger<O>, O, L, R>,
         seat: &mut Seat<Ledger<O>>,
         by: u16,
         nodes: u8,
@@ -49,7 +50,7 @@ impl<'s> Client<'s> {
         let Some(mut work) = self.work.take() else {
             return self.begin::<O, W>(rt, alloc, turn, seat, by, nodes);
         };
-        match work.go_on_with_manager(rt, alloc, turn, manager, seat, by) {
+        match work.go_on(rt, alloc, turn, servers, seat, by) {
             Did::Ended => self.end::<O>(alloc, work),
             did => {
                 self.keep(work);

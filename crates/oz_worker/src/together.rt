@@ -8,7 +8,7 @@ use oz_buffer::{Ledger, Opened};
 use oz_core::Event;
 use oz_flushing::{Flushing, Mounted};
 use oz_locks::Loaded;
-use oz_om::Manager;
+use oz_servers::Servers;
 use oz_turn::{Ring, Told, Turn};
 use oz_world::{Disk, Gate};
 use std::alloc::Global;
@@ -30,7 +30,7 @@ pub fn work_together<
     rt: &W,
     alloc: Global,
     turn: &Turn<Ledger<O>>,
-    manager: &Manager<Ledger<O>, O, L, R>,
+    servers: &Servers<D, Ledger<O>, O, L, R>,
     flushing: &Mutex<Flushing<D, Ledger<O>, O, M, R>>,
     gate: &G,
     jobs: &mut [Job<'_, Ledger<O>, O, R>],
@@ -46,7 +46,7 @@ pub fn work_together<
     let run = |_: usize, job: &mut Job<'_, Ledger<O>, O, R>|
         requires { turn_id turn.now ≡ R.turn }
         ensures { job.exit.now ≡ job.entry.now }
-    { job.run(rt, alloc, turn, manager, flushing, gate, &at_work) };
+    { job.run(rt, alloc, turn, servers, flushing, gate, &at_work) };
     for_each_mut(rt, jobs, threads, &run);
 }
 
@@ -57,7 +57,7 @@ pub fn finish<D: Disk, O: Opened, L: Loaded, M: Mounted, R: Ring, W: Wait, G: Ga
     rt: &W,
     alloc: Global,
     turn: &Turn<Ledger<O>>,
-    manager: &Manager<Ledger<O>, O, L, R>,
+    servers: &Servers<D, Ledger<O>, O, L, R>,
     flushing: &Mutex<Flushing<D, Ledger<O>, O, M, R>>,
     gate: &G,
     jobs: &mut [Job<'_, Ledger<O>, O, R>],
@@ -66,7 +66,7 @@ pub fn finish<D: Disk, O: Opened, L: Loaded, M: Mounted, R: Ring, W: Wait, G: Ga
     ensures { jobs.new ≡ jobs.old }
 {
     for _ in rt.forever() {
-        if !each_goes_on(rt, alloc, turn, manager, flushing, gate, jobs) {
+        if !each_goes_on(rt, alloc, turn, servers, flushing, gate, jobs) {
             return jobs.iter().all(|job| job.is_done());
         }
     }
@@ -78,7 +78,7 @@ fn each_goes_on<D: Disk, O: Opened, L: Loaded, M: Mounted, R: Ring, W: Wait, G: 
     rt: &W,
     alloc: Global,
     turn: &Turn<Ledger<O>>,
-    manager: &Manager<Ledger<O>, O, L, R>,
+    servers: &Servers<D, Ledger<O>, O, L, R>,
     flushing: &Mutex<Flushing<D, Ledger<O>, O, M, R>>,
     gate: &G,
     jobs: &mut [Job<'_, Ledger<O>, O, R>],
@@ -88,7 +88,7 @@ fn each_goes_on<D: Disk, O: Opened, L: Loaded, M: Mounted, R: Ring, W: Wait, G: 
 {
     let mut went_on = false;
     for job in jobs.iter_mut() {
-        if job.go_on(rt, alloc, turn, manager, flushing, gate) {
+        if job.go_on(rt, alloc, turn, servers, flushing, gate) {
             went_on = true;
         }
     }

@@ -16,7 +16,7 @@ use oz_fields::OutOfMemory;
 use oz_flushing::{Flushing, Mounted, flush_if_free};
 use oz_lines::Script;
 use oz_locks::Loaded;
-use oz_om::Manager;
+use oz_servers::Servers;
 use oz_turn::{Ring, Seat, Told, Turn};
 use oz_world::{Disk, Gate};
 use std::alloc::Global;
@@ -133,14 +133,14 @@ impl<'s, O: Opened, R: Ring> Worker<'s, Ledger<O>, O, R> {
         rt: &W,
         alloc: Global,
         turn: &Turn<Ledger<O>>,
-        manager: &Manager<Ledger<O>, O, L, R>,
+        servers: &Servers<D, Ledger<O>, O, L, R>,
         flushing: &Mutex<Flushing<D, Ledger<O>, O, M, R>>,
         gate: &G,
     )
         requires { turn_id turn.now ≡ R.turn }
         ensures { self.new ≡ self.old }
     {
-        self.serve(rt, alloc, turn, manager, flushing, gate, MOST_LOOKS);
+        self.serve(rt, alloc, turn, servers, flushing, gate, MOST_LOOKS);
     }
 
     /// Serves its clients until nothing went on so often in turn, and once more. Says whether anything did.
@@ -149,7 +149,7 @@ impl<'s, O: Opened, R: Ring> Worker<'s, Ledger<O>, O, R> {
         rt: &W,
         alloc: Global,
         turn: &Turn<Ledger<O>>,
-        manager: &Manager<Ledger<O>, O, L, R>,
+        servers: &Servers<D, Ledger<O>, O, L, R>,
         flushing: &Mutex<Flushing<D, Ledger<O>, O, M, R>>,
         gate: &G,
         most_looks: u32,
@@ -163,7 +163,7 @@ impl<'s, O: Opened, R: Ring> Worker<'s, Ledger<O>, O, R> {
             if self.is_over() {
                 return went_on;
             }
-            if self.go_on(rt, alloc, turn, manager) {
+            if self.go_on(rt, alloc, turn, servers) {
                 went_on = true;
                 looks = most_looks;
                 continue;
@@ -184,12 +184,12 @@ impl<'s, O: Opened, R: Ring> Worker<'s, Ledger<O>, O, R> {
     }
 
     /// Each client's next line goes on by one thing. Says whether any did.
-    fn go_on<L: Loaded, W: Wait>(
+    fn go_on<D: Disk, L: Loaded, W: Wait>(
         &mut self,
         rt: &W,
         alloc: Global,
         turn: &Turn<Ledger<O>>,
-        manager: &Manager<Ledger<O>, O, L, R>,
+        servers: &Servers<D, Ledger<O>, O, L, R>,
     ) -> bool
         requires { turn_id turn.now ≡ R.turn }
         ensures { self.new ≡ self.old }
@@ -199,7 +199,7 @@ impl<'s, O: Opened, R: Ring> Worker<'s, Ledger<O>, O, R> {
             rt,
             alloc,
             turn,
-            manager,
+            servers,
             &mut self.seat,
             by,
             nodes,

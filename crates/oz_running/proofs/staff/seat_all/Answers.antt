@@ -1,9 +1,9 @@
 use Rattle.std.proofs.Common.{rules, ◌≡◌, ◌-◌, length, subst, arith}
 use Rattle.oz_running.specs.Jobs.{AreJobs}
-use Rattle.oz_running.proofs.staff.staffed.Goals as goal
+use Rattle.oz_running.proofs.staff.seat_all.Goals as goal
 
-pub returns-in-Ok : goal.returns-in-Ok
-returns-in-Ok g c = record {
+pub returns-in-Ok-clause-staff : goal.returns-in-Ok-clause-staff
+returns-in-Ok-clause-staff g c = record {
   count = search rules;
   of_workers =
       let count : length c.in_ok-flusher.field-0.workers.items ≡ length c.in_ok-jobs.jobs.items - 1 = omega (arith, c.in_ok-jobs.ensures.count) in
@@ -11,6 +11,8 @@ returns-in-Ok g c = record {
   first = search rules;
   quiet_count = search rules;
   quiet_seats = search rules;
+  absent_count = search rules;
+  absent_seats = search rules;
   none = search rules;
   fits = search rules;
 }

@@ -37,6 +37,8 @@ pub struct Servers<D: Disk, T: Told<Entry = Event>, O: Opened, L: Loaded, R: Rin
     pub scm: Mutex<ScmCell<D, T, O, R>>,
     pub nodes: Nodes<D, NodeSeat<T, O, R>>,
     lists: Mutex<EmptyLists<D, T, O>>,
+    node_count: u8,
+    ghost counted: { node_count ≡ nodes },
     ghost count: { nodes ≡ length O.opening.nodes },
     ghost least: { FEWEST_NODES ≤ nodes },
     ghost most: { nodes ≤ MOST_NODES },
@@ -89,6 +91,7 @@ impl<D: Disk, T: Told<Entry = Event>, O: Opened, L: Loaded, R: Ring> Servers<D, 
                     seats: seats_of_nodes,
                     of: PhantomData,
                 }),
+                node_count: count,
             }),
             Err((mut cells, error)) => {
                 unseat_below(&mut cells, &mut nodes, count);
@@ -96,6 +99,16 @@ impl<D: Disk, T: Told<Entry = Event>, O: Opened, L: Loaded, R: Ring> Servers<D, 
                 Err((scm, nodes, error))
             }
         }
+    }
+
+    /// How many datanodes there are: as many as the run has opened.
+    pub fn node_count(&self) -> u8
+        ensures there { result ≡ self.now.nodes }
+        ensures opened { result ≡ length O.opening.nodes }
+        ensures least { FEWEST_NODES ≤ result }
+        ensures most { result ≤ MOST_NODES }
+    {
+        self.node_count
     }
 
     /// What they leave. It takes no memory.
@@ -113,6 +126,7 @@ impl<D: Disk, T: Told<Entry = Event>, O: Opened, L: Loaded, R: Ring> Servers<D, 
             scm,
             nodes: mut locked,
             lists,
+            node_count: _,
         } = self;
         let EmptyLists {
             mut nodes,

@@ -23,9 +23,9 @@ use Rattle.oz_telling.specs.laws.Told.{told_now}
 use Rattle.oz_turn.specs.Told.{BeginsWith}
 use Rattle.oz_underway.specs.laws.Labels.{open_as_told, open_still}
 use Rattle.oz_underway.specs.laws.Starting.{started_still}
-use Rattle.oz_at_work.specs.AtWork.{HasGoneOn, IsAtWork, IsLabelOf, IsStarted, IsTelling, MayBeTold, WorkView, id_of, last_of}
-use Rattle.oz_at_work.specs.inner.Replied.{IsOfEnd}
-use Rattle.oz_at_work.proofs.Staying.{begun_still}
+use Rattle.oz_at_work.specs.AtWork.{HasGoneOn, IsAtWork, IsLabelOf, IsStarted, IsTelling, MayBeTold, WasSaid, WorkView, id_of, last_of}
+use Rattle.oz_at_work.specs.inner.Replied.{IsOfEnd, cut_with}
+use Rattle.oz_at_work.proofs.Staying.{begun_still, said_was}
 
 -- nothing is left where the label isn't open
 pub label_none : (story : List Event) (line : Line) (command : Command) → is_open_at story line ≡ false → IsLabelOf story line command None
@@ -33,7 +33,7 @@ label_none story line (commands.KeyOpen name volume bucket key payload) shut = s
 label_none story line command shut = tt
 
 -- who is cut has gone on
-pub cut_goes_on : (before work new : WorkView) (asked : ℕ) (answer : Answer) → new ≡ record work { asked = asked; next = steps.Tell answer; is_cut = true; refused = None } → HasGoneOn before new
+pub cut_goes_on : (before work new : WorkView) (asked : ℕ) (answer : Answer) → new ≡ cut_with work asked answer → HasGoneOn before new
 cut_goes_on before work new asked answer is = inr (inl (subst (λ (w : WorkView). IsTelling w.next) (sym is) tt))
 
 end_not_ok : (asked : ℕ) (answer : Answer) → IsOfEnd asked answer → was_told_ok (Some answer) ≡ false
@@ -71,34 +71,36 @@ module _ (Coherent : Type 0) (opening : Opening) (bytes : OpeningBytes) (script 
       (told_now before seat line.client line.number answer)
       ∙ open_as_told before seat line answer
 
-  end_fits : (seen : List Event) (line : Line) (asked : ℕ) (answer : Answer) → Coherent → IsStarted script seen line → IsOfEnd asked answer
-      → MayBeTold Coherent opening bytes script seen line (last_of line asked) [] answer None
-  end_fits seen line asked answer coherent begun of_end = record {
-    fits = λ story begins all said may. record {
+  end_fits : (seen : List Event) (line : Line) (asked : ℕ) (MaySay : ℕ → Type 0) (answer : Answer) → Coherent → IsStarted script seen line → IsOfEnd asked answer
+      → MayBeTold Coherent opening bytes script seen line (last_of line asked) MaySay [] answer None
+  end_fits seen line asked MaySay answer coherent begun of_end = record {
+    fits = λ story begins all said as_said may. record {
       line = line;
       its = record { there = begun.there; of_client = refl; of_number = refl };
       started = started_still story seen line begins begun.started;
       due = end_due opening bytes script story line asked said answer of_end may;
     };
-    leaves = λ story begins all before seat said from may behind.
+    leaves = λ story begins all before seat said from as_said may behind.
         label_none story line line.command (told_stays story before seat line answer coherent all behind ∙ end_not_ok asked answer of_end);
   }
 
   -- whatever comes next, a line may be told such an answer
-  cut_works : (later seen : List Event) (work : WorkView) (asked : ℕ) (answer : Answer) → Coherent → BeginsWith later seen
-      → IsOfEnd asked answer → IsAtWork Coherent opening bytes script seen work
-      → IsAtWork Coherent opening bytes script later (record work { asked = asked; next = steps.Tell answer; is_cut = true; refused = None })
-  cut_works later seen work asked answer coherent begins of_end at_work =
-      let begun = begun_still script later seen work.line begins at_work.begun in
-      record {
-        begun = begun;
-        does = at_work.does;
-        next = end_fits later work.line asked answer coherent begun of_end;
-        refusal = tt;
-      }
+  pub cut_fits : (seen : List Event) (work : WorkView) (asked : ℕ) (answer : Answer) → Coherent → IsOfEnd asked answer → IsStarted script seen work.line
+      → work.state.command ≡ work.line.command → work.state.progress.nodes ≡ work.nodes → WasSaid seen work.line work.said
+      → IsAtWork Coherent opening bytes script seen (cut_with work asked answer)
+  cut_fits seen work asked answer coherent of_end begun does nodes said = record {
+    begun = begun;
+    does = does;
+    nodes = nodes;
+    said = said;
+    next = end_fits seen work.line asked _ answer coherent begun of_end;
+    refusal = tt;
+  }
 
   pub cut_so : (later seen : List Event) (work new : WorkView) (asked : ℕ) (answer : Answer) → Coherent → BeginsWith later seen → IsOfEnd asked answer
-      → new ≡ record work { asked = asked; next = steps.Tell answer; is_cut = true; refused = None }
+      → new ≡ cut_with work asked answer
       → IsAtWork Coherent opening bytes script seen work → IsAtWork Coherent opening bytes script later new
   cut_so later seen work new asked answer coherent begins of_end is at_work =
-      subst (IsAtWork Coherent opening bytes script later) (sym is) (cut_works later seen work asked answer coherent begins of_end at_work)
+      subst (IsAtWork Coherent opening bytes script later) (sym is)
+      (cut_fits later work asked answer coherent of_end (begun_still script later seen work.line begins at_work.begun) at_work.does at_work.nodes
+      (said_was later seen work.line work.said begins at_work.said))

@@ -26,7 +26,7 @@ use Rattle.oz_underway.specs.UnderWay.{LabelStays}
 use Rattle.oz_underway.specs.laws.Going.{begins_through}
 use Rattle.oz_underway.specs.laws.Told.{told_still}
 use Rattle.oz_at_work.specs.AtWork.{HasLeft, IsAtWork, IsLabelOf, IsNextFit, MayBeTold, WorkView, last_of, left_of}
-use Rattle.oz_at_work.proofs.Staying.{begun_still, refusal_still}
+use Rattle.oz_at_work.proofs.Staying.{begun_still, refusal_still, said_was}
 
 -- ---- the label of a line that commits
 
@@ -71,10 +71,11 @@ module _ (Coherent : Type 0) (opening : Opening) (bytes : OpeningBytes) (script 
   is_told_now : is_told line.client line.number after ≡ true
   is_told_now = subst (λ (l : List Event). is_told line.client line.number l ≡ true) (sym told.story) (told_now told.before seat line.client line.number answer)
 
-  pub told_left : (left : Option Label) → MayBeTold Coherent opening bytes script seen line last stills answer left → HasLeft Coherent opening bytes script after line left
-  told_left left fit = record {
+  pub told_left : (MaySay : ℕ → Type 0) (left : Option Label) → MaySay said → MayBeTold Coherent opening bytes script seen line last MaySay stills answer left
+      → HasLeft Coherent opening bytes script after line left
+  told_left MaySay left as_said fit = record {
     told = is_told_now;
-    stays = λ story begins all. fit.leaves story (begins_through story after seen begins goes) all told.before seat said told.begins told.may
+    stays = λ story begins all. fit.leaves story (begins_through story after seen begins goes) all told.before seat said told.begins as_said told.may
         (subst (BeginsWith story) told.story begins);
   }
 
@@ -90,14 +91,16 @@ module _ (Coherent : Type 0) (opening : Opening) (bytes : OpeningBytes) (script 
   told_works = record {
     begun = begun_still script after seen work.line goes at_work.begun;
     does = at_work.does;
+    nodes = at_work.nodes;
+    said = said_was after seen work.line work.said goes at_work.said;
     next = record {
-      fits = λ story begins all said may. absurd (untold_no_more story _ said _ begins may);
-      leaves = λ story begins all before by said from may behind. absurd (untold_no_more before _ said _ from may);
+      fits = λ story begins all said as_said may. absurd (untold_no_more story _ said _ begins may);
+      leaves = λ story begins all before by said from as_said may behind. absurd (untold_no_more before _ said _ from may);
     };
     refusal = refusal_still Coherent opening bytes script after seen goes work.line work.refused at_work.refusal;
   }
 
   pub has_left : HasLeft Coherent opening bytes script after work.line (left_of work)
   has_left =
-      told_left Coherent opening bytes script seen after mine mine_after work.line (last_of work.line work.asked) work.said seat [] answer goes told (left_of work)
+      told_left Coherent opening bytes script seen after mine mine_after work.line (last_of work.line work.asked) work.said seat [] answer goes told _ (left_of work) (λ gave. refl)
       (subst (IsNextFit Coherent opening bytes script seen work) is at_work.next)

@@ -19,7 +19,6 @@ use Rattle.oz_core.specs.Law.{IsLegal}
 use Rattle.oz_core.specs.Manager.{asked_late}
 use Rattle.oz_core.specs.Steps.{Target, is_code, is_done, pieces_from, pieces_needed, session_in, target, was_told_ok}
 use Rattle.oz_granting.specs.Granting.{AreMade, IsDueWhileStill, WasEmpty}
-use Rattle.oz_kept.specs.laws.Reached.{in_none}
 use Rattle.oz_lines.specs.declared.script.Line.{Line}
 use Rattle.oz_lines.specs.declared.script.Script.{Script}
 use Rattle.oz_om.specs.declared.refusal.Refusal.{Refusal}
@@ -46,6 +45,7 @@ use Rattle.oz_underway.specs.laws.Starting.{started_still}
 use Rattle.oz_at_work.specs.AtWork.{IsAtWork, IsNextAsk, IsNextFit, IsStarted, MayBeTold, WorkView, id_of, last_of}
 use Rattle.oz_at_work.specs.inner.Short.{IsShort, WantsBlock}
 use Rattle.oz_at_work.proofs.Cutting.{label_none, some_last, told_stays}
+use Rattle.oz_at_work.proofs.Excluding.{excluded_made}
 
 -- ---- its stripe has no block
 
@@ -145,10 +145,6 @@ module _ (opening : Opening) (story : List Event) where
   made_request command label came request made is =
       subst (AreMadeFor opening story) is (made_either (list_any is_code came.replies) None (command_by command label came) tt (made_command command label came made))
 
-  -- a line that gave up no block excludes nothing
-  none_excluded : (attempts : List Attempt) → attempts ≡ [] → AreMade opening story (excluded_by attempts)
-  none_excluded attempts none = subst (λ (l : List Attempt). AreMade opening story (excluded_by l)) (sym none) (λ number there. absurd (in_none number there))
-
   made_wanted : (request : Request) (stripe : ℕ) (exclude : Exclude) → WantsBlock (steps.Ask request) stripe exclude → AreMadeFor opening story (Some request)
       → AreMade opening story exclude
   made_wanted (requests.AllocateBlock volume bucket key session excluded) stripe exclude wants made = subst (AreMade opening story) (sym wants.1) made
@@ -173,33 +169,34 @@ module _ (Coherent : Type 0) (opening : Opening) (bytes : OpeningBytes) (script 
       (steps.Ask (requests.AllocateBlock short.empty.volume short.empty.bucket short.empty.key short.empty.session short.empty.exclude))
   short_fit seen work at_work short = subst (IsNextFit Coherent opening bytes script seen work) short.its at_work.next
 
-  pub made_short : (seen : List Event) (work : WorkView) (stripe : ℕ) (exclude : Exclude) → IsAtWork Coherent opening bytes script seen work
-      → IsShort opening seen work → WantsBlock work.next stripe exclude → (story : List Event) → AreMade opening story exclude
-  made_short seen work stripe exclude at_work short wanted story =
+  pub made_short : (seen : List Event) (work : WorkView) (stripe : ℕ) (exclude : Exclude) → Coherent → IsAtWork Coherent opening bytes script seen work
+      → IsShort opening seen work → WantsBlock work.next stripe exclude → (story : List Event) → BeginsWith story seen
+      → AllFollow (Follows Coherent opening bytes script) [] story → AreMade opening story exclude
+  made_short seen work stripe exclude coherent at_work short wanted story begins all =
       let empty = short.empty in
       let request : Request = requests.AllocateBlock empty.volume empty.bucket empty.key empty.session empty.exclude in
-      let fit : IsNextAsk Coherent opening bytes script seen work.line work.asked work.said request work.state.progress = short_fit seen work at_work short in
+      let fit : IsNextAsk Coherent opening bytes script seen work.line work.asked work.said work.gave_up request work.state.progress = short_fit seen work at_work short in
       made_wanted opening story request stripe exclude (subst (λ (s : Step). WantsBlock s stripe exclude) short.its wanted)
       (made_request opening story work.line.command work.state.progress.label work.state.progress.came request
-      (none_excluded opening story work.state.progress.came.attempts fit.alone.no_attempts) fit.its)
+      (excluded_made Coherent opening bytes script seen work.line work.asked work.said work.line.command work.state.progress coherent fit.followed.under_way story begins all) fit.its)
 
   pub refused_told : (later seen : List Event) (work : WorkView) (stills : List Still) (answer : Answer) → Coherent → BeginsWith later seen
       → IsAtWork Coherent opening bytes script seen work → IsShort opening seen work
       → IsDueWhileStill Coherent opening bytes script later (id_of work.line (work.asked + 1)) answer stills → was_told_ok (Some answer) ≡ false
-      → MayBeTold Coherent opening bytes script later work.line (last_of work.line (work.asked + 1)) stills answer None
+      → MayBeTold Coherent opening bytes script later work.line (last_of work.line (work.asked + 1)) (λ said. Unit {0}) stills answer None
   refused_told later seen work stills answer coherent goes at_work short due not_ok =
       let line = work.line in
       let asked = work.asked + 1 in
-      let fit : IsNextAsk Coherent opening bytes script seen line work.asked work.said _ work.state.progress = short_fit seen work at_work short in
+      let fit : IsNextAsk Coherent opening bytes script seen line work.asked work.said work.gave_up _ work.state.progress = short_fit seen work at_work short in
       let apart = asks_no_drain line.command work.state.progress.label work.state.progress.came _ fit.its in
       let started = started_still later seen line goes at_work.begun.started in
       record {
-        fits = λ story begins all said may. record {
+        fits = λ story begins all said as_said may. record {
           line = line;
           its = record { there = at_work.begun.there; of_client = refl; of_number = refl };
           started = started_still story later line begins started;
           due = due line refl refl apart story begins all (may.asked ∙ some_last line asked (λ none. absurd (omega (arith, none)))) may.still;
         };
-        leaves = λ story begins all before seat said from may behind.
+        leaves = λ story begins all before seat said from as_said may behind.
             label_none story line line.command (told_stays Coherent opening bytes script story before seat line answer coherent all behind ∙ not_ok);
       }

@@ -1,6 +1,10 @@
 -- What is known of a line stays in what is seen later.
-use Rattle.std.proofs.Common.{◌≡◌, ℕ, true, ◌&&◌, List, Option, None, Some, is_none, ap, ◌∙◌}
+use Rattle.std.proofs.Common.{◌≡◌, ℕ, zero, suc, Bool, true, false, not, ◌&&◌, ◌||◌, ◌==◌, List, [], ◌∷◌, ◌++◌, Option, None, Some, is_none, refl, sym, ap, ◌∙◌, subst}
+use Rattle.std.proofs.lemmas.Bool.{eqb-true, false≢true}
+use Rattle.std.proofs.lemmas.Option.{none-some}
+use Rattle.std.specs.Prelude.{slice_get}
 use Rattle.std.specs.List.{list_all}
+use Rattle.oz_buffer.specs.Courses.{times_said}
 use Rattle.oz_client.specs.declared.progress.Progress.{Progress}
 use Rattle.oz_client.specs.declared.step.Step.{Step}
 use Rattle.oz_client.specs.declared.step.Step.TheVariants as steps
@@ -18,12 +22,13 @@ use Rattle.oz_telling.specs.declared.still.Still.{Still}
 use Rattle.oz_turn.specs.Told.{BeginsWith}
 use Rattle.oz_underway.specs.GoingOn.{FromHereOn}
 use Rattle.oz_underway.specs.UnderWay.{is_all_written}
-use Rattle.oz_underway.specs.laws.Going.{begins_through}
+use Rattle.oz_underway.specs.laws.Going.{begins_itself, begins_through}
 use Rattle.oz_underway.specs.laws.Starting.{started_still}
 use Rattle.oz_underway.specs.laws.Told.{told_still}
 use Rattle.oz_underway.specs.laws.UnderWay.{still_under_way, whatever_said}
-use Rattle.oz_at_work.specs.AtWork.{HasLeft, HasRepliesAlone, IsAtWork, IsNextFit, IsRefusalFit, IsStarted, MayBegin, MayBeTold, WorkView}
+use Rattle.oz_at_work.specs.AtWork.{HasLeft, IsAtWork, IsFollowed, IsNextFit, IsRefusalFit, IsStarted, MayBegin, MayBeTold, WasSaid, WorkView}
 use Rattle.oz_at_work.specs.declared.refused.Refused.{Refused}
+use Rattle.oz_at_work.specs.inner.Replied.{holds_where_said, is_write}
 
 pub begun_still : (script : Script) (later seen : List Event) (line : Line) → BeginsWith later seen → IsStarted script seen line → IsStarted script later line
 begun_still script later seen line begins begun = record {
@@ -32,59 +37,98 @@ begun_still script later seen line begins begun = record {
   started = started_still later seen line begins begun.started;
 }
 
-none_unwritten : (progress : Progress) → HasRepliesAlone progress → is_all_written progress ≡ true
-none_unwritten progress alone =
-    ap (λ (w : Option Granted). is_none w && list_all has_fate_written progress.came.attempts) alone.unwritten
-    ∙ ap (list_all has_fate_written) alone.no_attempts
+pub there_still : {A : Type 0} (l more : List A) (k : ℕ) (x : A) → slice_get l k ≡ Some x → slice_get (l ++ more) k ≡ Some x
+there_still [] more k x is = absurd (none-some x is)
+there_still (y ∷ l) more zero x is = is
+there_still (y ∷ l) more (suc k) x is = there_still l more k x is
+
+pub said_was : (later seen : List Event) (line : Line) (said : ℕ) → BeginsWith later seen → WasSaid seen line said → WasSaid later line said
+said_was later seen line said begins was = record {
+  before = was.before;
+  goes_on = begins_through later seen was.before begins was.goes_on;
+  so_often = was.so_often;
+}
+
+pub said_now : (seen : List Event) (line : Line) (said : ℕ) → times_said line.client line.number seen ≡ said → WasSaid seen line said
+said_now seen line said now = record { before = seen; goes_on = begins_itself seen; so_often = now }
+
+-- where nothing is being written, and no block was given up, all are written
+pub all_written : (progress : Progress) (gave_up : Bool) → progress.came.writing ≡ None → (gave_up ≡ false → list_all has_fate_written progress.came.attempts ≡ true)
+    → gave_up ≡ false → is_all_written progress ≡ true
+all_written progress gave_up idle put none =
+    ap (λ (w : Option Granted). is_none w && list_all has_fate_written progress.came.attempts) idle ∙ put none
 
 module _ (Coherent : Type 0) (opening : Opening) (bytes : OpeningBytes) (script : Script) (later seen : List Event) (begins : BeginsWith later seen) where
   pub here_still : (Holds : List Event → Type 0) → FromHereOn Coherent opening bytes script seen Holds → FromHereOn Coherent opening bytes script later Holds
   here_still Holds from story goes all = from story (begins_through story later seen goes begins) all
 
-  told_fit_still : (line : Line) (last : Option AskId) (stills : List Still) (answer : Answer) (left : Option Label)
-      → MayBeTold Coherent opening bytes script seen line last stills answer left → MayBeTold Coherent opening bytes script later line last stills answer left
-  told_fit_still line last stills answer left fit = record {
+  told_fit_still : (line : Line) (last : Option AskId) (MaySay : ℕ → Type 0) (stills : List Still) (answer : Answer) (left : Option Label)
+      → MayBeTold Coherent opening bytes script seen line last MaySay stills answer left
+      → MayBeTold Coherent opening bytes script later line last MaySay stills answer left
+  told_fit_still line last MaySay stills answer left fit = record {
     fits = λ story goes all. fit.fits story (begins_through story later seen goes begins) all;
-    leaves = λ story goes all before seat said from may behind.
-        fit.leaves story (begins_through story later seen goes begins) all before seat said (begins_through before later seen from begins) may behind;
+    leaves = λ story goes all before seat said from as_said may behind.
+        fit.leaves story (begins_through story later seen goes begins) all before seat said (begins_through before later seen from begins) as_said may behind;
+  }
+
+  followed_still : (line : Line) (asked said : ℕ) (gave_up : Bool) (progress : Progress) → IsFollowed Coherent opening bytes script seen line asked said gave_up progress
+      → IsFollowed Coherent opening bytes script later line asked said gave_up progress
+  followed_still line asked said gave_up progress followed = record {
+    under_way = still_under_way Coherent opening bytes script later seen line asked said line.command progress begins followed.under_way;
+    alone = followed.alone;
   }
 
   next_still : (work : WorkView) (step : Step) → IsNextFit Coherent opening bytes script seen work step → IsNextFit Coherent opening bytes script later work step
   next_still work (steps.Ask request) fit = record {
+    followed = followed_still work.line work.asked work.said work.gave_up work.state.progress fit.followed;
+    unwritten = fit.unwritten;
     its = fit.its;
-    under_way = still_under_way Coherent opening bytes script later seen work.line work.asked work.said work.line.command work.state.progress begins fit.under_way;
-    alone = fit.alone;
     fits = λ story goes all. fit.fits story (begins_through story later seen goes begins) all;
     same = λ story goes all. fit.same story (begins_through story later seen goes begins) all;
   }
-  next_still work (steps.Tell answer) fit = told_fit_still work.line _ _ answer _ fit
+  next_still work (steps.Write block members first count) fit = record {
+    followed = followed_still work.line work.asked work.said work.gave_up work.state.progress fit.followed;
+    writes = fit.writes;
+  }
+  next_still work (steps.Tell answer) fit = told_fit_still work.line _ _ _ answer _ fit
   next_still work step fit = tt
 
   pub refusal_still : (line : Line) (refused : Option Refused) → IsRefusalFit Coherent opening bytes script seen line refused
       → IsRefusalFit Coherent opening bytes script later line refused
   refusal_still line None fit = tt
-  refusal_still line (Some refused) fit = told_fit_still line _ _ _ _ fit
+  refusal_still line (Some refused) fit = told_fit_still line _ _ _ _ _ fit
 
-  -- whatever was said of its blocks, of which there are none
-  said_fit : (work : WorkView) (said : ℕ) (step : Step) → IsNextFit Coherent opening bytes script later work step
+  -- whatever was said of its blocks, where what comes next doesn't rest on that
+  said_fit : (work : WorkView) (said : ℕ) (step : Step) → (is_write step || work.gave_up) ≡ false → IsNextFit Coherent opening bytes script later work step
       → IsNextFit Coherent opening bytes script later (record work { said = said }) step
-  said_fit work said (steps.Ask request) fit = record {
+  said_fit work said (steps.Ask request) none fit = record {
+    followed = record {
+      under_way = whatever_said Coherent opening bytes script later work.line work.asked work.said said work.line.command work.state.progress
+          (all_written work.state.progress work.gave_up fit.unwritten fit.followed.alone.put none) fit.followed.under_way;
+      alone = fit.followed.alone;
+    };
+    unwritten = fit.unwritten;
     its = fit.its;
-    under_way = whatever_said Coherent opening bytes script later work.line work.asked work.said said work.line.command work.state.progress
-        (none_unwritten work.state.progress fit.alone) fit.under_way;
-    alone = fit.alone;
-    fits = fit.fits;
-    same = fit.same;
+    fits = λ story goes all seat as_said enabled. fit.fits story goes all seat (λ gave. absurd (false≢true (sym none ∙ gave))) enabled;
+    same = λ story goes all other as_said is. fit.same story goes all other (λ gave. absurd (false≢true (sym none ∙ gave))) is;
   }
-  said_fit work said (steps.Tell answer) fit = record { fits = fit.fits; leaves = fit.leaves }
-  said_fit work said step fit = tt
+  said_fit work said (steps.Write block members first count) none fit = absurd (false≢true (sym none))
+  said_fit work said (steps.Tell answer) none fit = record {
+    fits = λ story goes all now as_said may. fit.fits story goes all now (λ gave. absurd (false≢true (sym none ∙ gave))) may;
+    leaves = λ story goes all before seat now from as_said may behind.
+        fit.leaves story goes all before seat now from (λ gave. absurd (false≢true (sym none ∙ gave))) may behind;
+  }
+  said_fit work said step none fit = tt
 
-  pub said_still : (work : WorkView) (said : ℕ) → IsAtWork Coherent opening bytes script seen work
+  said_still : (work : WorkView) (said : ℕ) → (is_write work.next || work.gave_up) ≡ false → times_said work.line.client work.line.number later ≡ said
+      → IsAtWork Coherent opening bytes script seen work
       → IsAtWork Coherent opening bytes script later (record work { said = said })
-  said_still work said at_work = record {
+  said_still work said none now at_work = record {
     begun = begun_still script later seen work.line begins at_work.begun;
     does = at_work.does;
-    next = said_fit work said work.next (next_still work work.next at_work.next);
+    nodes = at_work.nodes;
+    said = said_now later work.line said now;
+    next = said_fit work said work.next none (next_still work work.next at_work.next);
     refusal = refusal_still work.line work.refused at_work.refusal;
   }
 
@@ -92,9 +136,21 @@ module _ (Coherent : Type 0) (opening : Opening) (bytes : OpeningBytes) (script 
   work_still work at_work = record {
     begun = begun_still script later seen work.line begins at_work.begun;
     does = at_work.does;
+    nodes = at_work.nodes;
+    said = said_was later seen work.line work.said begins at_work.said;
     next = next_still work work.next at_work.next;
     refusal = refusal_still work.line work.refused at_work.refusal;
   }
+
+  pub looked : (work : WorkView) (said : ℕ) → holds_where_said work said ≡ true → times_said work.line.client work.line.number later ≡ said
+      → IsAtWork Coherent opening bytes script seen work → IsAtWork Coherent opening bytes script later (record work { said = said })
+  looked work said holds now at_work = by (is_write work.next || work.gave_up) refl
+    where
+      by : (t : Bool) → (is_write work.next || work.gave_up) ≡ t → IsAtWork Coherent opening bytes script later (record work { said = said })
+      by false none = said_still work said none now at_work
+      by true rests =
+          let same : said ≡ work.said = eqb-true said work.said (sym (ap (λ (b : Bool). not b || said == work.said) rests) ∙ holds) in
+          subst (λ (n : ℕ). IsAtWork Coherent opening bytes script later (record work { said = n })) (sym same) (work_still work at_work)
 
   pub begin_still : (line : Line) (label : Option Label) → MayBegin Coherent opening bytes script seen line label → MayBegin Coherent opening bytes script later line label
   begin_still line label may = record {
@@ -113,6 +169,7 @@ module _ (Coherent : Type 0) (opening : Opening) (bytes : OpeningBytes) (script 
   refused_fit : (work : WorkView) (refused : Option Refused) (step : Step) → IsNextFit Coherent opening bytes script seen work step
       → IsNextFit Coherent opening bytes script seen (record work { refused = refused }) step
   refused_fit work refused (steps.Ask request) fit = fit
+  refused_fit work refused (steps.Write block members first count) fit = fit
   refused_fit work refused (steps.Tell answer) fit = fit
   refused_fit work refused step fit = tt
 
@@ -121,6 +178,8 @@ module _ (Coherent : Type 0) (opening : Opening) (bytes : OpeningBytes) (script 
   with_refused work refused fits at_work = record {
     begun = at_work.begun;
     does = at_work.does;
+    nodes = at_work.nodes;
+    said = at_work.said;
     next = refused_fit work refused work.next at_work.next;
     refusal = fits;
   }

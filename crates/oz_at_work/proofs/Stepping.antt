@@ -1,54 +1,75 @@
 -- What comes next by the steps of a line may come.
-use Rattle.std.proofs.Common.{◌≡◌, ℕ, ◌+◌, Bool, true, false, ◌||◌, ◌&&◌, is_none, cond, List, [], ◌∷◌, ◌++◌, length, Option, None, Some, refl, sym, ap, ◌∙◌, subst}
-use Rattle.std.proofs.lemmas.List.Folds.{list_any-append}
+use Rattle.std.proofs.Common.{◌≡◌, ⊎_elim, ℕ, ◌+◌, Bool, true, false, not, ◌||◌, ◌&&◌, is_none, is_some, cond, List, [], ◌∷◌, ◌++◌, length, Option, None, Some, refl, sym, ap, ◌∙◌, subst}
+use Rattle.std.proofs.lemmas.Bool.{false≢true}
+use Rattle.std.proofs.lemmas.List.Folds.{list_all-append, list_any-append}
 use Rattle.std.proofs.lemmas.Option.{none-some}
+use Rattle.std.specs.Prelude.{count_by, nat_le, slice_get}
 use Rattle.std.specs.List.{list_any, list_all}
+use Rattle.oz_asker.specs.Decided.{IsDecideAt}
 use Rattle.oz_buffer.specs.Buffer.{AllFollow, Follows}
+use Rattle.oz_buffer.specs.Courses.{times_said}
 use Rattle.oz_client.specs.declared.progress.Progress.{Progress}
 use Rattle.oz_client.specs.declared.step.Got.{Got}
 use Rattle.oz_client.specs.declared.step.Got.TheVariants as gots
 use Rattle.oz_client.specs.declared.step.Step.{Step}
 use Rattle.oz_client.specs.declared.step.Step.TheVariants as steps
-use Rattle.oz_client.specs.LineState.{LineState, label_in, label_of, left_by, nothing_yet, progress_after, state_after, state_before}
-use Rattle.oz_client.specs.Onward.{IsNext, IsOnward, IsOver}
+use Rattle.oz_client.specs.declared.step.Written.{Written}
+use Rattle.oz_client.specs.LineState.{LineState, came_written, label_in, label_of, left_by, nothing_yet, progress_after, state_after, state_before}
+use Rattle.oz_client.specs.Onward.{IsNext, IsOnward, IsOver, IsToldOf, IsUnopened}
 use Rattle.oz_client.specs.Stories.{HasIt, IsLeftEverywhere, IsStepEverywhere}
 use Rattle.oz_command.specs.declared.command.Command.{Command}
 use Rattle.oz_command.specs.declared.command.Command.TheVariants as commands
 use Rattle.oz_core.specs.declared.event.Event.{Event}
+use Rattle.oz_core.specs.declared.event.EventKind.TheVariants.{Ask}
+use Rattle.oz_core.specs.declared.event.PutRefusal.{PutRefusal}
 use Rattle.oz_core.specs.declared.opening.Opening.{Opening}
-use Rattle.oz_core.specs.Asks.{ask_id, asks_of, replies_to}
+use Rattle.oz_core.specs.Asks.{ask_id, asks_of, pending, replies_to}
 use Rattle.oz_core.specs.Contents.{OpeningBytes, written_for}
-use Rattle.oz_core.specs.Steps.{Target, commit_if, commit_step, is_code, is_open_at, pieces_from, session_in, target, target_of, was_told_ok}
+use Rattle.oz_core.specs.Fits.{EventFits}
+use Rattle.oz_core.specs.Law.{AskIsEnabled, writes as is_wrote}
+use Rattle.oz_core.specs.Steps.{Target, commit_if, commit_step, is_code, is_of_node, is_open_at, pieces_from, session_in, target, target_of, was_told_ok}
+use Rattle.oz_core.specs.Stories.{has_event}
+use Rattle.oz_fields.specs.declared.block.Block.{Block}
 use Rattle.oz_fields.specs.declared.block.Piece.{Piece}
 use Rattle.oz_lines.specs.declared.script.Line.{Line}
 use Rattle.oz_lines.specs.declared.script.Script.{Script}
+use Rattle.oz_nodes.specs.Pipelines.{members_of}
 use Rattle.oz_requests.specs.declared.answer.Answer.{Answer}
 use Rattle.oz_requests.specs.declared.answer.Answer.TheVariants as answers
 use Rattle.oz_requests.specs.declared.answer.Values.{Values}
+use Rattle.oz_requests.specs.declared.request.AskId.{AskId}
 use Rattle.oz_requests.specs.declared.request.Request.{Request}
 use Rattle.oz_requests.specs.declared.request.Request.TheVariants as requests
 use Rattle.oz_requests.specs.declared.reply.Reply.{Reply}
 use Rattle.oz_requests.specs.declared.reply.Reply.TheVariants as replies
+use Rattle.oz_steps.specs.declared.came.Attempt.{Attempt}
 use Rattle.oz_steps.specs.declared.came.Came.{Came}
 use Rattle.oz_steps.specs.declared.came.Granted.{Granted}
+use Rattle.oz_steps.specs.declared.fate.Fate.TheVariants as fates
 use Rattle.oz_steps.specs.declared.label.Label.{Label}
 use Rattle.oz_steps.specs.Came.{granted_by}
-use Rattle.oz_steps.specs.Grants.{has_fate_written, written_blocks}
+use Rattle.oz_steps.specs.Grants.{fate_of, has_fate_written, is_fate_written, refused_so, written_blocks}
 use Rattle.oz_steps.specs.Lines.{IsOf, commit_of_label}
 use Rattle.oz_steps.specs.Requests.{command_by, put_by, request_by}
 use Rattle.oz_telling.specs.Tells.{MayTell, told_event}
 use Rattle.oz_turn.specs.Told.{BeginsWith}
-use Rattle.oz_underway.specs.UnderWay.{IsUnderWay, is_all_written, times_asked}
+use Rattle.oz_underway.specs.UnderWay.{HaveAnswered, IsSaid, IsUnderWay, times_asked}
 use Rattle.oz_underway.specs.laws.Going.{begins_itself, begins_through, follow_before, none_more}
+use Rattle.oz_underway.specs.laws.Granted.{decided_reply}
 use Rattle.oz_underway.specs.laws.Lasting.{last_of_times, times_of_last}
 use Rattle.oz_underway.specs.laws.Said.{said_of_written}
 use Rattle.oz_underway.specs.laws.Told.{asks_stop}
 use Rattle.oz_underway.specs.laws.UnderWay.{ask_fits, begins_started, pending_is_request, reply_comes, told_fits}
+use Rattle.oz_underway.specs.laws.Writing.{given_up_way, quorum_way}
 use Rattle.oz_telling.specs.laws.Told.{told_now}
-use Rattle.oz_at_work.specs.AtWork.{HasRepliesAlone, IsAtWork, IsLabelOf, IsNextFit, IsStarted, IsNextAsk, MayBegin, MayBeTold, WorkView, last_of}
+use Rattle.oz_writing.specs.Written.{is_quorum}
+use Rattle.oz_at_work.specs.AtWork.{HasPutAlone, IsAtWork, IsLabelOf, IsNextAsk, IsNextFit, IsNextWrite, IsSaidAsKnown, IsStarted, IsTelling, MayBegin, MayBeTold, WasSaid, WorkView, id_of, last_of}
+use Rattle.oz_at_work.specs.inner.Put.{WasWritten}
 use Rattle.oz_at_work.specs.inner.Replied.{IsAsking, WasReplied}
-use Rattle.oz_at_work.proofs.Cutting.{told_stays}
-use Rattle.oz_at_work.proofs.Staying.{begun_still}
+use Rattle.oz_at_work.specs.inner.Taken.{HasStepped, HasStopped, IsTakenUp, leaves_label}
+use Rattle.oz_at_work.proofs.Cutting.{cut_fits, told_stays}
+use Rattle.oz_at_work.proofs.Staying.{all_written, begun_still, said_now, said_was, there_still}
+use Rattle.oz_at_work.proofs.Taking.{nodes_stay}
 
 -- ---- what came back
 
@@ -56,12 +77,14 @@ use Rattle.oz_at_work.proofs.Staying.{begun_still}
 abbrev pub IsPlain : Got → Type 0
 IsPlain gots.Start = Unit {0}
 IsPlain (gots.Reply reply) = Unit {0}
+IsPlain (gots.Written written) = Unit {0}
 IsPlain _ = ⊥
 
 has_plain : (opening : Opening) (bytes : OpeningBytes) (script : Script) (line : Line) (command : Command) (progress : Progress) (got : Got) → IsPlain got
     → (story : List Event) → HasIt opening bytes script story line command progress got
 has_plain opening bytes script line command progress gots.Start plain story = tt
 has_plain opening bytes script line command progress (gots.Reply reply) plain story = tt
+has_plain opening bytes script line command progress (gots.Written written) plain story = tt
 has_plain opening bytes script line command progress got plain story = absurd plain
 
 -- the line isn't told a code
@@ -78,18 +101,70 @@ onward : (command : Command) (progress : Progress) (got : Got) (step : Step) →
 onward command progress gots.Start step plain next other = next
 onward command progress (gots.Reply (replies.Code code)) step plain next other = absurd (subst IsNoCode next other)
 onward command progress (gots.Reply reply) step plain next other = next
+onward command progress (gots.Written written) step plain next other = next
 onward command progress got step plain next other = absurd plain
 
-alone_still : (progress : Progress) (reply : Reply) → HasRepliesAlone progress → granted_by reply ≡ None → is_code reply ≡ false
-    → HasRepliesAlone (progress_after progress (gots.Reply reply))
-alone_still progress reply alone none clean = record {
+alone_replied : (progress : Progress) (gave_up : Bool) (reply : Reply) → HasPutAlone progress gave_up → is_code reply ≡ false
+    → HasPutAlone (progress_after progress (gots.Reply reply)) gave_up
+alone_replied progress gave_up reply alone clean = record {
   no_code = list_any-append is_code progress.came.replies (reply ∷ [])
       ∙ (ap (λ (b : Bool). b || list_any is_code (reply ∷ [])) alone.no_code
       ∙ ap (λ (b : Bool). b || false) clean);
-  no_attempts = alone.no_attempts;
-  unwritten = none;
   unread = alone.unread;
+  put = alone.put;
 }
+
+quorum_written : (answers : List (Option PutRefusal)) → is_quorum answers ≡ true → is_fate_written (fate_of answers) ≡ true
+quorum_written answers two =
+    ap (λ (b : Bool). is_fate_written (cond b fates.Written (cond (nat_le 2 (count_by (refused_so is_of_node) answers)) fates.PipelineRefused fates.ContainerRefused))) two
+
+-- where no block was given up, and this one is not, each was written
+put_written : (gave_up two : Bool) (attempts : List Attempt) (granted : Granted) (answers : List (Option PutRefusal)) → is_quorum answers ≡ two
+    → (gave_up ≡ false → list_all has_fate_written attempts ≡ true)
+    → (gave_up || not two) ≡ false → list_all has_fate_written (attempts ++ record { granted = granted; fate = fate_of answers } ∷ []) ≡ true
+put_written false true attempts granted answers is put none =
+    list_all-append has_fate_written attempts (record { granted = granted; fate = fate_of answers } ∷ [])
+    ∙ (ap (λ (b : Bool). b && list_all has_fate_written (record { granted = granted; fate = fate_of answers } ∷ [])) (put refl)
+    ∙ ap (λ (b : Bool). b && true) (quorum_written answers is))
+put_written true two attempts granted answers is put none = absurd (false≢true (sym none))
+put_written false false attempts granted answers is put none = absurd (false≢true (sym none))
+
+alone_written : (progress : Progress) (gave_up : Bool) (granted : Granted) (written : Written) → progress.came.writing ≡ Some granted → HasPutAlone progress gave_up
+    → HasPutAlone (progress_after progress (gots.Written written)) (gave_up || not (is_quorum written.answers))
+alone_written progress gave_up granted written writing alone =
+    subst (λ (w : Option Granted). HasPutAlone (record progress { came = came_written progress.came w written.answers }) (gave_up || not (is_quorum written.answers))) (sym writing)
+    (record {
+      no_code = alone.no_code;
+      unread = alone.unread;
+      put = put_written gave_up (is_quorum written.answers) progress.came.attempts granted written.answers refl alone.put;
+    })
+
+none_written : (came : Came) (granted : Granted) (answers : List (Option PutRefusal)) → came.writing ≡ Some granted → (came_written came came.writing answers).writing ≡ None
+none_written came granted answers writing = ap (λ (w : Option Granted). (came_written came w answers).writing) writing
+
+-- who asked isn't told that its label isn't open
+open_either : (b c : Bool) (request : Request) → cond b None (cond c None None) ≡ Some request → ⊥
+open_either true c request is = absurd (none-some request is)
+open_either false true request is = absurd (none-some request is)
+open_either false false request is = absurd (none-some request is)
+
+asks_open : (command : Command) (label : Option Label) (came : Came) (request : Request) → request_by command label came ≡ Some request → IsUnopened command label → ⊥
+asks_open (commands.KeyCommit name) None came request is unopened =
+    open_either (list_any is_code came.replies) (list_any (λ (reply : Reply). true) came.replies) request is
+asks_open command label came request is unopened = absurd unopened
+
+told_of_idle : (command : Command) (progress : Progress) (answer : Answer) → (IsUnopened command progress.label → ⊥) → IsToldOf command progress answer
+    → progress.came.writing ≡ None
+told_of_idle command progress (answers.Ok values) opened over = over.idle.unwritten
+told_of_idle command progress answers.NotOpen opened unopened = absurd (opened unopened)
+told_of_idle command progress answer opened told = absurd told
+
+-- whose reply ends it has no block to be written
+told_idle : (command : Command) (progress : Progress) (reply : Reply) (step : Step) → progress.came.writing ≡ granted_by reply → (IsUnopened command progress.label → ⊥)
+    → IsNext command progress (gots.Reply reply) step → IsTelling step → progress.came.writing ≡ None
+told_idle command progress (replies.Code code) step is opened next tells = is
+told_idle command progress reply (steps.Tell answer) is opened next tells = told_of_idle command progress answer opened next
+told_idle command progress reply step is opened next tells = absurd tells
 
 -- ---- what is left
 
@@ -152,54 +227,89 @@ module _ (opening : Opening) (script : Script) (story : List Event) (line : Line
   leaves_by (commands.KeyOpen name volume bucket key payload) got answer plain next clean of_line is_open = is_open
   leaves_by command got answer plain next clean of_line is_open = tt
 
+-- who leaves no label by what it is told
+leaves_none : (story : List Event) (line : Line) (command : Command) (came : Came) (answer : Answer) → leaves_label command (steps.Tell answer) ≡ false
+    → is_open_at story line ≡ was_told_ok (Some answer) → IsLabelOf story line command (left_by command came (steps.Tell answer))
+leaves_none story line (commands.KeyOpen name volume bucket key payload) came (answers.Ok values) none is_open = absurd (false≢true (sym none))
+leaves_none story line (commands.KeyOpen name volume bucket key payload) came answer none is_open = is_open
+leaves_none story line command came answer none is_open = tt
+
 -- ---- what comes next
 
 module _ (Coherent : Type 0) (opening : Opening) (bytes : OpeningBytes) (script : Script) where
   abbrev Follow : List Event → Event → Type 0
   Follow = Follows Coherent opening bytes script
 
-  module _ (seen : List Event) (line : Line) (asked said : ℕ) (progress : Progress) (got : Got) (coherent : Coherent) (begun : IsStarted script seen line) (plain : IsPlain got)
-      (written : is_all_written progress ≡ true) (way : IsUnderWay Coherent opening bytes script seen line asked said line.command progress) where
-    step_leaves : (answer : Answer) → IsNext line.command progress got (steps.Tell answer)
+  module _ (seen : List Event) (line : Line) (asked said : ℕ) (gave_up : Bool) (progress : Progress) (got : Got) (coherent : Coherent) (begun : IsStarted script seen line) (plain : IsPlain got)
+      (put : gave_up ≡ false → list_all has_fate_written progress.came.attempts ≡ true)
+      (way : IsUnderWay Coherent opening bytes script seen line asked said line.command progress) where
+    -- as much is said as matters
+    said_so : (idle : progress.came.writing ≡ None) (story : List Event) → IsSaidAsKnown gave_up said (times_said line.client line.number story) → IsSaid story line said progress
+    said_so idle story as_said some = by gave_up refl
+      where
+        by : (t : Bool) → gave_up ≡ t → times_said line.client line.number story ≡ said
+        by true is = as_said is
+        by false is = absurd (false≢true (sym some ∙ all_written progress gave_up idle put is))
+
+    step_leaves : (answer : Answer) → progress.came.writing ≡ None → (gave_up ≡ true → leaves_label line.command (steps.Tell answer) ≡ false)
+        → IsNext line.command progress got (steps.Tell answer)
         → (IsNoCode (steps.Tell answer) → list_any is_code progress.came.replies ≡ false)
         → (story : List Event) → BeginsWith story seen → AllFollow Follow [] story → (before : List Event) (seat known : ℕ) → BeginsWith before seen
         → MayTell opening before line.client line.number (last_of line asked) known [] answer
         → BeginsWith story (before ++ told_event seat line.client line.number answer ∷ [])
         → IsLabelOf story line line.command (left_by line.command progress.came (steps.Tell answer))
-    step_leaves answer next clean story goes all before seat known from may behind =
-        let event : Event = told_event seat line.client line.number answer in
-        let told_all = follow_before Follow story (before ++ event ∷ []) behind all in
-        let before_all = follow_before Follow (before ++ event ∷ []) before (event ∷ [], refl) told_all in
-        let so : times_asked before line ≡ asked = times_of_last Coherent opening bytes script line.client line.number asked before way.of_client coherent before_all (last_of line asked)
-        (last_of_times line.client line.number asked) may.asked in
-        let stop = asks_stop Coherent opening bytes script line.client line.number story (before ++ event ∷ []) way.of_client coherent all behind
-        (told_now before seat line.client line.number answer) in
-        let none = none_more (ask_id line.client line.number) before event (asks_of line.client line.number before) refl refl in
-        let times : times_asked story line ≡ asked = ap length (stop ∙ none) ∙ so in
-        let at = way.has story (begins_through story seen way.since goes way.goes_on) all times (said_of_written story line said progress written) in
-        leaves_by opening script story line progress line.command got answer plain next clean at.of_line
-        (told_stays Coherent opening bytes script story before seat line answer coherent all behind)
+    step_leaves answer idle unlabelled next clean story goes all before seat known from may behind = by gave_up refl
+      where
+        is_open : is_open_at story line ≡ was_told_ok (Some answer)
+        is_open = told_stays Coherent opening bytes script story before seat line answer coherent all behind
 
-    pub next_fits : (state : LineState) (step : Step) → state.progress ≡ progress → state.left ≡ left_by line.command progress.came step
-        → (IsNoCode step → HasRepliesAlone progress) → IsNext line.command progress got step → IsStepEverywhere line.command progress got step
-        → IsNextFit Coherent opening bytes script seen (record { line = line; state = state; asked = asked; said = said; next = step; is_cut = false; refused = None }) step
-    next_fits state (steps.Ask request) same left alone next everywhere =
-        subst (λ (p : Progress). IsNextAsk Coherent opening bytes script seen line asked said request p) (sym same) (record {
-          its = (onward line.command progress got (steps.Ask request) plain next tt).1;
-          under_way = way;
-          alone = alone tt;
-          fits = λ story goes all seat enabled. ask_fits Coherent opening bytes script seen line asked said line.command progress got request coherent way everywhere
-              (has_plain opening bytes script line line.command progress got plain) story seat goes all (said_of_written story line said progress written) enabled;
-          same = λ story goes all. pending_is_request Coherent opening bytes script seen line asked said line.command progress got request coherent way everywhere
-              (has_plain opening bytes script line line.command progress got plain) begun.numbered story goes all (said_of_written story line said progress written);
+        by : (t : Bool) → gave_up ≡ t → IsLabelOf story line line.command (left_by line.command progress.came (steps.Tell answer))
+        by true gave = leaves_none story line line.command progress.came answer (unlabelled gave) is_open
+        by false none =
+            let event : Event = told_event seat line.client line.number answer in
+            let told_all = follow_before Follow story (before ++ event ∷ []) behind all in
+            let before_all = follow_before Follow (before ++ event ∷ []) before (event ∷ [], refl) told_all in
+            let so : times_asked before line ≡ asked = times_of_last Coherent opening bytes script line.client line.number asked before way.of_client coherent before_all (last_of line asked)
+            (last_of_times line.client line.number asked) may.asked in
+            let stop = asks_stop Coherent opening bytes script line.client line.number story (before ++ event ∷ []) way.of_client coherent all behind
+            (told_now before seat line.client line.number answer) in
+            let none_asked = none_more (ask_id line.client line.number) before event (asks_of line.client line.number before) refl refl in
+            let times : times_asked story line ≡ asked = ap length (stop ∙ none_asked) ∙ so in
+            let written = all_written progress gave_up idle put none in
+            let at = way.has story (begins_through story seen way.since goes way.goes_on) all times (said_of_written story line said progress written) in
+            leaves_by opening script story line progress line.command got answer plain next clean at.of_line is_open
+
+    pub next_fits : (nodes : ℕ) (state : LineState) (step : Step) → state.progress ≡ progress → state.left ≡ left_by line.command progress.came step
+        → (IsTelling step → progress.came.writing ≡ None) → (gave_up ≡ true → leaves_label line.command step ≡ false)
+        → (IsNoCode step → HasPutAlone progress gave_up) → IsNext line.command progress got step → IsStepEverywhere line.command progress got step
+        → IsNextFit Coherent opening bytes script seen
+        (record { line = line; state = state; nodes = nodes; asked = asked; said = said; next = step; is_cut = false; gave_up = gave_up; refused = None }) step
+    next_fits nodes state (steps.Ask request) same left idle unlabelled alone next everywhere =
+        let its = onward line.command progress got (steps.Ask request) plain next tt in
+        subst (λ (p : Progress). IsNextAsk Coherent opening bytes script seen line asked said gave_up request p) (sym same) (record {
+          followed = record { under_way = way; alone = alone tt };
+          unwritten = its.0;
+          its = its.1;
+          fits = λ story goes all seat as_said enabled. ask_fits Coherent opening bytes script seen line asked said line.command progress got request coherent way everywhere
+              (has_plain opening bytes script line line.command progress got plain) story seat goes all (said_so its.0 story as_said) enabled;
+          same = λ story goes all other as_said is. pending_is_request Coherent opening bytes script seen line asked said line.command progress got request coherent way everywhere
+              (has_plain opening bytes script line line.command progress got plain) begun.numbered story goes all (said_so its.0 story as_said) other is;
         })
-    next_fits state (steps.Tell answer) same left alone next everywhere =
-        subst (MayBeTold Coherent opening bytes script seen line (last_of line asked) [] answer) (sym left) (record {
-          fits = λ story goes all known may. told_fits Coherent opening bytes script seen line asked said line.command progress got answer (last_of line asked) coherent way everywhere
-              (last_of_times line.client line.number asked) story goes all may.asked (said_of_written story line said progress written) (has_plain opening bytes script line line.command progress got plain story);
-          leaves = step_leaves answer next (λ other. (alone other).no_code);
+    next_fits nodes state (steps.Write block members first count) same left idle unlabelled alone next everywhere =
+        subst (λ (p : Progress). IsNextWrite Coherent opening bytes script seen line asked said gave_up block members first count p) (sym same) (record {
+          followed = record { under_way = way; alone = alone tt };
+          writes = onward line.command progress got (steps.Write block members first count) plain next tt;
         })
-    next_fits state step same left alone next everywhere = tt
+    next_fits nodes state (steps.Tell answer) same left idle unlabelled alone next everywhere =
+        subst (MayBeTold Coherent opening bytes script seen line (last_of line asked) (IsSaidAsKnown gave_up said) [] answer) (sym left) (record {
+          fits = λ story goes all known as_said may.
+              let so : IsSaidAsKnown gave_up said (times_said line.client line.number story) = λ gave. may.as_said ∙ as_said gave in
+              told_fits Coherent opening bytes script seen line asked said line.command progress got answer (last_of line asked) coherent way everywhere
+              (last_of_times line.client line.number asked) story goes all may.asked (said_so (idle tt) story so) (has_plain opening bytes script line line.command progress got plain story);
+          leaves = λ story goes all before seat known from as_said may behind.
+              step_leaves answer (idle tt) unlabelled next (λ other. (alone other).no_code) story goes all before seat known from may behind;
+        })
+    next_fits nodes state step same left idle unlabelled alone next everywhere = tt
 
   -- ---- a line begins
 
@@ -207,16 +317,18 @@ module _ (Coherent : Type 0) (opening : Opening) (bytes : OpeningBytes) (script 
       → AllFollow Follow [] seen
       → IsNext line.command (nothing_yet nodes label) gots.Start step → IsStepEverywhere line.command (nothing_yet nodes label) gots.Start step
       → IsAtWork Coherent opening bytes script seen
-      (record { line = line; state = state_after (state_before line.command nodes label) gots.Start step; asked = 0; said = 0; next = step; is_cut = false; refused = None })
+      (record { line = line; state = state_after (state_before line.command nodes label) gots.Start step; nodes = nodes; asked = 0; said = 0; next = step; is_cut = false; gave_up = false; refused = None })
   begin_works seen line nodes label step coherent may all next everywhere =
       let way = begins_started Coherent opening bytes script may.begun.numbered seen line 0 line.command nodes label coherent may.begun.there all may.begun.started refl
       (may.labelled seen (begins_itself seen) all) in
       record {
         begun = may.begun;
         does = refl;
-        next = next_fits seen line 0 0 (nothing_yet nodes label) gots.Start coherent may.begun tt refl way
-            (state_after (state_before line.command nodes label) gots.Start step) step refl refl
-            (λ other. record { no_code = refl; no_attempts = refl; unwritten = refl; unread = refl }) next everywhere;
+        nodes = refl;
+        said = record { before = []; goes_on = (seen, refl); so_often = refl };
+        next = next_fits seen line 0 0 false (nothing_yet nodes label) gots.Start coherent may.begun tt (λ none. refl) way nodes
+            (state_after (state_before line.command nodes label) gots.Start step) step refl refl (λ tells. refl) (λ wrong. absurd (false≢true wrong))
+            (λ other. record { no_code = refl; unread = refl; put = λ none. refl }) next everywhere;
         refusal = tt;
       }
 
@@ -224,46 +336,180 @@ module _ (Coherent : Type 0) (opening : Opening) (bytes : OpeningBytes) (script 
       → MayBegin Coherent opening bytes script seen line label → AllFollow Follow [] seen
       → before ≡ state_before line.command nodes label → after ≡ state_after before gots.Start step
       → IsNext before.command after.progress gots.Start step → IsStepEverywhere before.command after.progress gots.Start step
-      → IsAtWork Coherent opening bytes script seen (record { line = line; state = after; asked = 0; said = 0; next = step; is_cut = false; refused = None })
+      → IsAtWork Coherent opening bytes script seen
+      (record { line = line; state = after; nodes = nodes; asked = 0; said = 0; next = step; is_cut = false; gave_up = false; refused = None })
   begin_so seen line nodes label before after step coherent may all is_before is_after next everywhere =
       let first : after ≡ state_after (state_before line.command nodes label) gots.Start step = is_after ∙ ap (λ (s : LineState). state_after s gots.Start step) is_before in
       let command : before.command ≡ line.command = ap (λ (s : LineState). s.command) is_before in
       let progress : after.progress ≡ nothing_yet nodes label = ap (λ (s : LineState). s.progress) first in
-      subst (λ (s : LineState). IsAtWork Coherent opening bytes script seen (record { line = line; state = s; asked = 0; said = 0; next = step; is_cut = false; refused = None })) (sym first)
+      subst (λ (s : LineState). IsAtWork Coherent opening bytes script seen
+      (record { line = line; state = s; nodes = nodes; asked = 0; said = 0; next = step; is_cut = false; gave_up = false; refused = None })) (sym first)
       (begin_works seen line nodes label step coherent may all
       (subst (λ (p : Progress). IsNext line.command p gots.Start step) progress (subst (λ (c : Command). IsNext c after.progress gots.Start step) command next))
       (subst (λ (p : Progress). IsStepEverywhere line.command p gots.Start step) progress
       (subst (λ (c : Command). IsStepEverywhere c after.progress gots.Start step) command everywhere)))
 
+  -- ---- what came back is taken up
+
+  -- of a line whose progress with what came back is under way
+  stepped_works : (seen : List Event) (before after : WorkView) (got : Got) (asked said : ℕ) (gave_up : Bool) → Coherent → IsPlain got → IsStarted script seen before.line
+      → before.state.command ≡ before.line.command → before.state.progress.nodes ≡ before.nodes → WasSaid seen before.line said
+      → (gave_up ≡ false → list_all has_fate_written (progress_after before.state.progress got).came.attempts ≡ true)
+      → IsUnderWay Coherent opening bytes script seen before.line asked said before.line.command (progress_after before.state.progress got)
+      → ((step : Step) → IsNext before.line.command (progress_after before.state.progress got) got step → IsTelling step → (progress_after before.state.progress got).came.writing ≡ None)
+      → ((step : Step) → IsNext before.line.command (progress_after before.state.progress got) got step → IsNoCode step → HasPutAlone (progress_after before.state.progress got) gave_up)
+      → HasStepped before got asked said gave_up after → IsAtWork Coherent opening bytes script seen after
+  stepped_works seen before after got asked said gave_up coherent plain begun does nodes was put way idle alone stepped =
+      let line = before.line in
+      let progress : Progress = progress_after before.state.progress got in
+      let state : LineState = state_after before.state got stepped.step in
+      let same : after.state.progress ≡ progress = ap (λ (w : WorkView). w.state.progress) stepped.is in
+      let next : IsNext line.command progress got stepped.step =
+      subst (λ (p : Progress). IsNext line.command p got stepped.step) same (subst (λ (c : Command). IsNext c after.state.progress got stepped.step) does stepped.next) in
+      let so : IsStepEverywhere line.command progress got stepped.step =
+      subst (λ (p : Progress). IsStepEverywhere line.command p got stepped.step) same (subst (λ (c : Command). IsStepEverywhere c after.state.progress got stepped.step) does stepped.so) in
+      subst (IsAtWork Coherent opening bytes script seen) (sym stepped.is) (record {
+        begun = begun;
+        does = does;
+        nodes = nodes_stay before.state.progress got ∙ nodes;
+        said = was;
+        next = next_fits seen line asked said gave_up progress got coherent begun plain put way before.nodes state stepped.step refl
+            (ap (λ (c : Command). left_by c progress.came stepped.step) does) (idle stepped.step next) stepped.unlabelled (alone stepped.step next) next so;
+        refusal = tt;
+      })
+
+  stopped_works : (seen : List Event) (before after : WorkView) (asked : ℕ) → Coherent → IsStarted script seen before.line → before.state.command ≡ before.line.command
+      → before.state.progress.nodes ≡ before.nodes → WasSaid seen before.line before.said → HasStopped before asked after → IsAtWork Coherent opening bytes script seen after
+  stopped_works seen before after asked coherent begun does nodes was stopped =
+      subst (IsAtWork Coherent opening bytes script seen) (sym stopped.is)
+      (cut_fits Coherent opening bytes script seen (record before { state = stopped.state }) asked answers.OutOfMemory coherent tt begun (stopped.command ∙ does) (stopped.nodes ∙ nodes) was)
+
   -- ---- a reply comes
 
   asked_so : (seen : List Event) (work : WorkView) (step : Step) → IsAsking step → IsNextFit Coherent opening bytes script seen work step
-      → (request : Request) × IsNextAsk Coherent opening bytes script seen work.line work.asked work.said request work.state.progress
+      → (request : Request) × IsNextAsk Coherent opening bytes script seen work.line work.asked work.said work.gave_up request work.state.progress
   asked_so seen work (steps.Ask request) asks fit = (request, fit)
   asked_so seen work step asks fit = absurd asks
 
-  pub reply_works : (later before : List Event) (work : WorkView) (reply : Reply) (step : Step) → Coherent → IsAtWork Coherent opening bytes script before work
-      → IsAsking work.next → WasReplied Coherent opening bytes script later before work reply → granted_by reply ≡ None
-      → IsNext work.state.command (progress_after work.state.progress (gots.Reply reply)) (gots.Reply reply) step
-      → IsStepEverywhere work.state.command (progress_after work.state.progress (gots.Reply reply)) (gots.Reply reply) step
-      → IsAtWork Coherent opening bytes script later
-      (record work { state = state_after work.state (gots.Reply reply) step; asked = work.asked + 1; next = step; is_cut = false; refused = None })
-  reply_works later before work reply step coherent at_work asks was none next everywhere =
-      let line = work.line in
-      let fit = (asked_so before work work.next asks at_work.next).1 in
-      let after : Progress = progress_after work.state.progress (gots.Reply reply) in
-      let begun = begun_still script later before line was.goes_on at_work.begun in
-      let next_of : IsNext line.command after (gots.Reply reply) step = subst (λ (c : Command). IsNext c after (gots.Reply reply) step) at_work.does next in
-      let so : IsStepEverywhere line.command after (gots.Reply reply) step = subst (λ (c : Command). IsStepEverywhere c after (gots.Reply reply) step) at_work.does everywhere in
-      let written : list_all has_fate_written work.state.progress.came.attempts ≡ true = ap (list_all has_fate_written) fit.alone.no_attempts in
-      let way = reply_comes Coherent opening bytes script before later line work.asked work.said line.command work.state.progress reply coherent fit.under_way
-      fit.alone.unwritten fit.alone.unread written none was.follow was.goes_on was.place work.said was.decided in
-      let now_written : is_all_written after ≡ true = ap (λ (w : Option Granted). is_none w && list_all has_fate_written work.state.progress.came.attempts) none ∙ written in
-      record {
-        begun = begun;
-        does = at_work.does;
-        next = next_fits later line (work.asked + 1) work.said after (gots.Reply reply) coherent begun tt now_written way
-            (state_after work.state (gots.Reply reply) step) step refl (ap (λ (c : Command). left_by c after.came step) at_work.does)
-            (λ other. alone_still work.state.progress reply fit.alone none (not_code line.command after reply step next_of other)) next_of so;
-        refusal = tt;
-      }
+  module _ (seen : List Event) (work : WorkView) (id : AskId) (request : Request) (its_id : id ≡ id_of work.line (work.asked + 1)) (next : work.next ≡ steps.Ask request)
+      (at_work : IsAtWork Coherent opening bytes script seen work) (story : List Event) (begins : BeginsWith story seen) (all : AllFollow Follow [] story) where
+    next_ask : IsNextAsk Coherent opening bytes script seen work.line work.asked work.said work.gave_up request work.state.progress
+    next_ask = subst (IsNextFit Coherent opening bytes script seen work) next at_work.next
+
+    pub asks_same : times_said id.client id.line story ≡ work.said → (other : Request) → pending id story ≡ Some other → other ≡ request
+    asks_same = subst (λ (i : AskId). times_said i.client i.line story ≡ work.said → (other : Request) → pending i story ≡ Some other → other ≡ request) (sym its_id)
+        (λ now other is. next_ask.same story begins all other (λ gave. now) is)
+
+    pub asks_fit : (seat : ℕ) → times_said id.client id.line story ≡ work.said → AskIsEnabled opening story seat id request → EventFits opening bytes script story (Ask id request)
+    asks_fit seat =
+        subst (λ (i : AskId). times_said i.client i.line story ≡ work.said → AskIsEnabled opening story seat i request → EventFits opening bytes script story (Ask i request)) (sym its_id)
+        (λ now enabled. next_ask.fits story begins all seat (λ gave. now) enabled)
+
+  module _ (later seen : List Event) (work : WorkView) (reply : Reply) (coherent : Coherent) (asks : IsAsking work.next)
+      (was : WasReplied Coherent opening bytes script seen work reply) (goes : BeginsWith later seen) (all : AllFollow Follow [] later)
+      (as_said : (work.gave_up || is_some (granted_by reply)) ≡ true → times_said work.line.client work.line.number later ≡ work.said) where
+    line : Line
+    line = work.line
+
+    after : Progress
+    after = progress_after work.state.progress (gots.Reply reply)
+
+    behind : BeginsWith later was.before
+    behind = begins_through later seen was.before goes was.goes_on
+
+    fit : (request : Request) × IsNextAsk Coherent opening bytes script was.before work.line work.asked work.said work.gave_up request work.state.progress
+    fit = asked_so was.before work work.next asks was.at_work.next
+
+    decided_later : IsDecideAt later was.place (id_of work.line (work.asked + 1)) reply
+    decided_later =
+        let found = was.decided in
+        (found.0, found.1, found.2, ap (λ (l : List Event). slice_get l was.place) goes.1 ∙ there_still seen goes.0 was.place _ found.3)
+
+    reply_way : IsUnderWay Coherent opening bytes script later work.line (work.asked + 1) work.said work.line.command (progress_after work.state.progress (gots.Reply reply))
+    reply_way = by work.gave_up (granted_by reply) refl refl
+      where
+        looked : (work.gave_up || is_some (granted_by reply)) ≡ true
+            → IsUnderWay Coherent opening bytes script later work.line (work.asked + 1) work.said work.line.command (progress_after work.state.progress (gots.Reply reply))
+        looked is =
+            decided_reply Coherent opening bytes script was.before later was.at_work.said.before work.line work.asked work.said was.place work.line.command work.state.progress reply coherent
+            fit.1.followed.under_way fit.1.unwritten fit.1.followed.alone.unread all behind was.at_work.said.goes_on was.at_work.said.so_often (as_said is) was.behind decided_later
+
+        by : (t : Bool) (o : Option Granted) → work.gave_up ≡ t → granted_by reply ≡ o
+            → IsUnderWay Coherent opening bytes script later work.line (work.asked + 1) work.said work.line.command (progress_after work.state.progress (gots.Reply reply))
+        by true o gave is = looked (ap (λ (b : Bool). b || is_some (granted_by reply)) gave)
+        by false (Some granted) none is = looked (ap (λ (b : Bool). b || is_some (granted_by reply)) none ∙ ap is_some is)
+        by false None none is =
+            reply_comes Coherent opening bytes script was.before later work.line work.asked work.said work.line.command work.state.progress reply coherent fit.1.followed.under_way
+            fit.1.unwritten fit.1.followed.alone.unread (fit.1.followed.alone.put none) is all behind was.place work.said decided_later
+
+    pub reply_works : (new : WorkView) → IsTakenUp work (gots.Reply reply) (work.asked + 1) work.said work.gave_up new → IsAtWork Coherent opening bytes script later new
+    reply_works new taken =
+        let begun = begun_still script later was.before work.line behind was.at_work.begun in
+        let said = said_was later was.before work.line work.said behind was.at_work.said in
+        ⊎_elim
+        (λ stepped. stepped_works later work new (gots.Reply reply) (work.asked + 1) work.said work.gave_up coherent tt begun was.at_work.does was.at_work.nodes said
+        fit.1.followed.alone.put reply_way
+        (λ step next tells. told_idle work.line.command (progress_after work.state.progress (gots.Reply reply)) reply step refl
+        (asks_open work.line.command work.state.progress.label work.state.progress.came fit.0 fit.1.its) next tells)
+        (λ step next other. alone_replied work.state.progress work.gave_up reply fit.1.followed.alone
+        (not_code work.line.command (progress_after work.state.progress (gots.Reply reply)) reply step next other))
+        stepped)
+        (λ stopped. stopped_works later work new (work.asked + 1) coherent begun was.at_work.does was.at_work.nodes said stopped)
+        taken
+
+  -- ---- a block was written
+
+  module _ (seen : List Event) (work : WorkView) (written : Written) (said : ℕ) (coherent : Coherent) (was : WasWritten Coherent opening bytes script seen work written said) where
+    writes : IsNextWrite Coherent opening bytes script was.before work.line work.asked work.said work.gave_up was.block was.members was.first was.count work.state.progress
+    writes = subst (IsNextFit Coherent opening bytes script was.before work) was.next was.at_work.next
+
+    to_write : Granted
+    to_write = writes.writes.granted
+
+    nodes_are : work.state.progress.nodes ≡ length opening.nodes
+    nodes_are = was.at_work.nodes ∙ was.nodes
+
+    asked_no_more : times_asked seen work.line ≡ work.asked
+    asked_no_more =
+        times_of_last Coherent opening bytes script work.line.client work.line.number work.asked seen writes.followed.under_way.of_client coherent was.follow
+        (Some (id_of work.line work.asked)) refl was.are.still.asked
+
+    answered : HaveAnswered seen (id_of work.line work.asked) to_write.block (members_of work.state.progress.nodes to_write.pipeline) written.answers
+    unfolding to_write writes
+    answered =
+        subst (λ (l : List ℕ). HaveAnswered seen (id_of work.line work.asked) to_write.block l written.answers) writes.writes.of_pipeline
+        (subst (λ (b : Block). HaveAnswered seen (id_of work.line work.asked) b was.members written.answers) writes.writes.block_is was.are.answered)
+
+    written_way : IsUnderWay Coherent opening bytes script seen work.line work.asked said work.line.command (progress_after work.state.progress (gots.Written written))
+    unfolding to_write writes
+    written_way = by (is_quorum written.answers) refl
+      where
+        Way : ℕ → Type 0
+        Way n = IsUnderWay Coherent opening bytes script seen work.line work.asked n work.line.command (progress_after work.state.progress (gots.Written written))
+
+        by : (t : Bool) → is_quorum written.answers ≡ t → Way said
+        by true two =
+            let now : said ≡ work.said + 4 = was.are.more ∙ ap (λ (b : Bool). cond b (work.said + 4) (work.said + 3)) two in
+            subst Way (sym now)
+            (quorum_way Coherent opening bytes script was.before work.line work.asked work.said work.line.command work.state.progress to_write written coherent was.at_work.begun.numbered
+            writes.followed.under_way writes.writes.its nodes_are was.least seen was.goes_on was.follow asked_no_more answered two
+            (subst (λ (b : Block). has_event (is_wrote b) seen ≡ true) writes.writes.block_is (was.are.written two)) (was.are.still.as_said ∙ now))
+        by false few =
+            let now : said ≡ work.said + 3 = was.are.more ∙ ap (λ (b : Bool). cond b (work.said + 4) (work.said + 3)) few in
+            subst Way (sym now)
+            (given_up_way Coherent opening bytes script was.before work.line work.asked work.said work.line.command work.state.progress to_write written coherent was.at_work.begun.numbered
+            writes.followed.under_way writes.writes.its nodes_are was.least seen was.goes_on was.follow asked_no_more answered few (was.are.still.as_said ∙ now))
+
+    pub written_works : (new : WorkView) → IsTakenUp work (gots.Written written) work.asked said (work.gave_up || not (is_quorum written.answers)) new
+        → IsAtWork Coherent opening bytes script seen new
+    unfolding to_write writes
+    written_works new taken =
+        let begun = begun_still script seen was.before work.line was.goes_on was.at_work.begun in
+        let alone = alone_written work.state.progress work.gave_up to_write written writes.writes.its writes.followed.alone in
+        ⊎_elim
+        (λ stepped. stepped_works seen work new (gots.Written written) work.asked said (work.gave_up || not (is_quorum written.answers)) coherent tt begun
+        was.at_work.does was.at_work.nodes (said_now seen work.line said was.are.still.as_said) alone.put written_way
+        (λ step next tells. none_written work.state.progress.came to_write written.answers writes.writes.its) (λ step next other. alone) stepped)
+        (λ stopped. stopped_works seen work new work.asked coherent begun was.at_work.does was.at_work.nodes
+        (said_was seen was.before work.line work.said was.goes_on was.at_work.said) stopped)
+        taken

@@ -1,11 +1,13 @@
 -- A line that a worker works for, what it may do next, and what it leaves.
-use Rattle.std.specs.Prelude.{◌≡◌, ◌⊎◌, ℕ, ◌+◌, ◌==◌, Bool, true, false, List, [], ◌∷◌, ◌++◌, None, Option, Some}
+use Rattle.std.specs.Prelude.{◌≡◌, ◌⊎◌, ℕ, ◌+◌, ◌<◌, ◌==◌, Bool, true, false, List, [], ◌∷◌, ◌++◌, None, Option, Some}
 use Rattle.std.specs.Prelude.{if◌then◌else◌, Contains, IsSome}
-use Rattle.std.specs.List.{list_any}
+use Rattle.std.specs.List.{list_all, list_any}
+use Rattle.oz_buffer.specs.Courses.{times_said}
 use Rattle.oz_client.specs.declared.progress.Progress.{Progress}
 use Rattle.oz_client.specs.declared.step.Step.{Step}
 use Rattle.oz_client.specs.declared.step.Step.TheVariants as steps
 use Rattle.oz_client.specs.LineState.{LineState}
+use Rattle.oz_client.specs.Onward.{IsWriting}
 use Rattle.oz_command.specs.declared.command.Command.{Command}
 use Rattle.oz_command.specs.declared.command.Command.TheVariants as commands
 use Rattle.oz_core.specs.declared.event.Event.{Event}
@@ -17,6 +19,7 @@ use Rattle.oz_core.specs.Fits.{EventFits}
 use Rattle.oz_core.specs.Law.{AskIsEnabled}
 use Rattle.oz_core.specs.Lines.{HasStarted}
 use Rattle.oz_core.specs.Steps.{commit_step, is_code, is_open_at}
+use Rattle.oz_fields.specs.declared.block.Block.{Block}
 use Rattle.oz_lines.specs.declared.script.Line.{Line}
 use Rattle.oz_lines.specs.declared.script.Script.{Script}
 use Rattle.oz_lines.specs.Numbered.{IsNumbered}
@@ -24,6 +27,7 @@ use Rattle.oz_requests.specs.declared.answer.Answer.{Answer}
 use Rattle.oz_requests.specs.declared.request.AskId.{AskId}
 use Rattle.oz_requests.specs.declared.request.Request.{Request}
 use Rattle.oz_steps.specs.declared.label.Label.{Label}
+use Rattle.oz_steps.specs.Grants.{has_fate_written}
 use Rattle.oz_steps.specs.Lines.{commit_of_label}
 use Rattle.oz_steps.specs.Requests.{request_by}
 use Rattle.oz_telling.specs.declared.still.Still.{Still}
@@ -33,15 +37,18 @@ use Rattle.oz_underway.specs.GoingOn.{FromHereOn}
 use Rattle.oz_underway.specs.UnderWay.{IsUnderWay, LabelStays}
 use Rattle.oz_at_work.specs.declared.refused.Refused.{Refused}
 
--- A line, what came back to it, how often it has asked, how often something was said of its blocks at its last look, what it
--- does next, whether that isn't of its steps, and with what it is refused for now, if it is.
+-- A line, what came back to it, for how many datanodes its steps are, how often it has asked, how often something was said of
+-- its blocks at its last look, what it does next, whether that isn't of its steps, whether a block that it was granted was given
+-- up, and with what it is refused for now, if it is.
 pub record WorkView : Type 0 where
   pub line : Line
   pub state : LineState
+  pub nodes : ℕ
   pub asked : ℕ
   pub said : ℕ
   pub next : Step
   pub is_cut : Bool
+  pub gave_up : Bool
   pub refused : Option Refused
 
 -- the id of a line's Ask of this number, and of the last of so many
@@ -60,9 +67,14 @@ abbrev pub IsTelling : Step → Type 0
 IsTelling (steps.Tell answer) = Unit {0}
 IsTelling _ = ⊥
 
--- it has asked once more, or there is something that it is told next
+-- Where a block was given up, so often something is said of the line's blocks as it knows.
+abbrev pub IsSaidAsKnown : Bool → ℕ → ℕ → Type 0
+IsSaidAsKnown gave_up known said = gave_up ≡ true → said ≡ known
+
+-- it has asked once more, or there is something that it is told next, or a block was written, of which more was said by that
 abbrev pub HasGoneOn : WorkView → WorkView → Type 0
-HasGoneOn before after = (after.asked ≡ before.asked + 1) ⊎ IsTelling after.next ⊎ IsSome after.refused
+HasGoneOn before after =
+    (after.asked ≡ before.asked + 1) ⊎ IsTelling after.next ⊎ IsSome after.refused ⊎ (before.said < after.said)
 
 -- The label that a line opened stands for this; for nothing where the line was told something else than OK.
 abbrev pub IsLabelOf : List Event → Line → Command → Option Label → Type 0
@@ -77,12 +89,17 @@ pub record IsStarted (script : Script) (seen : List Event) (line : Line) : Type 
   pub there : Contains script.lines line
   pub started : HasStarted seen line
 
--- nothing came back but replies, and none of them is a code or granted a block
-pub record HasRepliesAlone (progress : Progress) : Type 0 where
+-- So often something was said of the line's blocks at a place of what was seen.
+pub record WasSaid (seen : List Event) (line : Line) (said : ℕ) : Type 0 where
+  pub before : List Event
+  pub goes_on : BeginsWith seen before
+  pub so_often : times_said line.client line.number before ≡ said
+
+-- Nothing came back but replies, none of which is a code, and what became of blocks: each was written, unless one was given up.
+pub record HasPutAlone (progress : Progress) (gave_up : Bool) : Type 0 where
   pub no_code : list_any is_code progress.came.replies ≡ false
-  pub no_attempts : progress.came.attempts ≡ []
-  pub unwritten : progress.came.writing ≡ None
   pub unread : progress.read ≡ []
+  pub put : gave_up ≡ false → list_all has_fate_written progress.came.attempts ≡ true
 
 module _ (Coherent : Type 0) (opening : Opening) (bytes : OpeningBytes) (script : Script) (seen : List Event) where
   -- A line may begin, and its label stays what it is.
@@ -90,45 +107,66 @@ module _ (Coherent : Type 0) (opening : Opening) (bytes : OpeningBytes) (script 
     pub begun : IsStarted script seen line
     pub labelled : LabelStays Coherent opening bytes script seen line line.command label
 
-  -- The request comes next by what came back; from here on it is the line's next wherever the law lets it ask, and nothing
-  -- else is asked by its id.
-  pub record IsNextAsk (line : Line) (asked said : ℕ) (request : Request) (progress : Progress) : Type 0 where
-    pub its : request_by line.command progress.label progress.came ≡ Some request
+  -- What a story has of the line is what came back to it.
+  pub record IsFollowed (line : Line) (asked said : ℕ) (gave_up : Bool) (progress : Progress) : Type 0 where
     pub under_way : IsUnderWay Coherent opening bytes script seen line asked said line.command progress
-    pub alone : HasRepliesAlone progress
+    pub alone : HasPutAlone progress gave_up
+
+  -- The request comes next by what came back; from here on it is the line's next wherever the law lets it ask, and nothing
+  -- else is asked by its id, as long as no more is said of the line's blocks where one was given up.
+  pub record IsNextAsk (line : Line) (asked said : ℕ) (gave_up : Bool) (request : Request) (progress : Progress) : Type 0 where
+    pub followed : IsFollowed line asked said gave_up progress
+    pub unwritten : progress.came.writing ≡ None
+    pub its : request_by line.command progress.label progress.came ≡ Some request
     pub fits : FromHereOn Coherent opening bytes script seen (λ story. (seat : ℕ)
+        → IsSaidAsKnown gave_up said (times_said line.client line.number story)
         → AskIsEnabled opening story seat (id_of line (asked + 1)) request
         → EventFits opening bytes script story (Ask (id_of line (asked + 1)) request))
     pub same : FromHereOn Coherent opening bytes script seen (λ story. (other : Request)
+        → IsSaidAsKnown gave_up said (times_said line.client line.number story)
         → pending (id_of line (asked + 1)) story ≡ Some other → other ≡ request)
 
-  -- From here on the answer is the line's wherever it may be told it, for which these seats have to stand still, and once it
-  -- is told this is what it left.
-  pub record MayBeTold (line : Line) (last : Option AskId) (stills : List Still) (answer : Answer) (left : Option Label)
-      : Type 0 where
-    pub fits : FromHereOn Coherent opening bytes script seen (λ story. (said : ℕ)
+  -- The line's next step is to write the block at these members: so many bytes of its data, from this place on.
+  pub record IsNextWrite (line : Line) (asked said : ℕ) (gave_up : Bool) (block : Block) (members : List ℕ)
+      (first count : ℕ) (progress : Progress) : Type 0 where
+    pub followed : IsFollowed line asked said gave_up progress
+    pub writes : IsWriting line.command progress block members first count
+
+  -- From here on the answer is the line's wherever it may be told it, for which so much may be said of its blocks and these
+  -- seats have to stand still, and once it is told this is what it left.
+  pub record MayBeTold (line : Line) (last : Option AskId) (MaySay : ℕ → Type 0) (stills : List Still) (answer : Answer)
+      (left : Option Label) : Type 0 where
+    pub fits : FromHereOn Coherent opening bytes script seen (λ story. (said : ℕ) → MaySay said
         → MayTell opening story line.client line.number last said stills answer
         → EventFits opening bytes script story (Told line.client line.number answer))
     pub leaves : FromHereOn Coherent opening bytes script seen (λ story. (before : List Event) (seat said : ℕ)
-        → BeginsWith before seen → MayTell opening before line.client line.number last said stills answer
+        → BeginsWith before seen → MaySay said
+        → MayTell opening before line.client line.number last said stills answer
         → BeginsWith story (before ++ told_event seat line.client line.number answer ∷ [])
         → IsLabelOf story line line.command left)
 
-  -- What comes next may come, if it asks or ends the line. Of other steps nothing is said.
+  -- What comes next may come, if it asks, writes or ends the line. Of other steps nothing is said.
   abbrev pub IsNextFit : WorkView → Step → Type 0
-  IsNextFit work (steps.Ask request) = IsNextAsk work.line work.asked work.said request work.state.progress
-  IsNextFit work (steps.Tell answer) = MayBeTold work.line (last_of work.line work.asked) [] answer (left_of work)
+  IsNextFit work (steps.Ask request) =
+      IsNextAsk work.line work.asked work.said work.gave_up request work.state.progress
+  IsNextFit work (steps.Write block members first count) =
+      IsNextWrite work.line work.asked work.said work.gave_up block members first count work.state.progress
+  IsNextFit work (steps.Tell answer) = MayBeTold work.line (last_of work.line work.asked)
+      (IsSaidAsKnown work.gave_up work.said) [] answer (left_of work)
   IsNextFit work step = Unit {0}
 
-  -- What a line is refused with it may be told, and leaves nothing then.
+  -- What a line is refused with it may be told whatever is said of its blocks, and leaves nothing then.
   abbrev pub IsRefusalFit : Line → Option Refused → Type 0
   IsRefusalFit line None = Unit {0}
-  IsRefusalFit line (Some refused) = MayBeTold line (last_of line refused.asked) refused.still refused.answer None
+  IsRefusalFit line (Some refused) =
+      MayBeTold line (last_of line refused.asked) (λ said. Unit {0}) refused.still refused.answer None
 
   -- What is known of a line that is worked for.
   pub record IsAtWork (work : WorkView) : Type 0 where
     pub begun : IsStarted script seen work.line
     pub does : work.state.command ≡ work.line.command
+    pub nodes : work.state.progress.nodes ≡ work.nodes
+    pub said : WasSaid seen work.line work.said
     pub next : IsNextFit work work.next
     pub refusal : IsRefusalFit work.line work.refused
 

@@ -1,3 +1,5 @@
 -- For private calls: no public contract rests on these.
+pub mod Put
 pub mod Replied
 pub mod Short
+pub mod Taken

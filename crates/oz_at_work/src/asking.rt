@@ -126,7 +126,7 @@ impl<'s> LineAtWork<'s> {
         };
         match manager.ask(rt, alloc, turn, seat, by, id, request, self.said) {
             Ok(reply) => {
-                self.reply::<O>(alloc, id.step, reply);
+                self.reply(rt, alloc, turn, seat, by, id.step, reply);
                 Some(Did::WentOn)
             }
             Err(Refusal::PoolEmpty { .. }) => None,

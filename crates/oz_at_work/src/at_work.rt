@@ -1,8 +1,8 @@
 //! A line that is worked for, as a type.
 
-ghost use Rattle.std.specs.Prelude.{◌≡◌, true, false, None};
+ghost use Rattle.std.specs.Prelude.{◌≡◌, None};
 ghost use Rattle.oz_at_work.specs.AtWork.{id_of, last_of, left_of};
-ghost use Rattle.oz_client.specs.declared.step.Step.TheVariants as steps;
+ghost use Rattle.oz_at_work.specs.inner.Replied.{cut_with};
 
 use crate::refused::Refused;
 use oz_client::{LineSteps, Step};
@@ -16,12 +16,16 @@ use std::marker::Model;
 pub struct LineAtWork<'s> {
     pub(crate) line: &'s Line,
     pub(crate) steps: LineSteps<'s>,
+    /// For how many datanodes its steps are.
+    pub(crate) nodes: u8,
     pub(crate) asked: u16,
     /// How often something was said of its blocks, at its last look.
     pub(crate) said: u64,
     pub(crate) next: Step,
     /// Whether what comes next is not of its steps, but comes of want of memory or of the manager's end.
     pub(crate) is_cut: bool,
+    /// Whether a block that it was granted was given up.
+    pub(crate) gave_up: bool,
     /// With what it is refused for now: it is told that, or tries again what comes next.
     pub(crate) refused: Option<Refused>,
 }
@@ -34,10 +38,12 @@ impl<'s> Model for LineAtWork<'s> {
     ghost view = { λ w. record {
       line = w.line.now;
       state = w.steps;
+      nodes = w.nodes;
       asked = w.asked;
       said = w.said;
       next = w.next;
       is_cut = w.is_cut;
+      gave_up = w.gave_up;
       refused = w.refused;
     } };
 }
@@ -57,10 +63,12 @@ impl<'s> LineAtWork<'s> {
         let LineAtWork {
             line: _,
             steps,
+            nodes: _,
             asked: _,
             said: _,
             next: _,
             is_cut,
+            gave_up: _,
             refused: _,
         } = self;
         if is_cut { None } else { steps.label() }
@@ -90,21 +98,12 @@ impl<'s> LineAtWork<'s> {
 
     /// It is told this next, whatever its steps say.
     pub(crate) fn cut(&mut self, asked: u16, answer: Answer)
-        ensures { self.new ≡ record self.old { asked = asked; next = steps.Tell answer; is_cut = true; refused = None } }
+        ensures { self.new ≡ cut_with self.old asked answer }
     {
         self.asked = asked;
         self.next = Step::Tell(answer);
         self.is_cut = true;
-        self.refused = None;
-    }
-
-    /// This comes next by its steps, once it has asked so often.
-    pub(crate) fn comes_to(&mut self, asked: u16, next: Step)
-        ensures { self.new ≡ record self.old { asked = asked; next = next; is_cut = false; refused = None } }
-    {
-        self.asked = asked;
-        self.next = next;
-        self.is_cut = false;
+        self.gave_up = false;
         self.refused = None;
     }
 }

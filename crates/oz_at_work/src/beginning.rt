@@ -37,10 +37,12 @@ impl<'s> LineAtWork<'s> {
         Ok(LineAtWork {
             line,
             steps,
+            nodes,
             asked: 0,
             said: 0,
             next,
             is_cut: false,
+            gave_up: false,
             refused: None,
         })
     }

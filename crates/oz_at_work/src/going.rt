@@ -15,19 +15,20 @@ use oz_locks::Loaded;
 use oz_requests::Answer;
 use oz_servers::Servers;
 use oz_turn::{Ring, Seat, Turn};
-use oz_world::Disk;
+use oz_world::{Disk, Gate};
 use std::alloc::Global;
 use std::sync::Wait;
 
 impl<'s> LineAtWork<'s> {
-    /// The line asks what it asks next, or is told its answer. Where it was refused it is told so, or tries again what comes
-    /// next. `by` is the seat's number.
-    pub fn go_on<D: Disk, O: Opened, L: Loaded, R: Ring, W: Wait>(
+    /// The line asks what it asks next, writes the block that it was granted, or is told its answer. Where it was refused it is
+    /// told so, or tries again what comes next. `by` is the seat's number.
+    pub fn go_on<D: Disk, O: Opened, L: Loaded, R: Ring, W: Wait, G: Gate>(
         &mut self,
         rt: &W,
         alloc: Global,
         turn: &Turn<Ledger<O>>,
         servers: &Servers<D, Ledger<O>, O, L, R>,
+        gate: &G,
         seat: &mut Seat<Ledger<O>>,
         by: u16,
     ) -> Did
@@ -51,7 +52,8 @@ impl<'s> LineAtWork<'s> {
         match &self.next {
             Step::Ask(_) => self.ask(rt, alloc, turn, servers, seat, by),
             Step::Tell(_) => self.tell(rt, alloc, turn, seat, by),
-            Step::Write { .. } | Step::Read { .. } | Step::Admin(_) => {
+            Step::Write { .. } => self.write(rt, alloc, turn, servers, gate, seat, by),
+            Step::Read { .. } | Step::Admin(_) => {
                 self.cut(self.asked, Answer::OutOfMemory);
                 Did::WentOn
             }

@@ -1,18 +1,20 @@
 //! A line of a script that a worker works for: how far it is, and what it does next.
 #![tactic(auto)]
 
-mod alone;
 mod asking;
 mod at_work;
 mod beginning;
 mod going;
 mod granting;
 mod laws;
+mod onward;
 mod outcome;
+mod piece;
 mod refused;
 mod replying;
 mod telling;
 mod waiting;
+mod writing;
 
 pub use at_work::LineAtWork;
 pub use laws::{a_label_was_left, what_is_at_work_stays};

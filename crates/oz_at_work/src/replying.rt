@@ -1,45 +1,86 @@
 //! How a line goes on with what was replied to it.
 
-ghost use Rattle.std.specs.Prelude.{◌≡◌, ◌+◌, List, None, false};
+ghost use Rattle.std.specs.Prelude.{◌≡◌, ◌+◌, ◌||◌, [], true, IsTrue, is_some};
 ghost use Rattle.oz_at_work.specs.AtWork.{HasGoneOn, IsAtWork};
 ghost use Rattle.oz_at_work.specs.inner.Replied.{IsAsking, WasReplied};
-ghost use Rattle.oz_core.specs.declared.event.Event.{Event as AnyEvent};
+ghost use Rattle.oz_buffer.specs.Buffer.{AllFollow, Follows};
+ghost use Rattle.oz_buffer.specs.Courses.{times_said};
 ghost use Rattle.oz_steps.specs.Came.{granted_by};
+ghost use Rattle.oz_turn.specs.Seat.{IsReady, room_of, seen_of};
+ghost use Rattle.oz_turn.specs.Told.{BeginsWith};
+ghost use Rattle.oz_turn.specs.Turn.{turn_id};
 
 use crate::at_work::LineAtWork;
-use oz_buffer::Opened;
+use oz_buffer::{Ledger, Opened};
 use oz_client::Got;
 use oz_requests::{Answer, Reply};
+use oz_telling::times_said;
+use oz_turn::{Seat, Turn};
 use std::alloc::Global;
+use std::sync::Wait;
 
 impl<'s> LineAtWork<'s> {
-    /// Goes on with what was replied to its next Ask, which has this number.
-    pub(crate) fn reply<O: Opened>(&mut self, alloc: Global, step: u16, reply: Reply)
+    /// Goes on with what was replied to its next Ask, which has this number. Where a block is granted, or was given up before,
+    /// and more is said of its blocks than it knows, it is told next that there is no memory.
+    pub(crate) fn reply<O: Opened, W: Wait>(
+        &mut self,
+        rt: &W,
+        alloc: Global,
+        turn: &Turn<Ledger<O>>,
+        seat: &mut Seat<Ledger<O>>,
+        by: u16,
+        step: u16,
+        reply: Reply,
+    )
+        requires ready { IsReady (turn_id turn.now) by seat.old }
         requires step { step ≡ self.old.asked + 1 }
         requires asks { IsAsking self.old.next }
+        requires replied { O.coherent →
+            WasReplied O.coherent O.opening O.bytes O.script (seen_of seat.old) self.old reply }
+        ensures ready { IsReady (turn_id turn.now) by seat.new }
+        ensures room { room_of seat.new ≡ room_of seat.old }
+        ensures goes_on { BeginsWith (seen_of seat.new) (seen_of seat.old) }
         ensures line { self.new.line ≡ self.old.line }
+        ensures works { O.coherent → IsAtWork O.coherent O.opening O.bytes O.script (seen_of seat.new) self.new }
         ensures went_on { HasGoneOn self.old self.new }
-        ensures works { O.coherent → (before later : List AnyEvent) →
-            IsAtWork O.coherent O.opening O.bytes O.script before self.old →
-            WasReplied O.coherent O.opening O.bytes O.script later before self.old reply →
-            IsAtWork O.coherent O.opening O.bytes O.script later self.new }
     {
-        let grants = grants(&reply);
-        let got = Got::Reply(reply);
-        if grants || !self.steps.fits(&got) {
+        let looks = self.looks(&reply);
+        if !self.is_as_known(rt, turn, seat, by, looks) {
             self.cut(step, Answer::OutOfMemory);
             return;
         }
-        match self.steps.next(alloc, got) {
-            Ok(next) => self.comes_to(step, next),
-            Err(_error) => self.cut(step, Answer::OutOfMemory),
-        }
+        let (said, gave_up) = (self.said, self.gave_up);
+        self.take_up(alloc, Got::Reply(reply), step, said, gave_up);
     }
-}
 
-/// Whether a block is granted.
-fn grants(reply: &Reply) -> bool
-    ensures { result ≡ false → granted_by reply.now ≡ None }
-{
-    matches!(reply, Reply::Granted(..))
+    /// Whether so much is said of its blocks as it knows, if it looks.
+    fn is_as_known<O: Opened, W: Wait>(
+        &self,
+        rt: &W,
+        turn: &Turn<Ledger<O>>,
+        seat: &mut Seat<Ledger<O>>,
+        by: u16,
+        looks: bool,
+    ) -> bool
+        requires { IsReady (turn_id turn.now) by seat.old }
+        ensures ready { IsReady (turn_id turn.now) by seat.new }
+        ensures room { room_of seat.new ≡ room_of seat.old }
+        ensures goes_on { BeginsWith (seen_of seat.new) (seen_of seat.old) }
+        ensures follow { AllFollow (Follows O.coherent O.opening O.bytes O.script) [] (seen_of seat.old) →
+            AllFollow (Follows O.coherent O.opening O.bytes O.script) [] (seen_of seat.new) }
+        ensures said { IsTrue result → looks ≡ true →
+            times_said self.now.line.client self.now.line.number (seen_of seat.new) ≡ self.now.said }
+    {
+        if !looks {
+            return true;
+        }
+        times_said(rt, turn, seat, by, self.line.client, self.line.number) == self.said
+    }
+
+    /// Whether it looks how much is said of its blocks, with this reply: where it grants a block, or one was given up.
+    fn looks(&self, reply: &Reply) -> bool
+        ensures { result ≡ (self.now.gave_up || is_some (granted_by reply.now)) }
+    {
+        self.gave_up || matches!(reply, Reply::Granted(..))
+    }
 }

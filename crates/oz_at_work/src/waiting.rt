@@ -1,8 +1,8 @@
 //! How a line waits, and why it stops waiting.
 
-ghost use Rattle.std.specs.Prelude.{◌≡◌, ◌≢◌, ◌≤◌};
+ghost use Rattle.std.specs.Prelude.{◌≡◌, ◌≢◌};
 ghost use Rattle.oz_at_work.specs.AtWork.{HasGoneOn, IsAtWork};
-ghost use Rattle.oz_buffer.specs.Courses.{times_said};
+ghost use Rattle.oz_at_work.specs.inner.Replied.{holds_where_said};
 ghost use Rattle.oz_turn.specs.Seat.{IsReady, room_of, seen_of};
 ghost use Rattle.oz_turn.specs.Told.{BeginsWith};
 ghost use Rattle.oz_turn.specs.Turn.{turn_id};
@@ -10,6 +10,7 @@ ghost use Rattle.oz_turn.specs.Turn.{turn_id};
 use crate::at_work::LineAtWork;
 use crate::outcome::Did;
 use oz_buffer::{Ledger, Opened};
+use oz_client::Step;
 use oz_om::Refusal;
 use oz_requests::Answer;
 use oz_telling::{Settlement, settle_line, times_said};
@@ -54,7 +55,8 @@ impl<'s> LineAtWork<'s> {
         }
     }
 
-    /// Looks how often something was said of its blocks by now, and waits.
+    /// Looks how often something was said of its blocks by now, and waits. Where what comes next rests on that, and it isn't as
+    /// often as it knows, it is told next that there is no memory.
     pub(crate) fn look_again<O: Opened, W: Wait>(
         &mut self,
         rt: &W,
@@ -67,14 +69,27 @@ impl<'s> LineAtWork<'s> {
         ensures ready { IsReady (turn_id turn.now) by seat.new }
         ensures room { room_of seat.new ≡ room_of seat.old }
         ensures goes_on { BeginsWith (seen_of seat.new) (seen_of seat.old) }
+        ensures line { self.new.line ≡ self.old.line }
         ensures works { O.coherent → IsAtWork O.coherent O.opening O.bytes O.script (seen_of seat.new) self.new }
-        ensures looked { self.new ≡ record self.old {
-          said = times_said self.old.line.client self.old.line.number (seen_of seat.new);
-        } }
-        ensures waits { result ≡ Did.Waits }
+        ensures went_on { result ≡ Did.WentOn → HasGoneOn self.old self.new }
+        ensures unended { result ≢ Did.Ended }
     {
-        self.said = times_said(rt, turn, seat, by, self.line.client, self.line.number);
+        let said = times_said(rt, turn, seat, by, self.line.client, self.line.number);
+        if !self.holds_where_said(said) {
+            let asked = self.asked;
+            self.cut(asked, Answer::OutOfMemory);
+            return Did::WentOn;
+        }
+        self.said = said;
         Did::Waits
+    }
+
+    /// Whether what comes next holds where so often something is said of its blocks.
+    fn holds_where_said(&self, said: u64) -> bool
+        ensures { result ≡ holds_where_said self.now said }
+    {
+        let rests = matches!(self.next, Step::Write { .. }) || self.gave_up;
+        !rests || said == self.said
     }
 
     /// Waits until all that was decided for the line, which has asked so often, is stable. Where that never will be it is told

@@ -14,7 +14,7 @@ use oz_buffer::{Ledger, Opened};
 use oz_locks::Loaded;
 use oz_servers::Servers;
 use oz_turn::{Ring, Seat, Turn};
-use oz_world::Disk;
+use oz_world::{Disk, Gate};
 use std::alloc::Global;
 use std::sync::Wait;
 
@@ -31,11 +31,12 @@ pub(crate) enum Pass {
 
 /// Each client's next line goes on by one thing, so that what many of them ask is flushed together. `by` is the seat's
 /// number, and `nodes` that of the datanodes.
-pub(crate) fn each_goes_on<D: Disk, O: Opened, L: Loaded, R: Ring, W: Wait>(
+pub(crate) fn each_goes_on<D: Disk, O: Opened, L: Loaded, R: Ring, W: Wait, G: Gate>(
     rt: &W,
     alloc: Global,
     turn: &Turn<Ledger<O>>,
     servers: &Servers<D, Ledger<O>, O, L, R>,
+    gate: &G,
     seat: &mut Seat<Ledger<O>>,
     by: u16,
     nodes: u8,
@@ -53,7 +54,7 @@ pub(crate) fn each_goes_on<D: Disk, O: Opened, L: Loaded, R: Ring, W: Wait>(
     what_is_at_work_stays::<O>();
     let mut pass = Pass::Waits;
     for client in clients.iter_mut() {
-        match client.go_on(rt, alloc, turn, servers, seat, by, nodes) {
+        match client.go_on(rt, alloc, turn, servers, gate, seat, by, nodes) {
             Did::WentOn | Did::Ended => pass = Pass::WentOn,
             Did::Waits => {}
             Did::OutOfMemory => return Pass::OutOfMemory,

@@ -18,18 +18,19 @@ use oz_locks::Loaded;
 use oz_servers::Servers;
 use oz_telling::has_started;
 use oz_turn::{Ring, Seat, Turn};
-use oz_world::Disk;
+use oz_world::{Disk, Gate};
 use std::alloc::Global;
 use std::sync::Wait;
 
 impl<'s> Client<'s> {
     /// The next line starts, or goes on by one thing. `by` is the seat's number, and `nodes` that of the datanodes.
-    pub(crate) fn go_on<D: Disk, O: Opened, L: Loaded, R: Ring, W: Wait>(
+    pub(crate) fn go_on<D: Disk, O: Opened, L: Loaded, R: Ring, W: Wait, G: Gate>(
         &mut self,
         rt: &W,
         alloc: Global,
         turn: &Turn<Ledger<O>>,
         servers: &Servers<D, Ledger<O>, O, L, R>,
+        gate: &G,
         seat: &mut Seat<Ledger<O>>,
         by: u16,
         nodes: u8,
@@ -50,7 +51,7 @@ impl<'s> Client<'s> {
         let Some(mut work) = self.work.take() else {
             return self.begin::<O, W>(rt, alloc, turn, seat, by, nodes);
         };
-        match work.go_on(rt, alloc, turn, servers, seat, by) {
+        match work.go_on(rt, alloc, turn, servers, gate, seat, by) {
             Did::Ended => self.end::<O>(alloc, work),
             did => {
                 self.keep(work);

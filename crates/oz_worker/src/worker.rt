@@ -163,7 +163,7 @@ impl<'s, O: Opened, R: Ring> Worker<'s, Ledger<O>, O, R> {
             if self.is_over() {
                 return went_on;
             }
-            if self.go_on(rt, alloc, turn, servers) {
+            if self.go_on(rt, alloc, turn, servers, gate) {
                 went_on = true;
                 looks = most_looks;
                 continue;
@@ -184,12 +184,13 @@ impl<'s, O: Opened, R: Ring> Worker<'s, Ledger<O>, O, R> {
     }
 
     /// Each client's next line goes on by one thing. Says whether any did.
-    fn go_on<D: Disk, L: Loaded, W: Wait>(
+    fn go_on<D: Disk, L: Loaded, W: Wait, G: Gate>(
         &mut self,
         rt: &W,
         alloc: Global,
         turn: &Turn<Ledger<O>>,
         servers: &Servers<D, Ledger<O>, O, L, R>,
+        gate: &G,
     ) -> bool
         requires { turn_id turn.now ≡ R.turn }
         ensures { self.new ≡ self.old }
@@ -200,6 +201,7 @@ impl<'s, O: Opened, R: Ring> Worker<'s, Ledger<O>, O, R> {
             alloc,
             turn,
             servers,
+            gate,
             &mut self.seat,
             by,
             nodes,

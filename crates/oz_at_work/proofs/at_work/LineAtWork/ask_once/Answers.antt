@@ -9,9 +9,10 @@ use Rattle.oz_requests.specs.declared.reply.Reply.{Reply}
 use Rattle.oz_requests.specs.declared.request.AskId.{AskId}
 use Rattle.oz_turn.specs.Seat.{seen_of}
 use Rattle.oz_underway.specs.laws.Going.{begins_itself}
-use Rattle.oz_at_work.specs.inner.Replied.{WasReplied}
+use Rattle.oz_at_work.specs.AtWork.{WorkView}
 use Rattle.oz_at_work.proofs.Cutting.{cut_goes_on, cut_so}
 use Rattle.oz_at_work.proofs.Refusing.{is_short}
+use Rattle.oz_at_work.proofs.Stepping.{asks_fit, asks_same}
 use Rattle.oz_at_work.proofs.Staying.{work_still}
 use Rattle.oz_at_work.proofs.at_work.LineAtWork.ask_once.Goals as goal
 
@@ -27,19 +28,33 @@ refuse-requires-clause-works g c coherent =
     let O = g.O.Opened in
     work_still O.coherent O.opening O.bytes O.script (seen_of c.ask.new.seat) (seen_of c.args.seat.now) c.ask.ensures.goes_on c.args.self.now (c.requires.works coherent)
 
-pub returns-in-Ok-clause-works : goal.returns-in-Ok-clause-works
-returns-in-Ok-clause-works g c coherent =
+pub ask-requires-clause-same : goal.ask-requires-clause-same
+ask-requires-clause-same g c coherent story begins all now other is =
+    let O = g.O.Opened in
+    asks_same O.coherent O.opening O.bytes O.script (seen_of c.args.seat.now) c.args.self.now c.in-Some.id c.in-Some.request c.in-Some.ensures.id c.in-Some.ensures.next
+    (c.requires.works coherent) story begins all (now ∙ ap (λ (w : WorkView). w.said) c.self.view_is) other is
+
+pub ask-requires-clause-fits : goal.ask-requires-clause-fits
+ask-requires-clause-fits g c coherent story begins all now enabled =
+    let O = g.O.Opened in
+    asks_fit O.coherent O.opening O.bytes O.script (seen_of c.args.seat.now) c.args.self.now c.in-Some.id c.in-Some.request c.in-Some.ensures.id c.in-Some.ensures.next
+    (c.requires.works coherent) story begins all c.args.by (now ∙ ap (λ (w : WorkView). w.said) c.self.view_is) enabled
+
+pub reply-requires-clause-replied : goal.reply-requires-clause-replied
+reply-requires-clause-replied g c coherent =
     let O = g.O.Opened in
     let before = seen_of c.args.seat.now in
     let later = seen_of c.ask.new.seat in
     let so = c.in-Ok.ensures.ok coherent in
-    let was : WasReplied O.coherent O.opening O.bytes O.script later before c.args.self.now c.in-Ok.reply = record {
+    record {
+      before = before;
+      at_work = c.requires.works coherent;
       goes_on = c.in-Ok.ensures.goes_on;
       follow = c.in-Ok.ensures.follow;
       place = so.place;
+      behind = so.behind;
       decided = subst (λ (i : AskId). IsDecideAt later so.place i c.in-Ok.reply) c.in-Some.ensures.id (_, so.index, so.batch, so.there);
-    } in
-    c.reply.ensures.works coherent before later (c.requires.works coherent) was
+    }
 
 pub returns-in_default-clause-went_on : goal.returns-in_default-clause-went_on
 returns-in_default-clause-went_on g c went = cut_goes_on c.args.self.now c.args.self.now c.cut-in_default.new.self _ _ c.cut-in_default.ensures

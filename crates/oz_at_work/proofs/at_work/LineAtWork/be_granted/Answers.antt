@@ -33,8 +33,8 @@ grant_for-requires-clause-made g c coherent story begins all =
     let O = g.O.Opened in
     let seen = seen_of c.args.seat.now in
     let wanted = c.in-Some.wanted in
-    made_short O.coherent O.opening O.bytes O.script seen c.args.self.now wanted.stripe wanted.exclude.now (c.requires.works coherent) (c.requires.short coherent)
-    c.in-Some.ensures.wants story
+    made_short O.coherent O.opening O.bytes O.script seen c.args.self.now wanted.stripe wanted.exclude.now coherent (c.requires.works coherent) (c.requires.short coherent)
+    c.in-Some.ensures.wants story begins all
 
 pub returns-in-Ok-Granted : goal.returns-in-Ok-Granted
 returns-in-Ok-Granted g c =
@@ -60,7 +60,7 @@ returns-in-Ok-Refused-clause-works g c coherent =
     let wanted = c.in-Some.wanted in
     let answer = c.in-Ok-Refused.answer in
     let still = c.in-Ok-Refused.still in
-    let work : WorkView = record { line = inside.line.now; state = inside.steps; asked = inside.asked; said = inside.said; next = inside.next; is_cut = inside.is_cut; refused = inside.refused } in
+    let work : WorkView = record { line = inside.line.now; state = inside.steps; nodes = inside.nodes; asked = inside.asked; said = inside.said; next = inside.next; is_cut = inside.is_cut; gave_up = inside.gave_up; refused = inside.refused } in
     let at_work : IsAtWork O.coherent O.opening O.bytes O.script seen work =
     subst (IsAtWork O.coherent O.opening O.bytes O.script seen) (sym c.self.view_is) (c.requires.works coherent) in
     let short : IsShort O.opening seen work = subst (IsShort O.opening seen) (sym c.self.view_is) (c.requires.short coherent) in
@@ -72,7 +72,7 @@ returns-in-Ok-Refused-clause-works g c coherent =
     let fits = refused_told O.coherent O.opening O.bytes O.script later seen work still answer coherent c.grant_for.ensures.goes_on at_work short due not_ok in
     let step : wanted.id.step ≡ work.asked + 1 = ap (λ (i : AskId). i.step) id in
     with_refused O.coherent O.opening O.bytes O.script later work _
-    (subst (λ (n : ℕ). MayBeTold O.coherent O.opening O.bytes O.script later work.line (last_of work.line n) still answer _) (sym step) fits)
+    (subst (λ (n : ℕ). MayBeTold O.coherent O.opening O.bytes O.script later work.line (last_of work.line n) (λ said. Unit {0}) still answer _) (sym step) fits)
     (work_still O.coherent O.opening O.bytes O.script later seen c.grant_for.ensures.goes_on work at_work)
 
 pub returns-in-Ok-Refused-2-clause-works : goal.returns-in-Ok-Refused-2-clause-works

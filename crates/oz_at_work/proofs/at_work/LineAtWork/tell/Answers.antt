@@ -1,10 +1,10 @@
-use Rattle.std.proofs.Common.{◌≡◌, [], Option, sym, ap, ◌∙◌, subst}
+use Rattle.std.proofs.Common.{◌≡◌, [], Option, refl, sym, ap, ◌∙◌, subst}
 use Rattle.oz_client.specs.declared.step.Step.{Step}
 use Rattle.oz_client.specs.declared.step.Step.TheVariants as steps
 use Rattle.oz_requests.specs.declared.request.AskId.{AskId}
 use Rattle.oz_telling.specs.Tells.{IsTold, MayTell}
 use Rattle.oz_turn.specs.Seat.{mine_of, seen_of}
-use Rattle.oz_at_work.specs.AtWork.{IsAtWork, IsNextFit, MayBeTold, WorkView, last_of, left_of}
+use Rattle.oz_at_work.specs.AtWork.{IsAtWork, IsNextFit, IsSaidAsKnown, MayBeTold, WorkView, last_of, left_of}
 use Rattle.oz_at_work.proofs.Leaving.{has_left, told_works}
 use Rattle.oz_at_work.proofs.Staying.{work_still}
 use Rattle.oz_at_work.proofs.at_work.LineAtWork.tell.Goals as goal
@@ -14,12 +14,12 @@ tell-requires-clause-fits g c coherent story begins all may =
     let O = g.O.Opened in
     let inside = c.self.inside in
     let seen = seen_of c.args.seat.now in
-    let work : WorkView = record { line = inside.line.now; state = inside.steps; asked = inside.asked; said = inside.said; next = inside.next; is_cut = inside.is_cut; refused = inside.refused } in
+    let work : WorkView = record { line = inside.line.now; state = inside.steps; nodes = inside.nodes; asked = inside.asked; said = inside.said; next = inside.next; is_cut = inside.is_cut; gave_up = inside.gave_up; refused = inside.refused } in
     let at_work : IsAtWork O.coherent O.opening O.bytes O.script seen work =
     subst (IsAtWork O.coherent O.opening O.bytes O.script seen) (sym c.self.view_is) (c.requires.works coherent) in
-    let fit : MayBeTold O.coherent O.opening O.bytes O.script seen work.line (last_of work.line work.asked) [] c.in-Tell.answer (left_of work) =
+    let fit : MayBeTold O.coherent O.opening O.bytes O.script seen work.line (last_of work.line work.asked) (IsSaidAsKnown work.gave_up work.said) [] c.in-Tell.answer (left_of work) =
     subst (IsNextFit O.coherent O.opening O.bytes O.script seen work) (sym c.in-Tell.ensures.value) at_work.next in
-    fit.fits story begins all inside.said
+    fit.fits story begins all inside.said (λ gave. refl)
     (subst (λ (last : Option AskId). MayTell O.opening story work.line.client work.line.number last inside.said [] c.in-Tell.answer) c.last_of-last.ensures may)
 
 pub put_off-requires-clause-works : goal.put_off-requires-clause-works
@@ -28,7 +28,7 @@ put_off-requires-clause-works g c coherent =
     let inside = c.self.inside in
     let seen = seen_of c.args.seat.now in
     let later = seen_of c.tell.new.seat in
-    let work : WorkView = record { line = inside.line.now; state = inside.steps; asked = inside.asked; said = inside.said; next = inside.next; is_cut = inside.is_cut; refused = inside.refused } in
+    let work : WorkView = record { line = inside.line.now; state = inside.steps; nodes = inside.nodes; asked = inside.asked; said = inside.said; next = inside.next; is_cut = inside.is_cut; gave_up = inside.gave_up; refused = inside.refused } in
     let at_work : IsAtWork O.coherent O.opening O.bytes O.script seen work =
     subst (IsAtWork O.coherent O.opening O.bytes O.script seen) (sym c.self.view_is) (c.requires.works coherent) in
     let same : steps.Tell c.in-Err.answer ≡ inside.next = ap steps.Tell c.in-Err.ensures.answer ∙ c.in-Tell.ensures.value in
@@ -41,7 +41,7 @@ returns-in-Ok-clause-works g c coherent =
     let inside = c.self.inside in
     let seen = seen_of c.args.seat.now in
     let later = seen_of c.tell.new.seat in
-    let work : WorkView = record { line = inside.line.now; state = inside.steps; asked = inside.asked; said = inside.said; next = inside.next; is_cut = inside.is_cut; refused = inside.refused } in
+    let work : WorkView = record { line = inside.line.now; state = inside.steps; nodes = inside.nodes; asked = inside.asked; said = inside.said; next = inside.next; is_cut = inside.is_cut; gave_up = inside.gave_up; refused = inside.refused } in
     let at_work : IsAtWork O.coherent O.opening O.bytes O.script seen work =
     subst (IsAtWork O.coherent O.opening O.bytes O.script seen) (sym c.self.view_is) (c.requires.works coherent) in
     let told = subst (λ (last : Option AskId). IsTold O.opening c.args.by work.line.client work.line.number last work.said [] c.in-Tell.answer seen (mine_of c.args.seat.now) later (mine_of c.tell.new.seat))
@@ -56,7 +56,7 @@ returns-in-Ok-clause-ended g c ended coherent =
     let inside = c.self.inside in
     let seen = seen_of c.args.seat.now in
     let later = seen_of c.tell.new.seat in
-    let work : WorkView = record { line = inside.line.now; state = inside.steps; asked = inside.asked; said = inside.said; next = inside.next; is_cut = inside.is_cut; refused = inside.refused } in
+    let work : WorkView = record { line = inside.line.now; state = inside.steps; nodes = inside.nodes; asked = inside.asked; said = inside.said; next = inside.next; is_cut = inside.is_cut; gave_up = inside.gave_up; refused = inside.refused } in
     let at_work : IsAtWork O.coherent O.opening O.bytes O.script seen work =
     subst (IsAtWork O.coherent O.opening O.bytes O.script seen) (sym c.self.view_is) (c.requires.works coherent) in
     let told = subst (λ (last : Option AskId). IsTold O.opening c.args.by work.line.client work.line.number last work.said [] c.in-Tell.answer seen (mine_of c.args.seat.now) later (mine_of c.tell.new.seat))

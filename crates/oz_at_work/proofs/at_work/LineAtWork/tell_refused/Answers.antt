@@ -19,12 +19,12 @@ tell-requires-clause-fits g c coherent story begins all may =
     let inside = c.self.inside in
     let seen = seen_of c.args.seat.now in
     let refused = c.in_ok-answer.field-0 in
-    let work : WorkView = record { line = inside.line.now; state = inside.steps; asked = inside.asked; said = inside.said; next = inside.next; is_cut = inside.is_cut; refused = inside.refused } in
+    let work : WorkView = record { line = inside.line.now; state = inside.steps; nodes = inside.nodes; asked = inside.asked; said = inside.said; next = inside.next; is_cut = inside.is_cut; gave_up = inside.gave_up; refused = inside.refused } in
     let at_work : IsAtWork O.coherent O.opening O.bytes O.script seen work =
     subst (IsAtWork O.coherent O.opening O.bytes O.script seen) (sym c.self.view_is) (c.requires.works coherent) in
-    let fit : MayBeTold O.coherent O.opening O.bytes O.script seen work.line (last_of work.line refused.asked) refused.still refused.answer None =
+    let fit : MayBeTold O.coherent O.opening O.bytes O.script seen work.line (last_of work.line refused.asked) (λ said. Unit {0}) refused.still refused.answer None =
     subst (IsRefusalFit O.coherent O.opening O.bytes O.script seen work.line) (sym c.take.ensures.value ∙ c.in_ok-answer.was) at_work.refusal in
-    fit.fits story begins all inside.said
+    fit.fits story begins all inside.said tt
     (subst (λ (last : Option AskId). MayTell O.opening story work.line.client work.line.number last inside.said refused.still refused.answer) c.last_of-last.ensures may)
 
 pub put_off-requires : goal.put_off-requires
@@ -34,7 +34,7 @@ put_off-requires g c =
     let seen = seen_of c.args.seat.now in
     let later = seen_of c.tell.new.seat in
     let refused = c.in_ok-answer.field-0 in
-    let work : WorkView = record { line = inside.line.now; state = inside.steps; asked = inside.asked; said = inside.said; next = inside.next; is_cut = inside.is_cut; refused = inside.refused } in
+    let work : WorkView = record { line = inside.line.now; state = inside.steps; nodes = inside.nodes; asked = inside.asked; said = inside.said; next = inside.next; is_cut = inside.is_cut; gave_up = inside.gave_up; refused = inside.refused } in
     record {
       ready = c.in-Err.ensures.ready;
       works = λ coherent.
@@ -42,10 +42,10 @@ put_off-requires g c =
           subst (IsAtWork O.coherent O.opening O.bytes O.script seen) (sym c.self.view_is) (c.requires.works coherent) in
           let fit : IsRefusalFit O.coherent O.opening O.bytes O.script seen work.line (Some refused) =
           subst (IsRefusalFit O.coherent O.opening O.bytes O.script seen work.line) (sym c.take.ensures.value ∙ c.in_ok-answer.was) at_work.refusal in
-          let still : MayBeTold O.coherent O.opening O.bytes O.script later work.line (last_of work.line refused.asked) refused.still refused.answer None =
+          let still : MayBeTold O.coherent O.opening O.bytes O.script later work.line (last_of work.line refused.asked) (λ said. Unit {0}) refused.still refused.answer None =
           refusal_still O.coherent O.opening O.bytes O.script later seen c.in-Err.ensures.goes_on work.line (Some refused) fit in
           with_refused O.coherent O.opening O.bytes O.script later work (Some (record { answer = c.in-Err.answer; asked = refused.asked; still = refused.still }))
-          (subst (λ (a : Answer). MayBeTold O.coherent O.opening O.bytes O.script later work.line (last_of work.line refused.asked) refused.still a None) (sym c.in-Err.ensures.answer) still)
+          (subst (λ (a : Answer). MayBeTold O.coherent O.opening O.bytes O.script later work.line (last_of work.line refused.asked) (λ said. Unit {0}) refused.still a None) (sym c.in-Err.ensures.answer) still)
           (work_still O.coherent O.opening O.bytes O.script later seen c.in-Err.ensures.goes_on work at_work);
     }
 
@@ -54,7 +54,7 @@ returns-in-Ok-clause-works g c coherent =
     let O = g.O.Opened in
     let inside = c.self.inside in
     let seen = seen_of c.args.seat.now in
-    let work : WorkView = record { line = inside.line.now; state = inside.steps; asked = inside.asked; said = inside.said; next = inside.next; is_cut = inside.is_cut; refused = inside.refused } in
+    let work : WorkView = record { line = inside.line.now; state = inside.steps; nodes = inside.nodes; asked = inside.asked; said = inside.said; next = inside.next; is_cut = inside.is_cut; gave_up = inside.gave_up; refused = inside.refused } in
     let at_work : IsAtWork O.coherent O.opening O.bytes O.script seen work =
     subst (IsAtWork O.coherent O.opening O.bytes O.script seen) (sym c.self.view_is) (c.requires.works coherent) in
     cut_so O.coherent O.opening O.bytes O.script (seen_of c.tell.new.seat) seen work c.cut.new.self _
@@ -67,7 +67,7 @@ returns-in-Ok-clause-ended g c ended coherent =
     let seen = seen_of c.args.seat.now in
     let later = seen_of c.tell.new.seat in
     let refused = c.in_ok-answer.field-0 in
-    let work : WorkView = record { line = inside.line.now; state = inside.steps; asked = inside.asked; said = inside.said; next = inside.next; is_cut = inside.is_cut; refused = inside.refused } in
+    let work : WorkView = record { line = inside.line.now; state = inside.steps; nodes = inside.nodes; asked = inside.asked; said = inside.said; next = inside.next; is_cut = inside.is_cut; gave_up = inside.gave_up; refused = inside.refused } in
     let at_work : IsAtWork O.coherent O.opening O.bytes O.script seen work =
     subst (IsAtWork O.coherent O.opening O.bytes O.script seen) (sym c.self.view_is) (c.requires.works coherent) in
     let fit : IsRefusalFit O.coherent O.opening O.bytes O.script seen work.line (Some refused) =
@@ -76,7 +76,7 @@ returns-in-Ok-clause-ended g c ended coherent =
     c.last_of-last.ensures c.in-Ok.ensures.told in
     subst (λ (w : WorkView). HasLeft O.coherent O.opening O.bytes O.script later w.line (left_of w)) (sym c.cut.ensures)
     (told_left O.coherent O.opening O.bytes O.script seen later (mine_of c.args.seat.now) (mine_of c.tell.new.seat) work.line (last_of work.line refused.asked) inside.said c.args.by refused.still refused.answer
-    c.in-Ok.ensures.goes_on told None fit)
+    c.in-Ok.ensures.goes_on told (λ said. Unit {0}) None tt fit)
 
 pub returns-in-Err-default-Moved-clause-works : goal.returns-in-Err-default-Moved-clause-works
 returns-in-Err-default-Moved-clause-works g c coherent =
@@ -84,7 +84,7 @@ returns-in-Err-default-Moved-clause-works g c coherent =
     let inside = c.self.inside in
     let seen = seen_of c.args.seat.now in
     let later = seen_of c.tell.new.seat in
-    let work : WorkView = record { line = inside.line.now; state = inside.steps; asked = inside.asked; said = inside.said; next = inside.next; is_cut = inside.is_cut; refused = inside.refused } in
+    let work : WorkView = record { line = inside.line.now; state = inside.steps; nodes = inside.nodes; asked = inside.asked; said = inside.said; next = inside.next; is_cut = inside.is_cut; gave_up = inside.gave_up; refused = inside.refused } in
     let at_work : IsAtWork O.coherent O.opening O.bytes O.script seen work =
     subst (IsAtWork O.coherent O.opening O.bytes O.script seen) (sym c.self.view_is) (c.requires.works coherent) in
     subst (λ (refused : Option Refused). IsAtWork O.coherent O.opening O.bytes O.script later (record work { refused = refused })) (sym c.take.ensures.after)

@@ -1,0 +1,54 @@
+//! How a line's steps go on with what came back.
+
+ghost use Rattle.std.specs.Prelude.{◌≡◌};
+ghost use Rattle.oz_at_work.specs.inner.Taken.{IsTakenUp, come_to, leaves_label};
+
+use crate::at_work::LineAtWork;
+use oz_client::{Got, Step};
+use oz_command::Command;
+use oz_requests::Answer;
+use std::alloc::Global;
+
+impl<'s> LineAtWork<'s> {
+    /// Its steps go on with what came back, once it has asked so often, so often something was said of its blocks, and one was
+    /// given up or not. Where they can't it is told next that there is no memory.
+    pub(crate) fn take_up(&mut self, alloc: Global, got: Got, asked: u16, said: u64, gave_up: bool)
+        ensures { IsTakenUp self.old got asked said gave_up self.new }
+    {
+        if !self.steps.fits(&got) {
+            self.cut(asked, Answer::OutOfMemory);
+            return;
+        }
+        match self.steps.next(alloc, got) {
+            Ok(next) => self.come_to(asked, said, gave_up, next),
+            Err(_error) => self.cut(asked, Answer::OutOfMemory),
+        }
+    }
+
+    /// This comes next by its steps. Where it would leave a label though a block was given up, it is told next that there is no
+    /// memory.
+    fn come_to(&mut self, asked: u16, said: u64, gave_up: bool, next: Step)
+        ensures { self.new ≡ come_to self.old asked said gave_up next }
+    {
+        if gave_up && leaves_label(&self.line.command, &next) {
+            self.cut(asked, Answer::OutOfMemory);
+            return;
+        }
+        self.asked = asked;
+        self.said = said;
+        self.next = next;
+        self.is_cut = false;
+        self.gave_up = gave_up;
+        self.refused = None;
+    }
+}
+
+/// Whether a line with this command leaves something in a label by this step.
+fn leaves_label(command: &Command, step: &Step) -> bool
+    ensures { result ≡ leaves_label command.now step.now }
+{
+    match (command, step) {
+        (Command::KeyOpen { .. }, Step::Tell(Answer::Ok(_))) => true,
+        _ => false,
+    }
+}

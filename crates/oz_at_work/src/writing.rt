@@ -1,0 +1,118 @@
+//! How a line writes the block that it was granted.
+
+ghost use Rattle.std.specs.Prelude.{◌≡◌, ◌≢◌, ◌<◌, ◌||◌, List, not};
+ghost use Rattle.oz_at_work.specs.AtWork.{HasGoneOn, IsAtWork};
+ghost use Rattle.oz_at_work.specs.inner.Put.{WasWritten};
+ghost use Rattle.oz_core.specs.declared.event.Event.{Event as AnyEvent};
+ghost use Rattle.oz_core.specs.Seats.{IsLineSeat};
+ghost use Rattle.oz_turn.specs.Seat.{IsReady, room_of, seen_of};
+ghost use Rattle.oz_turn.specs.Told.{BeginsWith};
+ghost use Rattle.oz_turn.specs.Turn.{turn_id};
+ghost use Rattle.oz_writing.specs.Written.{is_quorum};
+
+use crate::at_work::LineAtWork;
+use crate::outcome::Did;
+use crate::piece::Put;
+use oz_buffer::{Ledger, Opened};
+use oz_client::{Got, Written};
+use oz_locks::Loaded;
+use oz_requests::Answer;
+use oz_servers::Servers;
+use oz_turn::{Ring, Seat, Turn};
+use oz_world::{Disk, Gate};
+use oz_writing::write_to_members;
+use std::alloc::Global;
+use std::sync::Wait;
+
+impl<'s> LineAtWork<'s> {
+    /// The line writes the block that it was granted at its members, and goes on by what they answer. Where it isn't known what
+    /// came of the block it is told next that there is no memory.
+    pub(crate) fn write<D: Disk, O: Opened, L: Loaded, R: Ring, W: Wait, G: Gate>(
+        &mut self,
+        rt: &W,
+        alloc: Global,
+        turn: &Turn<Ledger<O>>,
+        servers: &Servers<D, Ledger<O>, O, L, R>,
+        gate: &G,
+        seat: &mut Seat<Ledger<O>>,
+        by: u16,
+    ) -> Did
+        requires turn { turn_id turn.now ≡ R.turn }
+        requires ready { IsReady R.turn by seat.old }
+        requires seats { by < 64 }
+        requires of_line { IsLineSeat by }
+        requires works { O.coherent → IsAtWork O.coherent O.opening O.bytes O.script (seen_of seat.old) self.old }
+        ensures ready { IsReady R.turn by seat.new }
+        ensures room { room_of seat.new ≡ room_of seat.old }
+        ensures goes_on { BeginsWith (seen_of seat.new) (seen_of seat.old) }
+        ensures line { self.new.line ≡ self.old.line }
+        ensures works { O.coherent → IsAtWork O.coherent O.opening O.bytes O.script (seen_of seat.new) self.new }
+        ensures went_on { result ≡ Did.WentOn → HasGoneOn self.old self.new }
+        ensures unended { result ≢ Did.Ended }
+    {
+        servers.manager.opens();
+        let asked = self.asked;
+        let Some(put) = self.put(alloc, servers.node_count()) else {
+            self.cut(asked, Answer::OutOfMemory);
+            return Did::WentOn;
+        };
+        let Put {
+            block,
+            members,
+            first,
+            bytes,
+        } = put;
+        let (id, said) = (self.id(asked), self.said);
+        match write_to_members(
+            rt,
+            alloc,
+            turn,
+            &servers.nodes,
+            gate,
+            seat,
+            by,
+            id,
+            first,
+            block,
+            members,
+            bytes.as_slice(),
+            said,
+        ) {
+            Ok((written, now)) => self.written::<O>(alloc, written, now),
+            Err(_error) => self.cut(asked, Answer::OutOfMemory),
+        }
+        Did::WentOn
+    }
+
+    /// Goes on with what the members of its block answered, by which so often something is said of its blocks.
+    fn written<O: Opened>(&mut self, alloc: Global, written: Written, said: u64)
+        requires more { self.old.said < said }
+        ensures line { self.new.line ≡ self.old.line }
+        ensures works { O.coherent → (seen : List AnyEvent) →
+            WasWritten O.coherent O.opening O.bytes O.script seen self.old written said →
+            IsAtWork O.coherent O.opening O.bytes O.script seen self.new }
+        ensures went_on { HasGoneOn self.old self.new }
+    {
+        let (asked, gave_up) = (self.asked, self.gives_up(&written));
+        self.take_up(alloc, Got::Written(written), asked, said, gave_up);
+    }
+
+    /// Whether a block was given up, once the members of its block answered so.
+    fn gives_up(&self, written: &Written) -> bool
+        ensures { result ≡ (self.now.gave_up || not (is_quorum written.now.answers)) }
+    {
+        self.gave_up || !two_put_it(written)
+    }
+}
+
+/// Whether two members put the block.
+fn two_put_it(written: &Written) -> bool
+    ensures { result ≡ is_quorum written.now.answers }
+{
+    written
+        .answers
+        .iter()
+        .filter(|answer| answer.is_none())
+        .count()
+        >= 2
+}

@@ -1,11 +1,9 @@
 -- What a line puts is its piece, and it is written by the script where two members put it.
-use Rattle.std.proofs.Common.{◌≡◌, inl, ℕ, ◌+◌, ◌*◌, ◌<◌, ◌≤◌, Bool, true, false, cond, List, [], length, take, drop, Option, None, Some, Contains, refl, sym, ap, ◌∙◌, subst, arith}
+use Rattle.std.proofs.Common.{◌≡◌, inl, ℕ, ◌+◌, ◌*◌, ◌<◌, ◌≤◌, Bool, true, false, cond, List, [], length, take, drop, Option, Contains, sym, ap, ◌∙◌, subst, arith}
 use Rattle.std.proofs.lemmas.Bool.{false≢true}
 use Rattle.std.proofs.lemmas.List.{length-take, take_min}
 use Rattle.oz_buffer.specs.Buffer.{AllFollow, Follows}
 use Rattle.oz_buffer.specs.Courses.{times_said}
-use Rattle.oz_client.specs.declared.step.Step.TheVariants as steps
-use Rattle.oz_client.specs.Onward.{IsWriting}
 use Rattle.oz_command.specs.declared.command.Command.{Command}
 use Rattle.oz_command.specs.declared.payload.TheConstants.{PIECE_BYTES}
 use Rattle.oz_command.specs.Payload.{bytes_from, data_of, piece}
@@ -14,15 +12,13 @@ use Rattle.oz_core.specs.declared.event.EventKind.TheVariants.{Wrote}
 use Rattle.oz_core.specs.declared.event.PutRefusal.{PutRefusal}
 use Rattle.oz_core.specs.declared.opening.Opening.{Opening}
 use Rattle.oz_core.specs.Coherent.{IsCoherent}
-use Rattle.oz_core.specs.Contents.{HasContent, OpeningBytes}
+use Rattle.oz_core.specs.Contents.{OpeningBytes}
 use Rattle.oz_core.specs.Scm.{members as members_in}
 use Rattle.oz_core.specs.Seats.{IsLineSeat}
 use Rattle.oz_fields.specs.declared.block.Block.{Block}
 use Rattle.oz_lines.specs.declared.script.Script.{Script}
-use Rattle.oz_nodes.specs.Pipelines.{members_of}
 use Rattle.oz_nodes.specs.declared.nodes.TheConstants.{FEWEST_NODES}
 use Rattle.oz_node_events.specs.Noting.{MayNote}
-use Rattle.oz_steps.specs.declared.came.Granted.{Granted}
 use Rattle.oz_steps.specs.Grants.{written_blocks}
 use Rattle.oz_turn.specs.Told.{BeginsWith}
 use Rattle.oz_underway.specs.UnderWay.{HaveAnswered, IsPieceFor}

@@ -1,6 +1,6 @@
 -- A line whose stripe has no block for it, and with what it is refused.
-use Rattle.std.proofs.Common.{◌≡◌, ◌≢◌, ℕ, ◌+◌, ◌≤◌, Bool, true, false, not, ◌&&◌, is_some, cond, List, [], length, Option, None, Some, Err, Result, refl, sym, ap, ◌∙◌, subst, arith}
-use Rattle.std.specs.Prelude.{Contains, nat_lt}
+use Rattle.std.proofs.Common.{◌≡◌, ◌≢◌, ℕ, ◌+◌, ◌≤◌, Bool, true, false, not, ◌&&◌, is_some, cond, List, [], length, Option, None, Some, Err, refl, sym, ap, ◌∙◌, subst, arith}
+use Rattle.std.specs.Prelude.{nat_lt}
 use Rattle.std.specs.List.{list_any}
 use Rattle.oz_asker.specs.Asked.{IsAskAt}
 use Rattle.oz_asker.specs.laws.Asks.{legal_of_follow, one_request, pending_is_asked}
@@ -19,9 +19,7 @@ use Rattle.oz_core.specs.Law.{IsLegal}
 use Rattle.oz_core.specs.Manager.{asked_late}
 use Rattle.oz_core.specs.Steps.{Target, is_code, is_done, pieces_from, pieces_needed, session_in, target, was_told_ok}
 use Rattle.oz_granting.specs.Granting.{AreMade, IsDueWhileStill, WasEmpty}
-use Rattle.oz_lines.specs.declared.script.Line.{Line}
 use Rattle.oz_lines.specs.declared.script.Script.{Script}
-use Rattle.oz_om.specs.declared.refusal.Refusal.{Refusal}
 use Rattle.oz_om.specs.declared.refusal.Refusal.TheVariants as refusals
 use Rattle.oz_om.specs.Decided.{IsPoolEmpty}
 use Rattle.oz_om.specs.Refusals.{AskStands}
@@ -31,18 +29,16 @@ use Rattle.oz_requests.specs.declared.request.AskId.{AskId}
 use Rattle.oz_requests.specs.declared.request.Exclude.{Exclude}
 use Rattle.oz_requests.specs.declared.request.Request.{Request}
 use Rattle.oz_requests.specs.declared.request.Request.TheVariants as requests
-use Rattle.oz_steps.specs.declared.came.Attempt.{Attempt}
 use Rattle.oz_steps.specs.declared.came.Came.{Came}
 use Rattle.oz_steps.specs.declared.label.Label.{Label}
 use Rattle.oz_steps.specs.Grants.{excluded_by, written_blocks}
-use Rattle.oz_steps.specs.Lines.{commit_of_label}
-use Rattle.oz_steps.specs.Requests.{block_by, command_by, commit_by, once_by, put_by, request_by, write_by}
+use Rattle.oz_steps.specs.Requests.{block_by, command_by, commit_by, put_by, request_by}
 use Rattle.oz_steps.specs.Single.{single_of}
 use Rattle.oz_telling.specs.declared.still.Still.{Still}
 use Rattle.oz_turn.specs.Told.{BeginsWith}
 use Rattle.oz_underway.specs.laws.Going.{begins_itself}
 use Rattle.oz_underway.specs.laws.Starting.{started_still}
-use Rattle.oz_at_work.specs.AtWork.{IsAtWork, IsNextAsk, IsNextFit, IsStarted, MayBeTold, WorkView, id_of, last_of}
+use Rattle.oz_at_work.specs.AtWork.{IsAtWork, IsNextAsk, IsNextFit, MayBeTold, WorkView, id_of, last_of}
 use Rattle.oz_at_work.specs.inner.Short.{IsShort, WantsBlock}
 use Rattle.oz_at_work.proofs.Cutting.{label_none, some_last, told_stays}
 use Rattle.oz_at_work.proofs.Excluding.{excluded_made}

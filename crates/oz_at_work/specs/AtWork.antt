@@ -37,9 +37,9 @@ use Rattle.oz_underway.specs.GoingOn.{FromHereOn}
 use Rattle.oz_underway.specs.UnderWay.{IsUnderWay, LabelStays}
 use Rattle.oz_at_work.specs.declared.refused.Refused.{Refused}
 
--- A line, what came back to it, for how many datanodes its steps are, how often it has asked, how often something was said of
--- its blocks at its last look, what it does next, whether that isn't of its steps, whether a block that it was granted was given
--- up, and with what it is refused for now, if it is.
+-- A line, what came back to it, for how many datanodes its steps are, how often it has asked, how often something was
+-- said of its blocks at its last look, what it does next, whether that isn't of its steps, whether a block that it was
+-- granted was given up, and with what it is refused for now, if it is.
 pub record WorkView : Type 0 where
   pub line : Line
   pub state : LineState
@@ -71,7 +71,7 @@ IsTelling _ = ⊥
 abbrev pub IsSaidAsKnown : Bool → ℕ → ℕ → Type 0
 IsSaidAsKnown gave_up known said = gave_up ≡ true → said ≡ known
 
--- it has asked once more, or there is something that it is told next, or a block was written, of which more was said by that
+-- It has asked once more, or there is something that it is told next, or it wrote a block: more was said of its blocks.
 abbrev pub HasGoneOn : WorkView → WorkView → Type 0
 HasGoneOn before after =
     (after.asked ≡ before.asked + 1) ⊎ IsTelling after.next ⊎ IsSome after.refused ⊎ (before.said < after.said)
@@ -95,7 +95,8 @@ pub record WasSaid (seen : List Event) (line : Line) (said : ℕ) : Type 0 where
   pub goes_on : BeginsWith seen before
   pub so_often : times_said line.client line.number before ≡ said
 
--- Nothing came back but replies, none of which is a code, and what became of blocks: each was written, unless one was given up.
+-- Nothing came back but replies, none of which is a code, and what became of blocks: each was written, unless one was
+-- given up.
 pub record HasPutAlone (progress : Progress) (gave_up : Bool) : Type 0 where
   pub no_code : list_any is_code progress.came.replies ≡ false
   pub unread : progress.read ≡ []
@@ -114,7 +115,8 @@ module _ (Coherent : Type 0) (opening : Opening) (bytes : OpeningBytes) (script 
 
   -- The request comes next by what came back; from here on it is the line's next wherever the law lets it ask, and nothing
   -- else is asked by its id, as long as no more is said of the line's blocks where one was given up.
-  pub record IsNextAsk (line : Line) (asked said : ℕ) (gave_up : Bool) (request : Request) (progress : Progress) : Type 0 where
+  pub record IsNextAsk (line : Line) (asked said : ℕ) (gave_up : Bool) (request : Request) (progress : Progress)
+      : Type 0 where
     pub followed : IsFollowed line asked said gave_up progress
     pub unwritten : progress.came.writing ≡ None
     pub its : request_by line.command progress.label progress.came ≡ Some request
@@ -132,8 +134,8 @@ module _ (Coherent : Type 0) (opening : Opening) (bytes : OpeningBytes) (script 
     pub followed : IsFollowed line asked said gave_up progress
     pub writes : IsWriting line.command progress block members first count
 
-  -- From here on the answer is the line's wherever it may be told it, for which so much may be said of its blocks and these
-  -- seats have to stand still, and once it is told this is what it left.
+  -- From here on the answer is the line's wherever it may be told it, for which so much may be said of its blocks and
+  -- these seats have to stand still, and once it is told this is what it left.
   pub record MayBeTold (line : Line) (last : Option AskId) (MaySay : ℕ → Type 0) (stills : List Still) (answer : Answer)
       (left : Option Label) : Type 0 where
     pub fits : FromHereOn Coherent opening bytes script seen (λ story. (said : ℕ) → MaySay said

@@ -10,8 +10,8 @@ use oz_requests::Answer;
 use std::alloc::Global;
 
 impl<'s> LineAtWork<'s> {
-    /// Its steps go on with what came back, once it has asked so often, so often something was said of its blocks, and one was
-    /// given up or not. Where they can't it is told next that there is no memory.
+    /// Its steps go on with what came back, once it has asked so often, so often something was said of its blocks, and
+    /// one was given up or not. Where they can't it is told next that there is no memory.
     pub(crate) fn take_up(&mut self, alloc: Global, got: Got, asked: u16, said: u64, gave_up: bool)
         ensures { IsTakenUp self.old got asked said gave_up self.new }
     {
@@ -25,8 +25,8 @@ impl<'s> LineAtWork<'s> {
         }
     }
 
-    /// This comes next by its steps. Where it would leave a label though a block was given up, it is told next that there is no
-    /// memory.
+    /// This comes next by its steps. Where it would leave a label though a block was given up, it is told next that there
+    /// is no memory.
     fn come_to(&mut self, asked: u16, said: u64, gave_up: bool, next: Step)
         ensures { self.new ≡ come_to self.old asked said gave_up next }
     {

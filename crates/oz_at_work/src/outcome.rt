@@ -5,8 +5,8 @@
 pub enum Did {
     /// It asked, or wrote a block, or knows now what it is told.
     WentOn,
-    /// Nothing: what was decided for it isn't stable yet, or the manager's buffer is full, where a flush helps; or others took
-    /// the blocks that its stripe was granted.
+    /// Nothing: what was decided for it isn't stable yet, or the manager's buffer is full, where a flush helps; or others
+    /// took the blocks that its stripe was granted.
     Waits,
     /// It was told its answer.
     Ended,

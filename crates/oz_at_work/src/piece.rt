@@ -23,8 +23,8 @@ pub(crate) struct Put {
 }
 
 impl<'s> LineAtWork<'s> {
-    /// What it puts next, where it is for so many datanodes. There is nothing where it doesn't write next, where the block or a
-    /// member is none, or its data hasn't so many bytes, and where there is no memory.
+    /// What it puts next, where its steps are for so many datanodes. There is nothing where it doesn't write next, where
+    /// the block or a member is none, or its data hasn't so many bytes, and where there is no memory.
     pub(crate) fn put(&self, alloc: Global, nodes: u8) -> Option<Put>
         ensures nodes { IfSome result (λ put. self.now.nodes ≡ nodes) }
         ensures members { IfSome result (λ put. All (λ dn. dn < nodes) put.members) }

@@ -20,8 +20,8 @@ use std::alloc::Global;
 use std::sync::Wait;
 
 impl<'s> LineAtWork<'s> {
-    /// Goes on with what was replied to its next Ask, which has this number. Where a block is granted, or was given up before,
-    /// and more is said of its blocks than it knows, it is told next that there is no memory.
+    /// Goes on with what was replied to its next Ask, which has this number. Where a block is granted, or was given up
+    /// before, and more is said of its blocks than it knows, it is told next that there is no memory.
     pub(crate) fn reply<O: Opened, W: Wait>(
         &mut self,
         rt: &W,

@@ -55,8 +55,8 @@ impl<'s> LineAtWork<'s> {
         }
     }
 
-    /// Looks how often something was said of its blocks by now, and waits. Where what comes next rests on that, and it isn't as
-    /// often as it knows, it is told next that there is no memory.
+    /// Looks how often something was said of its blocks by now, and waits. Where what comes next rests on that, and it
+    /// isn't as often as it knows, it is told next that there is no memory.
     pub(crate) fn look_again<O: Opened, W: Wait>(
         &mut self,
         rt: &W,
@@ -92,8 +92,8 @@ impl<'s> LineAtWork<'s> {
         !rests || said == self.said
     }
 
-    /// Waits until all that was decided for the line, which has asked so often, is stable. Where that never will be it is told
-    /// so next.
+    /// Waits until all that was decided for the line, which has asked so often, is stable. Where that never will be it
+    /// is told so next.
     pub(crate) fn wait<O: Opened, W: Wait>(
         &mut self,
         rt: &W,

@@ -25,8 +25,8 @@ use std::alloc::Global;
 use std::sync::Wait;
 
 impl<'s> LineAtWork<'s> {
-    /// The line writes the block that it was granted at its members, and goes on by what they answer. Where it isn't known what
-    /// came of the block it is told next that there is no memory.
+    /// The line writes the block that it was granted at its members, and goes on by what they answer. Where it isn't
+    /// known what came of the block it is told next that there is no memory.
     pub(crate) fn write<D: Disk, O: Opened, L: Loaded, R: Ring, W: Wait, G: Gate>(
         &mut self,
         rt: &W,

@@ -1,7 +1,6 @@
 -- For private calls: a line whose block was written at its members.
 use Rattle.std.specs.Prelude.{◌≡◌, ℕ, ◌≤◌, List, [], length}
 use Rattle.oz_buffer.specs.Buffer.{AllFollow, Follows}
-use Rattle.oz_client.specs.declared.step.Step.{Step}
 use Rattle.oz_client.specs.declared.step.Step.TheVariants as steps
 use Rattle.oz_client.specs.declared.step.Written.{Written}
 use Rattle.oz_command.specs.Payload.{bytes_from}
@@ -21,8 +20,8 @@ pub record IsPutNext (work : WorkView) (block : Block) (members : List ℕ) (fir
   pub next : work.next ≡ steps.Write block members first count
   pub content_is : content ≡ bytes_from work.line.command first count
 
--- Behind what was seen before its block was written at its members, who answered so, by which so often something is said of the
--- line's blocks.
+-- Behind what was seen before its block was written at its members, who answered so, by which so often something is said
+-- of the line's blocks.
 pub record WasWritten (Coherent : Type 0) (opening : Opening) (bytes : OpeningBytes) (script : Script)
     (seen : List Event) (work : WorkView) (written : Written) (said : ℕ) : Type 0 where
   pub before : List Event

@@ -35,8 +35,8 @@ abbrev pub is_write : Step → Bool
 is_write (steps.Write block members first count) = true
 is_write _ = false
 
--- What comes next holds where so often something is said of the line's blocks: as often as it knows, where one of them is written
--- next or was given up.
+-- What comes next holds where so often something is said of the line's blocks: as often as it knows, where one of them is
+-- written next or was given up.
 abbrev pub holds_where_said : WorkView → ℕ → Bool
 holds_where_said work said = not (is_write work.next || work.gave_up) || said == work.said
 

@@ -17,8 +17,9 @@ abbrev pub leaves_label : Command → Step → Bool
 leaves_label (commands.KeyOpen name volume bucket key payload) (steps.Tell (answers.Ok values)) = true
 leaves_label command step = false
 
--- This comes next by its steps, once it has asked so often, so often something was said of its blocks, and one was given up or
--- not. Where one was and it would leave a label, it is told that there is no memory: what a label stands for isn't known then.
+-- This comes next by its steps, once it has asked so often, so often something was said of its blocks, and one was given
+-- up or not. Where one was and it would leave a label, it is told that there is no memory: what a label stands for isn't
+-- known then.
 abbrev pub come_to : WorkView → ℕ → ℕ → Bool → Step → WorkView
 come_to work asked said gave_up step =
     if gave_up && leaves_label work.line.command step then cut_with work asked answers.OutOfMemory
@@ -31,8 +32,8 @@ come_to work asked said gave_up step =
       refused = None;
     }
 
--- Its steps went on with what came back, and this comes next, once it has asked so often, so often something was said of its
--- blocks, and one was given up or not. Where one was it leaves no label.
+-- Its steps went on with what came back, and this comes next, once it has asked so often, so often something was said of
+-- its blocks, and one was given up or not. Where one was it leaves no label.
 pub record HasStepped (before : WorkView) (got : Got) (asked said : ℕ) (gave_up : Bool) (after : WorkView) : Type 0 where
   pub step : Step
   pub next : IsNext before.state.command after.state.progress got step

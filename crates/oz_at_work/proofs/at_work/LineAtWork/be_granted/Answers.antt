@@ -8,7 +8,7 @@ use Rattle.oz_turn.specs.Seat.{seen_of}
 use Rattle.oz_underway.specs.laws.Going.{begins_itself}
 use Rattle.oz_at_work.specs.AtWork.{IsAtWork, MayBeTold, WorkView, id_of, last_of}
 use Rattle.oz_at_work.specs.inner.Short.{IsShort}
-use Rattle.oz_at_work.proofs.Cutting.{cut_goes_on, cut_so}
+use Rattle.oz_at_work.proofs.Cutting.{cut_so}
 use Rattle.oz_at_work.proofs.Refusing.{made_short, refused_told, was_empty}
 use Rattle.oz_at_work.proofs.Staying.{with_refused, work_still}
 use Rattle.oz_at_work.proofs.at_work.LineAtWork.be_granted.Goals as goal

@@ -1,4 +1,4 @@
-use Rattle.std.proofs.Common.{◌≡◌, sym, subst}
+use Rattle.std.proofs.Common.{subst}
 use Rattle.oz_at_work.specs.AtWork.{WorkView}
 use Rattle.oz_at_work.specs.inner.Taken.{IsTakenUp}
 use Rattle.oz_at_work.proofs.Taking.{come_taken, cut_taken}

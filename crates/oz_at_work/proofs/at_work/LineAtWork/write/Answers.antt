@@ -1,4 +1,4 @@
-use Rattle.std.proofs.Common.{◌≡◌, inl, inr, ℕ, ◌+◌, ◌≤◌, ◌<◌, Bool, true, List, length, Option, sym, ap, ◌∙◌, subst}
+use Rattle.std.proofs.Common.{◌≡◌, ℕ, ◌+◌, ◌≤◌, ◌<◌, List, length, sym, ap, ◌∙◌, subst}
 use Rattle.oz_buffer.specs.Buffer.{Follows}
 use Rattle.oz_buffer.specs.Courses.{times_said}
 use Rattle.oz_core.specs.declared.event.EventKind.TheVariants.{Wrote}

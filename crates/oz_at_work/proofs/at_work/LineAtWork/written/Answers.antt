@@ -1,4 +1,4 @@
-use Rattle.std.proofs.Common.{◌≡◌, ℕ, ◌||◌, Bool, not, sym, ap, ◌∙◌, subst}
+use Rattle.std.proofs.Common.{◌≡◌, ℕ, ◌||◌, Bool, not, ap, subst}
 use Rattle.oz_client.specs.declared.step.Got.TheVariants as gots
 use Rattle.oz_writing.specs.Written.{is_quorum}
 use Rattle.oz_at_work.specs.AtWork.{WorkView}

@@ -145,7 +145,7 @@ module _ {D : Type 0} (see : D → Seen) where
     rest_away number count away n less is = away (suc n) (omega (arith, less)) (omega (arith, is))
 
     -- none has this number
-    absent_stopped : (number : ℕ) (before : List (NodeDisks D)) (loaded after : List (NodeState D)) → ((n : ℕ) → n < length after → number + n ≢ dn)
+    pub absent_stopped : (number : ℕ) (before : List (NodeDisks D)) (loaded after : List (NodeState D)) → ((n : ℕ) → n < length after → number + n ≢ dn)
         → has_stopped (Datanode dn) (datanode_disks see number before loaded after) ≡ false
     absent_stopped number [] loaded after away = refl
     absent_stopped number (b ∷ before) [] after away = refl
@@ -180,7 +180,7 @@ module _ {D : Type 0} (see : D → Seen) where
         rw (other_number number (λ here. absurd (omega (arith, here, its))))
         (its_stopped (number + 1) n before loaded after node (omega (arith, before_count)) (omega (arith, loaded_count)) at (omega (arith, its)))
 
-    its_after : (number n : ℕ) (before : List (NodeDisks D)) (loaded after : List (NodeState D)) (node : NodeState D)
+    pub its_after : (number n : ℕ) (before : List (NodeDisks D)) (loaded after : List (NodeState D)) (node : NodeState D)
         → length before ≡ length after → length loaded ≡ length after → slice_get after n ≡ Some node → number + n ≡ dn
         → of_node (λ (disk : RunDisk). disk.after.faults) (Datanode dn) (datanode_disks see number before loaded after)
         ≡ (see (meta_of node)).faults ∷ (see (slots_of node)).faults ∷ []
@@ -197,7 +197,7 @@ module _ {D : Type 0} (see : D → Seen) where
         rw (other_number number (λ here. absurd (omega (arith, here, its))))
         (its_after (number + 1) n before loaded after node (omega (arith, before_count)) (omega (arith, loaded_count)) at (omega (arith, its)))
 
-    its_loaded : (number n : ℕ) (before : List (NodeDisks D)) (loaded after : List (NodeState D)) (was : NodeState D)
+    pub its_loaded : (number n : ℕ) (before : List (NodeDisks D)) (loaded after : List (NodeState D)) (was : NodeState D)
         → length before ≡ length after → length loaded ≡ length after → slice_get loaded n ≡ Some was → number + n ≡ dn
         → of_node (λ (disk : RunDisk). disk.faults) (Datanode dn) (datanode_disks see number before loaded after)
         ≡ (see (meta_of was)).faults ∷ (see (slots_of was)).faults ∷ []
@@ -236,7 +236,7 @@ module _ {D : Type 0} (see : D → Seen) where
 -- ---- each node's
 
 -- a datanode at a place, or none
-there : {A : Type 0} (items : List A) (n : ℕ) → n < length items → (x : A) × (slice_get items n ≡ Some x)
+pub there : {A : Type 0} (items : List A) (n : ℕ) → n < length items → (x : A) × (slice_get items n ≡ Some x)
 there [] n less = absurd (omega (arith, less))
 there (first ∷ items) zero less = (first, refl)
 there (first ∷ items) (suc n) less = there items n (omega (arith, less))

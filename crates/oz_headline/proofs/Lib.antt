@@ -1,5 +1,4 @@
 pub mod History
 pub mod Moments
 pub mod Counting
-pub mod Halts
 pub mod Story

@@ -7,7 +7,7 @@ use Rattle.oz_nodes_loaded.specs.declared.disk_name.DiskName.TheVariants as disk
 use Rattle.oz_world.specs.Disk.{Seen}
 
 -- What is seen of one disk as the run begins and at its end; how often it had failed once it was loaded; and whether a
--- write of it has failed since. From the first moment on it is said what a stop leaves.
+-- call on it has failed since. From the first moment on it is said what a stop leaves.
 pub record RunDisk : Type 1 where
   pub name : DiskName
   pub before : Seen
@@ -29,7 +29,7 @@ is_of (node.Datanode number) (disk.Meta other) = other == number
 is_of (node.Datanode number) (disk.Slots other) = other == number
 is_of _ _ = false
 
--- whether a write of one of a node's disks has failed
+-- whether a call on one of a node's disks has failed
 abbrev pub has_stopped : Node → List RunDisk → Bool
 has_stopped node [] = false
 has_stopped node (disk ∷ disks) = (is_of node disk.name && disk.stopped) || has_stopped node disks
@@ -63,18 +63,3 @@ manager_disk faults first stopped before after = record {
   stopped = stopped;
   after = after;
 }
-
--- disks that the run loads and then doesn't touch, each with its name, as it was before and as it is then
-abbrev pub loaded_disk : DiskName → Seen → Seen → RunDisk
-loaded_disk name before after = record {
-  name = name;
-  before = before;
-  faults = after.faults;
-  first = after.clock;
-  stopped = false;
-  after = after;
-}
-
-abbrev pub loaded_disks : {D : Type 0} → (D → Seen) → List (DiskName × (D × D)) → List RunDisk
-loaded_disks see [] = []
-loaded_disks see (disk ∷ disks) = loaded_disk disk.0 (see disk.1.0) (see disk.1.1) ∷ loaded_disks see disks

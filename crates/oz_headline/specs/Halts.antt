@@ -1,18 +1,14 @@
 -- Which nodes halted, and why.
-use Rattle.std.specs.Prelude.{◌≡◌, ◌≢◌, ℕ, true, List, [], None, Some, if◌then◌else◌}
+use Rattle.std.specs.Prelude.{◌≡◌, ◌≢◌, true, List, None, Some, if◌then◌else◌}
 use Rattle.oz_core.specs.declared.event.Event.{Event}
 use Rattle.oz_core.specs.declared.event.Node.{Node}
-use Rattle.oz_core.specs.declared.event.Node.TheVariants.{Manager}
-use Rattle.oz_core.specs.declared.opening.Opening.{Opening}
 use Rattle.oz_core.specs.Manager.{halt_of}
-use Rattle.oz_core.specs.Seats.{IsNodeSeat}
 use Rattle.oz_headline.specs.declared.status.Status.{Status}
 use Rattle.oz_headline.specs.declared.status.Status.TheVariants.{Done, Disk}
 use Rattle.oz_headline.specs.Disks.{RunDisk, has_stopped, faults_loaded, faults_after}
-use Rattle.oz_turn.specs.Told.{own_entries}
 use Rattle.oz_world.specs.Faults.{Rose}
 
--- A node has a Halt exactly where a write of one of its disks failed. The Halt has the count of faults at the end,
+-- A node has a Halt exactly where a call on one of its disks failed. The Halt has the count of faults at the end,
 -- which rose since the disks were loaded.
 pub record HaltIsNamed (disks : List RunDisk) (story : List Event) (node : Node) : Type 0 where
   pub halt : halt_of node story ≡ (if has_stopped node disks then Some (faults_after node disks) else None)
@@ -27,9 +23,3 @@ abbrev pub StatusNamesHalts : Status → List Event → Type 0
 StatusNamesHalts Done story = (node : Node) → halt_of node story ≡ None
 StatusNamesHalts Disk story = (node : Node) × (halt_of node story ≢ None)
 StatusNamesHalts _ story = Unit {0}
-
--- no node but the manager gave an event
-abbrev pub OthersAreSilent : Opening → List Event → Type 0
-OthersAreSilent opening story =
-    (node : Node) (seat : ℕ) → node ≢ Manager → IsNodeSeat opening node seat
-    → own_entries (λ (event : Event). event.seat) seat story ≡ []

@@ -5,6 +5,6 @@ mod ended;
 mod laws;
 mod status;
 
-pub use ended::{halts_are_named, the_story_keeps_the_headline};
+pub use ended::the_story_keeps_the_headline;
 pub use laws::{all_are_told_by_count, one_history_says_the_rest};
 pub use status::Status;

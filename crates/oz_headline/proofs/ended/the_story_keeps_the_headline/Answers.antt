@@ -1,14 +1,13 @@
 use Rattle.std.proofs.Common.{ap, ◌∙◌}
 use Rattle.oz_core.specs.Manager.{flushed_moment}
-use Rattle.oz_world.specs.Disk.{seen}
 use Rattle.oz_asker.specs.laws.Asks.{legal_of_follow}
 use Rattle.oz_headline.proofs.Story.{by_flushers, headline_holds}
 use Rattle.oz_headline.proofs.ended.the_story_keeps_the_headline.Goals as goal
 
 pub returns : goal.returns
-returns g c coherent numbered begun disk others stopped mine story all apart kept =
+returns g c coherent numbered begun disk stopped mine story all kept =
     let O = g.O.Opened in
-    headline_holds O.opening O.bytes O.script story (λ d. seen (g.D.Disk.told d) (g.D.Disk.clock d) (g.D.Disk.image d) (g.D.Disk.faults d)) others g.M.Mounted.disk.faults g.M.Mounted.disk.clock stopped _ _
+    headline_holds O.opening O.bytes O.script story g.M.Mounted.disk.faults g.M.Mounted.disk.clock stopped _ _
     (legal_of_follow O.coherent O.opening O.bytes O.script story coherent all)
-    (c.lines_are_told_in_order.ensures coherent numbered story all) apart
+    (c.lines_are_told_in_order.ensures coherent numbered story all)
     (by_flushers story mine _ (c.the_flusher_alone_tells.ensures.moment story coherent all ∙ ap flushed_moment kept.own) kept.by_now)

@@ -1,24 +1,24 @@
 -- What a run over what was loaded leaves.
-use Rattle.std.proofs.Common.{◌≡◌, inl, inr, ℕ, ◌+◌, ◌<◌, ◌≤◌, Bool, true, false, List, [], ◌∷◌, ◌++◌, append-nil, All, map, Option, None, Some, IfSome, IsSome, IsSomeAnd, is_some, refl, sym, ◌∙◌, ap, subst, arith}
+use Rattle.std.proofs.Common.{◌≡◌, inl, inr, ℕ, ◌<◌, ◌≤◌, Bool, true, false, List, [], ◌++◌, append-nil, Option, None, Some, IfSome, IsSome, IsSomeAnd, refl, sym, ◌∙◌, subst, arith}
 use Rattle.std.specs.Prelude.{nat_lt}
 use Rattle.std.proofs.lemmas.Bool.{cases_lt, false≢true, lt-ltb, ltb-true}
-use Rattle.std.proofs.lemmas.List.Elements.{All-cons, All-head, All-tail}
 use Rattle.oz_core.specs.declared.event.Event.{Event}
+use Rattle.oz_core.specs.declared.event.Node.{Node}
 use Rattle.oz_core.specs.declared.opening.Opening.{Opening}
 use Rattle.oz_core.specs.Contents.{OpeningBytes}
 use Rattle.oz_core.specs.Law.{IsLegal}
 use Rattle.oz_core.specs.Manager.{durable_index}
-use Rattle.oz_datanode.specs.declared.disks.NodeDisks.{NodeDisks}
-use Rattle.oz_datanode.specs.Datanode.{State as Datanode}
 use Rattle.oz_decision.specs.Meets.{AreInGrammar}
-use Rattle.oz_disk_run.specs.Coherent.{BothTell, IsCoherentStore}
+use Rattle.oz_disk_run.specs.Coherent.{IsCoherentStore}
 use Rattle.oz_disk_run.specs.RunOver.{IsOneHistory, LoadingKeeps, OpensAs}
+use Rattle.oz_disk_run.specs.Disks.{counts_loaded}
 use Rattle.oz_disk_run.specs.Shown.{ShowStore, bodies_shown, opening_shown, rows_shown}
-use Rattle.oz_disk_run.specs.Told.{IsTold}
+use Rattle.oz_disk_run.specs.Told.{IsTold, left_by}
 use Rattle.oz_disk_run.proofs.Bodies.{told_shows}
+use Rattle.oz_disk_run.proofs.Coming.{tells_still, told_still}
 use Rattle.oz_flusher.specs.Stops.{IsPrefix}
 use Rattle.oz_flusher.specs.Taken.{bodies_of}
-use Rattle.oz_grants.specs.Made.{Made}
+use Rattle.oz_halts.specs.Disks.{OtherDisks, OtherNodes}
 use Rattle.oz_journal.specs.Grammar.{IsJournal}
 use Rattle.oz_journal.specs.Load.{IsLeftAlone, IsLoadable, loaded_at}
 use Rattle.oz_lines.specs.declared.script.Script.{Script}
@@ -26,13 +26,14 @@ use Rattle.oz_loaded.specs.Loads.{IsLoaded}
 use Rattle.oz_loaded.specs.Unseated.{UnseatedView}
 use Rattle.oz_namespace.specs.declared.namespace.Namespace.{Namespace}
 use Rattle.oz_names.specs.declared.limits.TheConstants.{STRIPES}
-use Rattle.oz_nodes_loaded.specs.Loads.{AreNodesFrom, disks_in}
+use Rattle.oz_nodes_loaded.specs.Loads.{AreNodesFrom}
 use Rattle.oz_om.specs.Keeps.{HasRun}
 use Rattle.oz_restored.specs.laws.Images.{front_opens, image_opens}
 use Rattle.oz_restored.specs.laws.Whole.{all_stood}
 use Rattle.oz_restored.specs.Opens.{StandUpTo}
 use Rattle.oz_restored.specs.Together.{AllStood, together}
 use Rattle.oz_rows.specs.RowMaps.{Rows, row_of}
+use Rattle.oz_running.specs.declared.ran.Ran.{Ran}
 use Rattle.oz_sound.specs.Sound.{IsSoundButRenames}
 use Rattle.oz_sound.specs.StandsFor.{StandsFor}
 use Rattle.oz_standing.specs.Shown.{namespace_shown}
@@ -41,10 +42,6 @@ use Rattle.oz_store_opening.specs.Agreeing.{BlocksAgree}
 use Rattle.oz_store_opening.specs.Openings.{opening_bytes, opening_of}
 use Rattle.oz_world.specs.Disk.{Seen, TellsAsBefore}
 use Rattle.oz_world.specs.Moments.{Elapses, Spans}
-
-tells_still : (before after : Option (List ℕ)) → TellsAsBefore before after → IsSome before → IsSome after
-tells_still before None alike some = absurd (false≢true (ap (λ (o : Option (List ℕ)). is_some o) (sym (alike.1 refl)) ∙ some))
-tells_still before (Some bytes) alike some = refl
 
 opens_told : (opening : Opening) (story : List Event) (most : ℕ) (bodies : List (List ℕ)) (told : Option (List ℕ)) → IsSome told
     → IfSome told (λ bytes. IsJournal bytes bodies) → StandUpTo opening story bodies most → IsSomeAnd told (λ left. OpensAs opening story left most)
@@ -75,46 +72,53 @@ module _ (before mounted after : Seen) (time : Elapses mounted.clock after.clock
 
 -- ---- where the disks agree
 
-module _ {D : Type 0} (see : D → Seen) where
-  -- the disks of datanodes tell their bytes still, once they were loaded
-  told_still : (dn : ℕ) (disks : List (NodeDisks D)) (nodes : List (Datanode D)) → AreNodesFrom see dn disks nodes → All (BothTell see) disks → All (BothTell see) (map disks_in nodes)
-  told_still dn [] [] are tell = λ k own within. absurd (omega (arith, within))
-  told_still dn [] (node ∷ nodes) are tell = absurd are
-  told_still dn (own ∷ disks) [] are tell = absurd are
-  told_still dn (own ∷ disks) (node ∷ nodes) are tell =
-      let first = All-head (BothTell see) own disks tell in
-      let slots : IsSome (see (disks_in node).slots).told = subst (λ (o : Option (List ℕ)). IsSome o) (sym are.0.slots.contents) first.1 in
-      All-cons (BothTell see) (disks_in node) (map disks_in nodes) (tells_still (see own.meta).told (see (disks_in node).meta).told are.0.meta.telling first.0, slots)
-      (told_still (dn + 1) disks nodes are.1 (All-tail (BothTell see) own disks tell))
-
-module _ {D : Type 0} (see : D → Seen) (script : Script) (disks : List (NodeDisks D)) (made : Made) (nodes : List (Datanode D)) (before mounted after : D)
+module _ {D : Type 0} (see : D → Seen) (script : Script) (others : OtherDisks D) (nodes : OtherNodes D) (before mounted : D) (ran : Ran D)
     (bodies : List (List ℕ)) (unseated : UnseatedView) (this : IsLoaded bodies unseated) (rows_are : rows_shown unseated.parts ≡ row_of this.all)
-    (journal : IfSome (see mounted).told (λ bytes. IsJournal bytes bodies)) (telling : TellsAsBefore (see before).told (see mounted).told)
-    (seats : ℕ) (story : List Event) (stopped all_told : Bool) where
+    (journal : IfSome (see mounted).told (λ bytes. IsJournal bytes bodies)) (telling : TellsAsBefore (see before).told (see mounted).told) (seats : ℕ) where
   abbrev contents : OpeningBytes
-  contents = opening_bytes see nodes
+  contents = opening_bytes see nodes.datanodes
+
+  abbrev Agree : Type 0
+  Agree = ShowStore see unseated nodes.scm.made nodes.datanodes
+
+  abbrev counts : Node → ℕ
+  counts = counts_loaded see (see mounted).faults nodes
 
   abbrev Told : Opening → Rows → Type 0
-  Told opening loaded = IsTold see (ShowStore see unseated made nodes) opening contents (bodies_shown (see mounted).told) script (see mounted) loaded seats story stopped after all_told
+  Told opening loaded = IsTold see Agree opening contents (bodies_shown (see mounted).told) script counts (see mounted) loaded seats nodes ran
 
-  module _ (namespace : Namespace) (shown : namespace_shown unseated.parts ≡ namespace) (are : AreNodesFrom see 0 disks nodes)
-      (coherent : IsCoherentStore see disks (row_of this.all) (opening_of unseated namespace made nodes) contents)
-      (store : IsStore (row_of this.all) (opening_of unseated namespace made nodes) contents)
-      (fit : AreInGrammar (row_of this.all)) (its : Told (opening_of unseated namespace made nodes) (row_of this.all)) where
+  abbrev story : List Event
+  story = ran.story.items
+
+  abbrev after : D
+  after = ran.journal.disk
+
+  abbrev stopped : Bool
+  stopped = ran.journal.stopped
+
+  -- a coherent store is one as it shows itself
+  pub shows : (namespace : Namespace) → namespace_shown unseated.parts ≡ namespace → AreNodesFrom see 0 others.datanodes nodes.datanodes
+      → IsCoherentStore see others.datanodes (row_of this.all) (opening_of unseated namespace nodes.scm.made nodes.datanodes) contents → Agree
+  shows namespace shown are coherent = record {
+    stands = subst (λ (rows : Rows). StandsFor rows (namespace_shown unseated.parts)) (sym rows_are) (subst (StandsFor (row_of this.all)) (sym shown) coherent.stands);
+    sound = subst IsSoundButRenames (sym rows_are) coherent.sound;
+    agree = subst (λ (rows : Rows). BlocksAgree rows (opening_shown unseated nodes.scm.made nodes.datanodes) contents) (sym rows_are)
+        (subst (λ (n : Namespace). BlocksAgree (row_of this.all) (opening_of unseated n nodes.scm.made nodes.datanodes) contents) (sym shown) coherent.agree);
+    told = told_still see 0 others.datanodes nodes.datanodes are coherent.told;
+  }
+
+  module _ (namespace : Namespace) (shown : namespace_shown unseated.parts ≡ namespace) (are : AreNodesFrom see 0 others.datanodes nodes.datanodes)
+      (coherent : IsCoherentStore see others.datanodes (row_of this.all) (opening_of unseated namespace nodes.scm.made nodes.datanodes) contents)
+      (store : IsStore (row_of this.all) (opening_of unseated namespace nodes.scm.made nodes.datanodes) contents)
+      (fit : AreInGrammar (row_of this.all)) (its : Told (opening_of unseated namespace nodes.scm.made nodes.datanodes) (row_of this.all)) where
     abbrev opening : Opening
-    opening = opening_of unseated namespace made nodes
+    opening = opening_of unseated namespace nodes.scm.made nodes.datanodes
 
-    agree : ShowStore see unseated made nodes
-    agree = record {
-      stands = subst (λ (rows : Rows). StandsFor rows (namespace_shown unseated.parts)) (sym rows_are) (subst (StandsFor (row_of this.all)) (sym shown) coherent.stands);
-      sound = subst IsSoundButRenames (sym rows_are) coherent.sound;
-      agree = subst (λ (rows : Rows). BlocksAgree rows (opening_shown unseated made nodes) contents) (sym rows_are)
-          (subst (λ (n : Namespace). BlocksAgree (row_of this.all) (opening_of unseated n made nodes) contents) (sym shown) coherent.agree);
-      told = told_still see 0 disks nodes are coherent.told;
-    }
+    agree : Agree
+    agree = shows namespace shown are coherent
 
     legal : IsLegal opening story
-    legal = (its.headline agree before [] (λ k other less. absurd (omega (arith, less)))).one_history.0
+    legal = (its.headline agree before others).one_history.0
 
     run_of : (stripe : ℕ) → (rows : Rows) × (stripe < STRIPES → HasRun opening (row_of this.all) story stripe rows)
     run_of stripe = by (nat_lt stripe STRIPES) refl
@@ -148,9 +152,9 @@ module _ {D : Type 0} (see : D → Seen) (script : Script) (disks : List (NodeDi
         subst (StandUpTo opening story (bodies ++ bodies_of story)) (its.all_flushed agree running)
         (front_opens opening (row_of this.all) bodies this.all this.builds refl story legal (together rows) stood story [] (sym (append-nil story)))
 
-    pub one_history : IsOneHistory see script opening contents (see mounted).faults (see mounted).clock before after stopped story
+    pub one_history : IsOneHistory see script before after stopped others nodes (left_by ran) opening contents (see mounted).faults (see mounted).clock story
     one_history = record {
-      headline = λ others apart. its.headline agree before others apart;
+      headline = its.headline agree before others;
       stops = λ some moment left from by h.
           image_opens opening (row_of this.all) bodies this.all this.builds refl story legal (together rows) stood moment left
           (subst (λ (l : List (List ℕ)). IsPrefix l story moment left) (shown_bodies some) (its.run.kept.stops agree (some_after some) moment left from by h));
@@ -161,8 +165,8 @@ module _ {D : Type 0} (see : D → Seen) (script : Script) (disks : List (NodeDi
     }
 
   -- what the rows and the namespace show is what they are
-  pub told_of : (namespace : Namespace) → namespace_shown unseated.parts ≡ namespace → Told (opening_shown unseated made nodes) (rows_shown unseated.parts)
-      → Told (opening_of unseated namespace made nodes) (row_of this.all)
+  pub told_of : (namespace : Namespace) → namespace_shown unseated.parts ≡ namespace → Told (opening_shown unseated nodes.scm.made nodes.datanodes) (rows_shown unseated.parts)
+      → Told (opening_of unseated namespace nodes.scm.made nodes.datanodes) (row_of this.all)
   told_of namespace shown told =
-      subst (λ (n : Namespace). Told (opening_of unseated n made nodes) (row_of this.all)) shown
-      (subst (λ (loaded : Rows). Told (opening_shown unseated made nodes) loaded) rows_are told)
+      subst (λ (n : Namespace). Told (opening_of unseated n nodes.scm.made nodes.datanodes) (row_of this.all)) shown
+      (subst (λ (loaded : Rows). Told (opening_shown unseated nodes.scm.made nodes.datanodes) loaded) rows_are told)

@@ -3,3 +3,4 @@ mod Bodies
 mod History
 mod Opened
 mod Rows
+mod Namespaces

@@ -1,6 +1,7 @@
 pub mod Coherent
 pub mod Disks
 pub mod Refused
+pub mod Reopens
 pub mod RunOver
 pub mod Shown
 pub mod StoreRun

@@ -2,10 +2,8 @@
 use Rattle.std.specs.Prelude.{ℕ, zero, suc, ◌==◌, List, [], ◌∷◌, length, map, take, drop, slice_get, Option, None, Some}
 use Rattle.std.specs.Prelude.{if◌then◌else◌}
 use Rattle.oz_cache.specs.Cache.{CacheView, newest}
-use Rattle.oz_core.specs.declared.event.Node.{Node}
-use Rattle.oz_core.specs.declared.event.Node.TheVariants as node
 use Rattle.oz_core.specs.declared.opening.Opening.{Opening}
-use Rattle.oz_datanode.specs.Datanode.{State as Datanode, count_of}
+use Rattle.oz_datanode.specs.Datanode.{State as Datanode}
 use Rattle.oz_disk_run.specs.Coherent.{IsCoherentStore}
 use Rattle.oz_fields.specs.Number.{u32_at}
 use Rattle.oz_grants.specs.Made.{Made}
@@ -14,7 +12,6 @@ use Rattle.oz_nodes_loaded.specs.Loads.{disks_in}
 use Rattle.oz_rows.specs.declared.key.RowKey.{RowKey}
 use Rattle.oz_rows.specs.declared.row.Row.{Row}
 use Rattle.oz_rows.specs.RowMaps.{Rows}
-use Rattle.oz_scm.specs.Scm.{State as Scm}
 use Rattle.oz_standing.specs.Shown.{namespace_shown}
 use Rattle.oz_store_opening.specs.Openings.{opening_bytes, opening_of}
 use Rattle.oz_stripes.specs.Stripes.{stripe_of_key}
@@ -36,23 +33,12 @@ rows_shown parts key = row_in (slice_get parts (stripe_of_key key)) key
 abbrev pub opening_shown : {D : Type 0} → UnseatedView → Made → List (Datanode D) → Opening
 opening_shown unseated made nodes = opening_of unseated (namespace_shown unseated.parts) made nodes
 
--- how often the disks of a datanode failed, if it is there
-abbrev pub count_in : {D : Type 0} → (D → ℕ) → Option (Datanode D) → ℕ
-count_in faults None = 0
-count_in faults (Some node) = count_of faults node
-
 module _ {D : Type 0} (see : D → Seen) where
   -- what was loaded is a coherent store with that opening
   abbrev pub ShowStore : UnseatedView → Made → List (Datanode D) → Type 0
   ShowStore unseated made nodes =
       IsCoherentStore see (map disks_in nodes) (rows_shown unseated.parts) (opening_shown unseated made nodes)
       (opening_bytes see nodes)
-
-  -- how often the disks of a node had failed once they were loaded, those of a datanode together
-  abbrev pub faults_shown : D → Scm D → List (Datanode D) → Node → ℕ
-  faults_shown manager scm nodes node.Manager = (see manager).faults
-  faults_shown manager scm nodes node.Scm = (see scm.disk).faults
-  faults_shown manager scm nodes (node.Datanode dn) = count_in (λ disk. (see disk).faults) (slice_get nodes dn)
 
 -- ---- bodies
 

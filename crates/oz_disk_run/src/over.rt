@@ -1,22 +1,28 @@
 //! A run over the disks of a store.
 
-ghost use Rattle.std.specs.Prelude.{◌≡◌, ◌≤◌, length, IfOk, IfErr};
+ghost use Rattle.std.specs.Prelude.{◌≡◌, ◌≤◌, [], All, length, map, vec_capacity, vec_len, IfOk, IfErr};
+ghost use Rattle.std.specs.List.{list_any};
+ghost use Rattle.oz_datanode.specs.Datanode.{is_halted};
 ghost use Rattle.oz_disk_run.specs.Refused.{AreAtMostLoaded, IsRefusedFor, store_fault_of};
+ghost use Rattle.oz_disk_run.specs.Reopens.{NodeReopens, ScmReopens};
 ghost use Rattle.oz_disk_run.specs.StoreRun.{IsStoreRun};
+ghost use Rattle.oz_disk_run.specs.Told.{left_by};
+ghost use Rattle.oz_halts.specs.Disks.{some_halted};
 ghost use Rattle.oz_lines.specs.Numbered.{IsNumbered};
 ghost use Rattle.oz_nodes.specs.declared.nodes.TheConstants.{FEWEST_NODES, MOST_NODES};
+ghost use Rattle.oz_nodes_loaded.specs.Loads.{disks_in};
 ghost use Rattle.oz_world.specs.Disk.{seen};
 
 use crate::disks::{Disks, RefusedStore};
 use crate::loaded::run_loaded;
 use oz_core::Event;
-use oz_datanode::NodeDisks;
+use oz_datanode::{Datanode, NodeDisks};
 use oz_effects::a_batch_makes_a_body;
 use oz_journal::LoadFault;
 use oz_lines::Script;
 use oz_loaded::{load, the_parts_are_the_whole};
-use oz_nodes_loaded::{DiskName, LoadedNodes, RefusedNodes, StoreFault, load_nodes};
-use oz_running::Ran;
+use oz_nodes_loaded::{DiskName, LoadedNodes, RefusedNodes, StoreFault, disks_of, load_nodes};
+use oz_running::{Ran, Unstarted};
 use oz_standing::parts_show_their_namespace;
 use oz_store_opening::all_disks_are_a_store;
 use oz_world::{Disk, Gate};
@@ -24,12 +30,12 @@ use std::alloc::Global;
 use std::sync::Wait;
 use std::thread::Threads;
 
-/// What a run leaves: what happened in it, whether a write of the manager's disk failed, whether all lines were told, and
-/// the disks.
+/// What a run leaves: what happened in it, whether a call on a node's disk failed, whether all lines were told, and the
+/// disks.
 #[derive(Drop)]
 pub struct StoreRan<D> {
     pub story: Vec<Event>,
-    pub stopped: bool,
+    pub any_halted: bool,
     pub all_told: bool,
     pub disks: Disks<D>,
 }
@@ -37,8 +43,8 @@ pub struct StoreRan<D> {
 /// Runs the lines of a script over the disks of a store, by so many workers and a flusher on threads, and then by this
 /// thread what they leave. First all disks are loaded: the manager's, the storage container manager's, and of each
 /// datanode its journal and its slots; and no block id on one of them may be granted again. The run opens by all of
-/// them, and writes to the manager's alone. Where one of this can't be had, or memory ran out before the work, the
-/// disks come back as loading left them, and nothing else was done.
+/// them, and writes to each. Where one of this can't be had, or memory ran out before the work, the disks come back as
+/// loading left them, and nothing else was done.
 pub fn run_over_disks<D: Disk + Send, W: Threads + Wait + Sync, G: Gate + Sync>(
     rt: &W,
     alloc: Global,
@@ -53,7 +59,7 @@ pub fn run_over_disks<D: Disk + Send, W: Threads + Wait + Sync, G: Gate + Sync>(
     requires least { FEWEST_NODES ≤ length disks.nodes.items }
     requires most { length disks.nodes.items ≤ MOST_NODES }
     ensures ran { IfOk result (λ ran. let see = (λ (d : D). seen (D.told d) (D.clock d) (D.image d) (D.faults d)) in
-        IsStoreRun see script.now disks ran.disks ran.stopped ran.story.items ran.all_told) }
+        IsStoreRun see script.now disks ran.disks ran.any_halted ran.story.items ran.all_told) }
     ensures refused { IfErr result (λ refused. let see = (λ (d : D). seen (D.told d) (D.clock d) (D.image d) (D.faults d)) in
         IsRefusedFor see disks refused.disks refused.fault) }
     ensures spared { IfErr result (λ refused. let see = (λ (d : D). seen (D.told d) (D.clock d) (D.image d) (D.faults d)) in
@@ -74,17 +80,22 @@ pub fn run_over_disks<D: Disk + Send, W: Threads + Wait + Sync, G: Gate + Sync>(
             return Err(refused(manager, scm, nodes, fault_of(fault)));
         }
     };
-    let loaded = match load_nodes(alloc, scm, nodes, unseated.greatest_id()) {
+    let LoadedNodes { scm, nodes, room } = match load_nodes(
+        alloc,
+        scm,
+        nodes,
+        unseated.greatest_id(),
+    ) {
         Ok(loaded) => loaded,
         Err(RefusedNodes { scm, nodes, fault }) => {
             return Err(refused(flusher.into_journal().into_disk(), scm, nodes, fault));
         }
     };
-    let ran = run_loaded(rt, alloc, gate, script, unseated, flusher, workers, &loaded);
-    let (scm, nodes) = loaded.into_disks();
-    match ran {
-        Ok(ran) => Ok(ran_over(ran, scm, nodes)),
-        Err((journal, _)) => Err(refused(journal.into_disk(), scm, nodes, StoreFault::OutOfMemory)),
+    match run_loaded(
+        rt, alloc, gate, script, unseated, flusher, scm, nodes, workers,
+    ) {
+        Ok(ran) => Ok(ran_over(ran, room)),
+        Err((unstarted, _)) => Err(not_started(unstarted, room)),
     }
 }
 
@@ -121,28 +132,75 @@ fn refused<D>(manager: D, scm: D, nodes: Vec<NodeDisks<D>>, fault: StoreFault) -
     }
 }
 
-/// What a run leaves of the manager's disk, and the others.
-fn ran_over<D: Disk>(ran: Ran<D>, scm: D, nodes: Vec<NodeDisks<D>>) -> StoreRan<D>
+/// The disks of a run whose work didn't start, since memory ran out. The list has room for those of the datanodes.
+fn not_started<D: Disk>(unstarted: Unstarted<D>, room: Vec<NodeDisks<D>>) -> RefusedStore<D>
+    requires empty { room.items ≡ [] }
+    requires enough { vec_len unstarted.nodes ≤ vec_capacity room }
+    ensures manager { result.disks.manager ≡ unstarted.journal.disk }
+    ensures scm { result.disks.scm ≡ unstarted.scm.disk }
+    ensures nodes { result.disks.nodes.items ≡ map disks_in unstarted.nodes.items }
+    ensures fault { result.fault ≡ StoreFault.OutOfMemory }
+{
+    let Unstarted {
+        journal,
+        scm,
+        nodes,
+    } = unstarted;
+    refused(
+        journal.into_disk(),
+        scm.into_disk(),
+        disks_of(nodes, room),
+        StoreFault::OutOfMemory,
+    )
+}
+
+/// What a run leaves. The list has room for the disks of the datanodes.
+fn ran_over<D: Disk>(ran: Ran<D>, room: Vec<NodeDisks<D>>) -> StoreRan<D>
+    requires empty { room.items ≡ [] }
+    requires enough { vec_len ran.nodes ≤ vec_capacity room }
     ensures story { result.story ≡ ran.story }
-    ensures stopped { result.stopped ≡ ran.journal.stopped }
+    ensures any_halted { result.any_halted ≡ some_halted ran.journal.stopped (left_by ran) }
     ensures all_told { result.all_told ≡ ran.all_told }
     ensures manager { result.disks.manager ≡ ran.journal.disk }
-    ensures scm { result.disks.scm ≡ scm }
-    ensures nodes { result.disks.nodes ≡ nodes }
+    ensures scm { result.disks.scm ≡ ran.scm.disk }
+    ensures nodes { result.disks.nodes.items ≡ map disks_in ran.nodes.items }
+    ensures scm_reopens { let see = (λ (d : D). seen (D.told d) (D.clock d) (D.image d) (D.faults d)) in
+        ScmReopens see ran.scm.made.nodes ran.scm }
+    ensures nodes_reopen { let see = (λ (d : D). seen (D.told d) (D.clock d) (D.image d) (D.faults d)) in
+        All (NodeReopens see) ran.nodes.items }
 {
     let Ran {
         story,
         journal,
+        scm,
+        nodes,
         all_told,
     } = ran;
+    let stopped = journal.stopped();
+    let scm_halted = scm.stopped();
+    let node_halted = has_halted(&nodes);
     StoreRan {
         story,
-        stopped: journal.stopped(),
+        any_halted: stopped || scm_halted || node_halted,
         all_told,
         disks: Disks {
             manager: journal.into_disk(),
-            scm,
-            nodes,
+            scm: scm.into_disk(),
+            nodes: disks_of(nodes, room),
         },
     }
+}
+
+/// Whether a call on a disk of one of these datanodes has failed. Of the others, what their journals tell stands for what
+/// they hold.
+fn has_halted<D: Disk>(nodes: &[Datanode<D>]) -> bool
+    ensures halted { result ≡ list_any is_halted nodes.now }
+    ensures reopen { let see = (λ (d : D). seen (D.told d) (D.clock d) (D.image d) (D.faults d)) in
+        All (NodeReopens see) nodes.now }
+{
+    let mut any = false;
+    for node in nodes {
+        any = node.halted() || any;
+    }
+    any
 }

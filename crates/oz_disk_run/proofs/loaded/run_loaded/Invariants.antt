@@ -1,5 +1,7 @@
 use Rattle.oz_om.specs.Keeps.{KeepsRows}
-use Rattle.oz_disk_run.specs.Shown.{ShowStore, bodies_shown, faults_shown, opening_shown, rows_shown}
+use Rattle.oz_disk_run.specs.Disks.{counts_loaded}
+use Rattle.oz_disk_run.specs.Shown.{ShowStore, bodies_shown, opening_shown, rows_shown}
+use Rattle.oz_disk_run.specs.Told.{other_nodes}
 use Rattle.oz_store_opening.specs.Openings.{opening_bytes}
 use Rattle.oz_world.specs.Disk.{seen}
 use Rattle.oz_disk_run.proofs.loaded.run_loaded.Given as goal
@@ -9,20 +11,20 @@ abbrev pub ghosts-run_told-O-Opened : goal.ghosts-run_told-O-Opened
 ghosts-run_told-O-Opened g a =
     let see = (λ (d : g.row.D.Denot). seen (g.D.Disk.told d) (g.D.Disk.clock d) (g.D.Disk.image d) (g.D.Disk.faults d)) in
     record {
-      opening = opening_shown a.unseated a.others.now.scm.made a.others.now.nodes.items;
+      opening = opening_shown a.unseated a.scm.made a.nodes.items;
       bodies = bodies_shown (g.D.Disk.told a.flusher.disk);
-      bytes = opening_bytes see a.others.now.nodes.items;
-      faults = faults_shown see a.flusher.disk a.others.now.scm a.others.now.nodes.items;
+      bytes = opening_bytes see a.nodes.items;
+      faults = counts_loaded see (g.D.Disk.faults a.flusher.disk) (other_nodes a.scm a.nodes.items);
       script = a.script.now;
-      coherent = ShowStore see a.unseated a.others.now.scm.made a.others.now.nodes.items;
+      coherent = ShowStore see a.unseated a.scm.made a.nodes.items;
     }
 
 -- and loaded
 abbrev pub ghosts-run_told-L-Loaded : goal.ghosts-run_told-L-Loaded
 ghosts-run_told-L-Loaded g a =
     let see = (λ (d : g.row.D.Denot). seen (g.D.Disk.told d) (g.D.Disk.clock d) (g.D.Disk.image d) (g.D.Disk.faults d)) in
-    let made = a.others.now.scm.made in
-    let nodes = a.others.now.nodes.items in
+    let made = a.scm.made in
+    let nodes = a.nodes.items in
     record {
       rows = rows_shown a.unseated.parts;
       last_index = a.unseated.last_index;

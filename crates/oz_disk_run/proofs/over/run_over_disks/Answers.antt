@@ -1,20 +1,30 @@
-use Rattle.std.proofs.Common.{inr, ℕ, Bool, List, length, map, ap, sym, ◌∙◌, subst, arith}
+use Rattle.std.proofs.Common.{◌≡◌, inr, ℕ, Bool, List, length, map, ap, refl, sym, ◌∙◌, subst, arith}
 use Rattle.std.specs.List.{AllZip}
 use Rattle.oz_core.specs.declared.event.Event.{Event}
 use Rattle.oz_datanode.specs.declared.disks.NodeDisks.{NodeDisks}
-use Rattle.oz_datanode.specs.Datanode.{node_in}
+use Rattle.oz_datanode.specs.Datanode.{State as Datanode, node_in}
 use Rattle.oz_disk_run.specs.declared.disks.Disks.{Disks}
 use Rattle.oz_disk_run.specs.Refused.{AreAtMostLoaded, IsRefusedFor}
+use Rattle.oz_disk_run.specs.Reopens.{ScmReopens}
+use Rattle.oz_disk_run.specs.Coherent.{IsCoherentStore}
+use Rattle.oz_disk_run.specs.Disks.{counts_loaded, others_of}
+use Rattle.oz_disk_run.specs.Shown.{ShowStore}
 use Rattle.oz_disk_run.specs.StoreRun.{IsStoreRun}
+use Rattle.oz_disk_run.specs.Told.{left_by, other_nodes}
 use Rattle.oz_disk_run.specs.laws.Untouched.{nodes_as_are, scm_as_is}
 use Rattle.oz_disk_run.proofs.Coming.{disks_same, loaded_left, so_many}
-use Rattle.oz_disk_run.proofs.History.{loading_keeps, one_history, told_of}
-use Rattle.oz_disk_run.proofs.Opened.{first_journal, tells_journal}
+use Rattle.oz_disk_run.proofs.History.{loading_keeps, one_history, shows, told_of}
+use Rattle.oz_disk_run.proofs.Opened.{first_journal, node_count, tells_journal}
+use Rattle.oz_disk_run.proofs.Namespaces.{nodes_over, scm_over}
 use Rattle.oz_disk_run.proofs.Rows.{are_stripes, rows_are}
-use Rattle.oz_nodes_loaded.specs.Disks.{LeavesNode}
+use Rattle.oz_halts.specs.Disks.{AreAsMany}
+use Rattle.oz_nodes_loaded.specs.Disks.{LeavesJournal, LeavesNode, LeavesScm}
 use Rattle.oz_nodes_loaded.specs.Ids.{AreBelow}
+use Rattle.oz_nodes_loaded.specs.Loads.{disks_in}
 use Rattle.oz_nodes_loaded.specs.declared.fault.StoreFault.{StoreFault}
 use Rattle.oz_rows.specs.RowMaps.{row_of}
+use Rattle.oz_standing.specs.Shown.{namespace_shown}
+use Rattle.oz_store_opening.specs.Openings.{opening_bytes, opening_of}
 use Rattle.oz_world.specs.Disk.{seen}
 use Rattle.oz_disk_run.proofs.over.run_over_disks.Goals as goal
 
@@ -71,34 +81,53 @@ returns-in-Err-load_nodes-clause-spared g c =
       nodes = c.in-Err-load_nodes.ensures.nodes_left;
     }
 
-pub run_loaded-ran-requires-clause-loaded : goal.run_loaded-ran-requires-clause-loaded
-run_loaded-ran-requires-clause-loaded g c κs within =
+pub run_loaded-requires-clause-loaded : goal.run_loaded-requires-clause-loaded
+run_loaded-requires-clause-loaded g c κs within =
     let load = c.in-Ok.ensures in
     (load.loads.0, load.loads.1, tells_journal (g.D.Disk.told c.args.disks.manager) (g.D.Disk.told c.in-Ok.loaded.1.disk) load.loads.0 load.telling load.loads.2)
 
-pub run_loaded-ran-requires-clause-fresh : goal.run_loaded-ran-requires-clause-fresh
-run_loaded-ran-requires-clause-fresh g c κs within =
+pub run_loaded-requires-clause-others : goal.run_loaded-requires-clause-others
+run_loaded-requires-clause-others g c κs within =
+    let loaded = c.in-Ok-load_nodes in
+    record { disk = c.args.disks.scm; disks = c.args.disks.nodes.items; scm_from = loaded.ensures.scm; nodes_from = loaded.ensures.nodes }
+
+pub run_loaded-requires-clause-fresh : goal.run_loaded-requires-clause-fresh
+run_loaded-requires-clause-fresh g c κs within =
     let loaded = c.in-Ok-load_nodes in
     subst (λ (n : ℕ). AreBelow n (map node_in loaded.loaded.nodes.items) loaded.loaded.scm.made.next_id) c.greatest_id.ensures loaded.ensures.fresh
 
-pub run_loaded-ran-requires-clause-least : goal.run_loaded-ran-requires-clause-least
-run_loaded-ran-requires-clause-least g c κs within =
+pub run_loaded-requires-clause-least : goal.run_loaded-requires-clause-least
+run_loaded-requires-clause-least g c κs within =
     let D = g.D.Disk in
     let see = (λ (d : g.row.D.Denot). seen (D.told d) (D.clock d) (D.image d) (D.faults d)) in
     let loaded = c.in-Ok-load_nodes in
     let many = so_many see 0 c.args.disks.nodes.items loaded.loaded.nodes.items loaded.ensures.nodes in
     omega (arith, many, c.requires.least)
 
-pub run_loaded-ran-requires-clause-most : goal.run_loaded-ran-requires-clause-most
-run_loaded-ran-requires-clause-most g c κs within =
+pub run_loaded-requires-clause-most : goal.run_loaded-requires-clause-most
+run_loaded-requires-clause-most g c κs within =
     let D = g.D.Disk in
     let see = (λ (d : g.row.D.Denot). seen (D.told d) (D.clock d) (D.image d) (D.faults d)) in
     let loaded = c.in-Ok-load_nodes in
     let many = so_many see 0 c.args.disks.nodes.items loaded.loaded.nodes.items loaded.ensures.nodes in
     omega (arith, many, c.requires.most)
 
-pub returns-in-Ok-ran-clause-ran : goal.returns-in-Ok-ran-clause-ran
-returns-in-Ok-ran-clause-ran g c =
+pub ran_over-requires-clause-enough : goal.ran_over-requires-clause-enough
+ran_over-requires-clause-enough g c =
+    let loaded = c.in-Ok-load_nodes.loaded in
+    let ran = c.in-Ok-run_loaded in
+    let count : length ran.ran.nodes.items ≡ length loaded.nodes.items = ran.ensures.told.run.datanodes.count ∙ node_count loaded.nodes.items in
+    omega (arith, count, loaded.enough)
+
+pub not_started-requires-clause-enough : goal.not_started-requires-clause-enough
+not_started-requires-clause-enough g c =
+    let loaded = c.in-Ok-load_nodes.loaded in
+    let refused = c.in-Err-run_loaded in
+    let count : length refused.unstarted.nodes.items ≡ length loaded.nodes.items = ap (λ (l : List (Datanode g.row.D.Denot)). length l) refused.ensures.nodes in
+    omega (arith, count, loaded.enough)
+
+pub returns-in-Ok-run_loaded-clause-ran : goal.returns-in-Ok-run_loaded-clause-ran
+returns-in-Ok-run_loaded-clause-ran g c =
     let D = g.D.Disk in
     let see = (λ (d : g.row.D.Denot). seen (D.told d) (D.clock d) (D.image d) (D.faults d)) in
     let load = c.in-Ok.ensures in
@@ -107,29 +136,36 @@ returns-in-Ok-ran-clause-ran g c =
     let both = load.loads.2 in
     let disks = c.args.disks in
     let before = disks.manager in
+    let others = others_of disks in
     let unseated = c.in-Ok.loaded.0 in
     let mounted = c.in-Ok.loaded.1.disk in
-    let ran = c.in-Ok-ran.ran in
+    let ran = c.in-Ok-run_loaded.ran in
     let after = ran.journal.disk in
     let script = c.args.script.now in
-    let told = c.in-Ok-ran.ensures.told in
+    let told = c.in-Ok-run_loaded.ensures.told in
     let law = c.the_parts_are_the_whole.ensures in
     let rows = rows_are bodies unseated this (law.there bodies unseated this) (law.same bodies unseated this) in
     let stripes = are_stripes bodies unseated this (law.there bodies unseated this) (law.same bodies unseated this) in
     let journal = tells_journal (D.told before) (D.told mounted) bodies load.telling both in
     let fit = c.a_batch_makes_a_body.ensures.fit bodies this.all unseated.last_index this.builds in
     let loaded = c.in-Ok-load_nodes in
-    let made = loaded.loaded.scm.made in
-    let nodes = loaded.loaded.nodes.items in
-    let fresh = subst (λ (n : ℕ). AreBelow n (map node_in nodes) made.next_id) c.greatest_id.ensures loaded.ensures.fresh in
-    let left : Disks g.row.D.Denot = record { manager = after; scm = c.into_disks-scm.result.0; nodes = c.into_disks-scm.result.1 } in
+    let scm = loaded.loaded.scm in
+    let datanodes = loaded.loaded.nodes.items in
+    let nodes = other_nodes scm datanodes in
+    let left = left_by ran in
+    let fresh = subst (λ (n : ℕ). AreBelow n (map node_in datanodes) scm.made.next_id) c.greatest_id.ensures loaded.ensures.fresh in
+    let loaded_count = so_many see 0 disks.nodes.items datanodes loaded.ensures.nodes in
+    let left_count = told.run.datanodes.count ∙ node_count datanodes in
+    let many : AreAsMany others nodes left = record { before_count = sym loaded_count ∙ sym left_count; loaded_count = sym left_count } in
     let its = c.ran_over.ensures in
-    let same = disks_same c.ran_over.result.disks left its.manager its.scm its.nodes in
-    let run : IsStoreRun see script disks left ran.journal.stopped ran.story.items ran.all_told = record {
-      scm = loaded.loaded.scm;
-      scm_loaded = loaded.ensures.scm;
+    let back : Disks g.row.D.Denot = record { manager = after; scm = c.ran_over.result.disks.scm; nodes = c.ran_over.result.disks.nodes } in
+    let same = disks_same c.ran_over.result.disks back its.manager refl refl in
+    let run : IsStoreRun see script disks back c.ran_over.result.any_halted ran.story.items ran.all_told = record {
       nodes = nodes;
+      left = left;
+      scm_loaded = loaded.ensures.scm;
       nodes_loaded = loaded.ensures.nodes;
+      stopped = ran.journal.stopped;
       over = record {
         bodies = bodies;
         unseated = unseated;
@@ -141,30 +177,41 @@ returns-in-Ok-ran-clause-ran g c =
         ended = load.ended;
         coherent = λ namespace coherent.
             let shown = c.parts_show_their_namespace.ensures (row_of this.all) unseated.parts namespace stripes coherent.stands in
-            one_history see script disks.nodes.items made nodes before mounted after bodies unseated this rows journal load.telling _ ran.story.items ran.journal.stopped ran.all_told
-            namespace shown loaded.ensures.nodes coherent (c.all_disks_are_a_store.ensures.store bodies unseated this namespace made nodes coherent.stands coherent.sound fresh coherent.agree) fit
-            (told_of see script disks.nodes.items made nodes before mounted after bodies unseated this rows journal load.telling _ ran.story.items ran.journal.stopped ran.all_told namespace shown told);
-        halted = λ others apart. told.halted before others apart;
+            one_history see script others nodes before mounted ran bodies unseated this rows journal load.telling _
+            namespace shown loaded.ensures.nodes coherent (c.all_disks_are_a_store.ensures.store bodies unseated this namespace scm.made datanodes coherent.stands coherent.sound fresh coherent.agree) fit
+            (told_of see script others nodes before mounted ran bodies unseated this rows journal load.telling _ namespace shown told);
+        scm = λ namespace. scm_over D.faults unseated (namespace_shown unseated.parts) namespace nodes (counts_loaded see (D.faults mounted) nodes) ran.story.items ran.scm told.run.scm;
+        datanodes = λ namespace.
+            let bytes = opening_bytes see datanodes in
+            let Coherent = IsCoherentStore see disks.nodes.items (row_of this.all) (opening_of unseated namespace scm.made datanodes) bytes in
+            let same = λ (coherent : Coherent). c.parts_show_their_namespace.ensures (row_of this.all) unseated.parts namespace stripes coherent.stands in
+            nodes_over D.told D.clock D.image D.faults unseated scm.made datanodes (namespace_shown unseated.parts) namespace (ShowStore see unseated scm.made datanodes) Coherent
+            (λ coherent. shows see script others nodes before mounted ran bodies unseated this rows journal load.telling 0 namespace (same coherent) loaded.ensures.nodes coherent)
+            same bytes script (counts_loaded see (D.faults mounted) nodes) ran.story.items ran.nodes.items told.run.datanodes;
+        many = many;
+        halted = told.halted before others many;
         status = told.status;
-        counted = told.run.told;
+        counted = told.run.counted;
         loading = loading_keeps (see before) (see mounted) (see after) told.run.kept.time (D.told before) load.ended load.moments;
       };
       fresh = fresh;
-      scm_left = c.into_disks-scm.ensures.scm;
-      nodes_left = c.into_disks-scm.ensures.nodes;
+      halted = its.any_halted;
+      scm_left = its.scm;
+      nodes_left = its.nodes;
+      scm_reopens = subst (λ (n : ℕ). ScmReopens see n ran.scm) (told.run.scm.nodes ∙ (node_count datanodes ∙ loaded_count)) its.scm_reopens;
+      nodes_reopen = its.nodes_reopen;
     } in
-    subst (λ (d : Disks g.row.D.Denot). IsStoreRun see script disks d c.ran_over.result.stopped c.ran_over.result.story.items c.ran_over.result.all_told) (sym same)
-    (subst (λ (b : Bool). IsStoreRun see script disks left b c.ran_over.result.story.items c.ran_over.result.all_told) (sym its.stopped)
-    (subst (λ (l : List Event). IsStoreRun see script disks left ran.journal.stopped l c.ran_over.result.all_told) (sym (ap (λ v. v.items) its.story))
-    (subst (λ (b : Bool). IsStoreRun see script disks left ran.journal.stopped ran.story.items b) (sym its.all_told) run)))
+    subst (λ (d : Disks g.row.D.Denot). IsStoreRun see script disks d c.ran_over.result.any_halted c.ran_over.result.story.items c.ran_over.result.all_told) (sym same)
+    (subst (λ (l : List Event). IsStoreRun see script disks back c.ran_over.result.any_halted l c.ran_over.result.all_told) (sym (ap (λ v. v.items) its.story))
+    (subst (λ (b : Bool). IsStoreRun see script disks back c.ran_over.result.any_halted ran.story.items b) (sym its.all_told) run))
 
-pub returns-in-Err-ran-clause-refused : goal.returns-in-Err-ran-clause-refused
-returns-in-Err-ran-clause-refused g c =
+pub returns-in-Err-run_loaded-clause-refused : goal.returns-in-Err-run_loaded-clause-refused
+returns-in-Err-run_loaded-clause-refused g c =
     let D = g.D.Disk in
     let see = (λ (d : g.row.D.Denot). seen (D.told d) (D.clock d) (D.image d) (D.faults d)) in
     let before = c.args.disks in
     let load = c.in-Ok.ensures in
-    subst (λ (f : StoreFault). IsRefusedFor see before c.refused-in-Err-ran.result.disks f) (sym c.refused-in-Err-ran.ensures.fault)
+    subst (λ (f : StoreFault). IsRefusedFor see before c.not_started.result.disks f) (sym c.not_started.ensures.fault)
     (inr record {
       greatest = c.greatest_id.result;
       manager = record {
@@ -177,18 +224,20 @@ returns-in-Err-ran-clause-refused g c =
       so = tt;
     })
 
-pub returns-in-Err-ran-clause-spared : goal.returns-in-Err-ran-clause-spared
-returns-in-Err-ran-clause-spared g c =
+pub returns-in-Err-run_loaded-clause-spared : goal.returns-in-Err-run_loaded-clause-spared
+returns-in-Err-run_loaded-clause-spared g c =
     let D = g.D.Disk in
     let see = (λ (d : g.row.D.Denot). seen (D.told d) (D.clock d) (D.image d) (D.faults d)) in
     let before = c.args.disks in
     let kept = c.in-Ok.ensures in
     let loaded = c.in-Ok-load_nodes in
-    let left : Disks g.row.D.Denot = record { manager = c.in-Ok.loaded.1.disk; scm = loaded.loaded.scm.disk; nodes = c.into_disks-scm.result.1 } in
-    let its = c.refused-in-Err-ran.ensures in
-    let same = disks_same c.refused-in-Err-ran.result.disks left (its.manager ∙ (c.into_disk-in-Err-ran.ensures ∙ ap (λ j. j.disk) c.in-Err-ran.ensures.err)) (its.scm ∙ c.into_disks-scm.ensures.scm) its.nodes in
-    subst (AreAtMostLoaded see before) (sym same) record {
-      manager = record { telling = kept.telling; contents = kept.contents; never_falls = kept.never_falls; time = kept.time; moments = kept.moments; loadable = kept.loadable };
-      scm = loaded.ensures.scm.left;
-      nodes = subst (λ (l : List (NodeDisks g.row.D.Denot)). AllZip (LeavesNode see) before.nodes.items l) (sym c.into_disks-scm.ensures.nodes) (loaded_left see 0 before.nodes.items loaded.loaded.nodes.items loaded.ensures.nodes);
+    let its = c.not_started.ensures in
+    let unstarted = c.in-Err-run_loaded.ensures in
+    let manager = its.manager ∙ ap (λ j. j.disk) unstarted.journal in
+    let scm = its.scm ∙ ap (λ s. s.disk) unstarted.scm in
+    let nodes = its.nodes ∙ ap (λ (l : List (Datanode g.row.D.Denot)). map disks_in l) unstarted.nodes in record {
+      manager = subst (λ (d : g.row.D.Denot). LeavesJournal (see before.manager) (see d)) (sym manager)
+          record { telling = kept.telling; contents = kept.contents; never_falls = kept.never_falls; time = kept.time; moments = kept.moments; loadable = kept.loadable };
+      scm = subst (λ (d : g.row.D.Denot). LeavesScm (length before.nodes.items) (see before.scm) (see d)) (sym scm) loaded.ensures.scm.left;
+      nodes = subst (λ (l : List (NodeDisks g.row.D.Denot)). AllZip (LeavesNode see) before.nodes.items l) (sym nodes) (loaded_left see 0 before.nodes.items loaded.loaded.nodes.items loaded.ensures.nodes);
     }

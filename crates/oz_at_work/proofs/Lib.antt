@@ -6,3 +6,4 @@ mod Leaving
 mod Excluding
 mod Refusing
 mod Putting
+mod Getting

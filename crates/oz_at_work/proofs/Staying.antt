@@ -81,6 +81,7 @@ module _ (Coherent : Type 0) (opening : Opening) (bytes : OpeningBytes) (script 
   next_still : (work : WorkView) (step : Step) → IsNextFit Coherent opening bytes script seen work step → IsNextFit Coherent opening bytes script later work step
   next_still work (steps.Ask request) fit = record {
     followed = followed_still work.line work.asked work.said work.gave_up work.state.progress fit.followed;
+    unread = fit.unread;
     unwritten = fit.unwritten;
     its = fit.its;
     fits = λ story goes all. fit.fits story (begins_through story later seen goes begins) all;
@@ -88,7 +89,12 @@ module _ (Coherent : Type 0) (opening : Opening) (bytes : OpeningBytes) (script 
   }
   next_still work (steps.Write block members first count) fit = record {
     followed = followed_still work.line work.asked work.said work.gave_up work.state.progress fit.followed;
+    unread = fit.unread;
     writes = fit.writes;
+  }
+  next_still work (steps.Read piece) fit = record {
+    followed = followed_still work.line work.asked work.said work.gave_up work.state.progress fit.followed;
+    reads = fit.reads;
   }
   next_still work (steps.Tell answer) fit = told_fit_still work.line _ _ _ answer _ fit
   next_still work step fit = tt
@@ -107,12 +113,21 @@ module _ (Coherent : Type 0) (opening : Opening) (bytes : OpeningBytes) (script 
           (all_written work.state.progress work.gave_up fit.unwritten fit.followed.alone.put none) fit.followed.under_way;
       alone = fit.followed.alone;
     };
+    unread = fit.unread;
     unwritten = fit.unwritten;
     its = fit.its;
     fits = λ story goes all seat as_said enabled. fit.fits story goes all seat (λ gave. absurd (false≢true (sym none ∙ gave))) enabled;
     same = λ story goes all other as_said is. fit.same story goes all other (λ gave. absurd (false≢true (sym none ∙ gave))) is;
   }
   said_fit work said (steps.Write block members first count) none fit = absurd (false≢true (sym none))
+  said_fit work said (steps.Read piece) none fit = record {
+    followed = record {
+      under_way = whatever_said Coherent opening bytes script later work.line work.asked work.said said work.line.command work.state.progress
+          (all_written work.state.progress work.gave_up fit.reads.idle.unwritten fit.followed.alone.put none) fit.followed.under_way;
+      alone = fit.followed.alone;
+    };
+    reads = fit.reads;
+  }
   said_fit work said (steps.Tell answer) none fit = record {
     fits = λ story goes all now as_said may. fit.fits story goes all now (λ gave. absurd (false≢true (sym none ∙ gave))) may;
     leaves = λ story goes all before seat now from as_said may behind.
@@ -170,6 +185,7 @@ module _ (Coherent : Type 0) (opening : Opening) (bytes : OpeningBytes) (script 
       → IsNextFit Coherent opening bytes script seen (record work { refused = refused }) step
   refused_fit work refused (steps.Ask request) fit = fit
   refused_fit work refused (steps.Write block members first count) fit = fit
+  refused_fit work refused (steps.Read piece) fit = fit
   refused_fit work refused (steps.Tell answer) fit = fit
   refused_fit work refused step fit = tt
 

@@ -63,7 +63,7 @@ use Rattle.oz_underway.specs.laws.UnderWay.{ask_fits, begins_started, pending_is
 use Rattle.oz_underway.specs.laws.Writing.{given_up_way, quorum_way}
 use Rattle.oz_telling.specs.laws.Told.{told_now}
 use Rattle.oz_writing.specs.Written.{is_quorum}
-use Rattle.oz_at_work.specs.AtWork.{HasPutAlone, IsAtWork, IsLabelOf, IsNextAsk, IsNextFit, IsNextWrite, IsSaidAsKnown, IsStarted, IsTelling, MayBegin, MayBeTold, WasSaid, WorkView, id_of, last_of}
+use Rattle.oz_at_work.specs.AtWork.{HasPutAlone, IsAtWork, IsLabelOf, IsNextAsk, IsNextFit, IsNextRead, IsNextWrite, IsSaidAsKnown, IsStarted, IsTelling, MayBegin, MayBeTold, WasSaid, WorkView, id_of, last_of}
 use Rattle.oz_at_work.specs.inner.Put.{WasWritten}
 use Rattle.oz_at_work.specs.inner.Replied.{IsAsking, WasReplied}
 use Rattle.oz_at_work.specs.inner.Taken.{HasStepped, HasStopped, IsTakenUp, leaves_label}
@@ -78,6 +78,7 @@ abbrev pub IsPlain : Got → Type 0
 IsPlain gots.Start = Unit {0}
 IsPlain (gots.Reply reply) = Unit {0}
 IsPlain (gots.Written written) = Unit {0}
+IsPlain (gots.Read (Some bytes)) = Unit {0}
 IsPlain _ = ⊥
 
 has_plain : (opening : Opening) (bytes : OpeningBytes) (script : Script) (line : Line) (command : Command) (progress : Progress) (got : Got) → IsPlain got
@@ -85,12 +86,19 @@ has_plain : (opening : Opening) (bytes : OpeningBytes) (script : Script) (line :
 has_plain opening bytes script line command progress gots.Start plain story = tt
 has_plain opening bytes script line command progress (gots.Reply reply) plain story = tt
 has_plain opening bytes script line command progress (gots.Written written) plain story = tt
+has_plain opening bytes script line command progress (gots.Read (Some read)) plain story = tt
 has_plain opening bytes script line command progress got plain story = absurd plain
 
 -- the line isn't told a code
 abbrev pub IsNoCode : Step → Type 0
 IsNoCode (steps.Tell (answers.Code code)) = ⊥
 IsNoCode step = Unit {0}
+
+-- the line asks or writes, before it reads
+abbrev pub IsBeforeReading : Step → Type 0
+IsBeforeReading (steps.Ask request) = Unit {0}
+IsBeforeReading (steps.Write block members first count) = Unit {0}
+IsBeforeReading step = ⊥
 
 -- a reply behind which the line isn't told a code is none
 not_code : (command : Command) (progress : Progress) (reply : Reply) (step : Step) → IsNext command progress (gots.Reply reply) step → IsNoCode step → is_code reply ≡ false
@@ -102,6 +110,7 @@ onward command progress gots.Start step plain next other = next
 onward command progress (gots.Reply (replies.Code code)) step plain next other = absurd (subst IsNoCode next other)
 onward command progress (gots.Reply reply) step plain next other = next
 onward command progress (gots.Written written) step plain next other = next
+onward command progress (gots.Read (Some read)) step plain next other = next
 onward command progress got step plain next other = absurd plain
 
 alone_replied : (progress : Progress) (gave_up : Bool) (reply : Reply) → HasPutAlone progress gave_up → is_code reply ≡ false
@@ -110,7 +119,6 @@ alone_replied progress gave_up reply alone clean = record {
   no_code = list_any-append is_code progress.came.replies (reply ∷ [])
       ∙ (ap (λ (b : Bool). b || list_any is_code (reply ∷ [])) alone.no_code
       ∙ ap (λ (b : Bool). b || false) clean);
-  unread = alone.unread;
   put = alone.put;
 }
 
@@ -135,7 +143,6 @@ alone_written progress gave_up granted written writing alone =
     subst (λ (w : Option Granted). HasPutAlone (record progress { came = came_written progress.came w written.answers }) (gave_up || not (is_quorum written.answers))) (sym writing)
     (record {
       no_code = alone.no_code;
-      unread = alone.unread;
       put = put_written gave_up (is_quorum written.answers) progress.came.attempts granted written.answers refl alone.put;
     })
 
@@ -281,13 +288,15 @@ module _ (Coherent : Type 0) (opening : Opening) (bytes : OpeningBytes) (script 
 
     pub next_fits : (nodes : ℕ) (state : LineState) (step : Step) → state.progress ≡ progress → state.left ≡ left_by line.command progress.came step
         → (IsTelling step → progress.came.writing ≡ None) → (gave_up ≡ true → leaves_label line.command step ≡ false)
-        → (IsNoCode step → HasPutAlone progress gave_up) → IsNext line.command progress got step → IsStepEverywhere line.command progress got step
+        → (IsNoCode step → HasPutAlone progress gave_up) → (IsBeforeReading step → progress.read ≡ [])
+        → IsNext line.command progress got step → IsStepEverywhere line.command progress got step
         → IsNextFit Coherent opening bytes script seen
         (record { line = line; state = state; nodes = nodes; asked = asked; said = said; next = step; is_cut = false; gave_up = gave_up; refused = None }) step
-    next_fits nodes state (steps.Ask request) same left idle unlabelled alone next everywhere =
+    next_fits nodes state (steps.Ask request) same left idle unlabelled alone unread next everywhere =
         let its = onward line.command progress got (steps.Ask request) plain next tt in
         subst (λ (p : Progress). IsNextAsk Coherent opening bytes script seen line asked said gave_up request p) (sym same) (record {
           followed = record { under_way = way; alone = alone tt };
+          unread = unread tt;
           unwritten = its.0;
           its = its.1;
           fits = λ story goes all seat as_said enabled. ask_fits Coherent opening bytes script seen line asked said line.command progress got request coherent way everywhere
@@ -295,12 +304,18 @@ module _ (Coherent : Type 0) (opening : Opening) (bytes : OpeningBytes) (script 
           same = λ story goes all other as_said is. pending_is_request Coherent opening bytes script seen line asked said line.command progress got request coherent way everywhere
               (has_plain opening bytes script line line.command progress got plain) begun.numbered story goes all (said_so its.0 story as_said) other is;
         })
-    next_fits nodes state (steps.Write block members first count) same left idle unlabelled alone next everywhere =
+    next_fits nodes state (steps.Write block members first count) same left idle unlabelled alone unread next everywhere =
         subst (λ (p : Progress). IsNextWrite Coherent opening bytes script seen line asked said gave_up block members first count p) (sym same) (record {
           followed = record { under_way = way; alone = alone tt };
+          unread = unread tt;
           writes = onward line.command progress got (steps.Write block members first count) plain next tt;
         })
-    next_fits nodes state (steps.Tell answer) same left idle unlabelled alone next everywhere =
+    next_fits nodes state (steps.Read piece) same left idle unlabelled alone unread next everywhere =
+        subst (λ (p : Progress). IsNextRead Coherent opening bytes script seen line asked said gave_up piece p) (sym same) (record {
+          followed = record { under_way = way; alone = alone tt };
+          reads = onward line.command progress got (steps.Read piece) plain next tt;
+        })
+    next_fits nodes state (steps.Tell answer) same left idle unlabelled alone unread next everywhere =
         subst (MayBeTold Coherent opening bytes script seen line (last_of line asked) (IsSaidAsKnown gave_up said) [] answer) (sym left) (record {
           fits = λ story goes all known as_said may.
               let so : IsSaidAsKnown gave_up said (times_said line.client line.number story) = λ gave. may.as_said ∙ as_said gave in
@@ -309,7 +324,7 @@ module _ (Coherent : Type 0) (opening : Opening) (bytes : OpeningBytes) (script 
           leaves = λ story goes all before seat known from as_said may behind.
               step_leaves answer (idle tt) unlabelled next (λ other. (alone other).no_code) story goes all before seat known from may behind;
         })
-    next_fits nodes state step same left idle unlabelled alone next everywhere = tt
+    next_fits nodes state step same left idle unlabelled alone unread next everywhere = tt
 
   -- ---- a line begins
 
@@ -328,7 +343,7 @@ module _ (Coherent : Type 0) (opening : Opening) (bytes : OpeningBytes) (script 
         said = record { before = []; goes_on = (seen, refl); so_often = refl };
         next = next_fits seen line 0 0 false (nothing_yet nodes label) gots.Start coherent may.begun tt (λ none. refl) way nodes
             (state_after (state_before line.command nodes label) gots.Start step) step refl refl (λ tells. refl) (λ wrong. absurd (false≢true wrong))
-            (λ other. record { no_code = refl; unread = refl; put = λ none. refl }) next everywhere;
+            (λ other. record { no_code = refl; put = λ none. refl }) (λ before. refl) next everywhere;
         refusal = tt;
       }
 
@@ -352,14 +367,15 @@ module _ (Coherent : Type 0) (opening : Opening) (bytes : OpeningBytes) (script 
   -- ---- what came back is taken up
 
   -- of a line whose progress with what came back is under way
-  stepped_works : (seen : List Event) (before after : WorkView) (got : Got) (asked said : ℕ) (gave_up : Bool) → Coherent → IsPlain got → IsStarted script seen before.line
+  pub stepped_works : (seen : List Event) (before after : WorkView) (got : Got) (asked said : ℕ) (gave_up : Bool) → Coherent → IsPlain got → IsStarted script seen before.line
       → before.state.command ≡ before.line.command → before.state.progress.nodes ≡ before.nodes → WasSaid seen before.line said
       → (gave_up ≡ false → list_all has_fate_written (progress_after before.state.progress got).came.attempts ≡ true)
       → IsUnderWay Coherent opening bytes script seen before.line asked said before.line.command (progress_after before.state.progress got)
       → ((step : Step) → IsNext before.line.command (progress_after before.state.progress got) got step → IsTelling step → (progress_after before.state.progress got).came.writing ≡ None)
       → ((step : Step) → IsNext before.line.command (progress_after before.state.progress got) got step → IsNoCode step → HasPutAlone (progress_after before.state.progress got) gave_up)
+      → ((step : Step) → IsNext before.line.command (progress_after before.state.progress got) got step → IsBeforeReading step → (progress_after before.state.progress got).read ≡ [])
       → HasStepped before got asked said gave_up after → IsAtWork Coherent opening bytes script seen after
-  stepped_works seen before after got asked said gave_up coherent plain begun does nodes was put way idle alone stepped =
+  stepped_works seen before after got asked said gave_up coherent plain begun does nodes was put way idle alone unread stepped =
       let line = before.line in
       let progress : Progress = progress_after before.state.progress got in
       let state : LineState = state_after before.state got stepped.step in
@@ -374,11 +390,11 @@ module _ (Coherent : Type 0) (opening : Opening) (bytes : OpeningBytes) (script 
         nodes = nodes_stay before.state.progress got ∙ nodes;
         said = was;
         next = next_fits seen line asked said gave_up progress got coherent begun plain put way before.nodes state stepped.step refl
-            (ap (λ (c : Command). left_by c progress.came stepped.step) does) (idle stepped.step next) stepped.unlabelled (alone stepped.step next) next so;
+            (ap (λ (c : Command). left_by c progress.came stepped.step) does) (idle stepped.step next) stepped.unlabelled (alone stepped.step next) (unread stepped.step next) next so;
         refusal = tt;
       })
 
-  stopped_works : (seen : List Event) (before after : WorkView) (asked : ℕ) → Coherent → IsStarted script seen before.line → before.state.command ≡ before.line.command
+  pub stopped_works : (seen : List Event) (before after : WorkView) (asked : ℕ) → Coherent → IsStarted script seen before.line → before.state.command ≡ before.line.command
       → before.state.progress.nodes ≡ before.nodes → WasSaid seen before.line before.said → HasStopped before asked after → IsAtWork Coherent opening bytes script seen after
   stopped_works seen before after asked coherent begun does nodes was stopped =
       subst (IsAtWork Coherent opening bytes script seen) (sym stopped.is)
@@ -432,7 +448,7 @@ module _ (Coherent : Type 0) (opening : Opening) (bytes : OpeningBytes) (script 
             → IsUnderWay Coherent opening bytes script later work.line (work.asked + 1) work.said work.line.command (progress_after work.state.progress (gots.Reply reply))
         looked is =
             decided_reply Coherent opening bytes script was.before later was.at_work.said.before work.line work.asked work.said was.place work.line.command work.state.progress reply coherent
-            fit.1.followed.under_way fit.1.unwritten fit.1.followed.alone.unread all behind was.at_work.said.goes_on was.at_work.said.so_often (as_said is) was.behind decided_later
+            fit.1.followed.under_way fit.1.unwritten fit.1.unread all behind was.at_work.said.goes_on was.at_work.said.so_often (as_said is) was.behind decided_later
 
         by : (t : Bool) (o : Option Granted) → work.gave_up ≡ t → granted_by reply ≡ o
             → IsUnderWay Coherent opening bytes script later work.line (work.asked + 1) work.said work.line.command (progress_after work.state.progress (gots.Reply reply))
@@ -440,7 +456,7 @@ module _ (Coherent : Type 0) (opening : Opening) (bytes : OpeningBytes) (script 
         by false (Some granted) none is = looked (ap (λ (b : Bool). b || is_some (granted_by reply)) none ∙ ap is_some is)
         by false None none is =
             reply_comes Coherent opening bytes script was.before later work.line work.asked work.said work.line.command work.state.progress reply coherent fit.1.followed.under_way
-            fit.1.unwritten fit.1.followed.alone.unread (fit.1.followed.alone.put none) is all behind was.place work.said decided_later
+            fit.1.unwritten fit.1.unread (fit.1.followed.alone.put none) is all behind was.place work.said decided_later
 
     pub reply_works : (new : WorkView) → IsTakenUp work (gots.Reply reply) (work.asked + 1) work.said work.gave_up new → IsAtWork Coherent opening bytes script later new
     reply_works new taken =
@@ -453,6 +469,7 @@ module _ (Coherent : Type 0) (opening : Opening) (bytes : OpeningBytes) (script 
         (asks_open work.line.command work.state.progress.label work.state.progress.came fit.0 fit.1.its) next tells)
         (λ step next other. alone_replied work.state.progress work.gave_up reply fit.1.followed.alone
         (not_code work.line.command (progress_after work.state.progress (gots.Reply reply)) reply step next other))
+        (λ step next before. fit.1.unread)
         stepped)
         (λ stopped. stopped_works later work new (work.asked + 1) coherent begun was.at_work.does was.at_work.nodes said stopped)
         taken
@@ -509,7 +526,7 @@ module _ (Coherent : Type 0) (opening : Opening) (bytes : OpeningBytes) (script 
         ⊎_elim
         (λ stepped. stepped_works seen work new (gots.Written written) work.asked said (work.gave_up || not (is_quorum written.answers)) coherent tt begun
         was.at_work.does was.at_work.nodes (said_now seen work.line said was.are.still.as_said) alone.put written_way
-        (λ step next tells. none_written work.state.progress.came to_write written.answers writes.writes.its) (λ step next other. alone) stepped)
+        (λ step next tells. none_written work.state.progress.came to_write written.answers writes.writes.its) (λ step next other. alone) (λ step next before. writes.unread) stepped)
         (λ stopped. stopped_works seen work new work.asked coherent begun was.at_work.does was.at_work.nodes
         (said_was seen was.before work.line work.said was.goes_on was.at_work.said) stopped)
         taken

@@ -1,13 +1,13 @@
 -- A line that a worker works for, what it may do next, and what it leaves.
 use Rattle.std.specs.Prelude.{◌≡◌, ◌⊎◌, ℕ, ◌+◌, ◌<◌, ◌==◌, Bool, true, false, List, [], ◌∷◌, ◌++◌, None, Option, Some}
-use Rattle.std.specs.Prelude.{if◌then◌else◌, Contains, IsSome}
+use Rattle.std.specs.Prelude.{if◌then◌else◌, length, Contains, IsSome}
 use Rattle.std.specs.List.{list_all, list_any}
 use Rattle.oz_buffer.specs.Courses.{times_said}
 use Rattle.oz_client.specs.declared.progress.Progress.{Progress}
 use Rattle.oz_client.specs.declared.step.Step.{Step}
 use Rattle.oz_client.specs.declared.step.Step.TheVariants as steps
 use Rattle.oz_client.specs.LineState.{LineState}
-use Rattle.oz_client.specs.Onward.{IsWriting}
+use Rattle.oz_client.specs.Onward.{IsReading, IsWriting}
 use Rattle.oz_command.specs.declared.command.Command.{Command}
 use Rattle.oz_command.specs.declared.command.Command.TheVariants as commands
 use Rattle.oz_core.specs.declared.event.Event.{Event}
@@ -20,6 +20,7 @@ use Rattle.oz_core.specs.Law.{AskIsEnabled}
 use Rattle.oz_core.specs.Lines.{HasStarted}
 use Rattle.oz_core.specs.Steps.{commit_step, is_code, is_open_at}
 use Rattle.oz_fields.specs.declared.block.Block.{Block}
+use Rattle.oz_fields.specs.declared.block.Piece.{Piece}
 use Rattle.oz_lines.specs.declared.script.Line.{Line}
 use Rattle.oz_lines.specs.declared.script.Script.{Script}
 use Rattle.oz_lines.specs.Numbered.{IsNumbered}
@@ -71,10 +72,12 @@ IsTelling _ = ⊥
 abbrev pub IsSaidAsKnown : Bool → ℕ → ℕ → Type 0
 IsSaidAsKnown gave_up known said = gave_up ≡ true → said ≡ known
 
--- It has asked once more, or there is something that it is told next, or it wrote a block: more was said of its blocks.
+-- It has asked once more, or there is something that it is told next, or it wrote a block: more was said of its blocks;
+-- or it read a piece more.
 abbrev pub HasGoneOn : WorkView → WorkView → Type 0
 HasGoneOn before after =
     (after.asked ≡ before.asked + 1) ⊎ IsTelling after.next ⊎ IsSome after.refused ⊎ (before.said < after.said)
+    ⊎ (length before.state.progress.read < length after.state.progress.read)
 
 -- The label that a line opened stands for this; for nothing where the line was told something else than OK.
 abbrev pub IsLabelOf : List Event → Line → Command → Option Label → Type 0
@@ -95,11 +98,9 @@ pub record WasSaid (seen : List Event) (line : Line) (said : ℕ) : Type 0 where
   pub goes_on : BeginsWith seen before
   pub so_often : times_said line.client line.number before ≡ said
 
--- Nothing came back but replies, none of which is a code, and what became of blocks: each was written, unless one was
--- given up.
+-- No reply that came back is a code, and each block was written, unless one was given up.
 pub record HasPutAlone (progress : Progress) (gave_up : Bool) : Type 0 where
   pub no_code : list_any is_code progress.came.replies ≡ false
-  pub unread : progress.read ≡ []
   pub put : gave_up ≡ false → list_all has_fate_written progress.came.attempts ≡ true
 
 module _ (Coherent : Type 0) (opening : Opening) (bytes : OpeningBytes) (script : Script) (seen : List Event) where
@@ -118,6 +119,7 @@ module _ (Coherent : Type 0) (opening : Opening) (bytes : OpeningBytes) (script 
   pub record IsNextAsk (line : Line) (asked said : ℕ) (gave_up : Bool) (request : Request) (progress : Progress)
       : Type 0 where
     pub followed : IsFollowed line asked said gave_up progress
+    pub unread : progress.read ≡ []
     pub unwritten : progress.came.writing ≡ None
     pub its : request_by line.command progress.label progress.came ≡ Some request
     pub fits : FromHereOn Coherent opening bytes script seen (λ story. (seat : ℕ)
@@ -132,7 +134,14 @@ module _ (Coherent : Type 0) (opening : Opening) (bytes : OpeningBytes) (script 
   pub record IsNextWrite (line : Line) (asked said : ℕ) (gave_up : Bool) (block : Block) (members : List ℕ)
       (first count : ℕ) (progress : Progress) : Type 0 where
     pub followed : IsFollowed line asked said gave_up progress
+    pub unread : progress.read ≡ []
     pub writes : IsWriting line.command progress block members first count
+
+  -- The line's next step is to read this piece.
+  pub record IsNextRead (line : Line) (asked said : ℕ) (gave_up : Bool) (piece : Piece) (progress : Progress) : Type 0
+      where
+    pub followed : IsFollowed line asked said gave_up progress
+    pub reads : IsReading line.command progress piece
 
   -- From here on the answer is the line's wherever it may be told it, for which so much may be said of its blocks and
   -- these seats have to stand still, and once it is told this is what it left.
@@ -147,12 +156,14 @@ module _ (Coherent : Type 0) (opening : Opening) (bytes : OpeningBytes) (script 
         → BeginsWith story (before ++ told_event seat line.client line.number answer ∷ [])
         → IsLabelOf story line line.command left)
 
-  -- What comes next may come, if it asks, writes or ends the line. Of other steps nothing is said.
+  -- What comes next may come, if it asks, writes, reads or ends the line. Of other steps nothing is said.
   abbrev pub IsNextFit : WorkView → Step → Type 0
   IsNextFit work (steps.Ask request) =
       IsNextAsk work.line work.asked work.said work.gave_up request work.state.progress
   IsNextFit work (steps.Write block members first count) =
       IsNextWrite work.line work.asked work.said work.gave_up block members first count work.state.progress
+  IsNextFit work (steps.Read piece) =
+      IsNextRead work.line work.asked work.said work.gave_up piece work.state.progress
   IsNextFit work (steps.Tell answer) = MayBeTold work.line (last_of work.line work.asked)
       (IsSaidAsKnown work.gave_up work.said) [] answer (left_of work)
   IsNextFit work step = Unit {0}

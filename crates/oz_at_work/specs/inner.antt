@@ -1,5 +1,6 @@
 -- For private calls: no public contract rests on these.
 pub mod Put
+pub mod Read
 pub mod Replied
 pub mod Short
 pub mod Taken

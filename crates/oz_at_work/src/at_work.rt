@@ -4,8 +4,9 @@ ghost use Rattle.std.specs.Prelude.{◌≡◌, None};
 ghost use Rattle.oz_at_work.specs.AtWork.{id_of, last_of, left_of};
 ghost use Rattle.oz_at_work.specs.inner.Replied.{cut_with};
 
+use crate::counted::CountedSteps;
 use crate::refused::Refused;
-use oz_client::{LineSteps, Step};
+use oz_client::Step;
 use oz_lines::Line;
 use oz_requests::{Answer, AskId};
 use oz_steps::Label;
@@ -15,7 +16,7 @@ use std::marker::Model;
 #[derive(Drop)]
 pub struct LineAtWork<'s> {
     pub(crate) line: &'s Line,
-    pub(crate) steps: LineSteps<'s>,
+    pub(crate) steps: CountedSteps<'s>,
     /// For how many datanodes its steps are.
     pub(crate) nodes: u8,
     pub(crate) asked: u16,

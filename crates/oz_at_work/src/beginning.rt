@@ -8,8 +8,9 @@ ghost use Rattle.oz_core.specs.declared.event.Event.{Event as AnyEvent};
 ghost use Rattle.oz_nodes.specs.declared.nodes.TheConstants.{FEWEST_NODES, MOST_NODES};
 
 use crate::at_work::LineAtWork;
+use crate::counted::CountedSteps;
 use oz_buffer::Opened;
-use oz_client::{Got, LineSteps};
+use oz_client::Got;
 use oz_fields::OutOfMemory;
 use oz_lines::Line;
 use oz_steps::Label;
@@ -32,7 +33,7 @@ impl<'s> LineAtWork<'s> {
             MayBegin O.coherent O.opening O.bytes O.script seen line.now (option_map (λ label. label.now) label.entry) →
             IfOk result (λ work. IsAtWork O.coherent O.opening O.bytes O.script seen work) }
     {
-        let mut steps = LineSteps::new(alloc, &line.command, nodes, label)?;
+        let mut steps = CountedSteps::new(alloc, &line.command, nodes, label)?;
         let next = steps.next(alloc, Got::Start)?;
         Ok(LineAtWork {
             line,

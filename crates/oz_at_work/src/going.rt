@@ -20,8 +20,8 @@ use std::alloc::Global;
 use std::sync::Wait;
 
 impl<'s> LineAtWork<'s> {
-    /// The line asks what it asks next, writes the block that it was granted, or is told its answer. Where it was refused
-    /// it is told so, or tries again what comes next. `by` is the seat's number.
+    /// The line asks what it asks next, writes the block that it was granted, reads its next piece, or is told its answer.
+    /// Where it was refused it is told so, or tries again what comes next. `by` is the seat's number.
     pub fn go_on<D: Disk, O: Opened, L: Loaded, R: Ring, W: Wait, G: Gate>(
         &mut self,
         rt: &W,
@@ -53,7 +53,8 @@ impl<'s> LineAtWork<'s> {
             Step::Ask(_) => self.ask(rt, alloc, turn, servers, seat, by),
             Step::Tell(_) => self.tell(rt, alloc, turn, seat, by),
             Step::Write { .. } => self.write(rt, alloc, turn, servers, gate, seat, by),
-            Step::Read { .. } | Step::Admin(_) => {
+            Step::Read { .. } => self.read(rt, alloc, turn, servers, seat, by),
+            Step::Admin(_) => {
                 self.cut(self.asked, Answer::OutOfMemory);
                 Did::WentOn
             }

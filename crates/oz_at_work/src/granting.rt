@@ -13,6 +13,7 @@ ghost use Rattle.oz_turn.specs.Turn.{turn_id};
 use crate::at_work::LineAtWork;
 use crate::outcome::Did;
 use crate::refused::Refused;
+use crate::stills::Stills;
 use oz_buffer::{Ledger, Opened};
 use oz_client::Step;
 use oz_granting::{Granting, grant_for};
@@ -85,7 +86,7 @@ impl<'s> LineAtWork<'s> {
                 self.refused = Some(Refused {
                     answer,
                     asked: id.step,
-                    still,
+                    still: Stills::two(still),
                 });
                 Some(Did::WentOn)
             }

@@ -4,14 +4,17 @@
 mod asking;
 mod at_work;
 mod beginning;
+mod counted;
 mod going;
 mod granting;
 mod laws;
 mod onward;
 mod outcome;
 mod piece;
+mod reading;
 mod refused;
 mod replying;
+mod stills;
 mod telling;
 mod waiting;
 mod writing;

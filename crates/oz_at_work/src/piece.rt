@@ -76,7 +76,7 @@ impl<'s> LineAtWork<'s> {
 }
 
 /// Whether these are numbers of datanodes, where there are so many.
-fn are_below(members: [u8; 3], nodes: u8) -> bool
+pub(crate) fn are_below(members: [u8; 3], nodes: u8) -> bool
     ensures { IsTrue result → All (λ dn. dn < nodes) members }
 {
     members.iter().all(|dn| *dn < nodes)

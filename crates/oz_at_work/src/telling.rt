@@ -101,7 +101,17 @@ impl<'s> LineAtWork<'s> {
         } = self.refused.take()?;
         let (client, line, last) = (self.line.client, self.line.number, self.last_of(asked));
         match tell(
-            rt, alloc, turn, seat, by, client, line, last, self.said, &still, answer,
+            rt,
+            alloc,
+            turn,
+            seat,
+            by,
+            client,
+            line,
+            last,
+            self.said,
+            still.as_slice(),
+            answer,
         ) {
             Ok(()) => {
                 self.cut(asked, Answer::OutOfMemory);

@@ -1,9 +1,10 @@
-use Rattle.std.proofs.Common.{◌≡◌, ℕ, ◌+◌, false, Some, refl, sym, ap, ◌∙◌, subst}
+use Rattle.std.proofs.Common.{◌≡◌, ℕ, ◌+◌, false, List, None, Some, refl, sym, ap, ◌∙◌, subst}
 use Rattle.oz_core.specs.Steps.{was_told_ok}
 use Rattle.oz_granting.specs.Granting.{IsDueWhileStill, IsKnownThen, WasEmpty}
 use Rattle.oz_granting.specs.declared.granting.Granting.TheVariants as grantings
 use Rattle.oz_requests.specs.declared.answer.Answer.TheVariants as answers
 use Rattle.oz_requests.specs.declared.request.AskId.{AskId}
+use Rattle.oz_telling.specs.declared.still.Still.{Still}
 use Rattle.oz_turn.specs.Seat.{seen_of}
 use Rattle.oz_underway.specs.laws.Going.{begins_itself}
 use Rattle.oz_at_work.specs.AtWork.{IsAtWork, MayBeTold, WorkView, id_of, last_of}
@@ -72,7 +73,8 @@ returns-in-Ok-Refused-clause-works g c coherent =
     let fits = refused_told O.coherent O.opening O.bytes O.script later seen work still answer coherent c.grant_for.ensures.goes_on at_work short due not_ok in
     let step : wanted.id.step ≡ work.asked + 1 = ap (λ (i : AskId). i.step) id in
     with_refused O.coherent O.opening O.bytes O.script later work _
-    (subst (λ (n : ℕ). MayBeTold O.coherent O.opening O.bytes O.script later work.line (last_of work.line n) (λ said. Unit {0}) still answer _) (sym step) fits)
+    (subst (λ (l : List Still). MayBeTold O.coherent O.opening O.bytes O.script later work.line (last_of work.line wanted.id.step) (λ said. Unit {0}) l answer None) (sym c.two.ensures)
+    (subst (λ (n : ℕ). MayBeTold O.coherent O.opening O.bytes O.script later work.line (last_of work.line n) (λ said. Unit {0}) still answer None) (sym step) fits))
     (work_still O.coherent O.opening O.bytes O.script later seen c.grant_for.ensures.goes_on work at_work)
 
 pub returns-in-Ok-Refused-2-clause-works : goal.returns-in-Ok-Refused-2-clause-works

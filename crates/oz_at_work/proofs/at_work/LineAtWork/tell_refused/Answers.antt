@@ -1,8 +1,9 @@
-use Rattle.std.proofs.Common.{Option, None, Some, sym, ap, ◌∙◌, subst}
+use Rattle.std.proofs.Common.{List, Option, None, Some, sym, ap, ◌∙◌, subst}
 use Rattle.std.proofs.lemmas.Option.{same_Some}
 use Rattle.oz_requests.specs.declared.answer.Answer.{Answer}
 use Rattle.oz_requests.specs.declared.answer.Answer.TheVariants as answers
 use Rattle.oz_requests.specs.declared.request.AskId.{AskId}
+use Rattle.oz_telling.specs.declared.still.Still.{Still}
 use Rattle.oz_telling.specs.Tells.{IsTold, MayTell}
 use Rattle.oz_turn.specs.Seat.{mine_of, seen_of}
 use Rattle.oz_underway.specs.laws.Going.{begins_through}
@@ -25,7 +26,8 @@ tell-requires-clause-fits g c coherent story begins all may =
     let fit : MayBeTold O.coherent O.opening O.bytes O.script seen work.line (last_of work.line refused.asked) (λ said. Unit {0}) refused.still refused.answer None =
     subst (IsRefusalFit O.coherent O.opening O.bytes O.script seen work.line) (sym c.take.ensures.value ∙ c.in_ok-answer.was) at_work.refusal in
     fit.fits story begins all inside.said tt
-    (subst (λ (last : Option AskId). MayTell O.opening story work.line.client work.line.number last inside.said refused.still refused.answer) c.last_of-last.ensures may)
+    (subst (λ (stills : List Still). MayTell O.opening story work.line.client work.line.number (last_of work.line refused.asked) inside.said stills refused.answer) c.as_slice.ensures
+    (subst (λ (last : Option AskId). MayTell O.opening story work.line.client work.line.number last inside.said c.as_slice.result.now refused.answer) c.last_of-last.ensures may))
 
 pub put_off-requires : goal.put_off-requires
 put_off-requires g c =
@@ -72,8 +74,10 @@ returns-in-Ok-clause-ended g c ended coherent =
     subst (IsAtWork O.coherent O.opening O.bytes O.script seen) (sym c.self.view_is) (c.requires.works coherent) in
     let fit : IsRefusalFit O.coherent O.opening O.bytes O.script seen work.line (Some refused) =
     subst (IsRefusalFit O.coherent O.opening O.bytes O.script seen work.line) (sym c.take.ensures.value ∙ c.in_ok-answer.was) at_work.refusal in
-    let told = subst (λ (last : Option AskId). IsTold O.opening c.args.by work.line.client work.line.number last inside.said refused.still refused.answer seen (mine_of c.args.seat.now) later (mine_of c.tell.new.seat))
-    c.last_of-last.ensures c.in-Ok.ensures.told in
+    let told = subst (λ (stills : List Still). IsTold O.opening c.args.by work.line.client work.line.number (last_of work.line refused.asked) inside.said stills refused.answer seen (mine_of c.args.seat.now) later (mine_of c.tell.new.seat))
+    c.as_slice.ensures
+    (subst (λ (last : Option AskId). IsTold O.opening c.args.by work.line.client work.line.number last inside.said c.as_slice.result.now refused.answer seen (mine_of c.args.seat.now) later (mine_of c.tell.new.seat))
+    c.last_of-last.ensures c.in-Ok.ensures.told) in
     subst (λ (w : WorkView). HasLeft O.coherent O.opening O.bytes O.script later w.line (left_of w)) (sym c.cut.ensures)
     (told_left O.coherent O.opening O.bytes O.script seen later (mine_of c.args.seat.now) (mine_of c.tell.new.seat) work.line (last_of work.line refused.asked) inside.said c.args.by refused.still refused.answer
     c.in-Ok.ensures.goes_on told (λ said. Unit {0}) None tt fit)

@@ -1,0 +1,78 @@
+use Rattle.std.proofs.Common.{◌≡◌, List, ap, ◌∙◌, subst, sym}
+use Rattle.oz_reading.specs.declared.reading.Reading.TheVariants as readings
+use Rattle.oz_reading.specs.Read.{IsKnownOf, MayRead, NobodyHasIt}
+use Rattle.oz_requests.specs.declared.answer.Answer.TheVariants as answers
+use Rattle.oz_requests.specs.declared.request.AskId.{AskId}
+use Rattle.oz_turn.specs.Seat.{seen_of}
+use Rattle.oz_underway.specs.laws.Going.{begins_itself, begins_through}
+use Rattle.oz_at_work.specs.AtWork.{WorkView, id_of}
+use Rattle.oz_at_work.proofs.Cutting.{cut_so}
+use Rattle.oz_at_work.proofs.Getting.{may_read}
+use Rattle.oz_at_work.proofs.at_work.LineAtWork.read.Goals as goal
+
+pub returns-in_default-clause-works : goal.returns-in_default-clause-works
+returns-in_default-clause-works g c coherent =
+    let O = g.O.Opened in
+    let seen = seen_of c.args.seat.now in
+    cut_so O.coherent O.opening O.bytes O.script seen seen c.args.self.now c.cut.new.self _
+    answers.OutOfMemory coherent (begins_itself seen) tt c.cut.ensures (c.requires.works coherent)
+
+pub returns-in_default-members_of-clause-works : goal.returns-in_default-members_of-clause-works
+returns-in_default-members_of-clause-works g c coherent =
+    let O = g.O.Opened in
+    cut_so O.coherent O.opening O.bytes O.script (seen_of c.members_of.new.seat) (seen_of c.args.seat.now) c.args.self.now c.cut-in_default-members_of.new.self _
+    answers.OutOfMemory coherent c.members_of.ensures.goes_on tt c.cut-in_default-members_of.ensures (c.requires.works coherent)
+
+pub read_at_members-requires-clause-may : goal.read_at_members-requires-clause-may
+read_at_members-requires-clause-may g c coherent =
+    let O = g.O.Opened in
+    let work : WorkView = c.args.self.now in
+    let piece = c.in-Some.piece in
+    let later = seen_of c.members_of.new.seat in
+    let id : c.id-id.result ≡ id_of work.line work.asked = c.id-id.ensures ∙ ap (λ (w : WorkView). id_of work.line w.asked) c.self.view_is in
+    subst (λ (i : AskId). MayRead O.coherent O.opening O.bytes O.script i piece c.in-Some-members_of.members later) (sym id)
+    (may_read O.coherent O.opening O.bytes O.script (seen_of c.args.seat.now) work piece coherent (c.requires.works coherent) c.in-Some.ensures (c.opens.ensures.store coherent).disks
+    later c.members_of.ensures.goes_on c.members_of.ensures.follow c.in-Some-members_of.members (c.in-Some-members_of.ensures.are coherent))
+
+pub returns-in-Ok-Bytes-clause-works : goal.returns-in-Ok-Bytes-clause-works
+returns-in-Ok-Bytes-clause-works g c coherent =
+    let O = g.O.Opened in
+    let seen = seen_of c.args.seat.now in
+    let later = seen_of c.read_at_members.new.seat in
+    let known : IsKnownOf O.coherent O.opening O.bytes O.script c.id-id.result c.in-Some.piece later (readings.Bytes c.in-Ok-Bytes.bytes) =
+    rw (c.in-Ok-Bytes.is, c.in-Ok-Bytes.field-0-is) at c.read_at_members.ensures.known in
+    c.take_in.ensures.works coherent later (record {
+      before = seen;
+      at_work = c.requires.works coherent;
+      goes_on = begins_through later (seen_of c.members_of.new.seat) seen c.read_at_members.ensures.goes_on c.members_of.ensures.goes_on;
+      follow = c.read_at_members.ensures.follow;
+      piece = c.in-Some.piece;
+      its = c.in-Some.ensures;
+      has = known.1 coherent;
+    })
+
+pub returns-in-Ok-Nobody-clause-works : goal.returns-in-Ok-Nobody-clause-works
+returns-in-Ok-Nobody-clause-works g c coherent =
+    let O = g.O.Opened in
+    let work : WorkView = c.args.self.now in
+    let seen = seen_of c.args.seat.now in
+    let later = seen_of c.read_at_members.new.seat in
+    let id : c.id-id.result ≡ id_of work.line work.asked = c.id-id.ensures ∙ ap (λ (w : WorkView). id_of work.line w.asked) c.self.view_is in
+    let known : IsKnownOf O.coherent O.opening O.bytes O.script c.id-id.result c.in-Some.piece later (readings.Nobody c.in-Ok-Nobody.still) =
+    rw (c.in-Ok-Nobody.is, c.in-Ok-Nobody.field-0-is) at c.read_at_members.ensures.known in
+    c.miss.ensures.works coherent later (record {
+      before = seen;
+      at_work = c.requires.works coherent;
+      goes_on = begins_through later (seen_of c.members_of.new.seat) seen c.read_at_members.ensures.goes_on c.members_of.ensures.goes_on;
+      whole = (c.opens.ensures.store coherent).disks;
+      its = c.in-Some.ensures;
+      nobody = subst (λ (i : AskId). NobodyHasIt O.coherent O.opening O.bytes O.script i c.in-Some.piece c.in-Ok-Nobody.still later) id (known coherent);
+    })
+
+pub returns-in-Err-clause-works : goal.returns-in-Err-clause-works
+returns-in-Err-clause-works g c coherent =
+    let O = g.O.Opened in
+    let seen = seen_of c.args.seat.now in
+    let later = seen_of c.read_at_members.new.seat in
+    cut_so O.coherent O.opening O.bytes O.script later seen c.args.self.now c.cut-in-Err.new.self _ answers.OutOfMemory coherent
+    (begins_through later (seen_of c.members_of.new.seat) seen c.read_at_members.ensures.goes_on c.members_of.ensures.goes_on) tt c.cut-in-Err.ensures (c.requires.works coherent)

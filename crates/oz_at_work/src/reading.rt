@@ -1,0 +1,157 @@
+//! How a line reads its next piece.
+
+ghost use Rattle.std.specs.Prelude.{◌≡◌, ◌≢◌, ◌<◌, [], All, List, IfSome};
+ghost use Rattle.oz_at_work.specs.AtWork.{HasGoneOn, IsAtWork};
+ghost use Rattle.oz_at_work.specs.inner.Read.{IsReadNext, WasMissed, WasRead};
+ghost use Rattle.oz_buffer.specs.Buffer.{AllFollow, Follows};
+ghost use Rattle.oz_core.specs.declared.event.Event.{Event as AnyEvent};
+ghost use Rattle.oz_core.specs.Scm.{members};
+ghost use Rattle.oz_turn.specs.Seat.{IsReady, mine_of, room_of, seen_of};
+ghost use Rattle.oz_turn.specs.Told.{BeginsWith};
+ghost use Rattle.oz_turn.specs.Turn.{turn_id};
+
+use crate::at_work::LineAtWork;
+use crate::outcome::Did;
+use crate::piece::are_below;
+use crate::refused::Refused;
+use crate::stills::Stills;
+use oz_buffer::{Ledger, Opened};
+use oz_client::{Got, Step};
+use oz_fields::Piece;
+use oz_locks::Loaded;
+use oz_reading::{Reading, read_at_members};
+use oz_requests::Answer;
+use oz_servers::Servers;
+use oz_telling::Still;
+use oz_turn::{Ring, Seat, Turn};
+use oz_world::Disk;
+use std::alloc::Global;
+use std::sync::Wait;
+
+impl<'s> LineAtWork<'s> {
+    /// The line reads its next piece at the members of the piece's block, and goes on by its bytes. Where no member gives them it is
+    /// told so next, as long as nobody has them. Where the members aren't known, or memory runs out, it is told next that
+    /// there is none.
+    pub(crate) fn read<D: Disk, O: Opened, L: Loaded, R: Ring, W: Wait>(
+        &mut self,
+        rt: &W,
+        alloc: Global,
+        turn: &Turn<Ledger<O>>,
+        servers: &Servers<D, Ledger<O>, O, L, R>,
+        seat: &mut Seat<Ledger<O>>,
+        by: u16,
+    ) -> Did
+        requires turn { turn_id turn.now ≡ R.turn }
+        requires ready { IsReady R.turn by seat.old }
+        requires works { O.coherent → IsAtWork O.coherent O.opening O.bytes O.script (seen_of seat.old) self.old }
+        ensures ready { IsReady R.turn by seat.new }
+        ensures room { room_of seat.new ≡ room_of seat.old }
+        ensures goes_on { BeginsWith (seen_of seat.new) (seen_of seat.old) }
+        ensures line { self.new.line ≡ self.old.line }
+        ensures works { O.coherent → IsAtWork O.coherent O.opening O.bytes O.script (seen_of seat.new) self.new }
+        ensures went_on { result ≡ Did.WentOn → HasGoneOn self.old self.new }
+        ensures unended { result ≢ Did.Ended }
+    {
+        servers.manager.opens();
+        let asked = self.asked;
+        let Some(piece) = self.piece() else {
+            self.cut(asked, Answer::OutOfMemory);
+            return Did::WentOn;
+        };
+        let container = piece.block.container;
+        let Some(members) = members_of(rt, turn, servers, seat, by, container) else {
+            self.cut(asked, Answer::OutOfMemory);
+            return Did::WentOn;
+        };
+        let (id, nodes) = (self.id(asked), &servers.nodes);
+        match read_at_members(rt, alloc, turn, nodes, seat, by, id, piece, members) {
+            Ok(Reading::Bytes(bytes)) => self.take_in::<O>(alloc, bytes),
+            Ok(Reading::Nobody(still)) => self.miss::<O>(piece, still),
+            Err(_error) => {
+                self.cut(asked, Answer::OutOfMemory);
+                Did::WentOn
+            }
+        }
+    }
+
+    /// The piece that it reads next. There is none where it doesn't read next, nor where a block was given up, as a line that
+    /// reads has none.
+    fn piece(&self) -> Option<Piece>
+        ensures { IfSome result (IsReadNext self.now) }
+    {
+        match &self.next {
+            Step::Read { piece } if !self.gave_up => Some(*piece),
+            _ => None,
+        }
+    }
+
+    /// Goes on with the bytes of the piece that it read next.
+    fn take_in<O: Opened>(&mut self, alloc: Global, bytes: Vec<u8>) -> Did
+        ensures line { self.new.line ≡ self.old.line }
+        ensures works { O.coherent → (seen : List AnyEvent) →
+            WasRead O.coherent O.opening O.bytes O.script seen self.old bytes.items →
+            IsAtWork O.coherent O.opening O.bytes O.script seen self.new }
+        ensures went_on { HasGoneOn self.old self.new }
+        ensures is { result ≡ Did.WentOn }
+    {
+        let (asked, said) = (self.asked, self.said);
+        self.take_up(alloc, Got::Read(Some(bytes)), asked, said, false);
+        Did::WentOn
+    }
+
+    /// It is told next that nobody has the piece that it reads next, as long as these seats stand still.
+    fn miss<O: Opened>(&mut self, piece: Piece, still: [Still; 3]) -> Did
+        ensures line { self.new.line ≡ self.old.line }
+        ensures works { O.coherent → (seen : List AnyEvent) →
+            WasMissed O.coherent O.opening O.bytes O.script seen self.old piece still →
+            IsAtWork O.coherent O.opening O.bytes O.script seen self.new }
+        ensures went_on { HasGoneOn self.old self.new }
+        ensures is { result ≡ Did.WentOn }
+    {
+        let asked = self.asked;
+        let Ok(number) = u16::try_from(self.steps.pieces_read()) else {
+            self.cut(asked, Answer::OutOfMemory);
+            return Did::WentOn;
+        };
+        let block = piece.block;
+        self.refused = Some(Refused {
+            answer: Answer::NoReplica {
+                piece: number,
+                block,
+            },
+            asked,
+            still: Stills::three(still),
+        });
+        Did::WentOn
+    }
+}
+
+/// The members of a container, for which the storage container manager is locked and let go again. There is nothing where the
+/// container wasn't made, or a member is no known datanode.
+fn members_of<D: Disk, O: Opened, L: Loaded, R: Ring, W: Wait>(
+    rt: &W,
+    turn: &Turn<Ledger<O>>,
+    servers: &Servers<D, Ledger<O>, O, L, R>,
+    seat: &mut Seat<Ledger<O>>,
+    by: u16,
+    container: u64,
+) -> Option<[u8; 3]>
+    requires turn { turn_id turn.now ≡ R.turn }
+    requires ready { IsReady R.turn by seat.old }
+    ensures ready { IsReady R.turn by seat.new }
+    ensures room { room_of seat.new ≡ room_of seat.old }
+    ensures mine { mine_of seat.new ≡ mine_of seat.old }
+    ensures goes_on { BeginsWith (seen_of seat.new) (seen_of seat.old) }
+    ensures follow { AllFollow (Follows O.coherent O.opening O.bytes O.script) [] (seen_of seat.new) }
+    ensures known { IfSome result (λ dns. All (λ dn. dn < servers.now.nodes) dns) }
+    ensures are { O.coherent → IfSome result (λ dns. members O.opening (seen_of seat.new) container ≡ dns) }
+{
+    let mut guard = servers.scm.lock(rt);
+    let cell = &mut *guard;
+    let members = cell.members(rt, turn, seat, container)?;
+    if are_below(members, servers.node_count()) {
+        Some(members)
+    } else {
+        None
+    }
+}

@@ -1,12 +1,10 @@
 -- Why a run ends with its status.
-use Rattle.std.proofs.Common.{◌≡◌, ◌≢◌, ◌⊎◌, ⊎_elim, inl, inr, ℕ, zero, suc, ◌≤◌, Bool, true, false, List, [], take, length, Option, Some, None, IfSome, Ok, Err, refl, ◌∙◌, ap, subst, arith}
-use Rattle.std.proofs.lemmas.List.Elements.{All-nil}
-use Rattle.std.specs.Prelude.{if◌then◌else◌}
+use Rattle.std.proofs.Common.{◌≡◌, ◌≢◌, ◌⊎◌, ⊎_elim, inl, inr, ℕ, zero, suc, ◌≤◌, Bool, List, take, length, Option, Some, None, IfSome, Ok, Err, refl, ◌∙◌, ap, subst, arith}
 use Rattle.oz_world.specs.Disk.{Seen}
-use Rattle.oz_world.specs.Faults.{Rose}
 use Rattle.oz_journal.specs.Grammar.{IsJournal}
 use Rattle.oz_core.specs.declared.event.Event.{Event}
-use Rattle.oz_core.specs.declared.event.Node.TheVariants.{Manager}
+use Rattle.oz_core.specs.declared.event.Node.{Node}
+use Rattle.oz_core.specs.Manager.{halt_of}
 use Rattle.oz_cluster.specs.declared.stop.Stop.{Stop}
 use Rattle.oz_cluster.specs.declared.stop.Stop.TheVariants.{Words, Read, Script, Store, OutOfMemory}
 use Rattle.oz_cluster.specs.Disks.{ADiskRose}
@@ -16,24 +14,23 @@ use Rattle.oz_cluster.specs.StatusCauses.{HasBegun, IsFaultOf, IsLoadedOf, Statu
 use Rattle.oz_cluster.specs.Streams.{script_limit}
 use Rattle.oz_cluster.specs.Wrong.{IsWrong}
 use Rattle.oz_cluster.proofs.Right.{OneThing, nothing_is_wrong}
-use Rattle.oz_cluster.proofs.Rising.{disk_rose, manager_rose}
-use Rattle.oz_datanode.specs.declared.disks.NodeDisks.{NodeDisks}
-use Rattle.oz_datanode.specs.Datanode.{State as Datanode}
+use Rattle.oz_cluster.proofs.Rising.{disk_rose, node_rose}
 use Rattle.oz_disk_run.specs.declared.disks.Disks.{Disks}
+use Rattle.oz_disk_run.specs.Disks.{others_of}
 use Rattle.oz_disk_run.specs.Refused.{IsRefusedFor}
-use Rattle.oz_disk_run.specs.RunOver.{IsRunOver}
 use Rattle.oz_draft.specs.declared.fault.Cause.{Cause}
 use Rattle.oz_draft.specs.declared.fault.ScriptFault.TheVariants.{At}
-use Rattle.oz_grants.specs.Made.{Made}
+use Rattle.oz_halts.specs.Disks.{AreAsMany, OtherDisks, OtherNodes, all_disks}
+use Rattle.oz_halts.specs.Rising.{ItsCountRose}
 use Rattle.oz_headline.specs.declared.status.Status.{Status}
 use Rattle.oz_headline.specs.declared.status.Status.TheVariants as ends
-use Rattle.oz_headline.specs.Halts.{StatusNamesHalts}
+use Rattle.oz_headline.specs.Disks.{manager_disk}
+use Rattle.oz_headline.specs.Halts.{HaltsAreNamed, StatusNamesHalts}
 use Rattle.oz_headline.specs.Printed.{IsPrinted}
 use Rattle.oz_headline.specs.Statuses.{status_number}
 use Rattle.oz_lines.specs.declared.script.Script.{Script as Lines}
 use Rattle.oz_loaded.specs.Loads.{IsLoaded}
 use Rattle.oz_loaded.specs.Unseated.{UnseatedView}
-use Rattle.oz_nodes_loaded.specs.declared.disk_name.DiskName.TheVariants as disk
 use Rattle.oz_nodes_loaded.specs.declared.fault.StoreFault.{StoreFault}
 use Rattle.oz_nodes_loaded.specs.declared.fault.StoreFault.TheVariants as store
 use Rattle.oz_script.specs.Parsing.{ParsesTo}
@@ -62,21 +59,9 @@ loads_of : (told : Option (List ℕ)) (bodies : List (List ℕ)) (unseated : Uns
 loads_of None bodies unseated loaded journal = tt
 loads_of (Some bytes) bodies unseated loaded journal = (bodies, journal, (unseated, loaded))
 
--- the manager's disk failed where a write of its journal did
-over_rose : {D : Type 0} (see : D → Seen) (script : Lines) (disks : List (NodeDisks D)) (made : Made) (nodes : List (Datanode D)) (before after : D) (stopped : Bool) (story : List Event) (all_told : Bool)
-    → IsRunOver see script disks made nodes before after stopped story all_told
-    → stopped ≡ true → Rose (see before).faults (see after).faults
-over_rose see script disks made nodes before after true story all_told over is =
-    let rose = (over.halted [] (All-nil (λ other. other.0 ≢ disk.Manager)) Manager).rose refl in
-    let fewer = over.no_fewer in omega (arith, fewer, rose)
-over_rose see script disks made nodes before after false story all_told over is = absurd (cc is)
-
--- where the status is Disk a write has failed
-stopped_disk : (status : Status) (story : List Event) (stopped : Bool) → status ≡ ends.Disk → StatusNamesHalts status story → StatusNamesHalts (if stopped then ends.Disk else ends.Done) story → stopped ≡ true
-stopped_disk status story true is named halts = refl
-stopped_disk status story false is named halts =
-    let disk_halts : StatusNamesHalts ends.Disk story = subst (λ (s : Status). StatusNamesHalts s story) is named in
-    absurd (disk_halts.1 (halts disk_halts.0))
+-- where the status is Disk a node has halted
+halted_one : (status : Status) (story : List Event) → status ≡ ends.Disk → StatusNamesHalts status story → (node : Node) × (halt_of node story ≢ None)
+halted_one status story is halts = subst (λ (s : Status). StatusNamesHalts s story) is halts
 
 module _ (one : OneThing) (run_has_no_fault : (words : List (List ℕ)) (place : ℕ) → IsRun words → IsFirstFault words place → ⊥) where
   module _ {D : Type 0} (see : D → Seen) (words : List (List ℕ)) (left : Option (List ℕ)) (before after : Disks D) (source_rose sink_rose : Type 0) (number : ℕ) where
@@ -208,18 +193,24 @@ module _ (one : OneThing) (run_has_no_fault : (words : List (List ℕ)) (place :
       printed_causes ends.Damaged story held_before held_after n printed disk = absurd printed
       printed_causes ends.OutOfMemory story held_before held_after n printed disk = work_causes (omega (arith, n)) (λ is. absurd (omega (arith, n, is))) (λ is. absurd (omega (arith, n, is))) (λ is. omega (arith, n, is)) (λ is. omega (arith, n, is)) (λ is. omega (arith, n, is)) (λ is. omega (arith, n, is))
 
-  pub causes_of : {D : Type 0} (see : D → Seen) (words : List (List ℕ)) (left left_after : Option (List ℕ)) (before after : Disks D) (held_before held_after : Option (List ℕ)) (sink_rose : Type 0) (story : List Event) (source_rose : Type 0) (number : ℕ)
+  pub causes_of : {D : Type 0} (see : D → Seen)
+      → ((begun disk : D) (faults first : ℕ) (stopped : Bool) (others : OtherDisks D) (loaded later : OtherNodes D) (story : List Event) (node : Node) → AreAsMany others loaded later
+      → HaltsAreNamed (all_disks see (manager_disk faults first stopped (see begun) (see disk)) others loaded later) story → halt_of node story ≢ None
+      → ItsCountRose (λ (d : D). (see d).faults) faults (see disk).faults loaded later node)
+      → (words : List (List ℕ)) (left left_after : Option (List ℕ)) (before after : Disks D) (held_before held_after : Option (List ℕ)) (sink_rose : Type 0) (story : List Event) (source_rose : Type 0) (number : ℕ)
       → RunEnds see words left left_after before after held_before held_after sink_rose story source_rose number
       → StatusCauses see words left before after source_rose sink_rose number
-  causes_of see words left left_after before after held_before held_after sink_rose story source_rose number ending = ⊎_elim
+  causes_of see rises words left left_after before after held_before held_after sink_rose story source_rose number ending = ⊎_elim
       (λ ended. stop_causes see words left before after source_rose sink_rose number ended.stop ended.so (ending.1 ∙ ap status_number ended.status_is))
       (λ run.
       let store = run.store in
       let over = store.over in
       printed_causes see words left before after source_rose sink_rose number (length before.nodes.items, run.workers, run.given) run.script run.parsed
       (loads_of (see before.manager).told over.bodies over.unseated over.loaded over.journal)
-      (nothing_is_wrong see one before over.bodies over.unseated over.loaded over.journal store.scm store.scm_loaded store.nodes store.nodes_loaded store.fresh)
+      (nothing_is_wrong see one before over.bodies over.unseated over.loaded over.journal store.nodes.scm store.scm_loaded store.nodes.datanodes store.nodes_loaded store.fresh)
       ending.0 story held_before held_after ending.1 run.printed
-      (λ is. manager_rose see before after
-      (over_rose see run.script before.nodes.items store.scm.made store.nodes before.manager after.manager run.stopped story run.all_told over (stopped_disk ending.0 story run.stopped is run.ended over.status))))
+      (λ is.
+      let it = halted_one ending.0 story is run.ended in
+      node_rose see before after run.script run.any_halted story run.all_told store it.0
+      (rises before.manager after.manager over.faults over.first store.stopped (others_of before) store.nodes store.left story it.0 over.many run.halted it.1)))
       ending.2

@@ -1,21 +1,22 @@
--- All disks of a run, as it began and as it ended.
-use Rattle.std.specs.Prelude.{ℕ, Bool, List, ◌∷◌, Any}
+-- Which disks of a run counted a fault.
+use Rattle.std.specs.Prelude.{◌⊎◌, ℕ, ◌+◌, ◌-◌, ◌^◌, ◌≤◌, ◌∷◌, Any}
+use Rattle.oz_datanode.specs.declared.disks.NodeDisks.{NodeDisks}
 use Rattle.oz_disk_run.specs.declared.disks.Disks.{Disks}
 use Rattle.oz_disk_run.specs.Disks.{other_disks}
-use Rattle.oz_headline.specs.Disks.{RunDisk, loaded_disks, manager_disk}
 use Rattle.oz_nodes_loaded.specs.declared.disk_name.DiskName.{DiskName}
 use Rattle.oz_nodes_loaded.specs.declared.disk_name.DiskName.TheVariants.{Manager}
 use Rattle.oz_world.specs.Disk.{Seen}
 use Rattle.oz_world.specs.Faults.{Rose}
 
--- it writes to the manager's alone, once all are loaded
-abbrev pub disks_of_run : {D : Type 0} → (D → Seen) → Disks D → Disks D → ℕ → ℕ → Bool → List RunDisk
-disks_of_run see before after faults first stopped =
-    manager_disk faults first stopped (see before.manager) (see after.manager)
-    ∷ loaded_disks see (other_disks before after)
+module _ {D : Type 0} (see : D → Seen) where
+  -- the count of faults of a datanode, that of both its disks together, is at its last value, and so is taken as risen
+  abbrev pub IsAtLast : NodeDisks D → Type 0
+  IsAtLast own = 2 ^ 64 - 1 ≤ (see own.meta).faults + (see own.slots).faults
 
--- one of them counted a fault
-abbrev pub ADiskRose : {D : Type 0} → (D → Seen) → Disks D → Disks D → Type 0
-ADiskRose {D} see before after =
-    Any (λ (disk : DiskName × (D × D)). Rose (see disk.1.0).faults (see disk.1.1).faults)
-    ((Manager, (before.manager, after.manager)) ∷ other_disks before after)
+  -- One of all disks counted a fault between the beginning and the end. Where a datanode's count is at its last value it
+  -- doesn't tell whether one of its disks did.
+  abbrev pub ADiskRose : Disks D → Disks D → Type 0
+  ADiskRose before after =
+      Any (λ (disk : DiskName × (D × D)). Rose (see disk.1.0).faults (see disk.1.1).faults)
+      ((Manager, (before.manager, after.manager)) ∷ other_disks before after)
+      ⊎ Any IsAtLast after.nodes.items

@@ -1,16 +1,18 @@
 -- What a run promises of the story that it prints, and of its disks.
 use Rattle.std.specs.Prelude.{◌≡◌, ◌≢◌, ◌⊎◌, ℕ, Bool, List, length, Option}
-use Rattle.oz_cluster.specs.Disks.{disks_of_run}
 use Rattle.oz_cluster.specs.Stopped.{IsScriptOf, IsStopped}
 use Rattle.oz_cluster.specs.Streams.{IsReadThrough}
 use Rattle.oz_core.specs.declared.event.Event.{Event}
 use Rattle.oz_core.specs.Fits.{AllAreTold}
 use Rattle.oz_disk_run.specs.declared.disks.Disks.{Disks}
 use Rattle.oz_disk_run.specs.Coherent.{IsCoherentStore}
+use Rattle.oz_disk_run.specs.Disks.{others_of}
 use Rattle.oz_disk_run.specs.StoreRun.{IsStoreRun}
+use Rattle.oz_halts.specs.Disks.{all_disks}
 use Rattle.oz_headline.specs.declared.status.Status.{Status}
 use Rattle.oz_headline.specs.declared.status.Status.TheVariants.{OutOfMemory}
 use Rattle.oz_headline.specs.Counts.{AreToldAsMany}
+use Rattle.oz_headline.specs.Disks.{manager_disk}
 use Rattle.oz_headline.specs.Halts.{HaltsAreNamed, StatusNamesHalts}
 use Rattle.oz_headline.specs.Headline.{Headline}
 use Rattle.oz_headline.specs.Printed.{IsPrinted}
@@ -24,29 +26,32 @@ use Rattle.oz_world.specs.Disk.{Seen}
 
 module _ {D : Type 0} (see : D → Seen) (words : List (List ℕ)) (left left_after : Option (List ℕ))
     (before after : Disks D) (held_before held_after : Option (List ℕ)) (sink_rose : Type 0) (story : List Event) where
-  -- A run of a script over disks, all of which it loads, and of which it writes to the manager's alone. What it wrote
-  -- is the report of its story, in which each line is told unless memory ran out. Where all disks are a coherent store
-  -- over a namespace, the story is one history from their opening.
+  -- A run of a script over disks, all of which it loads and then writes to. What it wrote is the report of its story, in
+  -- which each line is told unless memory ran out. Where all disks are a coherent store over a namespace, the story is one
+  -- history from their opening.
   pub record IsOneRun (status : Status) : Type 0 where
     pub script : Script
     pub workers : ℕ
     pub given : IsRunWith words (length before.nodes.items) workers
     pub parsed : IsScriptOf left script
     pub read : IsReadThrough left left_after
-    pub stopped : Bool
+    pub any_halted : Bool
     pub all_told : Bool
     -- what was loaded, and what became of it
-    pub store : IsStoreRun see script before after stopped story all_told
+    pub store : IsStoreRun see script before after any_halted story all_told
     pub printed : IsPrinted status script story held_before held_after sink_rose
     pub ended : StatusNamesHalts status story
     pub told : status ≢ OutOfMemory → AreToldAsMany script story
-    pub halted : HaltsAreNamed (disks_of_run see before after store.over.faults store.over.first stopped) story
+    pub halted : HaltsAreNamed (all_disks see
+        (manager_disk store.over.faults store.over.first store.stopped (see before.manager) (see after.manager))
+        (others_of before) store.nodes store.left) story
     pub headline : (namespace : Namespace)
-        → let opening = opening_of store.over.unseated namespace store.scm.made store.nodes in
-        let bytes = opening_bytes see store.nodes in
+        → let opening = opening_of store.over.unseated namespace store.nodes.scm.made store.nodes.datanodes in
+        let bytes = opening_bytes see store.nodes.datanodes in
         IsCoherentStore see before.nodes.items (row_of store.over.loaded.all) opening bytes
-        → Headline opening bytes script
-        (disks_of_run see before after store.over.faults store.over.first stopped) story
+        → Headline opening bytes script (all_disks see
+        (manager_disk store.over.faults store.over.first store.stopped (see before.manager) (see after.manager))
+        (others_of before) store.nodes store.left) story
         × (status ≢ OutOfMemory → AllAreTold script story)
 
   -- A run was stopped before its work, and says why; or it worked, and its story is one history.

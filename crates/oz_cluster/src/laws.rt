@@ -31,7 +31,8 @@ use oz_words::words_of_a_run_have_no_fault;
 use oz_world::Disk;
 
 /// Words and a script in their grammars, disks that load and whose ids aren't granted again, and no count of faults that
-/// rises: so a run is done, or there was no memory. The source has to tell its text, and the disks their bytes.
+/// rises or, of a datanode, is at its last value: so a run is done, or there was no memory. The source has to tell its
+/// text, and the disks their bytes.
 pub fn a_run_that_nothing_disturbs_is_done<D: Disk>()
     ensures { (words : List (List ℕ)) (text : List ℕ) (before after : Disks D) (source source_after sink sink_after : ℕ)
         (status : ℕ) → (let see = (λ (d : D). seen (D.told d) (D.clock d) (D.image d) (D.faults d)) in
@@ -57,11 +58,12 @@ pub fn an_empty_disk_opens_as_nothing()
 /// Disks to which nothing was written are a coherent store over the namespace of nothing, whatever was loaded of them:
 /// so what is taken for granted of the disks of a run can be met, and the story of a run over such disks is one history.
 pub fn unwritten_disks_are_coherent<D: Disk>()
-    ensures { (script : AnyScript) (before after : Disks D) (stopped : Bool) (story : List AnyEvent) (all_told : Bool) →
-        let see = (λ (d : D). seen (D.told d) (D.clock d) (D.image d) (D.faults d)) in
-        AreUnwritten see before → (store : IsStoreRun see script before after stopped story all_told) →
+    ensures { (script : AnyScript) (before after : Disks D) (any_halted : Bool) (story : List AnyEvent)
+        (all_told : Bool) → let see = (λ (d : D). seen (D.told d) (D.clock d) (D.image d) (D.faults d)) in
+        AreUnwritten see before → (store : IsStoreRun see script before after any_halted story all_told) →
         IsCoherentStore see before.nodes.items (row_of store.over.loaded.all)
-        (opening_of store.over.unseated nothing store.scm.made store.nodes) (opening_bytes see store.nodes) }
+        (opening_of store.over.unseated nothing store.nodes.scm.made store.nodes.datanodes)
+        (opening_bytes see store.nodes.datanodes) }
 {
     unwritten_disks_are_a_store::<D>();
     all_disks_are_a_store::<D>();

@@ -17,6 +17,7 @@ use crate::texts;
 use oz_block::a_disk_stands_for_one_node;
 use oz_core::Event;
 use oz_disk_run::{Disks, RefusedStore, StoreRan, run_over_disks};
+use oz_halts::a_halted_node_counted;
 use oz_headline::{Status, all_are_told_by_count};
 use oz_lines::Script;
 use oz_loaded::a_disk_loads_as_one_thing;
@@ -43,12 +44,12 @@ fn finish<K: Sink>(
     script: &Script,
     story: &[Event],
     all_told: bool,
-    stopped: bool,
+    any_halted: bool,
 ) -> Status
     ensures printed { IsPrinted result script.now story.now (K.held out.old) (K.held out.new)
         (Rose (K.faults out.old) (K.faults out.new)) }
-    ensures done { result ≡ Status.Done → stopped ≡ false }
-    ensures disk { result ≡ Status.Disk → stopped ≡ true }
+    ensures done { result ≡ Status.Done → any_halted ≡ false }
+    ensures disk { result ≡ Status.Disk → any_halted ≡ true }
     ensures told { (result ≡ Status.OutOfMemory) ⊎ (all_told ≡ true) }
     ensures never_falls { K.faults out.old ≤ K.faults out.new }
 {
@@ -63,7 +64,11 @@ fn finish<K: Sink>(
     let Ok(()) = write_all(out, &report) else {
         return Status::Unwritten;
     };
-    if stopped { Status::Disk } else { Status::Done }
+    if any_halted {
+        Status::Disk
+    } else {
+        Status::Done
+    }
 }
 
 /// What a run leaves that something stopped before its work.
@@ -80,8 +85,9 @@ fn ended_early<D>(alloc: Global, status: Status, disks: Disks<D>) -> Ended<D>
 }
 
 /// Runs a script over disks: its lines are asked, decided, made stable and told by as many threads as the words say, those of
-/// one client one after another, and at last the report of all that happened is written. Statuses and texts stand in
-/// docs/SCRIPT.md. Where the words are in their grammar there are as many datanodes as they say. It waits for other threads.
+/// one client one after another, and at last the report of all that happened is written. It writes to the disks of all
+/// nodes, and to each only after it was loaded. Statuses and texts stand in docs/SCRIPT.md. Where the words are in their
+/// grammar there are as many datanodes as they say. It waits for other threads.
 pub fn run<W: Threads + Wait + Sync, S: Source, K: Sink, D: Disk + Send, G: Gate + Sync>(
     rt: &W,
     alloc: Global,
@@ -109,6 +115,7 @@ pub fn run<W: Threads + Wait + Sync, S: Source, K: Sink, D: Disk + Send, G: Gate
     a_disk_loads_as_one_thing();
     a_disk_stands_for_one_node();
     a_disk_stands_for_one_thing();
+    a_halted_node_counted::<D>();
     all_are_told_by_count();
     words_of_a_run_have_no_fault();
     let Begun {
@@ -128,11 +135,11 @@ pub fn run<W: Threads + Wait + Sync, S: Source, K: Sink, D: Disk + Send, G: Gate
     };
     let StoreRan {
         story,
-        stopped,
+        any_halted,
         all_told,
         disks,
     } = ran;
-    let status = finish(alloc, out, &script, &story, all_told, stopped);
+    let status = finish(alloc, out, &script, &story, all_told, any_halted);
     Ended {
         status: status.number(),
         story,

@@ -3,11 +3,11 @@ use Rattle.std.specs.String.{string_bytes}
 use Rattle.oz_core.specs.declared.event.Event.{Event}
 use Rattle.oz_cluster.specs.Headline.{RunEnds}
 use Rattle.oz_cluster.proofs.Causes.{causes_of}
-use Rattle.oz_cluster.proofs.Endings.{names_halts, others_are, told_of}
+use Rattle.oz_cluster.proofs.Endings.{names_halts, told_of}
 use Rattle.oz_cluster.proofs.Right.{OneThing}
 use Rattle.oz_cluster.proofs.Stops.{stopped_early, stopped_late}
 use Rattle.oz_disk_run.specs.declared.disks.Disks.{Disks}
-use Rattle.oz_disk_run.specs.Disks.{other_disks}
+use Rattle.oz_halts.specs.Disks.{some_halted}
 use Rattle.oz_headline.specs.Printed.{IsPrinted}
 use Rattle.oz_words.specs.Words.{IsRunWith}
 use Rattle.oz_world.specs.Disk.{Seen, seen}
@@ -43,7 +43,7 @@ returns-in-Err-clause-causes g c =
       node = c.a_disk_stands_for_one_node.ensures.one_node;
       node_or_damaged = c.a_disk_stands_for_one_node.ensures.not_both;
     } in
-    causes_of one c.words_of_a_run_have_no_fault.ensures see _ _ _ _ _ _ _ _ _ _ _ (returns-in-Err-clause-one_run g c)
+    causes_of one c.words_of_a_run_have_no_fault.ensures see c.a_halted_node_counted.ensures _ _ _ _ _ _ _ _ _ _ _ (returns-in-Err-clause-one_run g c)
 
 pub returns-in-Err-run_over_disks-clause-one_run : goal.returns-in-Err-run_over_disks-clause-one_run
 returns-in-Err-run_over_disks-clause-one_run g c =
@@ -77,7 +77,7 @@ returns-in-Err-run_over_disks-clause-causes g c =
       node = c.a_disk_stands_for_one_node.ensures.one_node;
       node_or_damaged = c.a_disk_stands_for_one_node.ensures.not_both;
     } in
-    causes_of one c.words_of_a_run_have_no_fault.ensures see _ _ _ _ _ _ _ _ _ _ _ (returns-in-Err-run_over_disks-clause-one_run g c)
+    causes_of one c.words_of_a_run_have_no_fault.ensures see c.a_halted_node_counted.ensures _ _ _ _ _ _ _ _ _ _ _ (returns-in-Err-run_over_disks-clause-one_run g c)
 
 pub returns-clause-one_run : goal.returns-clause-one_run
 returns-clause-one_run g c =
@@ -88,9 +88,7 @@ returns-clause-one_run g c =
     let ran = c.in-Ok-run_over_disks.ran in
     let story : List Event = ran.story.items in
     let store = c.in-Ok-run_over_disks.ensures.ran in
-    let status = c.finish-status.result in
-    let others = other_disks c.args.disks ran.disks in
-    let apart = others_are c.args.disks ran.disks in (
+    let status = c.finish-status.result in (
       status,
       c.number.ensures,
       inr record {
@@ -99,15 +97,15 @@ returns-clause-one_run g c =
         given = subst (λ (n : ℕ). IsRunWith (map string_bytes c.args.words.now) n c.in-Ok.begun.workers) (sym (c.requires.nodes c.in-Ok.begun.nodes c.in-Ok.begun.workers c.in-Ok.ensures.words)) c.in-Ok.ensures.words;
         parsed = c.in-Ok.ensures.script;
         read = c.in-Ok.ensures.through;
-        stopped = ran.stopped;
+        any_halted = ran.any_halted;
         all_told = ran.all_told;
         store = store;
         printed = subst (λ (l : List Event). IsPrinted status script l (g.K.Sink.held c.args.out.now) (g.K.Sink.held c.finish-status.new.out) sink_rose) c.deref.ensures.value c.finish-status.ensures.printed;
-        ended = names_halts status story ran.stopped c.finish-status.ensures.done c.finish-status.ensures.disk store.over.status;
+        ended = names_halts status story ran.any_halted (some_halted store.stopped store.left) store.halted c.finish-status.ensures.done c.finish-status.ensures.disk store.over.status;
         told = told_of status script story ran.all_told store.over.counted c.finish-status.ensures.told;
-        halted = store.over.halted others apart;
+        halted = store.over.halted;
         headline = λ namespace coherent.
-            let history = (store.over.coherent namespace coherent).headline others apart in (
+            let history = (store.over.coherent namespace coherent).headline in (
               history,
               λ ne. c.all_are_told_by_count.ensures.all _ _ script story c.in-Ok.ensures.numbered history.one_history.1 (told_of status script story ran.all_told store.over.counted c.finish-status.ensures.told ne),
             );
@@ -126,4 +124,4 @@ returns-clause-causes g c =
       node = c.a_disk_stands_for_one_node.ensures.one_node;
       node_or_damaged = c.a_disk_stands_for_one_node.ensures.not_both;
     } in
-    causes_of one c.words_of_a_run_have_no_fault.ensures see _ _ _ _ _ _ _ _ _ _ _ (returns-clause-one_run g c)
+    causes_of one c.words_of_a_run_have_no_fault.ensures see c.a_halted_node_counted.ensures _ _ _ _ _ _ _ _ _ _ _ (returns-clause-one_run g c)

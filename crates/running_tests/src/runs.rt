@@ -4,8 +4,8 @@ ghost use Rattle.std.specs.Prelude.{◌≤◌};
 ghost use Rattle.oz_lines.specs.Numbered.{IsNumbered};
 
 use crate::opened::run;
-use crate::scripts::script;
-use crate::told::{UNTOLD, answers, count};
+use crate::scripts::{putting, script};
+use crate::told::{UNTOLD, answer, answers, count, grants};
 use oz_lines::Script;
 use std::alloc::Global;
 use std::process::Abort;
@@ -17,6 +17,9 @@ use std::thread::Threads;
 const UNACKNOWLEDGED: u16 = 105;
 
 const MANAGER_STOPPED: u16 = 106;
+
+/// The number of the answer that a line is told which was granted blocks and doesn't write them.
+const OUT_OF_MEMORY: u16 = 112;
 
 fn holds(rt: &impl Abort, it: bool, what: &str) {
     assert!(rt; it, "{what}");
@@ -86,6 +89,26 @@ fn lines_hear_of_a_failing_disk(rt: HostRuntime) -> Result<(), Fail> {
         &rt,
         count(four.as_slice(), MANAGER_STOPPED) > 0,
         "some asked behind",
+    );
+    Ok(())
+}
+
+#[test]
+fn a_put_is_granted_blocks(rt: HostRuntime) -> Result<(), Fail> {
+    let script = putting(rt.alloc())?;
+    let ran = run(&rt, rt.alloc(), &script, 1, 0)?;
+    holds(&rt, ran.all_told, "all lines are told");
+    holds(
+        &rt,
+        grants(ran.story.as_slice()) == 1,
+        "blocks were granted",
+    );
+    holds(&rt, ran.scm.next_id() == 65, "from the first id on");
+    holds(&rt, ran.nodes.len() == 3, "all datanodes are there");
+    holds(
+        &rt,
+        answer(ran.story.as_slice(), 1, 3) == OUT_OF_MEMORY,
+        "nobody writes them",
     );
     Ok(())
 }

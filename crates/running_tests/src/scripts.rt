@@ -18,7 +18,23 @@ pub fn script(alloc: Global) -> Result<Script, Fail>
     ensures { IfOk result (λ script. IsNumbered script) }
 {
     let text = text(alloc)?;
-    match read_lines(alloc, text.as_bytes()) {
+    read(alloc, text.as_bytes())
+}
+
+/// A script of one client, whose third line puts a key of one byte.
+pub fn putting(alloc: Global) -> Result<Script, Fail>
+    ensures { IfOk result (λ script. IsNumbered script) }
+{
+    read(
+        alloc,
+        b"c1 volume create /vol\nc1 bucket create /vol/bck\nc1 key put /vol/bck/a fill 1 1\n",
+    )
+}
+
+fn read(alloc: Global, text: &[u8]) -> Result<Script, Fail>
+    ensures { IfOk result (λ script. IsNumbered script) }
+{
+    match read_lines(alloc, text) {
         Ok(placed) => Ok(placed.script),
         Err(_) => Err("a script".into()),
     }

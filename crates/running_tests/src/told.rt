@@ -19,7 +19,7 @@ pub fn answers(alloc: Global, story: &[Event]) -> Result<Vec<u16>, AllocError> {
 }
 
 /// The number of a line's answer. One that is told twice has the number that no answer has.
-fn answer(story: &[Event], client: u16, line: u16) -> u16 {
+pub fn answer(story: &[Event], client: u16, line: u16) -> u16 {
     let mut answer = UNTOLD;
     for event in story {
         if let Some(number) = told_to(&event.kind, client, line) {
@@ -44,4 +44,12 @@ fn told_to(kind: &EventKind, client: u16, line: u16) -> Option<u16> {
 /// How many lines have this.
 pub fn count(answers: &[u16], number: u16) -> usize {
     answers.iter().filter(|answer| **answer == number).count()
+}
+
+/// How often blocks were granted.
+pub fn grants(story: &[Event]) -> usize {
+    story
+        .iter()
+        .filter(|event| matches!(event.kind, EventKind::Grant { .. }))
+        .count()
 }

@@ -1,2 +1,3 @@
-pub mod Seats
 pub mod Empty
+pub mod Standing
+pub mod Seats

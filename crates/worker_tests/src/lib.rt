@@ -4,6 +4,8 @@
 #[cfg(test)]
 mod many;
 #[cfg(test)]
+mod nodes;
+#[cfg(test)]
 mod opened;
 #[cfg(test)]
 mod running;

@@ -1,19 +1,22 @@
 //! A run of a script over an empty disk: what was loaded of it, the turn, and its seats.
 
 ghost use Rattle.std.specs.Prelude.{◌≡◌, ◌≤◌, ◌<◌, ◌+◌, false, vec_len, IfOk, IfSome, OnSome, OnOk};
-ghost use Rattle.oz_om.specs.Seated.{ArePartsOf, AreNewStripeSeats};
+ghost use Rattle.oz_core.specs.declared.event.Node.{Node as AnyNode};
+ghost use Rattle.oz_lines.specs.Numbered.{IsNumbered};
 ghost use Rattle.oz_om.specs.Keeps.{KeepsRows};
 ghost use Rattle.oz_om.specs.Opens.{Opens};
-ghost use Rattle.oz_buffer.specs.Openings.{no_opening};
+ghost use Rattle.oz_om.specs.Seated.{AreNewStripeSeats, ArePartsOf, ArePlaced};
 ghost use Rattle.oz_turn.specs.Seat.{AreNewSeats, IsNewSeat};
-ghost use Rattle.oz_lines.specs.Numbered.{IsNumbered};
+ghost use Rattle.worker_tests.specs.Three.{three_nodes};
 
+use crate::nodes::{datanodes, empty_disk, empty_disks, scm};
 use oz_buffer::{Ledger, Opened};
 use oz_flusher::Flusher;
 use oz_lines::Script;
 use oz_loaded::{Unseated, load};
 use oz_locks::Loaded;
 use oz_om::Manager;
+use oz_servers::Servers;
 use oz_turn::{Ring, Seat, new_seats_are_ready};
 use oz_worker::{Job, Worker};
 use oz_world::MemoryDisk;
@@ -25,8 +28,8 @@ pub struct NoRows;
 
 impl Loaded for NoRows {
     ghost use Rattle.std.specs.Prelude.{None};
-    ghost use Rattle.oz_buffer.specs.Openings.{no_opening};
     ghost use Rattle.oz_om.specs.Keeps.{KeepsRows};
+    ghost use Rattle.worker_tests.specs.Three.{three_nodes};
 
     ghost rows = { λ key. None };
 
@@ -34,7 +37,7 @@ impl Loaded for NoRows {
 
     ghost coherent = { ⊥ };
 
-    ghost keeps = { KeepsRows ⊥ no_opening (λ key. None) };
+    ghost keeps = { KeepsRows ⊥ three_nodes (λ key. None) };
 }
 
 /// An empty disk is loaded. One call of it fails: loading makes three.
@@ -76,17 +79,19 @@ pub fn first_seat<O: Opened, R: Ring>(mut seats: Vec<Seat<Ledger<O>>>) -> Seat<L
     seats.swap_remove(0)
 }
 
-/// The seats of the stripes, which are the last, leave.
-pub fn stripe_seats<O: Opened, R: Ring>(
+/// The seats from a number on leave.
+pub fn seats_from<O: Opened, R: Ring>(
     seats: &mut Vec<Seat<Ledger<O>>>,
+    first: usize,
 ) -> Result<Vec<Seat<Ledger<O>>>, Fail>
-    requires count { vec_len seats.old ≡ 36 }
+    requires there { first ≤ vec_len seats.old }
     requires new { AreNewSeats R.turn seats.old.items }
-    ensures count { OnOk result (vec_len seats.new ≡ 20) }
+    ensures count { OnOk result (vec_len seats.new ≡ first) }
     ensures new { OnOk result (AreNewSeats R.turn seats.new.items) }
-    ensures stripes { IfOk result (λ stripes. AreNewStripeSeats R.turn stripes.items) }
+    ensures rest_count { IfOk result (λ rest. first + vec_len rest ≡ vec_len seats.old) }
+    ensures rest { IfOk result (λ rest. ArePlaced (λ n s. IsNewSeat R.turn (first + n) s) rest.items) }
 {
-    Ok(seats.split_off(20)?)
+    Ok(seats.split_off(first)?)
 }
 
 /// The manager of what was loaded.
@@ -95,13 +100,44 @@ pub fn seated<O: Opened, R: Ring>(
     unseated: Unseated,
     seats: Vec<Seat<Ledger<O>>>,
 ) -> Result<Manager<Ledger<O>, O, NoRows, R>, Fail>
-    requires opens { Opens O.coherent O.opening O.bytes (λ key. None) 0 ⊥ (KeepsRows ⊥ no_opening (λ key. None)) }
+    requires opens { Opens O.coherent O.opening O.bytes (λ key. None) 0 ⊥ (KeepsRows ⊥ three_nodes (λ key. None)) }
     requires parts { ArePartsOf (λ key. None) 0 unseated.parts }
     requires seats { AreNewStripeSeats R.turn seats.items }
 {
     match Manager::seat(alloc, unseated, seats) {
         Ok(manager) => Ok(manager),
         Err((_, _, error)) => Err(error.into()),
+    }
+}
+
+/// The manager, with a storage container manager and three datanodes over empty disks, whose seats are the last three behind
+/// the first three.
+pub fn served<O: Opened, R: Ring>(
+    alloc: Global,
+    manager: Manager<Ledger<O>, O, NoRows, R>,
+    seats: &mut Vec<Seat<Ledger<O>>>,
+) -> Result<Servers<MemoryDisk, Ledger<O>, O, NoRows, R>, Fail>
+    requires incoherent { O.coherent → ⊥ }
+    requires opening { O.opening ≡ three_nodes }
+    requires faults { (node : AnyNode) → O.faults node ≡ 0 }
+    requires there { 7 ≤ vec_len seats.old }
+    requires new { AreNewSeats R.turn seats.old.items }
+    ensures count { OnOk result (vec_len seats.new ≡ 3) }
+    ensures new { OnOk result (AreNewSeats R.turn seats.new.items) }
+{
+    let _absent = seats_from::<O, R>(seats, 7)?;
+    let seats_of_nodes = seats_from::<O, R>(seats, 4)?;
+    let seat_of_scm = last_seat::<O, R>(seats)?;
+    let scm = scm::<MemoryDisk, O>(alloc, empty_disk(alloc)?)?;
+    let (first, second, third) = (
+        empty_disks(alloc)?,
+        empty_disks(alloc)?,
+        empty_disks(alloc)?,
+    );
+    let nodes = datanodes::<MemoryDisk, O>(alloc, first, second, third)?;
+    match Servers::make(alloc, manager, scm, nodes, seat_of_scm, seats_of_nodes) {
+        Ok(servers) => Ok(servers),
+        Err((_scm, _nodes, error)) => Err(error.into()),
     }
 }
 

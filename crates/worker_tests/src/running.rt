@@ -1,7 +1,7 @@
 //! A run of a script by some workers and a flusher.
 
 ghost use Rattle.std.specs.Prelude.{◌≡◌, ◌≤◌, ◌<◌, ◌+◌, false, vec_len, None, OnOk};
-ghost use Rattle.oz_buffer.specs.Openings.{no_opening};
+ghost use Rattle.oz_core.specs.declared.event.Node.{Node as AnyNode};
 ghost use Rattle.oz_lines.specs.Numbered.{IsNumbered};
 ghost use Rattle.oz_om.specs.Keeps.{KeepsRows};
 ghost use Rattle.oz_om.specs.Opens.{Opens};
@@ -9,14 +9,17 @@ ghost use Rattle.oz_turn.specs.Seat.{AreNewSeats, IsNewSeat};
 ghost use Rattle.oz_turn.specs.Turn.{turn_id};
 ghost use Rattle.oz_world.specs.Disk.{TellsAsBefore};
 ghost use Rattle.oz_world.specs.Moments.{Elapses};
+ghost use Rattle.worker_tests.specs.Three.{three_nodes};
 
-use crate::opened::{NoRows, add_worker, first_seat, last_seat, loaded, seated, stripe_seats};
+use crate::opened::{
+    NoRows, add_worker, first_seat, last_seat, loaded, seated, seats_from, served,
+};
 use crate::told::answers;
 use oz_buffer::{Ledger, Opened};
 use oz_flusher::Flusher;
 use oz_flushing::{Flushing, Mounted};
 use oz_lines::Script;
-use oz_om::Manager;
+use oz_servers::Servers;
 use oz_turn::{Ring, Seat, Turn, new_seats_are_ready};
 use oz_worker::{Job, finish, work_together};
 use oz_world::{Disk, OpenGate};
@@ -37,7 +40,7 @@ fn serve<
     rt: &W,
     alloc: Global,
     turn: &Turn<Ledger<O>>,
-    manager: &Manager<Ledger<O>, O, NoRows, R>,
+    servers: &Servers<D, Ledger<O>, O, NoRows, R>,
     flusher: Flusher<D>,
     seat: Seat<Ledger<O>>,
     jobs: &mut [Job<'_, Ledger<O>, O, R>],
@@ -53,12 +56,12 @@ fn serve<
     let flushing: Mutex<Flushing<D, Ledger<O>, O, M, R>> = Mutex::new(Flushing::make(
         flusher, seat,
     ));
-    work_together(rt, alloc, turn, manager, &flushing, &OpenGate, jobs);
-    finish(rt, alloc, turn, manager, &flushing, &OpenGate, jobs)
+    work_together(rt, alloc, turn, servers, &flushing, &OpenGate, jobs);
+    finish(rt, alloc, turn, servers, &flushing, &OpenGate, jobs)
 }
 
 /// The same, counted from the disk as it is now.
-fn served<
+fn counted<
     D: Disk + Drop + Send,
     O: Opened + Send + Sync,
     R: Ring + Send + Sync,
@@ -67,7 +70,7 @@ fn served<
     rt: &W,
     alloc: Global,
     turn: &Turn<Ledger<O>>,
-    manager: &Manager<Ledger<O>, O, NoRows, R>,
+    servers: &Servers<D, Ledger<O>, O, NoRows, R>,
     flusher: Flusher<D>,
     seat: Seat<Ledger<O>>,
     jobs: &mut [Job<'_, Ledger<O>, O, R>],
@@ -77,7 +80,7 @@ fn served<
     requires running { flusher.stopped ≡ false }
     requires seat { IsNewSeat R.turn 0 seat }
 {
-    serve::<D, O, Brand, R, W>(rt, alloc, turn, manager, flusher, seat, jobs)
+    serve::<D, O, Brand, R, W>(rt, alloc, turn, servers, flusher, seat, jobs)
 }
 
 /// The jobs of so many workers, of the last seats, and that of the flusher.
@@ -116,7 +119,9 @@ fn run<O: Opened + Send + Sync, R: Ring + Send + Sync, W: Threads + Wait + Sync>
 ) -> Result<Vec<u16>, Fail>
     requires turn { turn_id turn.now ≡ R.turn }
     requires incoherent { O.coherent → ⊥ }
-    requires opens { Opens O.coherent O.opening O.bytes (λ key. None) 0 ⊥ (KeepsRows ⊥ no_opening (λ key. None)) }
+    requires opening { O.opening ≡ three_nodes }
+    requires faults { (node : AnyNode) → O.faults node ≡ 0 }
+    requires opens { Opens O.coherent O.opening O.bytes (λ key. None) 0 ⊥ (KeepsRows ⊥ three_nodes (λ key. None)) }
     requires script { script.now ≡ O.script }
     requires numbered { IsNumbered O.script }
     requires some { 0 < workers }
@@ -126,16 +131,17 @@ fn run<O: Opened + Send + Sync, R: Ring + Send + Sync, W: Threads + Wait + Sync>
 {
     new_seats_are_ready::<Ledger<O>>();
     let mut jobs = jobs_of::<O, R>(alloc, script, &mut seats, workers)?;
-    let stripes = stripe_seats::<O, R>(&mut seats)?;
+    let stripes = seats_from::<O, R>(&mut seats, 20)?;
     let mut looker = last_seat::<O, R>(&mut seats)?;
     let (unseated, flusher) = loaded(alloc, failing)?;
     let manager = seated::<O, R>(alloc, unseated, stripes)?;
+    let servers = served::<O, R>(alloc, manager, &mut seats)?;
     let first = first_seat::<O, R>(seats);
-    if !served(
+    if !counted(
         rt,
         alloc,
         turn,
-        &manager,
+        &servers,
         flusher,
         first,
         jobs.as_mut_slice(),
@@ -155,7 +161,9 @@ fn opened<O: Opened + Send + Sync, W: Threads + Wait + Sync>(
     failing: u64,
 ) -> Result<Vec<u16>, Fail>
     requires incoherent { O.coherent → ⊥ }
-    requires opens { Opens O.coherent O.opening O.bytes (λ key. None) 0 ⊥ (KeepsRows ⊥ no_opening (λ key. None)) }
+    requires opening { O.opening ≡ three_nodes }
+    requires faults { (node : AnyNode) → O.faults node ≡ 0 }
+    requires opens { Opens O.coherent O.opening O.bytes (λ key. None) 0 ⊥ (KeepsRows ⊥ three_nodes (λ key. None)) }
     requires script { script.now ≡ O.script }
     requires numbered { IsNumbered O.script }
     requires some { 0 < workers }

@@ -1,7 +1,7 @@
 use Rattle.std.proofs.Common.{[], None}
-use Rattle.oz_buffer.specs.Openings.{no_opening}
+use Rattle.running_tests.specs.Three.{three_nodes}
 use Rattle.running_tests.proofs.opened.run.Given as goal
 
 -- the script that was handed in, over disks of which nothing is asked
 abbrev pub ghosts-opened : goal.ghosts-opened
-ghosts-opened g a = record { opening = no_opening; bodies = []; bytes = λ dn block. None; faults = λ node. 0; script = a.script.now; coherent = ⊥ }
+ghosts-opened g a = record { opening = three_nodes; bodies = []; bytes = λ dn block. None; faults = λ node. 0; script = a.script.now; coherent = ⊥ }

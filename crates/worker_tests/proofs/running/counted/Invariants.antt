@@ -1,5 +1,5 @@
 use Rattle.oz_world.specs.Disk.{seen}
-use Rattle.worker_tests.proofs.running.served.Given as goal
+use Rattle.worker_tests.proofs.running.counted.Given as goal
 
 -- the disk as it is handed in
 abbrev pub ghosts-serve : goal.ghosts-serve

@@ -5,7 +5,7 @@ ghost use Rattle.oz_lines.specs.Numbered.{IsNumbered};
 
 use crate::opened::run;
 use crate::scripts::{putting, script};
-use crate::told::{UNTOLD, answer, answers, count, grants};
+use crate::told::{UNTOLD, answer, answers, count, grants, puts};
 use oz_lines::Script;
 use std::alloc::Global;
 use std::process::Abort;
@@ -18,8 +18,8 @@ const UNACKNOWLEDGED: u16 = 105;
 
 const MANAGER_STOPPED: u16 = 106;
 
-/// The number of the answer that a line is told which was granted blocks and doesn't write them.
-const OUT_OF_MEMORY: u16 = 112;
+/// The number of the answer that a line is told which is done.
+const OK: u16 = 0;
 
 fn holds(rt: &impl Abort, it: bool, what: &str) {
     assert!(rt; it, "{what}");
@@ -94,7 +94,7 @@ fn lines_hear_of_a_failing_disk(rt: HostRuntime) -> Result<(), Fail> {
 }
 
 #[test]
-fn a_put_is_granted_blocks(rt: HostRuntime) -> Result<(), Fail> {
+fn a_put_is_granted_blocks_and_writes_one(rt: HostRuntime) -> Result<(), Fail> {
     let script = putting(rt.alloc())?;
     let ran = run(&rt, rt.alloc(), &script, 1, 0)?;
     holds(&rt, ran.all_told, "all lines are told");
@@ -107,8 +107,18 @@ fn a_put_is_granted_blocks(rt: HostRuntime) -> Result<(), Fail> {
     holds(&rt, ran.nodes.len() == 3, "all datanodes are there");
     holds(
         &rt,
-        answer(ran.story.as_slice(), 1, 3) == OUT_OF_MEMORY,
-        "nobody writes them",
+        puts(ran.story.as_slice()) == 3,
+        "each of them puts the block",
+    );
+    holds(
+        &rt,
+        answer(ran.story.as_slice(), 1, 3) == OK,
+        "the key is put",
+    );
+    holds(
+        &rt,
+        answer(ran.story.as_slice(), 1, 4) == OK,
+        "and is read",
     );
     Ok(())
 }

@@ -21,13 +21,13 @@ pub fn script(alloc: Global) -> Result<Script, Fail>
     read(alloc, text.as_bytes())
 }
 
-/// A script of one client, whose third line puts a key of one byte.
+/// A script of one client, whose third line puts a key of one byte, and whose last one reads it.
 pub fn putting(alloc: Global) -> Result<Script, Fail>
     ensures { IfOk result (λ script. IsNumbered script) }
 {
     read(
         alloc,
-        b"c1 volume create /vol\nc1 bucket create /vol/bck\nc1 key put /vol/bck/a fill 1 1\n",
+        b"c1 volume create /vol\nc1 bucket create /vol/bck\nc1 key put /vol/bck/a fill 1 1\nc1 key get /vol/bck/a\n",
     )
 }
 

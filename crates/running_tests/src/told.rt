@@ -46,6 +46,14 @@ pub fn count(answers: &[u16], number: u16) -> usize {
     answers.iter().filter(|answer| **answer == number).count()
 }
 
+/// How often a datanode put a block.
+pub fn puts(story: &[Event]) -> usize {
+    story
+        .iter()
+        .filter(|event| matches!(event.kind, EventKind::Put { .. }))
+        .count()
+}
+
 /// How often blocks were granted.
 pub fn grants(story: &[Event]) -> usize {
     story

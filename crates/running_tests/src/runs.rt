@@ -115,10 +115,6 @@ fn a_put_is_granted_blocks_and_writes_one(rt: HostRuntime) -> Result<(), Fail> {
         answer(ran.story.as_slice(), 1, 3) == OK,
         "the key is put",
     );
-    holds(
-        &rt,
-        answer(ran.story.as_slice(), 1, 4) == OK,
-        "and is read",
-    );
+    holds(&rt, answer(ran.story.as_slice(), 1, 4) == OK, "and is read");
     Ok(())
 }

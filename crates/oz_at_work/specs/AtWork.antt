@@ -138,10 +138,10 @@ module _ (Coherent : Type 0) (opening : Opening) (bytes : OpeningBytes) (script 
     pub writes : IsWriting line.command progress block members first count
 
   -- The line's next step is to read this piece.
-  pub record IsNextRead (line : Line) (asked said : ℕ) (gave_up : Bool) (piece : Piece) (progress : Progress)
-      : Type 0 where
-    pub followed : IsFollowed line asked said gave_up progress
-    pub reads : IsReading line.command progress piece
+  pub record IsNextRead (line : Line) (asked said : ℕ) (gave_up : Bool) (piece : Piece) (progress : Progress) : Type 0
+    where
+      pub followed : IsFollowed line asked said gave_up progress
+      pub reads : IsReading line.command progress piece
 
   -- From here on the answer is the line's wherever it may be told it, for which so much may be said of its blocks and
   -- these seats have to stand still, and once it is told this is what it left.

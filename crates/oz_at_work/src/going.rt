@@ -20,8 +20,8 @@ use std::alloc::Global;
 use std::sync::Wait;
 
 impl<'s> LineAtWork<'s> {
-    /// The line asks what it asks next, writes the block that it was granted, reads its next piece, or is told its
-    /// answer. Where it was refused it is told so, or tries again what comes next. `by` is the seat's number.
+    /// The line asks what it asks next, writes the block that it was granted, reads its next piece, or is told its answer.
+    /// Where it was refused it is told so, or tries again what comes next. `by` is the seat's number.
     pub fn go_on<D: Disk, O: Opened, L: Loaded, R: Ring, W: Wait, G: Gate>(
         &mut self,
         rt: &W,

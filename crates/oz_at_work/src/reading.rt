@@ -29,9 +29,9 @@ use std::alloc::Global;
 use std::sync::Wait;
 
 impl<'s> LineAtWork<'s> {
-    /// The line reads its next piece at the members of the piece's block, and goes on by its bytes. Where no member
-    /// gives them it is told so next, as long as nobody has them. Where the members aren't known, or memory runs out,
-    /// it is told next that there is none.
+    /// The line reads its next piece at the members of the piece's block, and goes on by its bytes. Where no member gives them it is
+    /// told so next, as long as nobody has them. Where the members aren't known, or memory runs out, it is told next that
+    /// there is none.
     pub(crate) fn read<D: Disk, O: Opened, L: Loaded, R: Ring, W: Wait>(
         &mut self,
         rt: &W,
@@ -74,8 +74,8 @@ impl<'s> LineAtWork<'s> {
         }
     }
 
-    /// The piece that it reads next. There is none where it doesn't read next, nor where a block was given up: a line
-    /// that reads writes none.
+    /// The piece that it reads next. There is none where it doesn't read next, nor where a block was given up, as a line that
+    /// reads has none.
     fn piece(&self) -> Option<Piece>
         ensures { IfSome result (IsReadNext self.now) }
     {
@@ -126,8 +126,8 @@ impl<'s> LineAtWork<'s> {
     }
 }
 
-/// The members of a container, for which the storage container manager is locked and let go again. There is nothing
-/// where the container wasn't made, or a member is no known datanode.
+/// The members of a container, for which the storage container manager is locked and let go again. There is nothing where the
+/// container wasn't made, or a member is no known datanode.
 fn members_of<D: Disk, O: Opened, L: Loaded, R: Ring, W: Wait>(
     rt: &W,
     turn: &Turn<Ledger<O>>,

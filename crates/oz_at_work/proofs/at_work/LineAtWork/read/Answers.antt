@@ -1,4 +1,4 @@
-use Rattle.std.proofs.Common.{◌≡◌, ap, ◌∙◌, subst, sym}
+use Rattle.std.proofs.Common.{◌≡◌, List, ap, ◌∙◌, subst, sym}
 use Rattle.oz_reading.specs.declared.reading.Reading.TheVariants as readings
 use Rattle.oz_reading.specs.Read.{IsKnownOf, MayRead, NobodyHasIt}
 use Rattle.oz_requests.specs.declared.answer.Answer.TheVariants as answers

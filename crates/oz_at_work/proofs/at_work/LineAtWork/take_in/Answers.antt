@@ -1,4 +1,4 @@
-use Rattle.std.proofs.Common.{false, Some, subst}
+use Rattle.std.proofs.Common.{◌≡◌, false, Some, subst}
 use Rattle.oz_client.specs.declared.step.Got.TheVariants as gots
 use Rattle.oz_at_work.specs.AtWork.{WorkView}
 use Rattle.oz_at_work.specs.inner.Taken.{IsTakenUp}

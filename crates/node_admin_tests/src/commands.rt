@@ -1,13 +1,16 @@
-//! A datanode is stopped twice, and started twice.
+//! A datanode is stopped twice, and started twice, and no line does so twice.
 
-ghost use Rattle.std.specs.Prelude.{◌≡◌, vec_len};
+ghost use Rattle.std.specs.Prelude.{◌≡◌, ◌⊎◌, vec_len};
+ghost use Rattle.node_admin_tests.specs.Three.{line_of};
 ghost use Rattle.oz_turn.specs.Seat.{AreNewSeats};
 ghost use Rattle.oz_turn.specs.Turn.{turn_id};
 
 use crate::stage::{Book, Cell, Stage, made, staged};
+use oz_command::{AdminCommand, Command};
 use oz_core::{Event, EventKind};
 use oz_fields::OutOfMemory;
-use oz_node_admin::{start_at, stop_at};
+use oz_lines::Line;
+use oz_node_admin::{AdminFault, start_at, stop_at};
 use oz_turn::{Ring, Seat, Turn};
 use std::alloc::Global;
 use std::marker::Brand;
@@ -57,46 +60,62 @@ fn runs<R: Ring>(cell: &Cell<R>) -> bool {
     cell.node.running()
 }
 
+/// The first line of a client, with this command.
+fn line(client: u16, command: AdminCommand) -> Line
+    ensures { result ≡ line_of client command }
+{
+    Line {
+        client,
+        number: 1,
+        after: None,
+        command: Command::Admin(command),
+    }
+}
+
+/// A line of client 1 or 2 stops it.
 fn stop<R: Ring, W: Wait + Abort>(
     rt: &W,
     alloc: Global,
     turn: &Turn<Book>,
     stage: &mut Stage<R>,
-) -> Result<(), Fail>
+    client: u16,
+) -> Result<(), AdminFault>
     requires turn { turn_id turn.now ≡ R.turn }
+    requires client { (client ≡ 1) ⊎ (client ≡ 2) }
 {
-    let answer = stop_at(
+    let line = line(client, AdminCommand::Stop(0));
+    stop_at(
         rt,
         alloc,
         turn,
         &mut stage.scm,
         &mut stage.cell,
         &mut stage.worker,
-    );
-    holds(rt, answer.is_ok(), "stopped");
-    holds(rt, !runs(&stage.cell), "it doesn't run");
-    Ok(())
+        &line,
+    )
 }
 
+/// A line of client 3 or 4 starts it.
 fn start<R: Ring, W: Wait + Abort>(
     rt: &W,
     alloc: Global,
     turn: &Turn<Book>,
     stage: &mut Stage<R>,
-) -> Result<(), Fail>
+    client: u16,
+) -> Result<(), AdminFault>
     requires turn { turn_id turn.now ≡ R.turn }
+    requires client { (client ≡ 3) ⊎ (client ≡ 4) }
 {
-    let answer = start_at(
+    let line = line(client, AdminCommand::Start(0));
+    start_at(
         rt,
         alloc,
         turn,
         &mut stage.scm,
         &mut stage.cell,
         &mut stage.worker,
-    );
-    holds(rt, answer.is_ok(), "started");
-    holds(rt, runs(&stage.cell), "it runs");
-    Ok(())
+        &line,
+    )
 }
 
 fn come_and_go<R: Ring, W: Wait + Abort>(
@@ -110,13 +129,20 @@ fn come_and_go<R: Ring, W: Wait + Abort>(
     requires new { AreNewSeats R.turn seats.items }
 {
     let mut stage = staged::<R>(alloc, seats)?;
-    stop(rt, alloc, turn, &mut stage)?;
+    let first = stop(rt, alloc, turn, &mut stage, 1);
+    holds(rt, first.is_ok() && !runs(&stage.cell), "stopped");
     tells(rt, alloc, turn, &mut stage, "s4d3")?;
-    stop(rt, alloc, turn, &mut stage)?;
+    let again = stop(rt, alloc, turn, &mut stage, 2);
+    holds(rt, again.is_ok() && !runs(&stage.cell), "stopped before");
     tells(rt, alloc, turn, &mut stage, "s4d3")?;
-    start(rt, alloc, turn, &mut stage)?;
+    let back = start(rt, alloc, turn, &mut stage, 3);
+    holds(rt, back.is_ok() && runs(&stage.cell), "started");
     tells(rt, alloc, turn, &mut stage, "s4d3r4u3")?;
-    start(rt, alloc, turn, &mut stage)?;
+    let still = start(rt, alloc, turn, &mut stage, 4);
+    holds(rt, still.is_ok() && runs(&stage.cell), "started before");
+    tells(rt, alloc, turn, &mut stage, "s4d3r4u3")?;
+    let repeated = stop(rt, alloc, turn, &mut stage, 1) == Err(AdminFault::Repeated);
+    holds(rt, repeated && runs(&stage.cell), "a line stops it once");
     tells(rt, alloc, turn, &mut stage, "s4d3r4u3")
 }
 

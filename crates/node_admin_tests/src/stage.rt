@@ -15,13 +15,12 @@ use oz_world::{MemoryDisk, OutOfMemory};
 use std::alloc::Global;
 use std::test::Fail;
 
-/// An opening with three datanodes, of which nothing is asked.
+/// An opening with three datanodes, of which nothing is asked, and four lines on the first.
 pub struct ThreeNodes;
 
 impl Opened for ThreeNodes {
     ghost use Rattle.std.specs.Prelude.{[], None};
-    ghost use Rattle.oz_buffer.specs.Openings.{no_script};
-    ghost use Rattle.node_admin_tests.specs.Three.{three_nodes};
+    ghost use Rattle.node_admin_tests.specs.Three.{four_lines, three_nodes};
 
     ghost opening = { three_nodes };
 
@@ -31,7 +30,7 @@ impl Opened for ThreeNodes {
 
     ghost faults = { λ node. 0 };
 
-    ghost script = { no_script };
+    ghost script = { four_lines };
 
     ghost coherent = { ⊥ };
 }
@@ -53,6 +52,7 @@ pub struct Stage<R: Ring> {
     pub worker: Seat<Book>,
     ghost works: { IsReady R.turn 5 worker },
     ghost none_made: { scm.scm.made.containers ≡ [] },
+    ghost first: { cell.kept.dn ≡ 0 },
 }
 
 /// A turn of an empty story, and its seats.
@@ -103,6 +103,7 @@ fn loaded_node(alloc: Global) -> Result<Datanode<MemoryDisk>, Fail>
 
 fn cell<R: Ring>(alloc: Global, seat: Seat<Book>) -> Result<Cell<R>, Fail>
     requires { IsNewSeat R.turn 4 seat }
+    ensures { IfOk result (λ cell. cell.kept.dn ≡ 0) }
 {
     a_loaded_datanode_stands::<MemoryDisk, ThreeNodes>();
     let node = loaded_node(alloc)?;

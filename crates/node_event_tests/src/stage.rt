@@ -16,13 +16,12 @@ use std::alloc::Global;
 use std::process::Abort;
 use std::test::Fail;
 
-/// An opening with three datanodes, of which nothing is asked.
+/// An opening with three datanodes, of which nothing is asked, and a line for each that stops it.
 pub struct ThreeNodes;
 
 impl Opened for ThreeNodes {
     ghost use Rattle.std.specs.Prelude.{[], None};
-    ghost use Rattle.oz_buffer.specs.Openings.{no_script};
-    ghost use Rattle.node_event_tests.specs.Three.{three_nodes};
+    ghost use Rattle.node_event_tests.specs.Three.{three_nodes, three_stops};
 
     ghost opening = { three_nodes };
 
@@ -32,7 +31,7 @@ impl Opened for ThreeNodes {
 
     ghost faults = { λ node. 0 };
 
-    ghost script = { no_script };
+    ghost script = { three_stops };
 
     ghost coherent = { ⊥ };
 }

@@ -1,8 +1,7 @@
 //! A line stops a datanode.
 
 ghost use Rattle.std.specs.Prelude.{◌≡◌, ◌<◌};
-ghost use Rattle.node_event_tests.specs.Three.{no_bytes, none_failed, three_nodes};
-ghost use Rattle.oz_buffer.specs.Openings.{no_script};
+ghost use Rattle.node_event_tests.specs.Three.{no_bytes, none_failed, stop_line, three_nodes, three_stops};
 ghost use Rattle.oz_node_events.specs.NodeSeat.{StandsFor};
 ghost use Rattle.oz_replicas.specs.Cells.{IsAtRest};
 ghost use Rattle.oz_replicas.specs.Stays.{IsIdle};
@@ -10,8 +9,10 @@ ghost use Rattle.oz_turn.specs.Seat.{IsReady};
 ghost use Rattle.oz_turn.specs.Turn.{turn_id};
 
 use crate::stage::{Book, Cell, Own, Three};
-use oz_core::EventKind;
+use oz_command::{AdminCommand, Command};
 use oz_datanode::Datanode;
+use oz_lines::Line;
+use oz_node_events::NodeCommand;
 use oz_turn::{Ring, Seat, Turn};
 use oz_world::Disk;
 use std::alloc::Global;
@@ -61,14 +62,30 @@ fn stop_beside<D: Disk, R: Ring, W: Wait>(
     requires turn { turn_id turn.now ≡ R.turn }
     requires ready { IsReady R.turn 8 worker.old }
     requires idle { IsIdle node.old }
-    requires stood { StandsFor D.told D.clock D.image D.faults ⊥ three_nodes no_bytes no_script none_failed kept.old node.old }
+    requires stood { StandsFor D.told D.clock D.image D.faults ⊥ three_nodes no_bytes three_stops none_failed kept.old node.old }
     ensures ready { IsReady R.turn 8 worker.new }
     ensures idle { IsIdle node.new }
-    ensures stands { StandsFor D.told D.clock D.image D.faults ⊥ three_nodes no_bytes no_script none_failed kept.new node.new }
+    ensures stands { StandsFor D.told D.clock D.image D.faults ⊥ three_nodes no_bytes three_stops none_failed kept.new node.new }
 {
     kept.ready(rt, alloc, turn, worker)?;
-    let dn = node.id();
+    kept.is_kept();
+    let line = stop_line(node.id());
+    if kept.last(line.client) >= line.number {
+        return Err("a line stops it once".into());
+    }
     node.stop();
-    kept.note(rt, turn, worker, EventKind::Stop { dn });
+    kept.note_done(rt, turn, worker, &line, NodeCommand::Stop);
     Ok(())
+}
+
+/// The line that stops this datanode.
+fn stop_line(dn: u8) -> Line
+    ensures { result ≡ stop_line dn }
+{
+    Line {
+        client: u16::from(dn) + 1,
+        number: 1,
+        after: None,
+        command: Command::Admin(AdminCommand::Stop(dn)),
+    }
 }

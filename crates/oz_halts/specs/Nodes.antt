@@ -10,15 +10,16 @@ use Rattle.oz_core.specs.Stories.{mine}
 use Rattle.oz_datanode.specs.Datanode.{State as Datanode, count_of}
 use Rattle.oz_halts.specs.Disks.{OtherNodes}
 use Rattle.oz_lines.specs.declared.script.Script.{Script}
+use Rattle.oz_node_events.specs.Led.{no_lines}
 use Rattle.oz_node_events.specs.NodeSeat.{IsKept as SeatIsKept, SeatView, StandsFor, events_of}
 use Rattle.oz_replicas.specs.Cells.{IsAtRest}
 use Rattle.oz_scm.specs.Scm.{State as Scm}
 use Rattle.oz_scm_events.specs.Kept.{IsKept as ScmIsKept}
 use Rattle.oz_world.specs.Disk.{Images}
 
--- a datanode's seat that has seen the whole story
+-- a datanode's seat that has seen the whole story; which lines had something done to it isn't looked at
 abbrev pub seat_over : List Event → ℕ → SeatView
-seat_over story dn = record { dn = dn; seen = story; mine = events_of dn story; room = 0 }
+seat_over story dn = record { dn = dn; seen = story; mine = events_of dn story; room = 0; last = no_lines }
 
 -- The storage container manager is what the events of its seat make of the opening. So often its disk had failed once
 -- it was loaded.

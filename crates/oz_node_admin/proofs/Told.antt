@@ -6,29 +6,22 @@ use Rattle.oz_buffer.specs.laws.Following.{told-push}
 use Rattle.oz_core.specs.declared.event.Event.{Event}
 use Rattle.oz_core.specs.declared.opening.Opening.{Opening}
 use Rattle.oz_core.specs.Contents.{OpeningBytes}
-use Rattle.oz_core.specs.Fits.{EventFits, IsCommanded}
 use Rattle.oz_core.specs.Nodes.{is_running}
 use Rattle.oz_core.specs.Scm.{is_up, up_or_down}
 use Rattle.oz_core.specs.Seats.{datanode_seat, scm_seat}
 use Rattle.oz_core.specs.Stories.{newer}
 use Rattle.oz_lines.specs.declared.script.Script.{Script}
 use Rattle.oz_node_events.specs.Beside.{ShareAPlace}
-use Rattle.oz_node_events.specs.Commands.{run_event}
-use Rattle.oz_node_events.specs.NodeSeat.{SeatView, events_of}
 use Rattle.oz_scm.specs.Scm.{State}
 use Rattle.oz_scm_events.specs.Granted.{by_scm}
 use Rattle.oz_scm_events.specs.Tracked.{IsTracked, up_event}
 use Rattle.oz_turn.specs.Told.{own_entries, BeginsWith}
-use Rattle.oz_node_admin.specs.Commands.{HasBeen, IsAsCommanded, MayCommand, has_run, run_command}
+use Rattle.oz_node_events.specs.Commands.{run_event}
+use Rattle.oz_node_events.specs.Led.{done_kind}
+use Rattle.oz_node_admin.specs.Commands.{HasBeen, IsAsCommanded, is_wanted, run_done}
 
 pub begins_through : (a b c : List Event) → BeginsWith a b → BeginsWith b c → BeginsWith a c
 begins_through a b c first then = (then.0 ++ first.0, first.1 ∙ (ap (λ l. l ++ first.0) then.1 ∙ append_assoc c then.0 first.0))
-
--- what the script leads to, as a line's command
-pub fits_as : (opening : Opening) (bytes : OpeningBytes) (script : Script) (story : List Event) (dn : ℕ) (runs : Bool)
-    → IsCommanded script story (run_command dn runs) (has_run dn runs) → EventFits opening bytes script story (run_event dn runs)
-fits_as opening bytes script story dn true commanded = commanded
-fits_as opening bytes script story dn false commanded = commanded
 
 -- a datanode that runs isn't stopped by a line
 pub runs_back : (runs : Bool) → not (not runs) ≡ runs
@@ -67,14 +60,6 @@ module _ (Coherent : Type 0) (opening : Opening) (bytes : OpeningBytes) (script 
   abbrev All : List Event → Type 0
   All = AllFollow (Follows Coherent opening bytes script) []
 
-  -- what is commanded still is where the seats have seen more
-  pub may_command_later : (seen more : List Event) (runs : Bool) (kept later : SeatView) → later.dn ≡ kept.dn → later.mine ≡ kept.mine → BeginsWith later.seen kept.seen
-      → BeginsWith more seen → MayCommand Coherent opening bytes script seen kept runs → MayCommand Coherent opening bytes script more later runs
-  may_command_later seen more runs kept later number mine begins others may = λ coherent story goes its all own.
-      subst (λ (n : ℕ). IsCommanded script story (run_command n runs) (has_run n runs)) (sym number)
-      (may coherent story (begins_through story more seen goes others) (begins_through story later.seen kept.seen its begins) all
-      (ap (λ (n : ℕ). events_of n story) (sym number) ∙ (own ∙ mine)))
-
   -- a place since more was seen is one since less was
   pub has_been_since : (dn : ℕ) (runs : Bool) (before more story : List Event) → BeginsWith more before → HasBeen Coherent dn runs more story → HasBeen Coherent dn runs before story
   has_been_since dn runs before more story begins been =
@@ -93,3 +78,17 @@ module _ (Coherent : Type 0) (opening : Opening) (bytes : OpeningBytes) (script 
         (running_own shared.place coherent shared.follow ∙ (ap (is_running dn) shared.its ∙ running))
         (up_own shared.place coherent shared.follow ∙ (ap (is_up dn) shared.of_the_scm ∙ tracked_up dn runs changed of_scm_before of_scm told));
   }
+
+-- what is done to have it run is told by its Start, and to have it stand still by its Stop
+pub run_kind : (dn : ℕ) (runs : Bool) → done_kind dn (run_done runs) ≡ run_event dn runs
+run_kind dn true = refl
+run_kind dn false = refl
+
+-- whether it is to be done: where a line had stopped it and it is to run, or the other way round
+pub wanted_where : (runs stopped : Bool) → stopped ≡ runs → is_wanted runs stopped ≡ true
+wanted_where true stopped is = is
+wanted_where false stopped is = ap not is
+
+pub unwanted_where : (runs stopped : Bool) → not stopped ≡ runs → is_wanted runs stopped ≡ false
+unwanted_where true stopped is = sym (runs_back stopped) ∙ ap not is
+unwanted_where false stopped is = is

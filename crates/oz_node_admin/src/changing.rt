@@ -1,19 +1,21 @@
 //! Having a datanode run or not, and telling so.
 
-ghost use Rattle.std.specs.Prelude.{◌≡◌, ◌+◌, ◌≤◌, None, not, true, false};
-ghost use Rattle.oz_buffer.specs.Buffer.{IsNote};
+ghost use Rattle.std.specs.Prelude.{◌≡◌, ◌+◌, ◌≤◌, ◌<◌, None, not, true, false, slice_index};
 ghost use Rattle.oz_datanode.specs.Datanode.{is_halted};
-ghost use Rattle.oz_node_admin.specs.Commands.{MayCommand, own_after};
-ghost use Rattle.oz_node_events.specs.Commands.{run_event};
-ghost use Rattle.oz_node_events.specs.NodeSeat.{IsKept, StandsFor, is_bad};
+ghost use Rattle.oz_lines.specs.declared.script.TheConstants.{MOST_CLIENTS as MOST};
+ghost use Rattle.oz_node_admin.specs.Commands.{last_after, own_after, run_done};
+ghost use Rattle.oz_node_events.specs.Led.{HasItDone};
+ghost use Rattle.oz_node_events.specs.NodeSeat.{IsKept, StandsFor};
 ghost use Rattle.oz_turn.specs.Seat.{IsSameSeat, mine_of, room_of, seen_of, taken_of, turn_of};
 ghost use Rattle.oz_turn.specs.Told.{BeginsWith};
 ghost use Rattle.oz_turn.specs.Turn.{turn_id};
 
 use oz_buffer::{Ledger, Opened};
-use oz_core::EventKind;
 use oz_datanode::Datanode;
-use oz_node_events::{NodeSeat, a_line_has_it_run_or_not, it_stands_where_it_saw_more};
+use oz_lines::Line;
+use oz_node_events::{
+    NodeCommand, NodeSeat, a_line_has_it_run_or_not, it_stands_where_it_saw_more,
+};
 use oz_turn::{Ring, Seat, Turn};
 use oz_world::Disk;
 use std::sync::Wait;
@@ -25,6 +27,7 @@ pub(crate) fn see_to<D: Disk, O: Opened, R: Ring, W: Wait>(
     node: &mut Datanode<D>,
     kept: &mut NodeSeat<Ledger<O>, O, R>,
     seat: &mut Seat<Ledger<O>>,
+    line: &Line,
     runs: bool,
 )
     requires turn { turn_id turn.now ≡ R.turn }
@@ -34,11 +37,13 @@ pub(crate) fn see_to<D: Disk, O: Opened, R: Ring, W: Wait>(
     requires unhalted { is_halted node.old ≡ false }
     requires kept { IsKept O.coherent O.opening O.bytes O.script kept.old }
     requires stood { StandsFor D.told D.clock D.image D.faults O.coherent O.opening O.bytes O.script O.faults kept.old node.old }
-    requires commanded { node.old.stopped ≡ runs
-        → MayCommand O.coherent O.opening O.bytes O.script (seen_of seat.old) kept.old runs }
+    requires client { line.now.client ≤ MOST }
+    requires behind { node.old.stopped ≡ runs → slice_index kept.old.last line.now.client < line.now.number }
+    requires line { HasItDone O.script (seen_of seat.old) kept.old.dn (run_done runs) line.now }
     ensures node { node.new ≡ record node.old { stopped = not runs } }
     ensures number { kept.new.dn ≡ kept.old.dn }
     ensures its { kept.new.mine ≡ own_after kept.old.dn runs node.old.stopped kept.old.mine }
+    ensures last { kept.new.last ≡ last_after runs node.old.stopped line.now kept.old.last }
     ensures kept { IsKept O.coherent O.opening O.bytes O.script kept.new }
     ensures stands { StandsFor D.told D.clock D.image D.faults O.coherent O.opening O.bytes O.script O.faults kept.new node.new }
     ensures goes_on { BeginsWith kept.new.seen kept.old.seen }
@@ -51,7 +56,7 @@ pub(crate) fn see_to<D: Disk, O: Opened, R: Ring, W: Wait>(
 {
     it_stands_where_it_saw_more::<D, O>();
     if node.running() != runs {
-        change(rt, turn, node, kept, seat, runs);
+        change(rt, turn, node, kept, seat, line, runs);
     } else {
         kept.show(rt, turn, seat);
     }
@@ -64,6 +69,7 @@ fn change<D: Disk, O: Opened, R: Ring, W: Wait>(
     node: &mut Datanode<D>,
     kept: &mut NodeSeat<Ledger<O>, O, R>,
     seat: &mut Seat<Ledger<O>>,
+    line: &Line,
     runs: bool,
 )
     requires turn { turn_id turn.now ≡ R.turn }
@@ -74,10 +80,13 @@ fn change<D: Disk, O: Opened, R: Ring, W: Wait>(
     requires other { node.old.stopped ≡ runs }
     requires kept { IsKept O.coherent O.opening O.bytes O.script kept.old }
     requires stood { StandsFor D.told D.clock D.image D.faults O.coherent O.opening O.bytes O.script O.faults kept.old node.old }
-    requires commanded { MayCommand O.coherent O.opening O.bytes O.script (seen_of seat.old) kept.old runs }
+    requires client { line.now.client ≤ MOST }
+    requires behind { slice_index kept.old.last line.now.client < line.now.number }
+    requires line { HasItDone O.script (seen_of seat.old) kept.old.dn (run_done runs) line.now }
     ensures node { node.new ≡ record node.old { stopped = not runs } }
     ensures number { kept.new.dn ≡ kept.old.dn }
     ensures its { kept.new.mine ≡ own_after kept.old.dn runs node.old.stopped kept.old.mine }
+    ensures last { kept.new.last ≡ last_after runs node.old.stopped line.now kept.old.last }
     ensures kept { IsKept O.coherent O.opening O.bytes O.script kept.new }
     ensures stands { StandsFor D.told D.clock D.image D.faults O.coherent O.opening O.bytes O.script O.faults kept.new node.new }
     ensures goes_on { BeginsWith kept.new.seen kept.old.seen }
@@ -89,9 +98,8 @@ fn change<D: Disk, O: Opened, R: Ring, W: Wait>(
     ensures seat_room { room_of seat.new ≡ room_of seat.old }
 {
     a_line_has_it_run_or_not::<D, O>();
-    let dn = node.id();
     have_run(node, runs);
-    kept.note(rt, turn, seat, run_event(dn, runs));
+    kept.note_done(rt, turn, seat, line, run_done(runs));
 }
 
 /// Has a datanode run, or not, whose disks haven't failed.
@@ -106,14 +114,12 @@ fn have_run<D: Disk>(node: &mut Datanode<D>, runs: bool)
     let _started = node.start();
 }
 
-fn run_event(dn: u8, runs: bool) -> EventKind
-    ensures kind { result ≡ run_event dn runs }
-    ensures noted { IsNote result }
-    ensures no_bad { is_bad result ≡ false }
+fn run_done(runs: bool) -> NodeCommand
+    ensures { result ≡ run_done runs }
 {
     if runs {
-        EventKind::Start { dn }
+        NodeCommand::Start
     } else {
-        EventKind::Stop { dn }
+        NodeCommand::Stop
     }
 }

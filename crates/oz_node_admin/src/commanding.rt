@@ -1,8 +1,10 @@
 //! What a line's command to have a datanode run, or not, comes to.
 
-ghost use Rattle.std.specs.Prelude.{◌≡◌, ◌+◌, ◌≤◌, ◌<◌, None, Ok, not, false, slice_set};
+ghost use Rattle.std.specs.Prelude.{◌≡◌, ◌+◌, ◌≤◌, ◌<◌, None, Ok, not, false, slice_index, slice_set};
 ghost use Rattle.oz_datanode.specs.Datanode.{is_halted};
-ghost use Rattle.oz_node_admin.specs.Commands.{ComesTo, HasBeen, MayCommand, own_after};
+ghost use Rattle.oz_lines.specs.declared.script.TheConstants.{MOST_CLIENTS as MOST};
+ghost use Rattle.oz_node_admin.specs.Commands.{ComesTo, HasBeen, last_after, own_after, run_done};
+ghost use Rattle.oz_node_events.specs.Led.{HasItDone};
 ghost use Rattle.oz_node_events.specs.NodeSeat.{IsKept, StandsFor};
 ghost use Rattle.oz_scm_events.specs.Tracked.{IsTracked};
 ghost use Rattle.oz_turn.specs.Seat.{IsReady, IsSameSeat, mine_of, number_of, room_of, seen_of, taken_of, turn_of};
@@ -13,6 +15,7 @@ use crate::changing::see_to;
 use crate::fault::AdminFault;
 use oz_buffer::{Ledger, Opened};
 use oz_datanode::Datanode;
+use oz_lines::Line;
 use oz_node_events::{
     NodeSeat, a_line_has_it_run_or_not, it_stands_where_it_saw_more, its_seat_alone_tells,
 };
@@ -31,15 +34,18 @@ pub(crate) fn command<D: Disk, S: Disk, O: Opened, R: Ring, W: Wait>(
     node: &mut Datanode<D>,
     kept: &mut NodeSeat<Ledger<O>, O, R>,
     seat: &mut Seat<Ledger<O>>,
+    line: &Line,
     runs: bool,
 ) -> Result<(), AdminFault>
     requires turn { turn_id turn.now ≡ R.turn }
     requires ready { IsReady R.turn (number_of seat.old) seat.old }
     requires stood { StandsFor D.told D.clock D.image D.faults O.coherent O.opening O.bytes O.script O.faults kept.old node.old }
-    requires commanded { node.old.stopped ≡ runs
-        → MayCommand O.coherent O.opening O.bytes O.script (seen_of seat.old) kept.old runs }
+    requires client { line.now.client ≤ MOST }
+    requires some { 1 ≤ line.now.number }
+    requires line { HasItDone O.script (seen_of seat.old) kept.old.dn (run_done runs) line.now }
     ensures comes_to { ComesTo (record { node = node.old; kept = kept.old }) (record { node = node.new; kept = kept.new })
-        scm.old scm.new D.faults O.coherent runs (seen_of seat.old) (seen_of seat.new) result }
+        scm.old scm.new D.faults O.coherent O.script runs line.now (seen_of seat.old) (seen_of seat.new) result }
+    ensures number { kept.new.dn ≡ kept.old.dn }
     ensures shelf { node.new.shelf ≡ node.old.shelf }
     ensures stands { StandsFor D.told D.clock D.image D.faults O.coherent O.opening O.bytes O.script O.faults kept.new node.new }
     ensures scm_goes_on { BeginsWith scm.new.seen scm.old.seen }
@@ -58,9 +64,13 @@ pub(crate) fn command<D: Disk, S: Disk, O: Opened, R: Ring, W: Wait>(
             count: node.count(),
         });
     }
+    if node.running() != runs && kept.last(line.client) >= line.number {
+        kept.is_led();
+        return Err(AdminFault::Repeated);
+    }
     kept.ready(rt, alloc, turn, seat)?;
     scm.ready(rt, alloc, turn)?;
-    carry_out(rt, turn, scm, node, kept, seat, runs);
+    carry_out(rt, turn, scm, node, kept, seat, line, runs);
     Ok(())
 }
 
@@ -72,6 +82,7 @@ fn carry_out<D: Disk, S: Disk, O: Opened, R: Ring, W: Wait>(
     node: &mut Datanode<D>,
     kept: &mut NodeSeat<Ledger<O>, O, R>,
     seat: &mut Seat<Ledger<O>>,
+    line: &Line,
     runs: bool,
 ) -> bool
     requires turn { turn_id turn.now ≡ R.turn }
@@ -82,11 +93,13 @@ fn carry_out<D: Disk, S: Disk, O: Opened, R: Ring, W: Wait>(
     requires unhalted { is_halted node.old ≡ false }
     requires kept { IsKept O.coherent O.opening O.bytes O.script kept.old }
     requires stood { StandsFor D.told D.clock D.image D.faults O.coherent O.opening O.bytes O.script O.faults kept.old node.old }
-    requires commanded { node.old.stopped ≡ runs
-        → MayCommand O.coherent O.opening O.bytes O.script (seen_of seat.old) kept.old runs }
+    requires client { line.now.client ≤ MOST }
+    requires behind { node.old.stopped ≡ runs → slice_index kept.old.last line.now.client < line.now.number }
+    requires line { HasItDone O.script (seen_of seat.old) kept.old.dn (run_done runs) line.now }
     ensures node { node.new ≡ record node.old { stopped = not runs } }
     ensures number { kept.new.dn ≡ kept.old.dn }
     ensures its { kept.new.mine ≡ own_after kept.old.dn runs node.old.stopped kept.old.mine }
+    ensures last { kept.new.last ≡ last_after runs node.old.stopped line.now kept.old.last }
     ensures stands { StandsFor D.told D.clock D.image D.faults O.coherent O.opening O.bytes O.script O.faults kept.new node.new }
     ensures goes_on { BeginsWith kept.new.seen kept.old.seen }
     ensures of_the_scm { IsTracked {E = Unit {0}} kept.old.dn runs scm.old.mine scm.new.mine (Ok result) }
@@ -104,6 +117,6 @@ fn carry_out<D: Disk, S: Disk, O: Opened, R: Ring, W: Wait>(
     it_stands_where_it_saw_more::<D, O>();
     a_datanode_alone_tells_that_it_runs::<O>();
     the_scm_alone_tells::<O>();
-    see_to(rt, turn, node, kept, seat, runs);
+    see_to(rt, turn, node, kept, seat, line, runs);
     kept.track(rt, turn, scm, seat, runs)
 }

@@ -10,6 +10,8 @@ use oz_fields::OutOfMemory;
 pub enum AdminFault {
     /// One of its disks has failed: how often both have.
     Halted { count: u64 },
+    /// The line, or a later one of its client, had something done to it before.
+    Repeated,
     OutOfMemory,
 }
 

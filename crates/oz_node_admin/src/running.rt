@@ -1,7 +1,10 @@
 //! Stopping and starting a datanode.
 
-ghost use Rattle.std.specs.Prelude.{◌≡◌, true, false};
-ghost use Rattle.oz_node_admin.specs.Commands.{AllAreOpen, ComesTo, MayCommand};
+ghost use Rattle.std.specs.Prelude.{◌≡◌, ◌≤◌, true, false};
+ghost use Rattle.oz_lines.specs.declared.script.TheConstants.{MOST_CLIENTS as MOST};
+ghost use Rattle.oz_node_admin.specs.Commands.{AllAreOpen, ComesTo};
+ghost use Rattle.oz_node_events.specs.declared.command.NodeCommand.TheVariants.{Start, Stop};
+ghost use Rattle.oz_node_events.specs.Led.{HasItDone};
 ghost use Rattle.oz_node_events.specs.NodeSeat.{StandsFor};
 ghost use Rattle.oz_turn.specs.Seat.{IsReady, mine_of, number_of, room_of, seen_of};
 ghost use Rattle.oz_turn.specs.Told.{BeginsWith};
@@ -10,6 +13,7 @@ ghost use Rattle.oz_turn.specs.Turn.{turn_id};
 use crate::commanding::command;
 use crate::fault::AdminFault;
 use oz_buffer::{Ledger, Opened};
+use oz_lines::Line;
 use oz_node_events::NodeSeat;
 use oz_replicas::NodeCell;
 use oz_scm_events::ScmCell;
@@ -23,9 +27,10 @@ use std::sync::Wait;
 /// had stopped the datanode before, or it was taken for down, that isn't told again. The worker's seat has seen then that it
 /// neither runs nor is up. Room for both events is made before anything is done.
 ///
-/// The worker answers for it that its line started, and that no Stop of this datanode came of it yet.
+/// The line is one of the script, with this command, and has started.
 ///
-/// Errors: `Halted` exactly where a disk of the datanode had failed; `OutOfMemory`. Then nothing happens.
+/// Errors: `Halted` exactly where a disk of the datanode had failed; `Repeated` where the datanode is to be stopped and this
+/// line, or a later one of its client, had something done to it before; `OutOfMemory`. Then nothing happens.
 pub fn stop_at<D: Disk, S: Disk, O: Opened, R: Ring, W: Wait>(
     rt: &W,
     alloc: Global,
@@ -33,13 +38,16 @@ pub fn stop_at<D: Disk, S: Disk, O: Opened, R: Ring, W: Wait>(
     scm: &mut ScmCell<S, Ledger<O>, O, R>,
     cell: &mut NodeCell<D, NodeSeat<Ledger<O>, O, R>>,
     seat: &mut Seat<Ledger<O>>,
+    line: &Line,
 ) -> Result<(), AdminFault>
     requires turn { turn_id turn.now ≡ R.turn }
     requires ready { IsReady R.turn (number_of seat.old) seat.old }
-    requires commanded { cell.old.node.stopped ≡ false
-        → MayCommand O.coherent O.opening O.bytes O.script (seen_of seat.old) cell.old.kept false }
-    ensures comes_to { ComesTo cell.old cell.new scm.old scm.new D.faults O.coherent false (seen_of seat.old)
+    requires client { line.now.client ≤ MOST }
+    requires some { 1 ≤ line.now.number }
+    requires line { HasItDone O.script (seen_of seat.old) cell.old.kept.dn Stop line.now }
+    ensures comes_to { ComesTo cell.old cell.new scm.old scm.new D.faults O.coherent O.script false line.now (seen_of seat.old)
         (seen_of seat.new) result }
+    ensures number { cell.new.kept.dn ≡ cell.old.kept.dn }
     ensures goes_on { BeginsWith scm.new.seen scm.old.seen × BeginsWith cell.new.kept.seen cell.old.kept.seen }
     ensures scm_room { scm.new.room ≡ scm.old.room }
     ensures ready { IsReady R.turn (number_of seat.old) seat.new }
@@ -57,6 +65,7 @@ pub fn stop_at<D: Disk, S: Disk, O: Opened, R: Ring, W: Wait>(
         &mut cell.node,
         &mut cell.kept,
         seat,
+        line,
         false,
     )
 }
@@ -72,14 +81,17 @@ pub fn start_at<D: Disk, S: Disk, O: Opened, R: Ring, W: Wait>(
     scm: &mut ScmCell<S, Ledger<O>, O, R>,
     cell: &mut NodeCell<D, NodeSeat<Ledger<O>, O, R>>,
     seat: &mut Seat<Ledger<O>>,
+    line: &Line,
 ) -> Result<(), AdminFault>
     requires turn { turn_id turn.now ≡ R.turn }
     requires ready { IsReady R.turn (number_of seat.old) seat.old }
-    requires commanded { cell.old.node.stopped ≡ true
-        → MayCommand O.coherent O.opening O.bytes O.script (seen_of seat.old) cell.old.kept true }
+    requires client { line.now.client ≤ MOST }
+    requires some { 1 ≤ line.now.number }
+    requires line { HasItDone O.script (seen_of seat.old) cell.old.kept.dn Start line.now }
     requires opened { AllAreOpen scm.old.scm.made.containers }
-    ensures comes_to { ComesTo cell.old cell.new scm.old scm.new D.faults O.coherent true (seen_of seat.old)
+    ensures comes_to { ComesTo cell.old cell.new scm.old scm.new D.faults O.coherent O.script true line.now (seen_of seat.old)
         (seen_of seat.new) result }
+    ensures number { cell.new.kept.dn ≡ cell.old.kept.dn }
     ensures goes_on { BeginsWith scm.new.seen scm.old.seen × BeginsWith cell.new.kept.seen cell.old.kept.seen }
     ensures scm_room { scm.new.room ≡ scm.old.room }
     ensures ready { IsReady R.turn (number_of seat.old) seat.new }
@@ -97,6 +109,7 @@ pub fn start_at<D: Disk, S: Disk, O: Opened, R: Ring, W: Wait>(
         &mut cell.node,
         &mut cell.kept,
         seat,
+        line,
         true,
     )
 }

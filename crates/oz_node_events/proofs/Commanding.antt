@@ -85,8 +85,8 @@ module _ (Coherent : Type 0) (opening : Opening) (bytes : OpeningBytes) (script 
 
   pub event_stands : (kind : EventKind) (view later : SeatView) (old new : State D) (other : List Event) → IsKept Coherent opening bytes script view → IsKept Coherent opening bytes script later
       → Stands view old → later.dn ≡ view.dn → later.mine ≡ view.mine ++ by_node view.dn kind ∷ [] → IsAppended (by_node view.dn kind) view.seen other later.seen
-      → ((before : List Event) → AllFollow Follow [] before → Follow before (by_node view.dn kind) → Stands (record { dn = view.dn; seen = before; mine = view.mine; room = view.room }) old
-      → Stands (record { dn = view.dn; seen = before ++ by_node view.dn kind ∷ []; mine = view.mine ++ by_node view.dn kind ∷ []; room = view.room }) new)
+      → ((before : List Event) → AllFollow Follow [] before → Follow before (by_node view.dn kind) → Stands (record { dn = view.dn; seen = before; mine = view.mine; room = view.room; last = view.last }) old
+      → Stands (record { dn = view.dn; seen = before ++ by_node view.dn kind ∷ []; mine = view.mine ++ by_node view.dn kind ∷ []; room = view.room; last = view.last }) new)
       → Stands later new
   event_stands kind view later old new other kept kept_later stood number mine told_so step =
       let event = by_node view.dn kind in
@@ -99,11 +99,11 @@ module _ (Coherent : Type 0) (opening : Opening) (bytes : OpeningBytes) (script 
       let follows : Follow before event = follow_one Follow before event [] (follow_behind Follow [] before (event ∷ []) all_behind) in
       let own = own_before view.dn event refl view.seen before more view.mine later.seen kept.own told_so.begins told_so.goes_on.1 given in
       let own_then = own_behind view.dn event refl view.seen before more view.mine later.seen kept.own told_so.begins told_so.goes_on.1 given in
-      let behind : SeatView = record { dn = view.dn; seen = before ++ event ∷ []; mine = view.mine ++ event ∷ []; room = view.room } in
+      let behind : SeatView = record { dn = view.dn; seen = before ++ event ∷ []; mine = view.mine ++ event ∷ []; room = view.room; last = view.last } in
       let stood_here = stands_on told clock image faults Coherent opening bytes script loaded old view kept stood before view.room told_so.begins all_before own in
       let stood_behind : Stands behind new = step before all_before follows stood_here in
       let kept_behind : IsKept Coherent opening bytes script behind = record { few = kept.few; there = kept.there; numbered = kept.numbered; own = own_then; follow = all_behind; no_bad = λ coherent. ap (has_event is_bad) (sym mine) ∙ kept_later.no_bad coherent } in
-      same_view told clock image faults Coherent opening bytes script loaded new (record { dn = view.dn; seen = later.seen; mine = view.mine ++ event ∷ []; room = view.room }) later (sym number) refl (sym mine)
+      same_view told clock image faults Coherent opening bytes script loaded new (record { dn = view.dn; seen = later.seen; mine = view.mine ++ event ∷ []; room = view.room; last = view.last }) later (sym number) refl (sym mine)
       (stands_on told clock image faults Coherent opening bytes script loaded new behind kept_behind stood_behind later.seen view.room told_so.goes_on kept_later.follow given)
 
   -- what is held stays, and the story is one event longer
@@ -117,9 +117,9 @@ module _ (Coherent : Type 0) (opening : Opening) (bytes : OpeningBytes) (script 
 
   -- ---- behind a Stop or a Start
 
-  module _ (numbered : Coherent → NumbersAreOld opening) (dn room : ℕ) (before mine : List Event) (all : AllFollow Follow [] before) where
-    run_step : (runs : Bool) → Follow before (by_node dn (run_event dn runs)) → (old : State D) → Stands (record { dn = dn; seen = before; mine = mine; room = room }) old
-        → Stands (record { dn = dn; seen = before ++ by_node dn (run_event dn runs) ∷ []; mine = mine ++ by_node dn (run_event dn runs) ∷ []; room = room }) (record old { stopped = not runs })
+  module _ (numbered : Coherent → NumbersAreOld opening) (dn room : ℕ) (last : List ℕ) (before mine : List Event) (all : AllFollow Follow [] before) where
+    run_step : (runs : Bool) → Follow before (by_node dn (run_event dn runs)) → (old : State D) → Stands (record { dn = dn; seen = before; mine = mine; room = room; last = last }) old
+        → Stands (record { dn = dn; seen = before ++ by_node dn (run_event dn runs) ∷ []; mine = mine ++ by_node dn (run_event dn runs) ∷ []; room = room; last = last }) (record old { stopped = not runs })
     run_step true follows old stood =
         let event = by_node dn (run_event dn true) in
         record {
@@ -158,4 +158,4 @@ module _ (Coherent : Type 0) (opening : Opening) (bytes : OpeningBytes) (script 
       → IsAppended (by_node view.dn (run_event view.dn runs)) view.seen other later.seen → Stands later (record node { stopped = not runs })
   run_stands view later node runs other kept kept_later stood number mine told_so =
       event_stands (run_event view.dn runs) view later node (record node { stopped = not runs }) other kept kept_later stood number mine told_so
-      (λ before all follows here. run_step kept.numbered view.dn view.room before view.mine all runs follows node here)
+      (λ before all follows here. run_step kept.numbered view.dn view.room view.last before view.mine all runs follows node here)

@@ -95,7 +95,7 @@ module _ (Coherent : Type 0) (opening : Opening) (bytes : OpeningBytes) (script 
 
   -- what the seat has seen then
   abbrev pub after : EventKind → SeatView
-  after kind = record { dn = view.dn; seen = view.seen ++ event_with kind ∷ []; mine = view.mine ++ event_with kind ∷ []; room = view.room }
+  after kind = record { dn = view.dn; seen = view.seen ++ event_with kind ∷ []; mine = view.mine ++ event_with kind ∷ []; room = view.room; last = view.last }
 
   module _ (kind : EventKind) (follows : Follows Coherent opening bytes script view.seen (event_with kind)) where
     halt_told : halt_of (Datanode view.dn) (view.mine ++ event_with kind ∷ []) ≡ newer (halt_count (Datanode view.dn) kind) (halt_of (Datanode view.dn) view.mine)

@@ -9,6 +9,8 @@ pub mod Leading
 pub mod Noted
 pub mod Lasting
 pub mod Commanding
+pub mod Led
 pub mod Wiping
 pub mod Sound
+pub mod Seated
 pub mod Given

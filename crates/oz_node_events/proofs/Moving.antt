@@ -61,17 +61,17 @@ module _ {D : Type 0} (told : D → Option (List ℕ)) (clock : D → ℕ) (imag
 
   pub same_view : (a b : SeatView) → a.dn ≡ b.dn → a.seen ≡ b.seen → a.mine ≡ b.mine → StandsFor told clock image faults Coherent opening bytes script loaded a node → StandsFor told clock image faults Coherent opening bytes script loaded b node
   same_view a b dn seen mine stood =
-      let one : Stands (record { dn = b.dn; seen = a.seen; mine = a.mine; room = a.room }) =
-      subst (λ (n : ℕ). Stands (record { dn = n; seen = a.seen; mine = a.mine; room = a.room })) dn stood in
-      let two : Stands (record { dn = b.dn; seen = b.seen; mine = a.mine; room = a.room }) =
-      subst (λ (l : List Event). Stands (record { dn = b.dn; seen = l; mine = a.mine; room = a.room })) seen one in
-      let three : Stands (record { dn = b.dn; seen = b.seen; mine = b.mine; room = a.room }) =
-      subst (λ (l : List Event). Stands (record { dn = b.dn; seen = b.seen; mine = l; room = a.room })) mine two in
+      let one : Stands (record { dn = b.dn; seen = a.seen; mine = a.mine; room = a.room; last = a.last }) =
+      subst (λ (n : ℕ). Stands (record { dn = n; seen = a.seen; mine = a.mine; room = a.room; last = a.last })) dn stood in
+      let two : Stands (record { dn = b.dn; seen = b.seen; mine = a.mine; room = a.room; last = a.last }) =
+      subst (λ (l : List Event). Stands (record { dn = b.dn; seen = l; mine = a.mine; room = a.room; last = a.last })) seen one in
+      let three : Stands (record { dn = b.dn; seen = b.seen; mine = b.mine; room = a.room; last = a.last }) =
+      subst (λ (l : List Event). Stands (record { dn = b.dn; seen = b.seen; mine = l; room = a.room; last = a.last })) mine two in
       record { number = three.number; halt = three.halt; line = three.line; held = three.held; whole = three.whole; closed = three.closed; tells = three.tells; no_fewer = three.no_fewer; rose = three.rose; journal = three.journal; contents = three.contents }
 
   pub stands_on : (view : SeatView) → IsKept Coherent opening bytes script view → StandsFor told clock image faults Coherent opening bytes script loaded view node
       → (story : List Event) (room : ℕ) → BeginsWith story view.seen → AllFollow (Follows Coherent opening bytes script) [] story → events_of view.dn story ≡ view.mine
-      → StandsFor told clock image faults Coherent opening bytes script loaded (record { dn = view.dn; seen = story; mine = view.mine; room = room }) node
+      → StandsFor told clock image faults Coherent opening bytes script loaded (record { dn = view.dn; seen = story; mine = view.mine; room = room; last = view.last }) node
   stands_on view kept stood story room begins all own =
       let Follow = Follows Coherent opening bytes script in
       let more = begins.0 in

@@ -84,7 +84,7 @@ module _ (Coherent : Type 0) (opening : Opening) (bytes : OpeningBytes) (script 
   pub ready_stands : (node : State D) (view new : SeatView) → IsKept Coherent opening bytes script view → IsKept Coherent opening bytes script new
       → new.dn ≡ view.dn → new.mine ≡ view.mine → BeginsWith new.seen view.seen → StandsFor told clock image faults Coherent opening bytes script loaded view node → StandsFor told clock image faults Coherent opening bytes script loaded new node
   ready_stands node view new kept kept_new number mine begins stood =
-      same_view told clock image faults Coherent opening bytes script loaded node (record { dn = view.dn; seen = new.seen; mine = view.mine; room = view.room }) new (sym number) refl (sym mine)
+      same_view told clock image faults Coherent opening bytes script loaded node (record { dn = view.dn; seen = new.seen; mine = view.mine; room = view.room; last = view.last }) new (sym number) refl (sym mine)
       (stands_on told clock image faults Coherent opening bytes script loaded node view kept stood new.seen view.room begins kept_new.follow
       (ap (λ (n : ℕ). events_of n new.seen) (sym number) ∙ (kept_new.own ∙ mine)))
 
@@ -104,7 +104,7 @@ module _ (Coherent : Type 0) (opening : Opening) (bytes : OpeningBytes) (script 
     pub noted_follows : (story : List Event) → BeginsWith story view.seen → BeginsWith story other → AllFollow (Follows Coherent opening bytes script) [] story → events_of view.dn story ≡ view.mine
         → Follows Coherent opening bytes script story (record { seat = datanode_seat view.dn; kind = (event_of id first note).kind })
     noted_follows story begins others all own =
-        note_follows Coherent opening bytes script told clock image faults (record { dn = view.dn; seen = story; mine = view.mine; room = view.room }) kept.there all own id first subject
+        note_follows Coherent opening bytes script told clock image faults (record { dn = view.dn; seen = story; mine = view.mine; room = view.room; last = view.last }) kept.there all own id first subject
         (λ coherent. noting.may coherent story others all) filled noting.most loaded old
         (stands_on told clock image faults Coherent opening bytes script loaded old view kept stood story view.room begins all own) note new leads
 
@@ -122,14 +122,14 @@ module _ (Coherent : Type 0) (opening : Opening) (bytes : OpeningBytes) (script 
         let follows : Follow before event = follow_first Follow before event [] (follow_behind Follow [] before (event ∷ []) all_behind) in
         let own = own_before view.dn event refl view.seen before more view.mine later.seen kept.own told_so.begins told_so.goes_on.1 given in
         let own_then = own_behind view.dn event refl view.seen before more view.mine later.seen kept.own told_so.begins told_so.goes_on.1 given in
-        let here : SeatView = record { dn = view.dn; seen = before; mine = view.mine; room = view.room } in
-        let behind : SeatView = record { dn = view.dn; seen = before ++ event ∷ []; mine = view.mine ++ event ∷ []; room = view.room } in
+        let here : SeatView = record { dn = view.dn; seen = before; mine = view.mine; room = view.room; last = view.last } in
+        let behind : SeatView = record { dn = view.dn; seen = before ++ event ∷ []; mine = view.mine ++ event ∷ []; room = view.room; last = view.last } in
         let stood_here : StandsFor told clock image faults Coherent opening bytes script loaded here old = stands_on told clock image faults Coherent opening bytes script loaded old view kept stood before view.room told_so.begins all_before own in
         let stood_behind : StandsFor told clock image faults Coherent opening bytes script loaded behind new =
         stands_after Coherent opening bytes script loaded told clock image faults puts here kept.numbered all_before id first subject
         (λ coherent. noting.may coherent before told_so.begins_other all_before) old new stood_here note leads follows in
         let kept_behind : IsKept Coherent opening bytes script behind = record { few = kept.few; there = kept.there; numbered = kept.numbered; own = own_then; follow = all_behind; no_bad = λ coherent. ap (has_event is_bad) (sym mine) ∙ kept_later.no_bad coherent } in
-        same_view told clock image faults Coherent opening bytes script loaded new (record { dn = view.dn; seen = later.seen; mine = view.mine ++ event ∷ []; room = view.room }) later (sym number) refl (sym mine)
+        same_view told clock image faults Coherent opening bytes script loaded new (record { dn = view.dn; seen = later.seen; mine = view.mine ++ event ∷ []; room = view.room; last = view.last }) later (sym number) refl (sym mine)
         (stands_on told clock image faults Coherent opening bytes script loaded new behind kept_behind stood_behind later.seen view.room told_so.goes_on kept_later.follow given)
 
     pub noted_told : (later : List Event) → IsAppended (record { seat = datanode_seat view.dn; kind = (event_of id first note).kind }) view.seen other later

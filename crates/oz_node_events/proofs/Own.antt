@@ -1,14 +1,15 @@
 -- A datanode's seat that has seen nothing.
-use Rattle.std.proofs.Common.{◌≡◌, ℕ, ◌<◌, ◌≤◌, Bool, true, not, cond, List, [], ◌++◌, length, Option, None, Some, IfSome, inl, refl, sym, ap, ◌∙◌, subst}
+use Rattle.std.proofs.Common.{◌≡◌, ℕ, ◌<◌, ◌≤◌, Bool, true, false, not, cond, List, [], ◌++◌, length, Option, None, Some, IfSome, inl, refl, sym, ap, ◌∙◌, subst}
 use Rattle.std.proofs.lemmas.Bool.{false≢true}
 use Rattle.std.specs.Prelude.{is_some}
-use Rattle.oz_buffer.specs.Buffer.{Follows}
+use Rattle.oz_buffer.specs.Buffer.{AllFollow, Follows}
 use Rattle.oz_buffer.specs.laws.Following.{follow-none}
 use Rattle.oz_core.specs.declared.event.Event.{Event}
 use Rattle.oz_core.specs.declared.event.Node.{Node}
 use Rattle.oz_core.specs.declared.event.Node.TheVariants.{Datanode}
 use Rattle.oz_core.specs.declared.opening.Opening.{Opening}
 use Rattle.oz_core.specs.Contents.{OpeningBytes}
+use Rattle.oz_core.specs.Stories.{has_event}
 use Rattle.oz_full.specs.Full.{JournalStands}
 use Rattle.oz_lines.specs.declared.script.Script.{Script}
 use Rattle.oz_nodes.specs.declared.nodes.TheConstants.{MOST_NODES}
@@ -20,16 +21,17 @@ use Rattle.oz_entries.specs.Node.{Node as HeldNode}
 use Rattle.oz_entries.specs.declared.row.BlockRow.{BlockRow}
 use Rattle.oz_fields.specs.declared.block.Block.{Block}
 use Rattle.oz_world.specs.Disk.{Images}
-use Rattle.oz_node_events.specs.NodeSeat.{HasContents, IsAsOpened, IsKept, NumbersAreOld, StandsFor}
+use Rattle.oz_node_events.specs.Led.{no_lines}
+use Rattle.oz_node_events.specs.NodeSeat.{HasContents, IsAsOpened, IsKept, NumbersAreOld, SeatView, StandsFor, events_of, is_bad}
 use Rattle.oz_node_events.proofs.Following.{not_halted, not_stopped}
 
 module _ (Coherent : Type 0) (opening : Opening) (bytes : OpeningBytes) (script : Script) where
   pub kept_new : (dn : ℕ) (seen mine : List Event) → dn < MOST_NODES → dn < length opening.nodes → (Coherent → NumbersAreOld opening)
       → seen ≡ [] → mine ≡ []
-      → IsKept Coherent opening bytes script (record { dn = dn; seen = seen; mine = mine; room = 0 })
+      → IsKept Coherent opening bytes script (record { dn = dn; seen = seen; mine = mine; room = 0; last = no_lines })
   kept_new dn seen mine few there numbered none given =
-      subst (λ (s : List Event). IsKept Coherent opening bytes script (record { dn = dn; seen = s; mine = mine; room = 0 })) (sym none)
-      (subst (λ (m : List Event). IsKept Coherent opening bytes script (record { dn = dn; seen = []; mine = m; room = 0 })) (sym given)
+      subst (λ (s : List Event). IsKept Coherent opening bytes script (record { dn = dn; seen = s; mine = mine; room = 0; last = no_lines })) (sym none)
+      (subst (λ (m : List Event). IsKept Coherent opening bytes script (record { dn = dn; seen = []; mine = m; room = 0; last = no_lines })) (sym given)
       (record {
         few = few;
         there = there;
@@ -38,6 +40,19 @@ module _ (Coherent : Type 0) (opening : Opening) (bytes : OpeningBytes) (script 
         follow = follow-none (Follows Coherent opening bytes script);
         no_bad = λ coherent. refl;
       }))
+
+  -- and one that has seen and given more
+  pub kept_later : (dn room : ℕ) (last : List ℕ) (seen mine : List Event) → IsKept Coherent opening bytes script (record { dn = dn; seen = seen; mine = mine; room = room; last = last })
+      → (later : SeatView) → later.dn ≡ dn → events_of dn later.seen ≡ later.mine → AllFollow (Follows Coherent opening bytes script) [] later.seen
+      → (Coherent → has_event is_bad later.mine ≡ false) → IsKept Coherent opening bytes script later
+  kept_later dn room last seen mine kept later number own follow no_bad = record {
+    few = subst (λ (n : ℕ). n < MOST_NODES) (sym number) kept.few;
+    there = subst (λ (n : ℕ). n < length opening.nodes) (sym number) kept.there;
+    numbered = kept.numbered;
+    own = ap (λ (n : ℕ). events_of n later.seen) number ∙ own;
+    follow = follow;
+    no_bad = no_bad;
+  }
 
 pub begins_as : (story one other : List Event) → one ≡ other → BeginsWith story one → BeginsWith story other
 begins_as story one other same begins = (begins.0, begins.1 ∙ ap (λ (l : List Event). l ++ begins.0) same)
@@ -65,7 +80,7 @@ pub loaded_stands : {D : Type 0} (told : D → Option (List ℕ)) (clock : D →
     (script : Script) (loaded : Node → ℕ) (node : State D) → Runs faults node
     → (Coherent → IsAsOpened told clock image faults opening bytes node) → (Coherent → JournalStands told node)
     → loaded (Datanode node.id) ≤ count_of faults node
-    → StandsFor told clock image faults Coherent opening bytes script loaded (record { dn = node.id; seen = []; mine = []; room = 0 }) node
+    → StandsFor told clock image faults Coherent opening bytes script loaded (record { dn = node.id; seen = []; mine = []; room = 0; last = no_lines }) node
 loaded_stands {D} told clock image faults Coherent opening bytes script loaded node runs as_opened journal no_fewer = record {
   number = refl;
   halt = sym (ap (λ (t : Bool). cond t (Some (count_of faults node)) None) (not_halted (is_halted node) (count_of faults node) _ runs));

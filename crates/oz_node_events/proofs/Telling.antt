@@ -45,7 +45,7 @@ others_go_on dn seen more mine known still =
 
 -- ---- whose event it is
 
-not_its : (dn seat other : ℕ) → (seat == datanode_seat dn) ≡ false → seat ≡ datanode_seat other → (other == dn) ≡ false
+pub not_its : (dn seat other : ℕ) → (seat == datanode_seat dn) ≡ false → seat ≡ datanode_seat other → (other == dn) ≡ false
 not_its dn seat other away its = by (other == dn) refl
   where
     by : (t : Bool) → (other == dn) ≡ t → (other == dn) ≡ false

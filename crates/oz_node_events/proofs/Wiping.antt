@@ -67,10 +67,10 @@ module _ (Coherent : Type 0) (opening : Opening) (bytes : OpeningBytes) (script 
 
   -- ---- behind them
 
-  module _ (numbered : Coherent → NumbersAreOld opening) (dn room : ℕ) (before mine : List Event) (all : AllFollow Follow [] before) (old new : State D)
-      (stood : Stands (record { dn = dn; seen = before; mine = mine; room = room }) old) where
+  module _ (numbered : Coherent → NumbersAreOld opening) (dn room : ℕ) (last : List ℕ) (before mine : List Event) (all : AllFollow Follow [] before) (old new : State D)
+      (stood : Stands (record { dn = dn; seen = before; mine = mine; room = room; last = last }) old) where
     wipe_step : Follow before (by_node dn (Wipe dn)) → IsWipedSo told clock image faults old new
-        → Stands (record { dn = dn; seen = before ++ by_node dn (Wipe dn) ∷ []; mine = mine ++ by_node dn (Wipe dn) ∷ []; room = room }) new
+        → Stands (record { dn = dn; seen = before ++ by_node dn (Wipe dn) ∷ []; mine = mine ++ by_node dn (Wipe dn) ∷ []; room = room; last = last }) new
     wipe_step follows wiped =
         let event = by_node dn (Wipe dn) in
         let its : (dn == dn) ≡ true = eq-eqb dn dn refl in
@@ -103,7 +103,7 @@ module _ (Coherent : Type 0) (opening : Opening) (bytes : OpeningBytes) (script 
         }
 
     halt_step : (count : ℕ) → Follow before (by_node dn (Halt (Datanode dn) count)) → HaltsSo told faults old new count
-        → Stands (record { dn = dn; seen = before ++ by_node dn (Halt (Datanode dn) count) ∷ []; mine = mine ++ by_node dn (Halt (Datanode dn) count) ∷ []; room = room }) new
+        → Stands (record { dn = dn; seen = before ++ by_node dn (Halt (Datanode dn) count) ∷ []; mine = mine ++ by_node dn (Halt (Datanode dn) count) ∷ []; room = room; last = last }) new
     halt_step count follows halts =
         let event = by_node dn (Halt (Datanode dn) count) in
         record {
@@ -127,11 +127,11 @@ module _ (Coherent : Type 0) (opening : Opening) (bytes : OpeningBytes) (script 
       → IsAppended (by_node view.dn (Wipe view.dn)) view.seen other later.seen → Stands later new
   wipe_stands view later old new other kept kept_later stood wiped number mine told_so =
       event_stands Coherent opening bytes script loaded told clock image faults (Wipe view.dn) view later old new other kept kept_later stood number mine told_so
-      (λ before all follows here. wipe_step kept.numbered view.dn view.room before view.mine all old new here follows wiped)
+      (λ before all follows here. wipe_step kept.numbered view.dn view.room view.last before view.mine all old new here follows wiped)
 
   pub halt_stands : (view later : SeatView) (old new : State D) (count : ℕ) (other : List Event) → IsKept Coherent opening bytes script view → IsKept Coherent opening bytes script later
       → Stands view old → HaltsSo told faults old new count → later.dn ≡ view.dn → later.mine ≡ view.mine ++ by_node view.dn (Halt (Datanode view.dn) count) ∷ []
       → IsAppended (by_node view.dn (Halt (Datanode view.dn) count)) view.seen other later.seen → Stands later new
   halt_stands view later old new count other kept kept_later stood halts number mine told_so =
       event_stands Coherent opening bytes script loaded told clock image faults (Halt (Datanode view.dn) count) view later old new other kept kept_later stood number mine told_so
-      (λ before all follows here. halt_step kept.numbered view.dn view.room before view.mine all old new here count follows halts)
+      (λ before all follows here. halt_step kept.numbered view.dn view.room view.last before view.mine all old new here count follows halts)

@@ -27,12 +27,14 @@ use Rattle.oz_turn.specs.Told.{BeginsWith, own_entries}
 use Rattle.oz_world.specs.Disk.{Images}
 use Rattle.oz_world.specs.Faults.{Rose}
 
--- The datanode's number, what its seat has seen of the story, the events that it gave, and how many more it may note.
+-- The datanode's number, what its seat has seen of the story, the events that it gave, and how many more it may note; and of each
+-- client from 0 on the last line that had something done to the datanode, or 0.
 pub record SeatView : Type 0 where
   pub dn : ℕ
   pub seen : List Event
   pub mine : List Event
   pub room : ℕ
+  pub last : List ℕ
 
 -- no transaction of the opening's log has a number above the last
 abbrev pub NumbersAreOld : Opening → Type 0

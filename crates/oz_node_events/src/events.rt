@@ -3,6 +3,7 @@
 ghost use Rattle.std.specs.Prelude.{◌≡◌};
 ghost use Rattle.oz_core.specs.Seats.{datanode_seat};
 ghost use Rattle.oz_buffer.specs.Buffer.{IsNote};
+ghost use Rattle.oz_node_events.specs.Led.{IsUncommanded};
 ghost use Rattle.oz_node_events.specs.Noting.{event_of};
 
 use oz_core::{EventKind, Node};
@@ -13,6 +14,7 @@ use oz_requests::AskId;
 pub(crate) fn kind_of(id: AskId, first: u64, note: Note) -> EventKind
     ensures kind { result ≡ (event_of id first note).kind }
     ensures noted { IsNote result }
+    ensures uncommanded { IsUncommanded result }
 {
     match note {
         Note::Put { dn, block, length } => EventKind::Put {

@@ -20,6 +20,7 @@ ghost use Rattle.oz_full.specs.Full.{JournalStands};
 ghost use Rattle.oz_lines.specs.Numbered.{IsNumbered};
 ghost use Rattle.oz_node_events.specs.Answers.{AnswersStand, HadIt, HasQuorum};
 ghost use Rattle.oz_node_events.specs.Commands.{HaltsSo, IsWipedSo, by_node, run_event};
+ghost use Rattle.oz_node_events.specs.Led.{no_lines};
 ghost use Rattle.oz_node_events.specs.NodeSeat.{IsAppended, IsAsOpened, IsKept, SeatView, StandsFor, events_of};
 ghost use Rattle.oz_node_events.specs.Noting.{HasSeen, IsNotedBy, IsSameNoter, MayNote, NotingView};
 ghost use Rattle.oz_replicas.specs.Notes.{Subject};
@@ -40,7 +41,7 @@ pub fn a_loaded_datanode_stands<D: Disk, O: Opened>()
         O.bytes node) →
         (O.coherent → JournalStands D.told node) → O.faults (Datanode node.id) ≤ count_of D.faults node →
         StandsFor D.told D.clock D.image D.faults O.coherent O.opening O.bytes O.script O.faults
-        (record { dn = node.id; seen = []; mine = []; room = 0 }) node }
+        (record { dn = node.id; seen = []; mine = []; room = 0; last = no_lines }) node }
 {}
 
 /// The events of a datanode's seat alone tell whether it halted, whether a line stopped it and which replicas are closed. It

@@ -3,11 +3,13 @@
 #![tactic(auto)]
 
 mod appending;
+mod command;
 mod events;
 mod laws;
 mod noting;
 mod seat;
 
+pub use command::NodeCommand;
 pub use laws::{
     a_failed_disk_halts_it, a_line_has_it_run_or_not, a_line_wipes_it, a_loaded_datanode_stands,
     a_noter_stays_the_same, a_quorum_may_be_written, each_answer_is_in_the_story,

@@ -1,11 +1,15 @@
 //! The seat of a datanode, which is kept beside it.
 
-ghost use Rattle.std.specs.Prelude.{◌≡◌, ◌+◌, ◌<◌, ◌≤◌, ◌++◌, ◌∷◌, [], List, length, slice_set, false, None, Ok, OnOk, OnErr};
+ghost use Rattle.std.specs.Prelude.{◌≡◌, ◌+◌, ◌<◌, ◌≤◌, ◌++◌, ◌∷◌, [], List, length, slice_index, slice_set, false, None, Ok, OnOk, OnErr};
 ghost use Rattle.oz_buffer.specs.Buffer.{AllFollow, Follows, IsNote};
 ghost use Rattle.oz_core.specs.declared.event.Event.{Event as AnyEvent};
+ghost use Rattle.oz_core.specs.Fits.{EventFits};
 ghost use Rattle.oz_core.specs.Nodes.{is_running};
 ghost use Rattle.oz_core.specs.Seats.{datanode_seat};
+ghost use Rattle.oz_lines.specs.declared.script.TheConstants.{MOST_CLIENTS as MOST};
 ghost use Rattle.oz_nodes.specs.declared.nodes.TheConstants.{MOST_NODES};
+ghost use Rattle.oz_node_events.specs.Commands.{by_node};
+ghost use Rattle.oz_node_events.specs.Led.{HasItDone, HaveLed, IsUncommanded, done_kind, no_lines};
 ghost use Rattle.oz_node_events.specs.NodeSeat.{IsAppended, IsKept, NumbersAreOld, events_of, is_bad};
 ghost use Rattle.oz_node_events.specs.Beside.{ShareAPlace};
 ghost use Rattle.oz_scm_events.specs.Tracked.{IsTracked};
@@ -14,9 +18,11 @@ ghost use Rattle.oz_turn.specs.Told.{BeginsWith};
 ghost use Rattle.oz_turn.specs.Turn.{turn_id};
 
 use crate::appending::{append, reserve, show};
+use crate::command::{NodeCommand, done_kind};
 use oz_buffer::{Ledger, Opened};
 use oz_core::{Event, EventKind};
 use oz_fields::OutOfMemory;
+use oz_lines::{Line, MOST_CLIENTS};
 use oz_replicas::Kept;
 use oz_scm_events::ScmCell;
 use oz_turn::{Ring, Seat, Told, Turn};
@@ -31,28 +37,35 @@ const FIRST_DATANODE_SEAT: u16 = 4;
 /// How many notes a seat is made ready for.
 const NOTES: u32 = 2;
 
-/// The seat of a datanode. It stands for the datanode that is what the story makes of it.
+/// How many clients there are, with 0, which is none.
+const CLIENTS: usize = MOST_CLIENTS + 1;
+
+/// The seat of a datanode. It stands for the datanode that is what the story makes of it. With it is kept of each client the
+/// last line that had something done to the datanode, so that no line has it done twice.
 #[derive(Drop)]
 pub struct NodeSeat<T: Told<Entry = Event>, O: Opened, R: Ring> {
     dn: u8,
     room: u32,
     seat: Seat<T>,
+    last: [u16; CLIENTS],
     of: PhantomData<(O, R)>,
 }
 
 impl<T: Told<Entry = Event>, O: Opened, R: Ring> Model for NodeSeat<T, O, R> {
     ghost use Rattle.std.specs.Prelude.{◌≡◌};
     ghost use Rattle.oz_core.specs.Seats.{datanode_seat};
+    ghost use Rattle.oz_node_events.specs.Led.{HaveLed};
     ghost use Rattle.oz_node_events.specs.NodeSeat.{IsKept, SeatView};
     ghost use Rattle.oz_turn.specs.Seat.{IsReady, mine_of, room_of, seen_of};
 
     ghost Value = { SeatView };
 
-    ghost view = { λ s. record { dn = s.dn; seen = seen_of s.seat; mine = mine_of s.seat; room = s.room } };
+    ghost view = { λ s. record { dn = s.dn; seen = seen_of s.seat; mine = mine_of s.seat; room = s.room; last = s.last } };
 
     ghost invariant = { λ s. IsReady R.turn (datanode_seat s.dn) s.seat × (room_of s.seat ≡ s.room)
         × IsKept O.coherent O.opening O.bytes O.script
-        (record { dn = s.dn; seen = seen_of s.seat; mine = mine_of s.seat; room = s.room }) };
+        (record { dn = s.dn; seen = seen_of s.seat; mine = mine_of s.seat; room = s.room; last = s.last })
+        × HaveLed O.script s.dn s.last (seen_of s.seat) (mine_of s.seat) };
 }
 
 impl<D: Disk, T: Told<Entry = Event>, O: Opened, R: Ring> Kept<D> for NodeSeat<T, O, R> {
@@ -75,12 +88,13 @@ impl<T: Told<Entry = Event>, O: Opened, R: Ring> NodeSeat<T, O, R> {
         requires there { dn < length O.opening.nodes }
         requires numbered { O.coherent → NumbersAreOld O.opening }
         requires seat { IsNewSeat R.turn (datanode_seat dn) seat }
-        ensures { result ≡ record { dn = dn; seen = []; mine = []; room = 0 } }
+        ensures { result ≡ record { dn = dn; seen = []; mine = []; room = 0; last = no_lines } }
     {
         NodeSeat {
             dn,
             room: 0,
             seat,
+            last: [0; CLIENTS],
             of: PhantomData,
         }
     }
@@ -90,6 +104,21 @@ impl<T: Told<Entry = Event>, O: Opened, R: Ring> NodeSeat<T, O, R> {
         ensures { IsKept O.coherent O.opening O.bytes O.script self.now }
     {
         let _dn = self.dn;
+    }
+
+    /// Which lines had something done to the datanode. It does nothing when it runs.
+    pub fn is_led(&self)
+        ensures { HaveLed O.script self.now.dn self.now.last self.now.seen self.now.mine }
+    {
+        let _dn = self.dn;
+    }
+
+    /// The last line of a client that had something done to the datanode, or 0. Clients are numbered from 1.
+    pub fn last(&self, client: u16) -> u16
+        requires { client ≤ MOST }
+        ensures { result ≡ slice_index self.now.last client }
+    {
+        self.last[usize::from(client)]
     }
 
     /// The seat itself. It takes no memory.
@@ -102,6 +131,7 @@ impl<T: Told<Entry = Event>, O: Opened, R: Ring> NodeSeat<T, O, R> {
             dn: _,
             room: _,
             seat,
+            last: _,
             of: _,
         } = self;
         seat
@@ -126,6 +156,7 @@ impl<O: Opened, R: Ring> NodeSeat<Ledger<O>, O, R> {
         ensures lacks { OnErr result (self.new.room ≡ self.old.room) }
         ensures goes_on { BeginsWith self.new.seen self.old.seen }
         ensures mine { self.new.mine ≡ self.old.mine }
+        ensures last { self.new.last ≡ self.old.last }
         ensures kept { IsKept O.coherent O.opening O.bytes O.script self.new }
         ensures kept_before { IsKept O.coherent O.opening O.bytes O.script self.old }
         ensures other { IsSameSeat other.old other.new }
@@ -161,6 +192,7 @@ impl<O: Opened, R: Ring> NodeSeat<Ledger<O>, O, R> {
         requires room { 1 ≤ self.old.room }
         requires kind { IsNote kind }
         requires no_bad { O.coherent → is_bad kind ≡ false }
+        requires uncommanded { IsUncommanded kind }
         requires follows { (story : List AnyEvent) → BeginsWith story self.old.seen → BeginsWith story (seen_of other.old)
             → AllFollow (Follows O.coherent O.opening O.bytes O.script) [] story
             → events_of self.old.dn story ≡ self.old.mine
@@ -170,6 +202,7 @@ impl<O: Opened, R: Ring> NodeSeat<Ledger<O>, O, R> {
         ensures told { IsAppended (record { seat = datanode_seat self.old.dn; kind = kind }) self.old.seen (seen_of other.old)
             self.new.seen }
         ensures mine { self.new.mine ≡ self.old.mine ++ record { seat = datanode_seat self.old.dn; kind = kind } ∷ [] }
+        ensures last { self.new.last ≡ self.old.last }
         ensures kept { IsKept O.coherent O.opening O.bytes O.script self.new }
         ensures kept_before { IsKept O.coherent O.opening O.bytes O.script self.old }
         ensures other { IsSameSeat other.old other.new }
@@ -182,6 +215,50 @@ impl<O: Opened, R: Ring> NodeSeat<Ledger<O>, O, R> {
         append(rt, turn, &mut self.seat, other, by, kind);
         show(rt, turn, &mut self.seat, other, by);
         self.room -= 1;
+    }
+
+    /// Appends the event of what a line had done to the datanode, as `note` does, and keeps the line as the last of its client. The
+    /// line has started by what the other seat has seen, and none of its client that isn't before it had anything done: so there
+    /// are more lines that have started than events of what they had done, and the script leads to this one.
+    pub fn note_done<W: Wait>(
+        &mut self,
+        rt: &W,
+        turn: &Turn<Ledger<O>>,
+        other: &mut Seat<Ledger<O>>,
+        line: &Line,
+        done: NodeCommand,
+    )
+        requires turn { turn_id turn.now ≡ R.turn }
+        requires other_turn { turn_of other.old ≡ R.turn }
+        requires other_free { taken_of other.old ≡ None }
+        requires room { 1 ≤ self.old.room }
+        requires client { line.now.client ≤ MOST }
+        requires behind { slice_index self.old.last line.now.client < line.now.number }
+        requires line { HasItDone O.script (seen_of other.old) self.old.dn done line.now }
+        requires follows { (story : List AnyEvent) → BeginsWith story self.old.seen → BeginsWith story (seen_of other.old)
+            → AllFollow (Follows O.coherent O.opening O.bytes O.script) [] story
+            → events_of self.old.dn story ≡ self.old.mine
+            → (O.coherent → EventFits O.opening O.bytes O.script story (done_kind self.old.dn done))
+            → Follows O.coherent O.opening O.bytes O.script story (by_node self.old.dn (done_kind self.old.dn done)) }
+        ensures number { self.new.dn ≡ self.old.dn }
+        ensures room { self.new.room + 1 ≡ self.old.room }
+        ensures told { IsAppended (by_node self.old.dn (done_kind self.old.dn done)) self.old.seen (seen_of other.old) self.new.seen }
+        ensures mine { self.new.mine ≡ self.old.mine ++ by_node self.old.dn (done_kind self.old.dn done) ∷ [] }
+        ensures last { self.new.last ≡ slice_set self.old.last line.now.client line.now.number }
+        ensures kept { IsKept O.coherent O.opening O.bytes O.script self.new }
+        ensures kept_before { IsKept O.coherent O.opening O.bytes O.script self.old }
+        ensures other { IsSameSeat other.old other.new }
+        ensures other_free { taken_of other.new ≡ None }
+        ensures other_seen { seen_of other.new ≡ self.new.seen }
+        ensures other_mine { mine_of other.new ≡ mine_of other.old }
+        ensures other_room { room_of other.new ≡ room_of other.old }
+    {
+        let by = FIRST_DATANODE_SEAT + u16::from(self.dn);
+        let kind = done_kind(self.dn, done);
+        append(rt, turn, &mut self.seat, other, by, kind);
+        show(rt, turn, &mut self.seat, other, by);
+        self.room -= 1;
+        self.last[usize::from(line.client)] = line.number;
     }
 
     /// Has the storage container manager, which has room for one event, take the datanode for up, which runs, or for down, which
@@ -203,6 +280,7 @@ impl<O: Opened, R: Ring> NodeSeat<Ledger<O>, O, R> {
         ensures number { self.new.dn ≡ self.old.dn }
         ensures room { self.new.room ≡ self.old.room }
         ensures mine { self.new.mine ≡ self.old.mine }
+        ensures last { self.new.last ≡ self.old.last }
         ensures goes_on { BeginsWith self.new.seen self.old.seen }
         ensures kept { IsKept O.coherent O.opening O.bytes O.script self.new }
         ensures kept_before { IsKept O.coherent O.opening O.bytes O.script self.old }
@@ -241,6 +319,7 @@ impl<O: Opened, R: Ring> NodeSeat<Ledger<O>, O, R> {
         ensures number { self.new.dn ≡ self.old.dn }
         ensures room { self.new.room ≡ self.old.room }
         ensures mine { self.new.mine ≡ self.old.mine }
+        ensures last { self.new.last ≡ self.old.last }
         ensures goes_on { BeginsWith self.new.seen self.old.seen }
         ensures kept { IsKept O.coherent O.opening O.bytes O.script self.new }
         ensures kept_before { IsKept O.coherent O.opening O.bytes O.script self.old }

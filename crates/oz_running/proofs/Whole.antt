@@ -14,6 +14,7 @@ use Rattle.oz_flushing.specs.Kept.{IsKept}
 use Rattle.oz_halts.specs.Nodes.{AreAsTold, IsAsTold, ScmIsAsTold, seat_over}
 use Rattle.oz_lines.specs.declared.script.Script.{Script}
 use Rattle.oz_names.specs.declared.limits.TheConstants.{STRIPES}
+use Rattle.oz_node_events.specs.Led.{no_lines}
 use Rattle.oz_node_events.specs.NodeSeat.{IsKept as SeatIsKept, SeatView, StandsFor, events_of, is_bad}
 use Rattle.oz_nodes.specs.declared.nodes.TheConstants.{MOST_NODES}
 use Rattle.oz_om.specs.Keeps.{HasRun}
@@ -48,11 +49,11 @@ scm_over opening loaded scm faults seen given story known kept =
 
 module _ {D : Type 0} (told : D → Option (List ℕ)) (clock : D → ℕ) (image : D → Images) (faults : D → ℕ) (Coherent : Type 0) (opening : Opening)
     (bytes : OpeningBytes) (script : Script) (counts : Node → ℕ) where
-  -- How many more a seat may note tells nothing of its datanode.
-  without_room : (dn room : ℕ) (seen given : List Event) (node : Datanode D)
-      → StandsFor told clock image faults Coherent opening bytes script counts (record { dn = dn; seen = seen; mine = given; room = room }) node
-      → StandsFor told clock image faults Coherent opening bytes script counts (record { dn = dn; seen = seen; mine = given; room = 0 }) node
-  without_room dn room seen given node stood = record {
+  -- How many more a seat may note, and which lines it knows of, tells nothing of its datanode.
+  without_room : (dn room : ℕ) (last : List ℕ) (seen given : List Event) (node : Datanode D)
+      → StandsFor told clock image faults Coherent opening bytes script counts (record { dn = dn; seen = seen; mine = given; room = room; last = last }) node
+      → StandsFor told clock image faults Coherent opening bytes script counts (record { dn = dn; seen = seen; mine = given; room = 0; last = no_lines }) node
+  without_room dn room last seen given node stood = record {
     number = stood.number;
     halt = stood.halt;
     line = stood.line;
@@ -71,9 +72,9 @@ module _ {D : Type 0} (told : D → Option (List ℕ)) (clock : D → ℕ) (imag
       → StandsFor told clock image faults Coherent opening bytes script counts (record view { seen = story }) node
       → StandsFor told clock image faults Coherent opening bytes script counts (seat_over story dn) node
   stands_over view story dn node number given stood =
-      subst (λ (l : List Event). StandsFor told clock image faults Coherent opening bytes script counts (record { dn = dn; seen = story; mine = l; room = 0 }) node) (sym given)
-      (subst (λ (d : ℕ). StandsFor told clock image faults Coherent opening bytes script counts (record { dn = d; seen = story; mine = view.mine; room = 0 }) node) number
-      (without_room view.dn view.room story view.mine node stood))
+      subst (λ (l : List Event). StandsFor told clock image faults Coherent opening bytes script counts (record { dn = dn; seen = story; mine = l; room = 0; last = no_lines }) node) (sym given)
+      (subst (λ (d : ℕ). StandsFor told clock image faults Coherent opening bytes script counts (record { dn = d; seen = story; mine = view.mine; room = 0; last = no_lines }) node) number
+      (without_room view.dn view.room view.last story view.mine node stood))
 
   -- and what holds of it
   kept_over : (view : SeatView) (story : List Event) (dn : ℕ) → view.dn ≡ dn → events_of dn story ≡ view.mine → AllFollow (Follows Coherent opening bytes script) [] story

@@ -2,6 +2,7 @@
 use Rattle.std.specs.Prelude.{◌≡◌, ℕ, ◌≤◌, true, false, List, [], length, map, replicate}
 use Rattle.oz_core.specs.declared.opening.Opening.{Opening}
 use Rattle.oz_datanode.specs.Datanode.{State as Datanode}
+use Rattle.oz_node_events.specs.Led.{no_lines}
 use Rattle.oz_node_events.specs.NodeSeat.{SeatView}
 use Rattle.oz_nodes.specs.declared.nodes.TheConstants.{FEWEST_NODES, MOST_NODES}
 use Rattle.oz_om.specs.Seated.{ArePlaced}
@@ -21,7 +22,7 @@ pub record ScmStands {D : Type 0} (opening : Opening) (loaded : ℕ) (scm : Scm 
 
 -- what is seen of the seat of a datanode that has seen and given nothing
 abbrev pub new_seat : ℕ → SeatView
-new_seat dn = record { dn = dn; seen = []; mine = []; room = 0 }
+new_seat dn = record { dn = dn; seen = []; mine = []; room = 0; last = no_lines }
 
 -- There are as many datanodes as the opening has. For each a seat stands that has its number, and has seen and given nothing.
 pub record NodesStand {D : Type 0} (Stands : SeatView → Datanode D → Type 0) (opening : Opening) (nodes : List (Datanode D))

@@ -1,3 +1,4 @@
+use Rattle.std.proofs.Common.{sym, ◌∙◌}
 use Rattle.node_event_tests.proofs.Stopped.{ready_stands, stopped_stands}
 use Rattle.node_event_tests.proofs.stopping.stop_beside.Goals as goal
 
@@ -7,5 +8,5 @@ returns-in_err-ready-clause-stands g c =
 
 pub returns-clause-stands : goal.returns-clause-stands
 returns-clause-stands g c =
-    stopped_stands g.D.Disk.told g.D.Disk.clock g.D.Disk.image g.D.Disk.faults c.args.kept.now c.ready.new.self c.note.new.self c.args.node.now c.stop.new.self c.id-dn.result c.requires.stood
-    c.id-dn.ensures c.ready.ensures.number c.ready.ensures.mine c.note.ensures.number c.note.ensures.mine c.stop.ensures.stopped
+    stopped_stands g.D.Disk.told g.D.Disk.clock g.D.Disk.image g.D.Disk.faults c.args.kept.now c.ready.new.self c.note_done.new.self c.args.node.now c.stop.new.self c.ready.new.self.dn c.requires.stood
+    (c.ready.ensures.number ∙ sym c.requires.stood.number) c.ready.ensures.number c.ready.ensures.mine c.note_done.ensures.number c.note_done.ensures.mine c.stop.ensures.stopped

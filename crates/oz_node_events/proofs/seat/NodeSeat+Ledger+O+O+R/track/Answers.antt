@@ -1,10 +1,11 @@
 use Rattle.std.specs.Prelude.{Ok}
-use Rattle.std.proofs.Common.{sym, ap, ◌∙◌, subst}
+use Rattle.std.proofs.Common.{refl, sym, ap, ◌∙◌, subst}
 use Rattle.oz_scm_events.specs.Tracked.{IsTracked}
-use Rattle.oz_turn.specs.Seat.{seen_of}
+use Rattle.oz_turn.specs.Seat.{mine_of, seen_of}
 use Rattle.oz_node_events.specs.NodeSeat.{events_of}
 use Rattle.oz_node_events.proofs.Noted.{begins_through}
 use Rattle.oz_node_events.proofs.Own.{begins_as}
+use Rattle.oz_node_events.proofs.Seated.{done_on, kept_on}
 use Rattle.oz_node_events.proofs.seat.NodeSeat+Ledger+O+O+R.track.Goals as goal
 
 pub returns-clause-goes_on : goal.returns-clause-goes_on
@@ -28,3 +29,17 @@ returns-clause-shared g c =
       of_the_scm = c.track_ready-changed.ensures.shown;
       follow = c.track_ready-changed.ensures.follow;
     }
+
+pub invariant_of-self : goal.invariant_of-self
+invariant_of-self g c =
+    let O = g.O.Opened in
+    let s = c.self.inside in
+    let track = c.track_ready-changed.ensures in
+    let seat = c.track_ready-changed.new.seat in (
+      track.ready,
+      track.room ∙ c.self.invariant.1,
+      kept_on O.coherent O.opening O.bytes O.script s.dn s.room s.last (seen_of s.seat) (mine_of s.seat) c.self.invariant.2 c.self.invariant.3 s.dn refl
+          (seen_of seat) track.begins track.follow (mine_of seat) s.room track.its_own track.mine,
+      done_on O.coherent O.opening O.bytes O.script s.dn s.room s.last (seen_of s.seat) (mine_of s.seat) c.self.invariant.2 c.self.invariant.3 s.dn refl
+          (seen_of seat) track.begins track.follow (mine_of seat) s.room track.its_own track.mine,
+    )

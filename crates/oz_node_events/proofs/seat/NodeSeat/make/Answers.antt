@@ -1,3 +1,4 @@
+use Rattle.oz_node_events.proofs.Led.{led_new}
 use Rattle.oz_node_events.proofs.Own.{kept_new}
 use Rattle.oz_node_events.proofs.seat.NodeSeat.make.Goals as goal
 
@@ -8,4 +9,5 @@ invariant_of-result g c =
       r.seat.ready,
       r.seat.room,
       kept_new O.coherent O.opening O.bytes O.script c.args.dn _ _ r.few r.there r.numbered r.seat.seen r.seat.mine,
+      led_new O.script c.args.dn _ _ r.seat.mine,
     )

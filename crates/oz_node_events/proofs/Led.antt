@@ -3,10 +3,9 @@ use Rattle.std.proofs.Common.{◌≡◌, ◌≢◌, ℕ, zero, suc, ◌+◌, ◌
 use Rattle.std.proofs.lemmas.Bool.{cases_eq, eqb-true, false≢true}
 use Rattle.std.proofs.lemmas.List.{length-set, length-replicate}
 use Rattle.std.proofs.lemmas.List.Elements.{All-cons, All-nil, All-weaker, Contains-append_left, Contains-push}
-use Rattle.std.proofs.lemmas.List.Folds.{list_any-append}
 use Rattle.std.proofs.lemmas.List.Kept.{AllPairs-cons}
 use Rattle.std.proofs.lemmas.List.Sums.{sum_by-append, sum_by-cons}
-use Rattle.std.specs.Prelude.{All, AllPairs, Contains, is_some}
+use Rattle.std.specs.Prelude.{All, AllPairs, Contains}
 use Rattle.oz_buffer.specs.Buffer.{AllFollow, Follows}
 use Rattle.oz_buffer.specs.laws.Following.{follow-each}
 use Rattle.oz_command.specs.declared.command.Command.TheVariants.{Admin}
@@ -14,11 +13,10 @@ use Rattle.oz_core.specs.declared.event.Event.{Event}
 use Rattle.oz_core.specs.declared.event.EventKind.{EventKind}
 use Rattle.oz_core.specs.declared.event.EventKind.TheVariants.{Stop, Start, Wipe}
 use Rattle.oz_core.specs.declared.opening.Opening.{Opening}
-use Rattle.oz_core.specs.Asks.{answer_to, is_told}
 use Rattle.oz_core.specs.Contents.{OpeningBytes}
 use Rattle.oz_core.specs.Fits.{EventFits, IsCommanded}
 use Rattle.oz_core.specs.Law.{KindIsEnabled}
-use Rattle.oz_core.specs.Lines.{AfterIsTold, HasStarted}
+use Rattle.oz_core.specs.Lines.{HasStarted}
 use Rattle.oz_core.specs.Seats.{datanode_seat}
 use Rattle.oz_core.specs.Stories.{count_events}
 use Rattle.oz_lines.specs.declared.script.Line.{Line}
@@ -30,32 +28,8 @@ use Rattle.oz_node_events.specs.declared.command.NodeCommand.TheVariants as comm
 use Rattle.oz_node_events.specs.Commands.{by_node}
 use Rattle.oz_node_events.specs.Led.{AreLed, HasItDone, HasLed, HaveLed, IsUncommanded, admin_command, done_kind, is_done, last_of, no_lines}
 use Rattle.oz_node_events.specs.NodeSeat.{events_of}
+use Rattle.oz_node_events.specs.laws.Lines.{done_later, started_later}
 use Rattle.oz_node_events.proofs.Telling.{is_its, its_kept, its_left, its_parts, not_its}
-
--- ---- a line that has started has started in each story that goes on
-
-told_later : (client line : ℕ) (story later : List Event) → BeginsWith later story → is_told client line story ≡ true → is_told client line later ≡ true
-told_later client line story later (more, parts) told =
-    subst (λ (l : List Event). is_told client line l ≡ true) (sym parts)
-    (list_any-append (λ (event : Event). is_some (answer_to client line event.kind)) story more ∙ ap (λ (b : Bool). b || is_told client line more) told)
-
-after_later : (story later : List Event) → BeginsWith later story → (after : Option (ℕ × ℕ)) → AfterIsTold story after → AfterIsTold later after
-after_later story later begins None told = tt
-after_later story later begins (Some named) told = told_later named.0 named.1 story later begins told
-
-started_later : (story later : List Event) (line : Line) → BeginsWith later story → HasStarted story line → HasStarted later line
-started_later story later line begins started = record {
-  before_it = λ second. told_later line.client (line.number - 1) story later begins (started.before_it second);
-  after_it = after_later story later begins line.after started.after_it;
-}
-
-pub done_later : (script : Script) (story later : List Event) (dn : ℕ) (done : NodeCommand) (line : Line) → BeginsWith later story
-    → HasItDone script story dn done line → HasItDone script later dn done line
-done_later script story later dn done line begins by = record {
-  there = by.there;
-  so = by.so;
-  started = started_later story later line begins by.started;
-}
 
 -- ---- how many events there are
 

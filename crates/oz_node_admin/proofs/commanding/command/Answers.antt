@@ -2,8 +2,10 @@ use Rattle.std.specs.Prelude.{Ok}
 use Rattle.std.proofs.Common.{sym, ap, ◌∙◌, subst}
 use Rattle.oz_scm_events.specs.Tracked.{IsTracked}
 use Rattle.oz_turn.specs.Seat.{seen_of}
-use Rattle.oz_node_admin.specs.Commands.{HasBeen, own_after}
-use Rattle.oz_node_admin.proofs.Told.{has_been_since, may_command_later, scm_as}
+use Rattle.oz_node_events.specs.Led.{HasItDone}
+use Rattle.oz_node_events.specs.laws.Lines.{done_later}
+use Rattle.oz_node_admin.specs.Commands.{HasBeen, last_after, own_after, run_done}
+use Rattle.oz_node_admin.proofs.Told.{has_been_since, scm_as}
 use Rattle.oz_node_admin.proofs.commanding.command.Goals as goal
 
 pub returns-then-halted-clause-stands : goal.returns-then-halted-clause-stands
@@ -26,11 +28,14 @@ carry_out-requires-clause-stood g c =
     let ready = c.ready.ensures in
     c.it_stands_where_it_saw_more.ensures c.args.kept.now c.ready.new.self c.args.node.now ready.kept_before ready.kept c.requires.stood ready.number ready.mine ready.goes_on
 
-pub carry_out-requires-clause-commanded : goal.carry_out-requires-clause-commanded
-carry_out-requires-clause-commanded g c other =
+pub carry_out-requires-clause-line : goal.carry_out-requires-clause-line
+carry_out-requires-clause-line g c =
     let O = g.O.Opened in
     let ready = c.ready.ensures in
-    may_command_later O.coherent O.opening O.bytes O.script _ _ c.args.runs c.args.kept.now c.ready.new.self ready.number ready.mine ready.goes_on ready.other_begins (c.requires.commanded other)
+    let done = run_done c.args.runs in
+    let line = c.args.line.now in
+    subst (λ n. HasItDone O.script (seen_of c.ready.new.other) n done line) (sym ready.number)
+    (done_later O.script (seen_of c.args.seat.now) (seen_of c.ready.new.other) c.args.kept.now.dn done line ready.other_begins c.requires.line)
 
 pub returns-clause-comes_to : goal.returns-clause-comes_to
 returns-clause-comes_to g c =
@@ -49,6 +54,7 @@ returns-clause-comes_to g c =
       its = done.its
           ∙ (ap (λ n. own_after n runs c.args.node.now.stopped c.ready.new.self.mine) ready.number
           ∙ ap (λ l. own_after view.dn runs c.args.node.now.stopped l) ready.mine);
+      last = done.last ∙ ap (λ l. last_after runs c.args.node.now.stopped c.args.line.now l) ready.last;
       changed = c.carry_out.result;
       of_the_scm = subst (λ l. IsTracked {E = Unit {0}} view.dn runs l after.mine (Ok c.carry_out.result)) room.same.1
           (subst (λ n. IsTracked {E = Unit {0}} n runs c.ready-2.new.self.mine after.mine (Ok c.carry_out.result)) ready.number done.of_the_scm);

@@ -6,7 +6,8 @@ use Rattle.oz_turn.specs.Seat.{mine_of, seen_of}
 use Rattle.oz_node_events.specs.Commands.{by_node}
 use Rattle.oz_node_events.specs.Led.{HasItDone, HaveLed, done_kind, last_of}
 use Rattle.oz_node_events.specs.NodeSeat.{SeatView, events_of, is_bad}
-use Rattle.oz_node_events.proofs.Led.{done_later, led_fits}
+use Rattle.oz_node_events.specs.laws.Lines.{done_later}
+use Rattle.oz_node_events.proofs.Led.{led_fits}
 use Rattle.oz_node_events.proofs.Noted.{appended_begins, begins_through}
 use Rattle.oz_node_events.proofs.Own.{begins_as}
 use Rattle.oz_node_events.proofs.Seated.{done_more, kept_more, seen_behind}

@@ -3,3 +3,4 @@ pub mod Contents
 pub mod Disks
 pub mod Standing
 pub mod Told
+pub mod Wiped

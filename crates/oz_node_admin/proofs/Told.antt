@@ -3,6 +3,7 @@ use Rattle.std.proofs.Common.{◌≡◌, ℕ, Bool, true, false, ◌==◌, cond,
 use Rattle.std.specs.Prelude.{not, slice_set}
 use Rattle.oz_buffer.specs.Buffer.{AllFollow, Follows}
 use Rattle.oz_buffer.specs.laws.Following.{told-push}
+use Rattle.oz_command.specs.declared.command.AdminCommand.{AdminCommand}
 use Rattle.oz_core.specs.declared.event.Event.{Event}
 use Rattle.oz_core.specs.declared.opening.Opening.{Opening}
 use Rattle.oz_core.specs.Contents.{OpeningBytes}
@@ -19,14 +20,14 @@ use Rattle.oz_scm.specs.Scm.{State}
 use Rattle.oz_scm_events.specs.Granted.{by_scm}
 use Rattle.oz_scm_events.specs.Tracked.{IsTracked, up_event}
 use Rattle.oz_turn.specs.Told.{own_entries, BeginsWith}
-use Rattle.oz_node_admin.specs.Commands.{HasBeen, IsAsCommanded, MayCommand, has_run, run_command}
+use Rattle.oz_node_admin.specs.Commands.{HasBeen, IsAsCommanded, MayCommand, comes_of, run_command}
 
 pub begins_through : (a b c : List Event) → BeginsWith a b → BeginsWith b c → BeginsWith a c
 begins_through a b c first then = (then.0 ++ first.0, first.1 ∙ (ap (λ l. l ++ first.0) then.1 ∙ append_assoc c then.0 first.0))
 
 -- what the script leads to, as a line's command
 pub fits_as : (opening : Opening) (bytes : OpeningBytes) (script : Script) (story : List Event) (dn : ℕ) (runs : Bool)
-    → IsCommanded script story (run_command dn runs) (has_run dn runs) → EventFits opening bytes script story (run_event dn runs)
+    → IsCommanded script story (run_command dn runs) (comes_of (run_command dn runs)) → EventFits opening bytes script story (run_event dn runs)
 fits_as opening bytes script story dn true commanded = commanded
 fits_as opening bytes script story dn false commanded = commanded
 
@@ -68,10 +69,11 @@ module _ (Coherent : Type 0) (opening : Opening) (bytes : OpeningBytes) (script 
   All = AllFollow (Follows Coherent opening bytes script) []
 
   -- what is commanded still is where the seats have seen more
-  pub may_command_later : (seen more : List Event) (runs : Bool) (kept later : SeatView) → later.dn ≡ kept.dn → later.mine ≡ kept.mine → BeginsWith later.seen kept.seen
-      → BeginsWith more seen → MayCommand Coherent opening bytes script seen kept runs → MayCommand Coherent opening bytes script more later runs
-  may_command_later seen more runs kept later number mine begins others may = λ coherent story goes its all own.
-      subst (λ (n : ℕ). IsCommanded script story (run_command n runs) (has_run n runs)) (sym number)
+  pub may_command_later : (command : ℕ → AdminCommand) (seen more : List Event) (kept later : SeatView) → later.dn ≡ kept.dn → later.mine ≡ kept.mine
+      → BeginsWith later.seen kept.seen → BeginsWith more seen
+      → MayCommand Coherent opening bytes script seen kept (command kept.dn) → MayCommand Coherent opening bytes script more later (command later.dn)
+  may_command_later command seen more kept later number mine begins others may = λ coherent story goes its all own.
+      subst (λ (n : ℕ). IsCommanded script story (command n) (comes_of (command n))) (sym number)
       (may coherent story (begins_through story more seen goes others) (begins_through story later.seen kept.seen its begins) all
       (ap (λ (n : ℕ). events_of n story) (sym number) ∙ (own ∙ mine)))
 

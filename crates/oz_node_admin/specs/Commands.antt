@@ -1,4 +1,4 @@
--- What a line's command to stop or start a datanode comes to.
+-- What a line's command to a datanode is, and what one to stop or start it comes to.
 use Rattle.std.specs.Prelude.{◌≡◌, ℕ, Bool, true, false, List, [], ◌∷◌, ◌++◌, All, Result, Ok, Err, Some, if◌then◌else◌, not, slice_set}
 use Rattle.oz_buffer.specs.Buffer.{AllFollow, Follows}
 use Rattle.oz_command.specs.declared.command.AdminCommand.{AdminCommand}
@@ -8,7 +8,7 @@ use Rattle.oz_core.specs.declared.event.EventKind.{EventKind}
 use Rattle.oz_core.specs.declared.event.Node.TheVariants.{Datanode}
 use Rattle.oz_core.specs.declared.opening.Opening.{Opening}
 use Rattle.oz_core.specs.Contents.{OpeningBytes}
-use Rattle.oz_core.specs.Due.{IsAway, IsBack}
+use Rattle.oz_core.specs.Due.{IsAway, IsBack, wipes}
 use Rattle.oz_core.specs.Fits.{IsCommanded, starts, stops}
 use Rattle.oz_core.specs.Manager.{halt_of}
 use Rattle.oz_container.specs.declared.state.State.TheVariants.{Open}
@@ -24,14 +24,17 @@ use Rattle.oz_turn.specs.Told.{BeginsWith}
 use Rattle.oz_node_admin.specs.declared.fault.AdminFault.{AdminFault}
 use Rattle.oz_node_admin.specs.declared.fault.AdminFault.TheVariants.{Halted, OutOfMemory}
 
--- the command to have a datanode run, or not, and the events that it leads to
+-- the command to have a datanode run, or not
 abbrev pub run_command : ℕ → Bool → AdminCommand
 run_command dn true = admin.Start dn
 run_command dn false = admin.Stop dn
 
-abbrev pub has_run : ℕ → Bool → EventKind → Bool
-has_run dn true = starts dn
-has_run dn false = stops dn
+-- the events of a datanode that its command leads to
+abbrev pub comes_of : AdminCommand → EventKind → Bool
+comes_of (admin.Stop dn) = stops dn
+comes_of (admin.Start dn) = starts dn
+comes_of (admin.Wipe dn) = wipes dn
+comes_of _ = λ kind. false
 
 -- where a datanode neither runs nor is up, or where it does both
 abbrev pub IsAsCommanded : ℕ → Bool → List Event → Type 0
@@ -40,13 +43,13 @@ IsAsCommanded dn false = IsAway dn
 
 module _ (Coherent : Type 0) (opening : Opening) (bytes : OpeningBytes) (script : Script) where
   -- In each story that goes on from what a seat and the datanode's have seen, without a further event of the datanode's, a
-  -- line has started that commands it, and led to no event of the datanode yet.
-  abbrev pub MayCommand : List Event → SeatView → Bool → Type 0
-  MayCommand seen kept runs = Coherent → (story : List Event) → BeginsWith story seen → BeginsWith story kept.seen
+  -- line has started that has this command, and led to no event of the datanode yet.
+  abbrev pub MayCommand : List Event → SeatView → AdminCommand → Type 0
+  MayCommand seen kept command = Coherent → (story : List Event) → BeginsWith story seen → BeginsWith story kept.seen
       → AllFollow (Follows Coherent opening bytes script) [] story → events_of kept.dn story ≡ kept.mine
-      → IsCommanded script story (run_command kept.dn runs) (has_run kept.dn runs)
+      → IsCommanded script story command (comes_of command)
 
--- a datanode that starts has no state of a container to learn: each that was made is open
+-- a datanode that starts, or was wiped, has no state of a container to learn: each that was made is open
 abbrev pub AllAreOpen : List Container → Type 0
 AllAreOpen containers = All (λ (container : Container). container.state ≡ Open) containers
 
@@ -72,6 +75,13 @@ module _ {D S : Type 0} (before after : CellView D SeatView) (scm_before scm_aft
     pub scm : scm_after.scm ≡ scm_before.scm
     pub of_the_scm : scm_after.mine ≡ scm_before.mine
 
+  -- One of its disks had failed, and who commanded it has seen the Halt.
+  pub record IsHalted (faults : D → ℕ) (seen_after : List Event) (count : ℕ) : Type 0 where
+    pub halted : is_halted before.node ≡ true
+    pub counted : count ≡ count_of faults before.node
+    pub seen : halt_of (Datanode before.kept.dn) seen_after ≡ Some count
+    pub untouched : IsUntouched
+
   module _ (faults : D → ℕ) (Coherent : Type 0) (runs : Bool) (seen_before seen_after : List Event) where
     -- It is as commanded, the seats have told so, and who commanded it has seen that.
     pub record IsDone : Type 0 where
@@ -84,15 +94,8 @@ module _ {D S : Type 0} (before after : CellView D SeatView) (scm_before scm_aft
       pub scm : scm_after.scm ≡ record scm_before.scm { up = slice_set scm_before.scm.up before.kept.dn runs }
       pub has_been : HasBeen Coherent before.kept.dn runs seen_before seen_after
 
-    -- One of its disks had failed, and who commanded it has seen the Halt.
-    pub record IsHalted (count : ℕ) : Type 0 where
-      pub halted : is_halted before.node ≡ true
-      pub counted : count ≡ count_of faults before.node
-      pub seen : halt_of (Datanode before.kept.dn) seen_after ≡ Some count
-      pub untouched : IsUntouched
-
     -- what such a command comes to, by its answer
     abbrev pub ComesTo : Result (Unit {0}) AdminFault → Type 0
     ComesTo (Ok done) = IsDone
-    ComesTo (Err (Halted count)) = IsHalted count
+    ComesTo (Err (Halted count)) = IsHalted faults seen_after count
     ComesTo (Err OutOfMemory) = (is_halted before.node ≡ false) × IsUntouched

@@ -3,7 +3,7 @@
 ghost use Rattle.std.specs.Prelude.{◌≡◌, ◌+◌, ◌≤◌, None, not, true, false};
 ghost use Rattle.oz_buffer.specs.Buffer.{IsNote};
 ghost use Rattle.oz_datanode.specs.Datanode.{is_halted};
-ghost use Rattle.oz_node_admin.specs.Commands.{MayCommand, own_after};
+ghost use Rattle.oz_node_admin.specs.Commands.{MayCommand, own_after, run_command};
 ghost use Rattle.oz_node_events.specs.Commands.{run_event};
 ghost use Rattle.oz_node_events.specs.NodeSeat.{IsKept, StandsFor, is_bad};
 ghost use Rattle.oz_turn.specs.Seat.{IsSameSeat, mine_of, room_of, seen_of, taken_of, turn_of};
@@ -35,7 +35,7 @@ pub(crate) fn see_to<D: Disk, O: Opened, R: Ring, W: Wait>(
     requires kept { IsKept O.coherent O.opening O.bytes O.script kept.old }
     requires stood { StandsFor D.told D.clock D.image D.faults O.coherent O.opening O.bytes O.script O.faults kept.old node.old }
     requires commanded { node.old.stopped ≡ runs
-        → MayCommand O.coherent O.opening O.bytes O.script (seen_of seat.old) kept.old runs }
+        → MayCommand O.coherent O.opening O.bytes O.script (seen_of seat.old) kept.old (run_command kept.old.dn runs) }
     ensures node { node.new ≡ record node.old { stopped = not runs } }
     ensures number { kept.new.dn ≡ kept.old.dn }
     ensures its { kept.new.mine ≡ own_after kept.old.dn runs node.old.stopped kept.old.mine }
@@ -74,7 +74,8 @@ fn change<D: Disk, O: Opened, R: Ring, W: Wait>(
     requires other { node.old.stopped ≡ runs }
     requires kept { IsKept O.coherent O.opening O.bytes O.script kept.old }
     requires stood { StandsFor D.told D.clock D.image D.faults O.coherent O.opening O.bytes O.script O.faults kept.old node.old }
-    requires commanded { MayCommand O.coherent O.opening O.bytes O.script (seen_of seat.old) kept.old runs }
+    requires commanded { MayCommand O.coherent O.opening O.bytes O.script (seen_of seat.old) kept.old
+        (run_command kept.old.dn runs) }
     ensures node { node.new ≡ record node.old { stopped = not runs } }
     ensures number { kept.new.dn ≡ kept.old.dn }
     ensures its { kept.new.mine ≡ own_after kept.old.dn runs node.old.stopped kept.old.mine }

@@ -2,7 +2,7 @@
 
 ghost use Rattle.std.specs.Prelude.{◌≡◌, ◌+◌, ◌≤◌, ◌<◌, None, Ok, not, false, slice_set};
 ghost use Rattle.oz_datanode.specs.Datanode.{is_halted};
-ghost use Rattle.oz_node_admin.specs.Commands.{ComesTo, HasBeen, MayCommand, own_after};
+ghost use Rattle.oz_node_admin.specs.Commands.{ComesTo, HasBeen, MayCommand, own_after, run_command};
 ghost use Rattle.oz_node_events.specs.NodeSeat.{IsKept, StandsFor};
 ghost use Rattle.oz_scm_events.specs.Tracked.{IsTracked};
 ghost use Rattle.oz_turn.specs.Seat.{IsReady, IsSameSeat, mine_of, number_of, room_of, seen_of, taken_of, turn_of};
@@ -37,7 +37,7 @@ pub(crate) fn command<D: Disk, S: Disk, O: Opened, R: Ring, W: Wait>(
     requires ready { IsReady R.turn (number_of seat.old) seat.old }
     requires stood { StandsFor D.told D.clock D.image D.faults O.coherent O.opening O.bytes O.script O.faults kept.old node.old }
     requires commanded { node.old.stopped ≡ runs
-        → MayCommand O.coherent O.opening O.bytes O.script (seen_of seat.old) kept.old runs }
+        → MayCommand O.coherent O.opening O.bytes O.script (seen_of seat.old) kept.old (run_command kept.old.dn runs) }
     ensures comes_to { ComesTo (record { node = node.old; kept = kept.old }) (record { node = node.new; kept = kept.new })
         scm.old scm.new D.faults O.coherent runs (seen_of seat.old) (seen_of seat.new) result }
     ensures shelf { node.new.shelf ≡ node.old.shelf }
@@ -83,7 +83,7 @@ fn carry_out<D: Disk, S: Disk, O: Opened, R: Ring, W: Wait>(
     requires kept { IsKept O.coherent O.opening O.bytes O.script kept.old }
     requires stood { StandsFor D.told D.clock D.image D.faults O.coherent O.opening O.bytes O.script O.faults kept.old node.old }
     requires commanded { node.old.stopped ≡ runs
-        → MayCommand O.coherent O.opening O.bytes O.script (seen_of seat.old) kept.old runs }
+        → MayCommand O.coherent O.opening O.bytes O.script (seen_of seat.old) kept.old (run_command kept.old.dn runs) }
     ensures node { node.new ≡ record node.old { stopped = not runs } }
     ensures number { kept.new.dn ≡ kept.old.dn }
     ensures its { kept.new.mine ≡ own_after kept.old.dn runs node.old.stopped kept.old.mine }

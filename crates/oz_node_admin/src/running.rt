@@ -1,6 +1,7 @@
 //! Stopping and starting a datanode.
 
 ghost use Rattle.std.specs.Prelude.{◌≡◌, true, false};
+ghost use Rattle.oz_command.specs.declared.command.AdminCommand.TheVariants as admin;
 ghost use Rattle.oz_node_admin.specs.Commands.{AllAreOpen, ComesTo, MayCommand};
 ghost use Rattle.oz_node_events.specs.NodeSeat.{StandsFor};
 ghost use Rattle.oz_turn.specs.Seat.{IsReady, mine_of, number_of, room_of, seen_of};
@@ -37,7 +38,8 @@ pub fn stop_at<D: Disk, S: Disk, O: Opened, R: Ring, W: Wait>(
     requires turn { turn_id turn.now ≡ R.turn }
     requires ready { IsReady R.turn (number_of seat.old) seat.old }
     requires commanded { cell.old.node.stopped ≡ false
-        → MayCommand O.coherent O.opening O.bytes O.script (seen_of seat.old) cell.old.kept false }
+        → MayCommand O.coherent O.opening O.bytes O.script (seen_of seat.old) cell.old.kept
+        (admin.Stop cell.old.kept.dn) }
     ensures comes_to { ComesTo cell.old cell.new scm.old scm.new D.faults O.coherent false (seen_of seat.old)
         (seen_of seat.new) result }
     ensures goes_on { BeginsWith scm.new.seen scm.old.seen × BeginsWith cell.new.kept.seen cell.old.kept.seen }
@@ -76,7 +78,8 @@ pub fn start_at<D: Disk, S: Disk, O: Opened, R: Ring, W: Wait>(
     requires turn { turn_id turn.now ≡ R.turn }
     requires ready { IsReady R.turn (number_of seat.old) seat.old }
     requires commanded { cell.old.node.stopped ≡ true
-        → MayCommand O.coherent O.opening O.bytes O.script (seen_of seat.old) cell.old.kept true }
+        → MayCommand O.coherent O.opening O.bytes O.script (seen_of seat.old) cell.old.kept
+        (admin.Start cell.old.kept.dn) }
     requires opened { AllAreOpen scm.old.scm.made.containers }
     ensures comes_to { ComesTo cell.old cell.new scm.old scm.new D.faults O.coherent true (seen_of seat.old)
         (seen_of seat.new) result }

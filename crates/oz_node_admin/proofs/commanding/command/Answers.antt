@@ -2,7 +2,7 @@ use Rattle.std.specs.Prelude.{Ok}
 use Rattle.std.proofs.Common.{sym, ap, ◌∙◌, subst}
 use Rattle.oz_scm_events.specs.Tracked.{IsTracked}
 use Rattle.oz_turn.specs.Seat.{seen_of}
-use Rattle.oz_node_admin.specs.Commands.{HasBeen, own_after}
+use Rattle.oz_node_admin.specs.Commands.{HasBeen, own_after, run_command}
 use Rattle.oz_node_admin.proofs.Told.{has_been_since, may_command_later, scm_as}
 use Rattle.oz_node_admin.proofs.commanding.command.Goals as goal
 
@@ -30,7 +30,7 @@ pub carry_out-requires-clause-commanded : goal.carry_out-requires-clause-command
 carry_out-requires-clause-commanded g c other =
     let O = g.O.Opened in
     let ready = c.ready.ensures in
-    may_command_later O.coherent O.opening O.bytes O.script _ _ c.args.runs c.args.kept.now c.ready.new.self ready.number ready.mine ready.goes_on ready.other_begins (c.requires.commanded other)
+    may_command_later O.coherent O.opening O.bytes O.script (λ n. run_command n c.args.runs) _ _ c.args.kept.now c.ready.new.self ready.number ready.mine ready.goes_on ready.other_begins (c.requires.commanded other)
 
 pub returns-clause-comes_to : goal.returns-clause-comes_to
 returns-clause-comes_to g c =

@@ -1,1 +1,3 @@
+pub mod Emptying
+pub mod Since
 pub mod Told

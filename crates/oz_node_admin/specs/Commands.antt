@@ -1,12 +1,10 @@
--- What a line's command to stop or start a datanode comes to.
-use Rattle.std.specs.Prelude.{◌≡◌, ℕ, Bool, true, false, List, [], ◌∷◌, ◌++◌, All, Result, Ok, Err, Some, if◌then◌else◌, not, slice_set}
+-- What a line's command to a datanode comes to, and what one to stop or start it does.
+use Rattle.std.specs.Prelude.{◌≡◌, ℕ, Bool, true, false, List, [], ◌∷◌, ◌++◌, Result, Ok, Err, Some, if◌then◌else◌, not, slice_set}
 use Rattle.oz_core.specs.declared.event.Event.{Event}
 use Rattle.oz_core.specs.declared.event.Node.TheVariants.{Datanode}
 use Rattle.oz_core.specs.Due.{IsAway, IsBack}
 use Rattle.oz_core.specs.Manager.{halt_of}
-use Rattle.oz_container.specs.declared.state.State.TheVariants.{Open}
 use Rattle.oz_datanode.specs.Datanode.{count_of, is_halted}
-use Rattle.oz_grants.specs.declared.container.Container.{Container}
 use Rattle.oz_lines.specs.declared.script.Line.{Line}
 use Rattle.oz_lines.specs.declared.script.Script.{Script}
 use Rattle.oz_node_events.specs.declared.command.NodeCommand.{NodeCommand}
@@ -30,10 +28,6 @@ run_done false = command.Stop
 abbrev pub IsAsCommanded : ℕ → Bool → List Event → Type 0
 IsAsCommanded dn true = IsBack dn
 IsAsCommanded dn false = IsAway dn
-
--- a datanode that starts has no state of a container to learn: each that was made is open
-abbrev pub AllAreOpen : List Container → Type 0
-AllAreOpen containers = All (λ (container : Container). container.state ≡ Open) containers
 
 -- whether something is to be done, by whether a line had stopped the datanode
 abbrev pub is_wanted : Bool → Bool → Bool
@@ -68,6 +62,19 @@ module _ {D S : Type 0} (before after : CellView D SeatView) (scm_before scm_aft
     pub scm : scm_after.scm ≡ scm_before.scm
     pub of_the_scm : scm_after.mine ≡ scm_before.mine
 
+  -- One of its disks had failed, and who commanded it has seen the Halt.
+  pub record IsHalted (faults : D → ℕ) (seen_after : List Event) (count : ℕ) : Type 0 where
+    pub halted : is_halted before.node ≡ true
+    pub counted : count ≡ count_of faults before.node
+    pub seen : halt_of (Datanode before.kept.dn) seen_after ≡ Some count
+    pub untouched : IsUntouched
+
+  -- This line, or a later one of its client, had something done to it before.
+  pub record IsRepeated (script : Script) (line : Line) : Type 0 where
+    pub unhalted : is_halted before.node ≡ false
+    pub led : HasLed script before.kept.dn before.kept.seen before.kept.mine line.client line.number
+    pub untouched : IsUntouched
+
   module _ (faults : D → ℕ) (Coherent : Type 0) (script : Script) (runs : Bool) (line : Line)
       (seen_before seen_after : List Event) where
     -- It is as commanded, the seats have told so, and who commanded it has seen that.
@@ -82,23 +89,9 @@ module _ {D S : Type 0} (before after : CellView D SeatView) (scm_before scm_aft
       pub scm : scm_after.scm ≡ record scm_before.scm { up = slice_set scm_before.scm.up before.kept.dn runs }
       pub has_been : HasBeen Coherent before.kept.dn runs seen_before seen_after
 
-    -- One of its disks had failed, and who commanded it has seen the Halt.
-    pub record IsHalted (count : ℕ) : Type 0 where
-      pub halted : is_halted before.node ≡ true
-      pub counted : count ≡ count_of faults before.node
-      pub seen : halt_of (Datanode before.kept.dn) seen_after ≡ Some count
-      pub untouched : IsUntouched
-
-    -- It isn't as commanded, and this line, or a later one of its client, had something done to it before.
-    pub record IsRepeated : Type 0 where
-      pub unhalted : is_halted before.node ≡ false
-      pub wanted : is_wanted runs before.node.stopped ≡ true
-      pub led : HasLed script before.kept.dn before.kept.seen before.kept.mine line.client line.number
-      pub untouched : IsUntouched
-
     -- what such a command comes to, by its answer
     abbrev pub ComesTo : Result (Unit {0}) AdminFault → Type 0
     ComesTo (Ok done) = IsDone
-    ComesTo (Err (Halted count)) = IsHalted count
-    ComesTo (Err Repeated) = IsRepeated
+    ComesTo (Err (Halted count)) = IsHalted faults seen_after count
+    ComesTo (Err Repeated) = (is_wanted runs before.node.stopped ≡ true) × IsRepeated script line
     ComesTo (Err OutOfMemory) = (is_halted before.node ≡ false) × IsUntouched

@@ -1,11 +1,15 @@
-//! A line stops or starts a datanode: under the lock of the storage container manager and then the datanode's, what happens
-//! and what is told of it.
+//! A line stops, starts or wipes a datanode: under the lock of the storage container manager and then the datanode's,
+//! what happens and what is told of it.
 #![tactic(auto)]
 
 mod changing;
 mod commanding;
 mod fault;
+mod laws;
 mod running;
+mod wiped;
 
 pub use fault::AdminFault;
+pub use laws::a_wipe_is_since_its_lines_start;
 pub use running::{start_at, stop_at};
+pub use wiped::wipe_at;

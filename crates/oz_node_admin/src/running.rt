@@ -2,7 +2,7 @@
 
 ghost use Rattle.std.specs.Prelude.{◌≡◌, ◌≤◌, true, false};
 ghost use Rattle.oz_lines.specs.declared.script.TheConstants.{MOST_CLIENTS as MOST};
-ghost use Rattle.oz_node_admin.specs.Commands.{AllAreOpen, ComesTo};
+ghost use Rattle.oz_node_admin.specs.Commands.{ComesTo};
 ghost use Rattle.oz_node_events.specs.declared.command.NodeCommand.TheVariants.{Start, Stop};
 ghost use Rattle.oz_node_events.specs.Led.{HasItDone};
 ghost use Rattle.oz_node_events.specs.NodeSeat.{StandsFor};
@@ -73,7 +73,7 @@ pub fn stop_at<D: Disk, S: Disk, O: Opened, R: Ring, W: Wait>(
 /// Starts the datanode of a cell for a line, with what it held. As `stop_at`, with a Start and an Up: the worker's seat has seen
 /// then that it runs and is up.
 ///
-/// A datanode that starts learns which containers aren't open any more. In a run of which no container was closed there are none.
+/// No container is closed yet, so a datanode that starts has none to learn of that isn't open.
 pub fn start_at<D: Disk, S: Disk, O: Opened, R: Ring, W: Wait>(
     rt: &W,
     alloc: Global,
@@ -88,7 +88,6 @@ pub fn start_at<D: Disk, S: Disk, O: Opened, R: Ring, W: Wait>(
     requires client { line.now.client ≤ MOST }
     requires some { 1 ≤ line.now.number }
     requires line { HasItDone O.script (seen_of seat.old) cell.old.kept.dn Start line.now }
-    requires opened { AllAreOpen scm.old.scm.made.containers }
     ensures comes_to { ComesTo cell.old cell.new scm.old scm.new D.faults O.coherent O.script true line.now (seen_of seat.old)
         (seen_of seat.new) result }
     ensures number { cell.new.kept.dn ≡ cell.old.kept.dn }

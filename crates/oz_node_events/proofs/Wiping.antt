@@ -69,7 +69,7 @@ module _ (Coherent : Type 0) (opening : Opening) (bytes : OpeningBytes) (script 
 
   module _ (numbered : Coherent → NumbersAreOld opening) (dn room : ℕ) (last : List ℕ) (before mine : List Event) (all : AllFollow Follow [] before) (old new : State D)
       (stood : Stands (record { dn = dn; seen = before; mine = mine; room = room; last = last }) old) where
-    wipe_step : Follow before (by_node dn (Wipe dn)) → IsWipedSo told clock image faults old new
+    wipe_step : Follow before (by_node dn (Wipe dn)) → IsWipedSo told clock image faults Coherent old new
         → Stands (record { dn = dn; seen = before ++ by_node dn (Wipe dn) ∷ []; mine = mine ++ by_node dn (Wipe dn) ∷ []; room = room; last = last }) new
     wipe_step follows wiped =
         let event = by_node dn (Wipe dn) in
@@ -93,7 +93,7 @@ module _ (Coherent : Type 0) (opening : Opening) (bytes : OpeningBytes) (script 
               told-push (closed_after dn container) (was_closed opening dn container) before event
               ∙ (ap (λ (t : Bool). newer (cond t (Some false) None) (is_closed opening before dn container)) its
               ∙ sym (ap (λ (n : Held). not (is_open (n.states container))) wiped.empty));
-          journal = λ coherent up. wiped.journal;
+          journal = λ coherent up. wiped.journal coherent;
           contents = λ coherent up. record {
             contents = λ block. intact [];
             holds = wiped.pairs (λ block. intact []);
@@ -123,7 +123,7 @@ module _ (Coherent : Type 0) (opening : Opening) (bytes : OpeningBytes) (script 
         }
 
   pub wipe_stands : (view later : SeatView) (old new : State D) (other : List Event) → IsKept Coherent opening bytes script view → IsKept Coherent opening bytes script later
-      → Stands view old → IsWipedSo told clock image faults old new → later.dn ≡ view.dn → later.mine ≡ view.mine ++ by_node view.dn (Wipe view.dn) ∷ []
+      → Stands view old → IsWipedSo told clock image faults Coherent old new → later.dn ≡ view.dn → later.mine ≡ view.mine ++ by_node view.dn (Wipe view.dn) ∷ []
       → IsAppended (by_node view.dn (Wipe view.dn)) view.seen other later.seen → Stands later new
   wipe_stands view later old new other kept kept_later stood wiped number mine told_so =
       event_stands Coherent opening bytes script loaded told clock image faults (Wipe view.dn) view later old new other kept kept_later stood number mine told_so

@@ -20,16 +20,16 @@ run_event dn false = Stop dn
 abbrev pub by_node : ℕ → EventKind → Event
 by_node dn kind = record { seat = datanode_seat dn; kind = kind }
 
--- A datanode whose disks haven't failed holds nothing any more, as its journal tells, also once it was stopped, and no replica
--- of it is closed. Whether a line stopped it is as it was.
+-- A datanode whose disks haven't failed holds nothing any more, also once it was stopped, and no replica of it is closed. Where
+-- the opening is coherent its journal tells so. Whether a line stopped it is as it was.
 pub record IsWipedSo {D : Type 0} (told : D → Option (List ℕ)) (clock : D → ℕ) (image : D → Images) (faults : D → ℕ)
-    (old new : State D) : Type 0 where
+    (Coherent : Type 0) (old new : State D) : Type 0 where
   pub ran : is_halted old ≡ false
   pub unhalted : is_halted new ≡ false
   pub id : new.id ≡ old.id
   pub line : new.stopped ≡ old.stopped
   pub empty : node_in new ≡ empty_node
-  pub journal : JournalStands told new
+  pub journal : Coherent → JournalStands told new
   pub pairs : (contents : Block → Content) → NodeHolds told clock image faults contents new
   pub goes_on : DisksGoOn told faults old new
 

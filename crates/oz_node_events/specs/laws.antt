@@ -4,3 +4,4 @@ pub mod Disks
 pub mod Standing
 pub mod Told
 pub mod Lines
+pub mod Wiped

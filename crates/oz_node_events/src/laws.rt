@@ -187,7 +187,7 @@ pub fn a_line_wipes_it<D: Disk, O: Opened>()
     ensures stands { (view after : SeatView) (old new : AnyNode D) (other : List AnyEvent) →
         IsKept O.coherent O.opening O.bytes O.script view → IsKept O.coherent O.opening O.bytes O.script after →
         StandsFor D.told D.clock D.image D.faults O.coherent O.opening O.bytes O.script O.faults view old →
-        IsWipedSo D.told D.clock D.image D.faults old new → after.dn ≡ view.dn →
+        IsWipedSo D.told D.clock D.image D.faults O.coherent old new → after.dn ≡ view.dn →
         after.mine ≡ view.mine ++ by_node view.dn (Wipe view.dn) ∷ [] →
         IsAppended (by_node view.dn (Wipe view.dn)) view.seen other after.seen →
         StandsFor D.told D.clock D.image D.faults O.coherent O.opening O.bytes O.script O.faults after new }

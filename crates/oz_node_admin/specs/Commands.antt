@@ -69,10 +69,10 @@ module _ {D S : Type 0} (before after : CellView D SeatView) (scm_before scm_aft
     pub seen : halt_of (Datanode before.kept.dn) seen_after ≡ Some count
     pub untouched : IsUntouched
 
-  -- This line, or a later one of its client, had something done to it before.
-  pub record IsRepeated (script : Script) (line : Line) : Type 0 where
+  -- This line, or a later one of its client, had something done to it before, where the opening is coherent.
+  pub record IsRepeated (Coherent : Type 0) (script : Script) (line : Line) : Type 0 where
     pub unhalted : is_halted before.node ≡ false
-    pub led : HasLed script before.kept.dn before.kept.seen before.kept.mine line.client line.number
+    pub led : Coherent → HasLed script before.kept.dn before.kept.seen before.kept.mine line.client line.number
     pub untouched : IsUntouched
 
   module _ (faults : D → ℕ) (Coherent : Type 0) (script : Script) (runs : Bool) (line : Line)
@@ -93,5 +93,5 @@ module _ {D S : Type 0} (before after : CellView D SeatView) (scm_before scm_aft
     abbrev pub ComesTo : Result (Unit {0}) AdminFault → Type 0
     ComesTo (Ok done) = IsDone
     ComesTo (Err (Halted count)) = IsHalted faults seen_after count
-    ComesTo (Err Repeated) = (is_wanted runs before.node.stopped ≡ true) × IsRepeated script line
+    ComesTo (Err Repeated) = (is_wanted runs before.node.stopped ≡ true) × IsRepeated Coherent script line
     ComesTo (Err OutOfMemory) = (is_halted before.node ≡ false) × IsUntouched

@@ -84,6 +84,6 @@ module _ {D S : Type 0} (before after : CellView D SeatView) (scm_before scm_aft
   abbrev pub WipeComesTo : Result (Unit {0}) AdminFault → Type 0
   WipeComesTo (Ok done) = IsWiped
   WipeComesTo (Err (Halted count)) = IsHalted before after scm_before scm_after faults seen_after count ⊎ Halts count
-  WipeComesTo (Err Repeated) = IsRepeated before after scm_before scm_after script line
+  WipeComesTo (Err Repeated) = IsRepeated before after scm_before scm_after Coherent script line
   WipeComesTo (Err OutOfMemory) =
       (is_halted before.node ≡ false) × IsUntouched before after scm_before scm_after

@@ -39,7 +39,7 @@ pub(crate) fn see_to<D: Disk, O: Opened, R: Ring, W: Wait>(
     requires stood { StandsFor D.told D.clock D.image D.faults O.coherent O.opening O.bytes O.script O.faults kept.old node.old }
     requires client { line.now.client ≤ MOST }
     requires behind { node.old.stopped ≡ runs → slice_index kept.old.last line.now.client < line.now.number }
-    requires line { HasItDone O.script (seen_of seat.old) kept.old.dn (run_done runs) line.now }
+    requires line { O.coherent → HasItDone O.script (seen_of seat.old) kept.old.dn (run_done runs) line.now }
     ensures node { node.new ≡ record node.old { stopped = not runs } }
     ensures number { kept.new.dn ≡ kept.old.dn }
     ensures its { kept.new.mine ≡ own_after kept.old.dn runs node.old.stopped kept.old.mine }
@@ -82,7 +82,7 @@ fn change<D: Disk, O: Opened, R: Ring, W: Wait>(
     requires stood { StandsFor D.told D.clock D.image D.faults O.coherent O.opening O.bytes O.script O.faults kept.old node.old }
     requires client { line.now.client ≤ MOST }
     requires behind { slice_index kept.old.last line.now.client < line.now.number }
-    requires line { HasItDone O.script (seen_of seat.old) kept.old.dn (run_done runs) line.now }
+    requires line { O.coherent → HasItDone O.script (seen_of seat.old) kept.old.dn (run_done runs) line.now }
     ensures node { node.new ≡ record node.old { stopped = not runs } }
     ensures number { kept.new.dn ≡ kept.old.dn }
     ensures its { kept.new.mine ≡ own_after kept.old.dn runs node.old.stopped kept.old.mine }

@@ -42,7 +42,7 @@ pub(crate) fn command<D: Disk, S: Disk, O: Opened, R: Ring, W: Wait>(
     requires stood { StandsFor D.told D.clock D.image D.faults O.coherent O.opening O.bytes O.script O.faults kept.old node.old }
     requires client { line.now.client ≤ MOST }
     requires some { 1 ≤ line.now.number }
-    requires line { HasItDone O.script (seen_of seat.old) kept.old.dn (run_done runs) line.now }
+    requires line { O.coherent → HasItDone O.script (seen_of seat.old) kept.old.dn (run_done runs) line.now }
     ensures comes_to { ComesTo (record { node = node.old; kept = kept.old }) (record { node = node.new; kept = kept.new })
         scm.old scm.new D.faults O.coherent O.script runs line.now (seen_of seat.old) (seen_of seat.new) result }
     ensures number { kept.new.dn ≡ kept.old.dn }
@@ -95,7 +95,7 @@ fn carry_out<D: Disk, S: Disk, O: Opened, R: Ring, W: Wait>(
     requires stood { StandsFor D.told D.clock D.image D.faults O.coherent O.opening O.bytes O.script O.faults kept.old node.old }
     requires client { line.now.client ≤ MOST }
     requires behind { node.old.stopped ≡ runs → slice_index kept.old.last line.now.client < line.now.number }
-    requires line { HasItDone O.script (seen_of seat.old) kept.old.dn (run_done runs) line.now }
+    requires line { O.coherent → HasItDone O.script (seen_of seat.old) kept.old.dn (run_done runs) line.now }
     ensures node { node.new ≡ record node.old { stopped = not runs } }
     ensures number { kept.new.dn ≡ kept.old.dn }
     ensures its { kept.new.mine ≡ own_after kept.old.dn runs node.old.stopped kept.old.mine }

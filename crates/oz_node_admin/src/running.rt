@@ -44,7 +44,7 @@ pub fn stop_at<D: Disk, S: Disk, O: Opened, R: Ring, W: Wait>(
     requires ready { IsReady R.turn (number_of seat.old) seat.old }
     requires client { line.now.client ≤ MOST }
     requires some { 1 ≤ line.now.number }
-    requires line { HasItDone O.script (seen_of seat.old) cell.old.kept.dn Stop line.now }
+    requires line { O.coherent → HasItDone O.script (seen_of seat.old) cell.old.kept.dn Stop line.now }
     ensures comes_to { ComesTo cell.old cell.new scm.old scm.new D.faults O.coherent O.script false line.now (seen_of seat.old)
         (seen_of seat.new) result }
     ensures number { cell.new.kept.dn ≡ cell.old.kept.dn }
@@ -87,7 +87,7 @@ pub fn start_at<D: Disk, S: Disk, O: Opened, R: Ring, W: Wait>(
     requires ready { IsReady R.turn (number_of seat.old) seat.old }
     requires client { line.now.client ≤ MOST }
     requires some { 1 ≤ line.now.number }
-    requires line { HasItDone O.script (seen_of seat.old) cell.old.kept.dn Start line.now }
+    requires line { O.coherent → HasItDone O.script (seen_of seat.old) cell.old.kept.dn Start line.now }
     ensures comes_to { ComesTo cell.old cell.new scm.old scm.new D.faults O.coherent O.script true line.now (seen_of seat.old)
         (seen_of seat.new) result }
     ensures number { cell.new.kept.dn ≡ cell.old.kept.dn }

@@ -54,7 +54,7 @@ pub fn wipe_at<D: Disk, S: Disk, O: Opened, R: Ring, W: Wait>(
     requires ready { IsReady R.turn (number_of seat.old) seat.old }
     requires client { line.now.client ≤ MOST }
     requires some { 1 ≤ line.now.number }
-    requires line { HasItDone O.script (seen_of seat.old) cell.old.kept.dn done.Wipe line.now }
+    requires line { O.coherent → HasItDone O.script (seen_of seat.old) cell.old.kept.dn done.Wipe line.now }
     ensures number { cell.new.kept.dn ≡ cell.old.kept.dn }
     ensures comes_to { WipeComesTo cell.old cell.new scm.old scm.new D.told D.clock D.image D.faults O.coherent
         O.script line.now (seen_of seat.old) (seen_of seat.new) result }
@@ -99,7 +99,7 @@ fn wipe<D: Disk, S: Disk, O: Opened, R: Ring, W: Wait>(
         kept.old node.old }
     requires client { line.now.client ≤ MOST }
     requires some { 1 ≤ line.now.number }
-    requires line { HasItDone O.script (seen_of seat.old) kept.old.dn done.Wipe line.now }
+    requires line { O.coherent → HasItDone O.script (seen_of seat.old) kept.old.dn done.Wipe line.now }
     ensures number { kept.new.dn ≡ kept.old.dn }
     ensures comes_to { WipeComesTo (record { node = node.old; kept = kept.old })
         (record { node = node.new; kept = kept.new }) scm.old scm.new D.told D.clock D.image D.faults O.coherent
@@ -158,7 +158,7 @@ fn carry_out<D: Disk, S: Disk, O: Opened, R: Ring, W: Wait>(
         kept.old node.old }
     requires client { line.now.client ≤ MOST }
     requires behind { slice_index kept.old.last line.now.client < line.now.number }
-    requires line { HasItDone O.script (seen_of seat.old) kept.old.dn done.Wipe line.now }
+    requires line { O.coherent → HasItDone O.script (seen_of seat.old) kept.old.dn done.Wipe line.now }
     ensures empties { Empties D.told D.clock D.image D.faults O.coherent node.old node.new result }
     ensures idle { IsIdle node.new }
     ensures seats { HaveTold kept.old kept.new scm.old scm.new (wipe_event kept.old.dn result) (runs_now node.new) }
@@ -206,7 +206,7 @@ fn see_to<D: Disk, O: Opened, R: Ring, W: Wait>(
         kept.old node.old }
     requires client { line.now.client ≤ MOST }
     requires behind { slice_index kept.old.last line.now.client < line.now.number }
-    requires line { HasItDone O.script (seen_of seat.old) kept.old.dn done.Wipe line.now }
+    requires line { O.coherent → HasItDone O.script (seen_of seat.old) kept.old.dn done.Wipe line.now }
     ensures empties { Empties D.told D.clock D.image D.faults O.coherent node.old node.new result }
     ensures idle { IsIdle node.new }
     ensures number { kept.new.dn ≡ kept.old.dn }

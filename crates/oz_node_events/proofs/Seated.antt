@@ -26,7 +26,7 @@ seen_behind event seen other after told_so =
     (begins_through (told_so.before ++ event ∷ []) told_so.before seen (event ∷ [], refl) told_so.begins)
 
 module _ (Coherent : Type 0) (opening : Opening) (bytes : OpeningBytes) (script : Script) (dn room : ℕ) (last : List ℕ) (seen mine : List Event)
-    (kept : IsKept Coherent opening bytes script (record { dn = dn; seen = seen; mine = mine; room = room; last = last })) (led : HaveLed script dn last seen mine)
+    (kept : IsKept Coherent opening bytes script (record { dn = dn; seen = seen; mine = mine; room = room; last = last })) (led : Coherent → HaveLed script dn last seen mine)
     (number : ℕ) (its : number ≡ dn) (later : List Event) (begins : BeginsWith later seen) (follow : AllFollow (Follows Coherent opening bytes script) [] later) (given : List Event) (places : ℕ)
     (own : own_entries (λ (event : Event). event.seat) (4 + number) later ≡ given) where
   known : events_of dn later ≡ given
@@ -37,8 +37,8 @@ module _ (Coherent : Type 0) (opening : Opening) (bytes : OpeningBytes) (script 
       kept_later Coherent opening bytes script dn room last seen mine kept (record { dn = dn; seen = later; mine = given; room = places; last = last }) refl known follow
       (λ coherent. ap (has_event is_bad) same ∙ kept.no_bad coherent)
 
-  pub done_on : given ≡ mine → HaveLed script dn last later given
-  done_on same = subst (λ (l : List Event). HaveLed script dn last later l) (sym same) (led_on script dn last seen mine later begins led)
+  pub done_on : given ≡ mine → Coherent → HaveLed script dn last later given
+  done_on same coherent = subst (λ (l : List Event). HaveLed script dn last later l) (sym same) (led_on script dn last seen mine later begins (led coherent))
 
   module _ (kind : EventKind) (no_bad : Coherent → is_bad kind ≡ false) (more : given ≡ mine ++ by_node dn kind ∷ []) where
     pub kept_more : (then : List ℕ) → IsKept Coherent opening bytes script (record { dn = dn; seen = later; mine = given; room = places; last = then })
@@ -46,11 +46,12 @@ module _ (Coherent : Type 0) (opening : Opening) (bytes : OpeningBytes) (script 
         kept_later Coherent opening bytes script dn room last seen mine kept (record { dn = dn; seen = later; mine = given; room = places; last = then }) refl known follow
         (λ coherent. ap (has_event is_bad) more ∙ none_more mine (by_node dn kind) (kept.no_bad coherent) (no_bad coherent))
 
-    pub noted_more : IsUncommanded kind → HaveLed script dn last later given
-    noted_more none = subst (λ (l : List Event). HaveLed script dn last later l) (sym more) (led_noted script dn last seen mine later begins kind none led)
+    pub noted_more : IsUncommanded kind → Coherent → HaveLed script dn last later given
+    noted_more none coherent = subst (λ (l : List Event). HaveLed script dn last later l) (sym more) (led_noted script dn last seen mine later begins kind none (led coherent))
 
-  pub done_more : (line : Line) (done : NodeCommand) → line.client ≤ MOST_CLIENTS → last_of last line.client < line.number → HasItDone script later dn done line
-      → given ≡ mine ++ by_node dn (done_kind dn done) ∷ [] → HaveLed script dn (slice_set last line.client line.number) later given
-  done_more line done few behind by more =
+  pub done_more : (line : Line) (done : NodeCommand) → line.client ≤ MOST_CLIENTS → last_of last line.client < line.number
+      → (Coherent → HasItDone script later dn done line) → given ≡ mine ++ by_node dn (done_kind dn done) ∷ []
+      → Coherent → HaveLed script dn (slice_set last line.client line.number) later given
+  done_more line done few behind by more coherent =
       subst (λ (l : List Event). HaveLed script dn (slice_set last line.client line.number) later l) (sym more)
-      (led_done script dn last seen mine later begins line few behind done by led)
+      (led_done script dn last seen mine later begins line few behind done (by coherent) (led coherent))

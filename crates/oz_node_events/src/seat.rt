@@ -65,7 +65,7 @@ impl<T: Told<Entry = Event>, O: Opened, R: Ring> Model for NodeSeat<T, O, R> {
     ghost invariant = { λ s. IsReady R.turn (datanode_seat s.dn) s.seat × (room_of s.seat ≡ s.room)
         × IsKept O.coherent O.opening O.bytes O.script
         (record { dn = s.dn; seen = seen_of s.seat; mine = mine_of s.seat; room = s.room; last = s.last })
-        × HaveLed O.script s.dn s.last (seen_of s.seat) (mine_of s.seat) };
+        × (O.coherent → HaveLed O.script s.dn s.last (seen_of s.seat) (mine_of s.seat)) };
 }
 
 impl<D: Disk, T: Told<Entry = Event>, O: Opened, R: Ring> Kept<D> for NodeSeat<T, O, R> {
@@ -106,9 +106,9 @@ impl<T: Told<Entry = Event>, O: Opened, R: Ring> NodeSeat<T, O, R> {
         let _dn = self.dn;
     }
 
-    /// Which lines had something done to the datanode. It does nothing when it runs.
+    /// Which lines had something done to the datanode, where the opening is coherent. It does nothing when it runs.
     pub fn is_led(&self)
-        ensures { HaveLed O.script self.now.dn self.now.last self.now.seen self.now.mine }
+        ensures { O.coherent → HaveLed O.script self.now.dn self.now.last self.now.seen self.now.mine }
     {
         let _dn = self.dn;
     }
@@ -234,7 +234,7 @@ impl<O: Opened, R: Ring> NodeSeat<Ledger<O>, O, R> {
         requires room { 1 ≤ self.old.room }
         requires client { line.now.client ≤ MOST }
         requires behind { slice_index self.old.last line.now.client < line.now.number }
-        requires line { HasItDone O.script (seen_of other.old) self.old.dn done line.now }
+        requires line { O.coherent → HasItDone O.script (seen_of other.old) self.old.dn done line.now }
         requires follows { (story : List AnyEvent) → BeginsWith story self.old.seen → BeginsWith story (seen_of other.old)
             → AllFollow (Follows O.coherent O.opening O.bytes O.script) [] story
             → events_of self.old.dn story ≡ self.old.mine

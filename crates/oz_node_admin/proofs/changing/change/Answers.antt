@@ -23,7 +23,7 @@ note_done-requires-clause-follows g c story begins other all own fits =
 
 pub note_done-requires-clause-line : goal.note_done-requires-clause-line
 note_done-requires-clause-line g c =
-    subst (λ (d : NodeCommand). HasItDone g.O.Opened.script (seen_of c.args.seat.now) c.args.kept.now.dn d c.args.line.now) (sym c.run_done.ensures) c.requires.line
+    λ coherent. subst (λ (d : NodeCommand). HasItDone g.O.Opened.script (seen_of c.args.seat.now) c.args.kept.now.dn d c.args.line.now) (sym c.run_done.ensures) (c.requires.line coherent)
 
 pub returns-clause-stands : goal.returns-clause-stands
 returns-clause-stands g c =

@@ -34,8 +34,8 @@ carry_out-requires-clause-line g c =
     let ready = c.ready.ensures in
     let done = run_done c.args.runs in
     let line = c.args.line.now in
-    subst (λ n. HasItDone O.script (seen_of c.ready.new.other) n done line) (sym ready.number)
-    (done_later O.script (seen_of c.args.seat.now) (seen_of c.ready.new.other) c.args.kept.now.dn done line ready.other_begins c.requires.line)
+    λ coherent. subst (λ n. HasItDone O.script (seen_of c.ready.new.other) n done line) (sym ready.number)
+    (done_later O.script (seen_of c.args.seat.now) (seen_of c.ready.new.other) c.args.kept.now.dn done line ready.other_begins (c.requires.line coherent))
 
 pub returns-clause-comes_to : goal.returns-clause-comes_to
 returns-clause-comes_to g c =

@@ -58,8 +58,8 @@ carry_out-requires-clause-line g c =
     let O = g.O.Opened in
     let ready = c.ready.ensures in
     let line = c.args.line.now in
-    subst (λ n. HasItDone O.script (seen_of c.ready.new.other) n command.Wipe line) (sym ready.number)
-    (done_later O.script (seen_of c.args.seat.now) (seen_of c.ready.new.other) c.args.kept.now.dn command.Wipe line ready.other_begins c.requires.line)
+    λ coherent. subst (λ n. HasItDone O.script (seen_of c.ready.new.other) n command.Wipe line) (sym ready.number)
+    (done_later O.script (seen_of c.args.seat.now) (seen_of c.ready.new.other) c.args.kept.now.dn command.Wipe line ready.other_begins (c.requires.line coherent))
 
 pub returns-in-Ok-clause-comes_to : goal.returns-in-Ok-clause-comes_to
 returns-in-Ok-clause-comes_to g c =

@@ -20,14 +20,13 @@ append-requires-clause-follows g c story begins other all own =
     let view = c.args.self.now in
     let dn : c.from-by.result ≡ view.dn = c.from-by.ensures ∙ ap (λ v. v.dn) is in
     let kind : c.done_kind-kind.result ≡ done_kind view.dn c.args.done = c.done_kind-kind.ensures.kind ∙ ap (λ v. done_kind v.dn c.args.done) is in
-    let led = subst (λ (v : SeatView). HaveLed O.script v.dn v.last v.seen v.mine) is c.self.invariant.3 in
     let goes = begins_as story _ _ (ap (λ v. v.seen) is) begins in
     let its = ap (λ n. events_of n story) (sym dn) ∙ (own ∙ ap (λ v. v.mine) is) in
     subst (λ n. Follows O.coherent O.opening O.bytes O.script story (record { seat = 4 + n; kind = c.done_kind-kind.result })) (sym dn)
     (subst (λ (k : EventKind). Follows O.coherent O.opening O.bytes O.script story (record { seat = 4 + view.dn; kind = k })) (sym kind)
     (c.requires.follows story goes other all its
-    (led_fits O.coherent O.opening O.bytes O.script view.dn view.last view.seen view.mine (seen_of c.args.other.now) story c.args.line.now c.args.done
-    led c.requires.behind c.requires.line goes other all its)))
+    (λ coherent. led_fits O.coherent O.opening O.bytes O.script view.dn view.last view.seen view.mine (seen_of c.args.other.now) story c.args.line.now c.args.done
+    (subst (λ (v : SeatView). HaveLed O.script v.dn v.last v.seen v.mine) is (c.self.invariant.3 coherent)) c.requires.behind (c.requires.line coherent) goes other all its coherent)))
 
 pub invariant_of-self : goal.invariant_of-self
 invariant_of-self g c =
@@ -44,8 +43,8 @@ invariant_of-self g c =
     let since = seen_of c.append.new.seat in
     let begins = begins_through (seen_of seat) since (seen_of s.seat) show.goes_on (seen_behind event (seen_of s.seat) (seen_of c.args.other.now) since told.told) in
     let others = begins_through (seen_of seat) since (seen_of c.args.other.now) show.goes_on (appended_begins event (seen_of s.seat) (seen_of c.args.other.now) since told.told) in
-    let by = done_later O.script (seen_of c.args.other.now) (seen_of seat) s.dn done line others
-    (subst (λ n. HasItDone O.script (seen_of c.args.other.now) n done line) (sym (ap (λ v. v.dn) is)) c.requires.line) in
+    let by : O.coherent → HasItDone O.script (seen_of seat) s.dn done line = λ coherent. done_later O.script (seen_of c.args.other.now) (seen_of seat) s.dn done line others
+    (subst (λ n. HasItDone O.script (seen_of c.args.other.now) n done line) (sym (ap (λ v. v.dn) is)) (c.requires.line coherent)) in
     let behind = subst (λ l. last_of l line.client < line.number) (sym (ap (λ v. v.last) is)) c.requires.behind in
     let more = show.mine ∙ (told.mine ∙ (ap (λ n. mine_of s.seat ++ record { seat = 4 + n; kind = c.done_kind-kind.result } ∷ []) c.from-by.ensures
     ∙ ap (λ (k : EventKind). mine_of s.seat ++ by_node s.dn k ∷ []) kind)) in (
@@ -54,7 +53,7 @@ invariant_of-self g c =
       kept_more O.coherent O.opening O.bytes O.script s.dn s.room s.last (seen_of s.seat) (mine_of s.seat) c.self.invariant.2 c.self.invariant.3 c.from-by.result c.from-by.ensures
           (seen_of seat) begins show.follow (mine_of seat) (s.room - 1) show.known (done_kind s.dn done)
           (λ coherent. ap (λ (k : EventKind). is_bad k) (sym kind) ∙ c.done_kind-kind.ensures.no_bad) more (slice_set s.last c.from.result line.number),
-      subst (λ n. HaveLed O.script s.dn (slice_set s.last n line.number) (seen_of seat) (mine_of seat)) (sym c.from.ensures)
+      λ coherent. subst (λ n. HaveLed O.script s.dn (slice_set s.last n line.number) (seen_of seat) (mine_of seat)) (sym c.from.ensures)
           (done_more O.coherent O.opening O.bytes O.script s.dn s.room s.last (seen_of s.seat) (mine_of s.seat) c.self.invariant.2 c.self.invariant.3 c.from-by.result c.from-by.ensures
-          (seen_of seat) begins show.follow (mine_of seat) (s.room - 1) show.known line done c.requires.client behind by more),
+          (seen_of seat) begins show.follow (mine_of seat) (s.room - 1) show.known line done c.requires.client behind by more coherent),
     )

@@ -9,5 +9,5 @@ invariant_of-result g c =
       r.seat.ready,
       r.seat.room,
       kept_new O.coherent O.opening O.bytes O.script c.args.dn _ _ r.few r.there r.numbered r.seat.seen r.seat.mine,
-      led_new O.script c.args.dn _ _ r.seat.mine,
+      λ coherent. led_new O.script c.args.dn _ _ r.seat.mine,
     )

@@ -1,3 +1,4 @@
 pub mod Halts
 pub mod Counting
 pub mod Keeping
+pub mod Bad

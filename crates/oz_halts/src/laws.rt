@@ -20,8 +20,9 @@ use oz_flushing::Mounted;
 use oz_headline::{Status, the_story_keeps_the_headline};
 use oz_world::Disk;
 
-/// Where the disks agree, the story that the turn told of a script keeps the headline over the disks of all nodes: by what
-/// the flusher keeps of it and of the manager's disk. `begun` is that disk as the run began.
+/// Where the disks agree, the story that the turn told of a script keeps the headline over the disks of all nodes: by
+/// what the flusher keeps of it and of the manager's disk, and by what the datanodes are. `begun` is the manager's disk
+/// as the run began.
 pub fn the_story_keeps_the_headline_of_all_disks<D: Disk, O: Opened, M: Mounted>()
     ensures { O.coherent → IsNumbered O.script →
         (begun disk : D) (stopped : Bool) (before : OtherDisks D) (loaded after : OtherNodes D)
@@ -29,6 +30,8 @@ pub fn the_story_keeps_the_headline_of_all_disks<D: Disk, O: Opened, M: Mounted>
         (let see = (λ (d : D). seen_disk (D.told d) (D.clock d) (D.image d) (D.faults d)) in
         let manager = manager_disk M.disk.faults M.disk.clock stopped (see begun) (see disk) in
         IsKept O.coherent O.opening O.bodies M.disk stopped story mine (see disk) →
+        AreAsTold D.told D.clock D.image D.faults O.coherent O.opening O.bytes O.script O.faults story
+        after.datanodes →
         Headline O.opening O.bytes O.script (all_disks see manager before loaded after) story) }
 {
     the_story_keeps_the_headline::<D, O, M>();

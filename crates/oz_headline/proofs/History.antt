@@ -46,7 +46,7 @@ fits_first : (opening : Opening) (bytes : OpeningBytes) (script : Script) (befor
 unfolding FitsFrom
 fits_first opening bytes script before event rest fits = fits.0
 
-fits_there : (opening : Opening) (bytes : OpeningBytes) (script : Script) (story before behind : List Event) (event : Event) → story ≡ before ++ event ∷ behind → FitsFrom opening bytes script [] story
+pub fits_there : (opening : Opening) (bytes : OpeningBytes) (script : Script) (story before behind : List Event) (event : Event) → story ≡ before ++ event ∷ behind → FitsFrom opening bytes script [] story
     → EventFits opening bytes script before event.kind
 fits_there opening bytes script story before behind event parts fits =
     fits_first opening bytes script before event behind

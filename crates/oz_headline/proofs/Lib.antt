@@ -1,4 +1,5 @@
 pub mod History
+pub mod Reading
 pub mod Moments
 pub mod Counting
 pub mod Story

@@ -10,18 +10,22 @@ use Rattle.oz_lines.specs.declared.script.Script.{Script}
 use Rattle.oz_world.specs.Disk.{Seen}
 use Rattle.oz_headline.specs.Disks.{manager_disk}
 use Rattle.oz_headline.specs.Headline.{Headline}
+use Rattle.oz_headline.specs.Reads.{NoneIsBad}
 use Rattle.oz_headline.proofs.History.{answers, asks, replies}
 use Rattle.oz_headline.proofs.Moments.{all_are_by}
+use Rattle.oz_headline.proofs.Reading.{reads}
 
 module _ (opening : Opening) (bytes : OpeningBytes) (script : Script) (story : List Event) (faults first : ℕ) (stopped : Bool) (before after : Seen) where
-  pub headline_holds : IsLegal opening story → Fits opening bytes script story → IfSome (flushed_moment story) (λ moment. moment ≤ after.clock)
+  pub headline_holds : IsLegal opening story → Fits opening bytes script story → IfSome (flushed_moment story) (λ moment. moment ≤ after.clock) → NoneIsBad story
       → Headline opening bytes script (manager_disk faults first stopped before after ∷ []) story
-  headline_holds legal fits by = record {
+  headline_holds legal fits by sound = record {
     one_history = (legal, fits);
     at_that_point = replies opening story legal;
     after_all_seen = asks opening bytes script story legal fits;
     acknowledged = answers opening bytes script story legal fits;
     flushed = (all_are_by opening after.clock story legal by, tt);
+    reads = reads opening bytes script story fits;
+    no_bad = sound;
   }
 
 -- the flusher's last is the story's

@@ -10,6 +10,7 @@ use Rattle.oz_nodes_loaded.specs.declared.disk_name.DiskName.{DiskName}
 use Rattle.oz_nodes_loaded.specs.declared.disk_name.DiskName.TheVariants.{Manager}
 use Rattle.oz_headline.specs.Disks.{RunDisk, OfEach}
 use Rattle.oz_headline.specs.History.{RepliesAreOneThreads, AllAreInTurn, ToldIsStable, AllAreBy}
+use Rattle.oz_headline.specs.Reads.{NoneIsBad, ReadsAreContents}
 
 -- what the story says is flushed is on the manager's disk by the end
 abbrev pub IsFlushedOn : List Event → DiskName → ℕ → Type 0
@@ -18,7 +19,7 @@ IsFlushedOn story _ clock = Unit {0}
 
 -- The story is one history: it follows the law and is that of the script. Each reply is the one-thread namespace's at
 -- its place, each line asks after all that it waits for, and what was acknowledged is stable. What is flushed was so by
--- the end.
+-- the end. A line that reads is told the contents of the blocks that it looked up, and no datanode finds bytes bad.
 pub record Headline (opening : Opening) (bytes : OpeningBytes) (script : Script) (disks : List RunDisk)
     (story : List Event) : Type 0 where
   pub one_history : IsLegal opening story × Fits opening bytes script story
@@ -26,3 +27,5 @@ pub record Headline (opening : Opening) (bytes : OpeningBytes) (script : Script)
   pub after_all_seen : AllAreInTurn opening script story
   pub acknowledged : ToldIsStable opening story
   pub flushed : OfEach (λ disk. IsFlushedOn story disk.name disk.after.clock) disks
+  pub reads : ReadsAreContents opening bytes script story
+  pub no_bad : NoneIsBad story

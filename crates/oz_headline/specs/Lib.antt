@@ -4,5 +4,6 @@ pub mod Disks
 pub mod Halts
 pub mod Places
 pub mod History
+pub mod Reads
 pub mod Counts
 pub mod Headline

@@ -9,11 +9,13 @@ ghost use Rattle.oz_core.specs.Law.{IsLegal};
 ghost use Rattle.oz_core.specs.Manager.{flushed_moment};
 ghost use Rattle.oz_headline.specs.Counts.{AreToldAsMany, IsClient};
 ghost use Rattle.oz_headline.specs.History.{AllAreBy, AllAreInTurn, RepliesAreOneThreads, ToldIsStable};
+ghost use Rattle.oz_headline.specs.Reads.{ReadsAreContents};
 ghost use Rattle.oz_lines.specs.declared.script.Script.{Script as AnyScript};
 ghost use Rattle.oz_lines.specs.Numbered.{IsNumbered};
 
 /// A story that is one history says the rest of the headline: each reply is one thread's at its place, each line asks
-/// in its turn, what was acknowledged is stable, and nothing is flushed later than the last that is.
+/// in its turn, what was acknowledged is stable, a line that reads is told the contents of the blocks that it looked
+/// up, and nothing is flushed later than the last that is.
 pub fn one_history_says_the_rest()
     ensures replies { (opening : AnyOpening) (story : List AnyEvent) → IsLegal opening story →
         RepliesAreOneThreads opening story }
@@ -21,6 +23,8 @@ pub fn one_history_says_the_rest()
         IsLegal opening story → Fits opening bytes script story → AllAreInTurn opening script story }
     ensures answers { (opening : AnyOpening) (bytes : OpeningBytes) (script : AnyScript) (story : List AnyEvent) →
         IsLegal opening story → Fits opening bytes script story → ToldIsStable opening story }
+    ensures reads { (opening : AnyOpening) (bytes : OpeningBytes) (script : AnyScript) (story : List AnyEvent) →
+        Fits opening bytes script story → ReadsAreContents opening bytes script story }
     ensures moments { (opening : AnyOpening) (story : List AnyEvent) (clock : ℕ) → IsLegal opening story →
         IfSome (flushed_moment story) (λ moment. moment ≤ clock) → AllAreBy clock story }
 {}

@@ -46,7 +46,7 @@ returns-clause-told g c =
     } in record {
       run = run;
       headline = λ coherent before others.
-          c.the_story_keeps_the_headline_of_all_disks.ensures coherent c.requires.numbered before disk stopped others nodes left own story run.follow run.kept;
+          c.the_story_keeps_the_headline_of_all_disks.ensures coherent c.requires.numbered before disk stopped others nodes left own story run.follow run.kept run.datanodes;
       halted = halted;
       status = law.status disk disk stopped others nodes left story many (halted disk others many);
       all_flushed = λ coherent running.

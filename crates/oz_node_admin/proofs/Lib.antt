@@ -1,3 +1,4 @@
 pub mod Emptying
 pub mod Since
 pub mod Told
+pub mod Came

@@ -1,3 +1,4 @@
 pub mod Commands
 pub mod Wipes
 pub mod Came
+pub mod laws

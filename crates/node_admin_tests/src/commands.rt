@@ -1,15 +1,12 @@
 //! A datanode is stopped twice, and started twice, and no line does so twice.
 
-ghost use Rattle.std.specs.Prelude.{◌≡◌, ◌⊎◌, vec_len};
-ghost use Rattle.node_admin_tests.specs.Three.{line_of};
+ghost use Rattle.std.specs.Prelude.{◌≡◌, ◌≤◌, vec_len};
 ghost use Rattle.oz_turn.specs.Seat.{AreNewSeats};
 ghost use Rattle.oz_turn.specs.Turn.{turn_id};
 
-use crate::stage::{Book, Cell, Stage, made, staged};
-use oz_command::{AdminCommand, Command};
-use oz_core::{Event, EventKind};
-use oz_fields::OutOfMemory;
-use oz_lines::Line;
+use crate::stage::{Book, Cell, Stage, empty_disks, made, staged};
+use crate::story::{holds, line, tells};
+use oz_command::AdminCommand;
 use oz_node_admin::{AdminFault, start_at, stop_at};
 use oz_turn::{Ring, Seat, Turn};
 use std::alloc::Global;
@@ -18,61 +15,11 @@ use std::process::Abort;
 use std::sync::Wait;
 use std::test::Fail;
 
-fn holds(rt: &impl Abort, it: bool, what: &str) {
-    assert!(rt; it, "{what}");
-}
-
-/// A letter for each event, and the seat that gave it.
-fn in_short(alloc: Global, story: &[Event]) -> Result<Vec<u8>, OutOfMemory> {
-    let mut said = Vec::new(alloc);
-    for event in story {
-        let letter = match &event.kind {
-            EventKind::Stop { dn: 0 } => b's',
-            EventKind::Start { dn: 0 } => b'r',
-            EventKind::Down { dn: 0 } => b'd',
-            EventKind::Up { dn: 0 } => b'u',
-            _ => b'?',
-        };
-        said.push(letter)?;
-        let seat = u8::try_from(event.seat).unwrap_or(u8::MAX);
-        said.push(b'0'.wrapping_add(seat))?;
-    }
-    Ok(said)
-}
-
-/// What is told so far.
-fn tells<R: Ring, W: Wait + Abort>(
-    rt: &W,
-    alloc: Global,
-    turn: &Turn<Book>,
-    stage: &mut Stage<R>,
-    wanted: &str,
-) -> Result<(), Fail>
-    requires turn { turn_id turn.now ≡ R.turn }
-{
-    let story = turn.look(rt, alloc, &mut stage.worker, 0)?;
-    let said = in_short(alloc, story.as_slice())?;
-    holds(rt, said.as_slice() == wanted.as_bytes(), "what is told");
-    Ok(())
-}
-
 fn runs<R: Ring>(cell: &Cell<R>) -> bool {
     cell.node.running()
 }
 
-/// The first line of a client, with this command.
-fn line(client: u16, command: AdminCommand) -> Line
-    ensures { result ≡ line_of client command }
-{
-    Line {
-        client,
-        number: 1,
-        after: None,
-        command: Command::Admin(command),
-    }
-}
-
-/// A line of client 1 or 2 stops it.
+/// A client's first line stops it.
 fn stop<R: Ring, W: Wait + Abort>(
     rt: &W,
     alloc: Global,
@@ -81,7 +28,7 @@ fn stop<R: Ring, W: Wait + Abort>(
     client: u16,
 ) -> Result<(), AdminFault>
     requires turn { turn_id turn.now ≡ R.turn }
-    requires client { (client ≡ 1) ⊎ (client ≡ 2) }
+    requires client { client ≤ 64 }
 {
     let line = line(client, AdminCommand::Stop(0));
     stop_at(
@@ -95,7 +42,7 @@ fn stop<R: Ring, W: Wait + Abort>(
     )
 }
 
-/// A line of client 3 or 4 starts it.
+/// A client's first line starts it.
 fn start<R: Ring, W: Wait + Abort>(
     rt: &W,
     alloc: Global,
@@ -104,7 +51,7 @@ fn start<R: Ring, W: Wait + Abort>(
     client: u16,
 ) -> Result<(), AdminFault>
     requires turn { turn_id turn.now ≡ R.turn }
-    requires client { (client ≡ 3) ⊎ (client ≡ 4) }
+    requires client { client ≤ 64 }
 {
     let line = line(client, AdminCommand::Start(0));
     start_at(
@@ -128,7 +75,7 @@ fn come_and_go<R: Ring, W: Wait + Abort>(
     requires count { vec_len seats ≡ 6 }
     requires new { AreNewSeats R.turn seats.items }
 {
-    let mut stage = staged::<R>(alloc, seats)?;
+    let mut stage = staged::<R>(alloc, seats, empty_disks(alloc)?)?;
     let first = stop(rt, alloc, turn, &mut stage, 1);
     holds(rt, first.is_ok() && !runs(&stage.cell), "stopped");
     tells(rt, alloc, turn, &mut stage, "s4d3")?;

@@ -7,6 +7,7 @@ ghost use Rattle.oz_turn.specs.Turn.{turn_id};
 
 use oz_buffer::{Ledger, Opened};
 use oz_datanode::{Datanode, NodeDisks};
+use oz_fields::Block;
 use oz_node_events::{NodeSeat, a_loaded_datanode_stands};
 use oz_replicas::NodeCell;
 use oz_scm_events::{Scm, ScmCell};
@@ -15,12 +16,13 @@ use oz_world::{MemoryDisk, OutOfMemory};
 use std::alloc::Global;
 use std::test::Fail;
 
-/// An opening with three datanodes, of which nothing is asked, and four lines on the first.
+/// An opening with three datanodes, of which nothing is asked.
 pub struct ThreeNodes;
 
 impl Opened for ThreeNodes {
     ghost use Rattle.std.specs.Prelude.{[], None};
-    ghost use Rattle.node_admin_tests.specs.Three.{four_lines, three_nodes};
+    ghost use Rattle.oz_buffer.specs.Openings.{no_script};
+    ghost use Rattle.node_admin_tests.specs.Three.{three_nodes};
 
     ghost opening = { three_nodes };
 
@@ -30,7 +32,7 @@ impl Opened for ThreeNodes {
 
     ghost faults = { λ node. 0 };
 
-    ghost script = { four_lines };
+    ghost script = { no_script };
 
     ghost coherent = { ⊥ };
 }
@@ -52,7 +54,6 @@ pub struct Stage<R: Ring> {
     pub worker: Seat<Book>,
     ghost works: { IsReady R.turn 5 worker },
     ghost none_made: { scm.scm.made.containers ≡ [] },
-    ghost first: { cell.kept.dn ≡ 0 },
 }
 
 /// A turn of an empty story, and its seats.
@@ -86,27 +87,62 @@ fn disk(alloc: Global, failing: u64) -> Result<MemoryDisk, OutOfMemory> {
     MemoryDisk::new(alloc, Vec::new(alloc), fails, 16_384)
 }
 
-/// Datanode 0 over empty disks.
-fn loaded_node(alloc: Global) -> Result<Datanode<MemoryDisk>, Fail>
+pub type Disks = NodeDisks<MemoryDisk>;
+
+/// Two empty disks of a datanode.
+pub fn empty_disks(alloc: Global) -> Result<Disks, OutOfMemory> {
+    Ok(NodeDisks {
+        meta: disk(alloc, 0)?,
+        slots: disk(alloc, 0)?,
+    })
+}
+
+/// The block that a datanode may hold.
+pub fn block() -> Block
+    ensures { result ≡ record { container = 1; local = 1 } }
+{
+    Block {
+        container: 1,
+        local: 1,
+    }
+}
+
+/// The disks of a datanode that holds the block. One call of each fails, or none where this is 0.
+pub fn disks_with_block(alloc: Global, on_meta: u64, on_slots: u64) -> Result<Disks, Fail> {
+    let mut node = loaded_node(alloc, empty_disks(alloc)?)?;
+    if node.holds(block()) || node.copy(alloc, block(), b"abc".as_slice()).is_err() {
+        return Err("not copied".into());
+    }
+    let NodeDisks { meta, slots } = node.into_disks();
+    Ok(NodeDisks {
+        meta: copy_of(alloc, &meta, on_meta)?,
+        slots: copy_of(alloc, &slots, on_slots)?,
+    })
+}
+
+/// A disk with the same bytes.
+fn copy_of(alloc: Global, disk: &MemoryDisk, failing: u64) -> Result<MemoryDisk, OutOfMemory> {
+    let bytes = disk.bytes().to_vec(alloc)?;
+    let fails = Vec::from_array(alloc, [failing])?;
+    MemoryDisk::new(alloc, bytes, fails, 16_384)
+}
+
+/// Datanode 0 over these disks.
+fn loaded_node(alloc: Global, disks: Disks) -> Result<Datanode<MemoryDisk>, Fail>
     ensures number { IfOk result (λ node. node.id ≡ 0) }
     ensures idle { IfOk result (λ node. IsIdle node) }
 {
-    let disks = NodeDisks {
-        meta: disk(alloc, 0)?,
-        slots: disk(alloc, 0)?,
-    };
     match Datanode::load(alloc, 0, disks) {
         Ok(node) => Ok(node),
         Err((_disks, _fault)) => Err("not loaded".into()),
     }
 }
 
-fn cell<R: Ring>(alloc: Global, seat: Seat<Book>) -> Result<Cell<R>, Fail>
+fn cell<R: Ring>(alloc: Global, seat: Seat<Book>, disks: Disks) -> Result<Cell<R>, Fail>
     requires { IsNewSeat R.turn 4 seat }
-    ensures { IfOk result (λ cell. cell.kept.dn ≡ 0) }
 {
     a_loaded_datanode_stands::<MemoryDisk, ThreeNodes>();
-    let node = loaded_node(alloc)?;
+    let node = loaded_node(alloc, disks)?;
     if !node.running() {
         return Err("it doesn't run".into());
     }
@@ -139,8 +175,12 @@ fn manager<R: Ring>(alloc: Global, seat: Seat<Book>) -> Result<Manager<R>, Fail>
     Ok(ScmCell::make(scm, seat))
 }
 
-/// All of it, over empty disks.
-pub fn staged<R: Ring>(alloc: Global, mut seats: Vec<Seat<Book>>) -> Result<Stage<R>, Fail>
+/// All of it, the datanode over these disks.
+pub fn staged<R: Ring>(
+    alloc: Global,
+    mut seats: Vec<Seat<Book>>,
+    disks: Disks,
+) -> Result<Stage<R>, Fail>
     requires count { vec_len seats ≡ 6 }
     requires new { AreNewSeats R.turn seats.items }
 {
@@ -148,7 +188,7 @@ pub fn staged<R: Ring>(alloc: Global, mut seats: Vec<Seat<Book>>) -> Result<Stag
     let worker = pop_new::<R>(&mut seats)?;
     let its = pop_new::<R>(&mut seats)?;
     let of_scm = pop_new::<R>(&mut seats)?;
-    let cell = cell::<R>(alloc, its)?;
+    let cell = cell::<R>(alloc, its, disks)?;
     let scm = manager::<R>(alloc, of_scm)?;
     Ok(Stage { scm, cell, worker })
 }

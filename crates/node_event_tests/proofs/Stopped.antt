@@ -1,25 +1,23 @@
 -- A datanode that a line stopped, and its seat has said so.
-use Rattle.std.proofs.Common.{arith, ◌≡◌, ℕ, zero, suc, ◌<◌, Bool, true, false, ◌==◌, cond, not, List, [], ◌∷◌, ◌++◌, Option, None, Some, eq-eqb, refl, sym, ap, ◌∙◌, subst}
+use Rattle.std.proofs.Common.{arith, ◌≡◌, ℕ, Bool, true, false, ◌==◌, cond, not, List, [], ◌∷◌, ◌++◌, Option, None, Some, eq-eqb, sym, ap, ◌∙◌, subst}
 use Rattle.oz_buffer.specs.laws.Following.{told-push}
 use Rattle.oz_core.specs.declared.event.Event.{Event}
 use Rattle.oz_core.specs.declared.event.EventKind.TheVariants.{Stop}
 use Rattle.oz_core.specs.declared.event.Node.TheVariants.{Datanode}
-use Rattle.oz_core.specs.Lines.{HasStarted}
 use Rattle.oz_core.specs.Manager.{halt_count, halt_of}
 use Rattle.oz_core.specs.Nodes.{stopped_or_started}
 use Rattle.oz_core.specs.Seats.{datanode_seat}
 use Rattle.oz_core.specs.Stories.{last_told, newer}
 use Rattle.oz_datanode.specs.Datanode.{State, count_of, is_halted}
-use Rattle.oz_node_events.specs.declared.command.NodeCommand.TheVariants as command
-use Rattle.oz_node_events.specs.Led.{HasItDone}
 use Rattle.oz_node_events.specs.NodeSeat.{SeatView, StandsFor}
+use Rattle.oz_buffer.specs.Openings.{no_script}
 use Rattle.oz_world.specs.Disk.{Images}
 use Rattle.oz_world.specs.Faults.{Rose}
-use Rattle.node_event_tests.specs.Three.{no_bytes, none_failed, stop_line, three_nodes, three_stops}
+use Rattle.node_event_tests.specs.Three.{no_bytes, none_failed, three_nodes}
 
 -- the seat was made ready
-pub ready_stands : {D : Type 0} (told : D → Option (List ℕ)) (clock : D → ℕ) (image : D → Images) (faults : D → ℕ) (view ready : SeatView) (node : State D) → StandsFor told clock image faults ⊥ three_nodes no_bytes three_stops none_failed view node
-    → ready.dn ≡ view.dn → ready.mine ≡ view.mine → StandsFor told clock image faults ⊥ three_nodes no_bytes three_stops none_failed ready node
+pub ready_stands : {D : Type 0} (told : D → Option (List ℕ)) (clock : D → ℕ) (image : D → Images) (faults : D → ℕ) (view ready : SeatView) (node : State D) → StandsFor told clock image faults ⊥ three_nodes no_bytes no_script none_failed view node
+    → ready.dn ≡ view.dn → ready.mine ≡ view.mine → StandsFor told clock image faults ⊥ three_nodes no_bytes no_script none_failed ready node
 ready_stands told clock image faults view ready node stood number mine = record {
   number = stood.number ∙ sym number;
   halt = at (λ n l. halt_of (Datanode n) l) ∙ stood.halt;
@@ -36,11 +34,11 @@ ready_stands told clock image faults view ready node stood number mine = record 
   at : {X : Type 0} (f : ℕ → List Event → X) → f ready.dn ready.mine ≡ f view.dn view.mine
   at f = ap (λ (n : ℕ). f n ready.mine) number ∙ ap (f view.dn) mine
 
-pub stopped_stands : {D : Type 0} (told : D → Option (List ℕ)) (clock : D → ℕ) (image : D → Images) (faults : D → ℕ) (view ready later : SeatView) (old new : State D) (dn : ℕ) → StandsFor told clock image faults ⊥ three_nodes no_bytes three_stops none_failed view old
+pub stopped_stands : {D : Type 0} (told : D → Option (List ℕ)) (clock : D → ℕ) (image : D → Images) (faults : D → ℕ) (view ready later : SeatView) (old new : State D) (dn : ℕ) → StandsFor told clock image faults ⊥ three_nodes no_bytes no_script none_failed view old
     → dn ≡ old.id → ready.dn ≡ view.dn → ready.mine ≡ view.mine → later.dn ≡ ready.dn
     → later.mine ≡ ready.mine ++ record { seat = datanode_seat ready.dn; kind = Stop dn } ∷ []
     → new ≡ record old { stopped = true }
-    → StandsFor told clock image faults ⊥ three_nodes no_bytes three_stops none_failed later new
+    → StandsFor told clock image faults ⊥ three_nodes no_bytes no_script none_failed later new
 stopped_stands {D} told clock image faults view ready later old new dn stood its number mine same noted stop = record {
   number = ap (λ (s : State D). s.id) stop ∙ (stood.number ∙ (sym number ∙ sym same));
   halt = at (λ n l. halt_of (Datanode n) l)
@@ -68,13 +66,3 @@ stopped_stands {D} told clock image faults view ready later old new dn stood its
       ap (λ (n : ℕ). f n later.mine) (same ∙ number)
       ∙ ap (f view.dn) (noted ∙ (ap (λ (n : ℕ). ready.mine ++ record { seat = datanode_seat n; kind = Stop dn } ∷ []) number
       ∙ ap (λ l. l ++ record { seat = datanode_seat view.dn; kind = Stop dn } ∷ []) mine))
-
--- each line has started, and stops its datanode
-at_first : (story : List Event) (dn : ℕ) → HasStarted story (stop_line dn)
-at_first story dn = record { before_it = λ second. absurd (omega (arith, second)); after_it = tt }
-
-pub stops : (story : List Event) (dn : ℕ) → dn < 3 → HasItDone three_stops story dn command.Stop (stop_line dn)
-stops story zero few = record { there = (0, omega arith, refl); so = refl; started = at_first story 0 }
-stops story (suc zero) few = record { there = (1, omega arith, refl); so = refl; started = at_first story 1 }
-stops story (suc (suc zero)) few = record { there = (2, omega arith, refl); so = refl; started = at_first story 2 }
-stops story (suc (suc (suc dn))) few = absurd (omega (arith, few))

@@ -16,12 +16,13 @@ use std::alloc::Global;
 use std::process::Abort;
 use std::test::Fail;
 
-/// An opening with three datanodes, of which nothing is asked, and a line for each that stops it.
+/// An opening with three datanodes, of which nothing is asked.
 pub struct ThreeNodes;
 
 impl Opened for ThreeNodes {
     ghost use Rattle.std.specs.Prelude.{[], None};
-    ghost use Rattle.node_event_tests.specs.Three.{three_nodes, three_stops};
+    ghost use Rattle.oz_buffer.specs.Openings.{no_script};
+    ghost use Rattle.node_event_tests.specs.Three.{three_nodes};
 
     ghost opening = { three_nodes };
 
@@ -31,7 +32,7 @@ impl Opened for ThreeNodes {
 
     ghost faults = { λ node. 0 };
 
-    ghost script = { three_stops };
+    ghost script = { no_script };
 
     ghost coherent = { ⊥ };
 }

@@ -1,7 +1,8 @@
 //! A line stops a datanode.
 
-ghost use Rattle.std.specs.Prelude.{◌≡◌, ◌<◌};
-ghost use Rattle.node_event_tests.specs.Three.{no_bytes, none_failed, stop_line, three_nodes, three_stops};
+ghost use Rattle.std.specs.Prelude.{◌≡◌, ◌<◌, ◌≤◌};
+ghost use Rattle.node_event_tests.specs.Three.{no_bytes, none_failed, three_nodes};
+ghost use Rattle.oz_buffer.specs.Openings.{no_script};
 ghost use Rattle.oz_node_events.specs.NodeSeat.{StandsFor};
 ghost use Rattle.oz_replicas.specs.Cells.{IsAtRest};
 ghost use Rattle.oz_replicas.specs.Stays.{IsIdle};
@@ -62,10 +63,10 @@ fn stop_beside<D: Disk, R: Ring, W: Wait>(
     requires turn { turn_id turn.now ≡ R.turn }
     requires ready { IsReady R.turn 8 worker.old }
     requires idle { IsIdle node.old }
-    requires stood { StandsFor D.told D.clock D.image D.faults ⊥ three_nodes no_bytes three_stops none_failed kept.old node.old }
+    requires stood { StandsFor D.told D.clock D.image D.faults ⊥ three_nodes no_bytes no_script none_failed kept.old node.old }
     ensures ready { IsReady R.turn 8 worker.new }
     ensures idle { IsIdle node.new }
-    ensures stands { StandsFor D.told D.clock D.image D.faults ⊥ three_nodes no_bytes three_stops none_failed kept.new node.new }
+    ensures stands { StandsFor D.told D.clock D.image D.faults ⊥ three_nodes no_bytes no_script none_failed kept.new node.new }
 {
     kept.ready(rt, alloc, turn, worker)?;
     kept.is_kept();
@@ -78,9 +79,10 @@ fn stop_beside<D: Disk, R: Ring, W: Wait>(
     Ok(())
 }
 
-/// The line that stops this datanode.
+/// The line that stops this datanode: the first of the client behind its number.
 fn stop_line(dn: u8) -> Line
-    ensures { result ≡ stop_line dn }
+    requires { dn < 16 }
+    ensures client { result.client ≤ 64 }
 {
     Line {
         client: u16::from(dn) + 1,

@@ -1,4 +1,5 @@
 -- For private calls: no public contract rests on these.
+pub mod Commanded
 pub mod Put
 pub mod Read
 pub mod Replied

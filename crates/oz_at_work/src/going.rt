@@ -12,7 +12,6 @@ use crate::outcome::Did;
 use oz_buffer::{Ledger, Opened};
 use oz_client::Step;
 use oz_locks::Loaded;
-use oz_requests::Answer;
 use oz_servers::Servers;
 use oz_turn::{Ring, Seat, Turn};
 use oz_world::{Disk, Gate};
@@ -20,7 +19,8 @@ use std::alloc::Global;
 use std::sync::Wait;
 
 impl<'s> LineAtWork<'s> {
-    /// The line asks what it asks next, writes the block that it was granted, reads its next piece, or is told its answer.
+    /// The line asks what it asks next, writes the block that it was granted, reads its next piece, has a datanode stopped, started
+    /// or wiped, or is told its answer.
     /// Where it was refused it is told so, or tries again what comes next. `by` is the seat's number.
     pub fn go_on<D: Disk, O: Opened, L: Loaded, R: Ring, W: Wait, G: Gate>(
         &mut self,
@@ -54,10 +54,7 @@ impl<'s> LineAtWork<'s> {
             Step::Tell(_) => self.tell(rt, alloc, turn, seat, by),
             Step::Write { .. } => self.write(rt, alloc, turn, servers, gate, seat, by),
             Step::Read { .. } => self.read(rt, alloc, turn, servers, seat, by),
-            Step::Admin(_) => {
-                self.cut(self.asked, Answer::OutOfMemory);
-                Did::WentOn
-            }
+            Step::Admin(_) => self.command(rt, alloc, turn, servers, seat, by),
         }
     }
 }

@@ -4,6 +4,7 @@
 mod asking;
 mod at_work;
 mod beginning;
+mod commanding;
 mod counted;
 mod going;
 mod granting;

@@ -132,7 +132,7 @@ impl<'s> LineAtWork<'s> {
     /// What keeps the line from being told, that has asked so often: what isn't stable is waited for, what is said of its
     /// blocks is looked at, and where it asked once more than is known, as it may where memory ran out, it is told that there
     /// is none.
-    fn put_off<O: Opened, W: Wait>(
+    pub(crate) fn put_off<O: Opened, W: Wait>(
         &mut self,
         rt: &W,
         turn: &Turn<Ledger<O>>,

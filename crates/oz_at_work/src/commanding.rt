@@ -1,0 +1,146 @@
+//! How a line stops, starts or wipes a datanode.
+
+ghost use Rattle.std.specs.Prelude.{◌≡◌, ◌<◌, ◌≤◌, IfSome};
+ghost use Rattle.oz_at_work.specs.AtWork.{HasGoneOn, HasLeft, IsAtWork, left_of};
+ghost use Rattle.oz_at_work.specs.inner.Commanded.{HasNumbers, IsCommandOf, IsDoneDue};
+ghost use Rattle.oz_core.specs.Seats.{IsLineSeat};
+ghost use Rattle.oz_turn.specs.Seat.{IsReady, room_of, seen_of};
+ghost use Rattle.oz_turn.specs.Told.{BeginsWith};
+ghost use Rattle.oz_turn.specs.Turn.{turn_id};
+
+use crate::at_work::LineAtWork;
+use crate::outcome::Did;
+use oz_buffer::{Ledger, Opened};
+use oz_command::{AdminCommand, Command};
+use oz_lines::{Line, MOST_CLIENTS};
+use oz_locks::Loaded;
+use oz_node_admin::{AdminFault, have_done};
+use oz_node_events::NodeCommand;
+use oz_requests::Answer;
+use oz_servers::Servers;
+use oz_telling::tell_done;
+use oz_turn::{Ring, Seat, Turn};
+use oz_world::Disk;
+use std::alloc::Global;
+use std::sync::Wait;
+
+/// What is to be done to the datanode of a number.
+#[derive(Clone, Copy)]
+struct Commanded {
+    dn: u8,
+    done: NodeCommand,
+}
+
+impl<'s> LineAtWork<'s> {
+    /// The line has a datanode stopped, started or wiped, and is told so, or that the datanode has halted. Where no datanode has
+    /// the number it is told that next. Where memory runs out before anything was done, or the line isn't one that has
+    /// this done, it is told next that there is none.
+    pub(crate) fn command<D: Disk, O: Opened, L: Loaded, R: Ring, W: Wait>(
+        &mut self,
+        rt: &W,
+        alloc: Global,
+        turn: &Turn<Ledger<O>>,
+        servers: &Servers<D, Ledger<O>, O, L, R>,
+        seat: &mut Seat<Ledger<O>>,
+        by: u16,
+    ) -> Did
+        requires turn { turn_id turn.now ≡ R.turn }
+        requires ready { IsReady R.turn by seat.old }
+        requires seats { by < 64 }
+        requires of_line { IsLineSeat by }
+        requires works { O.coherent → IsAtWork O.coherent O.opening O.bytes O.script (seen_of seat.old) self.old }
+        ensures ready { IsReady R.turn by seat.new }
+        ensures room { room_of seat.new ≡ room_of seat.old }
+        ensures goes_on { BeginsWith (seen_of seat.new) (seen_of seat.old) }
+        ensures line { self.new.line ≡ self.old.line }
+        ensures works { O.coherent → IsAtWork O.coherent O.opening O.bytes O.script (seen_of seat.new) self.new }
+        ensures went_on { result ≡ Did.WentOn → HasGoneOn self.old self.new }
+        ensures ended { result ≡ Did.Ended → O.coherent →
+            HasLeft O.coherent O.opening O.bytes O.script (seen_of seat.new) self.new.line (left_of self.new) }
+    {
+        let (asked, line) = (self.asked, self.line);
+        let Some(Commanded { dn, done }) = command_in(line) else {
+            self.cut(asked, Answer::OutOfMemory);
+            return Did::WentOn;
+        };
+        if dn >= servers.node_count() {
+            self.cut(asked, Answer::NoSuchNode);
+            return Did::WentOn;
+        }
+        let (scm, nodes) = (&servers.scm, &servers.nodes);
+        match have_done(rt, alloc, turn, scm, nodes, seat, line, dn, done) {
+            Ok(()) => self.tell_of(rt, alloc, turn, seat, by, dn, done),
+            Err(AdminFault::Halted { .. }) => self.tell_of(rt, alloc, turn, seat, by, dn, done),
+            Err(AdminFault::Repeated | AdminFault::OutOfMemory) => {
+                self.cut(asked, Answer::OutOfMemory);
+                Did::WentOn
+            }
+        }
+    }
+
+    /// It is told that this was done to the datanode, or that the datanode has halted by then, if it may be told.
+    fn tell_of<O: Opened, W: Wait>(
+        &mut self,
+        rt: &W,
+        alloc: Global,
+        turn: &Turn<Ledger<O>>,
+        seat: &mut Seat<Ledger<O>>,
+        by: u16,
+        dn: u8,
+        done: NodeCommand,
+    ) -> Did
+        requires ready { IsReady (turn_id turn.now) by seat.old }
+        requires seats { by < 64 }
+        requires of_line { IsLineSeat by }
+        requires works { O.coherent → IsAtWork O.coherent O.opening O.bytes O.script (seen_of seat.old) self.old }
+        requires commands { IsCommandOf self.old.line dn done }
+        requires due { O.coherent → IsDoneDue O.coherent O.opening O.bytes O.script (seen_of seat.old) self.old.line dn }
+        ensures ready { IsReady (turn_id turn.now) by seat.new }
+        ensures room { room_of seat.new ≡ room_of seat.old }
+        ensures goes_on { BeginsWith (seen_of seat.new) (seen_of seat.old) }
+        ensures line { self.new.line ≡ self.old.line }
+        ensures works { O.coherent → IsAtWork O.coherent O.opening O.bytes O.script (seen_of seat.new) self.new }
+        ensures went_on { result ≡ Did.WentOn → HasGoneOn self.old self.new }
+        ensures ended { result ≡ Did.Ended → O.coherent →
+            HasLeft O.coherent O.opening O.bytes O.script (seen_of seat.new) self.new.line (left_of self.new) }
+    {
+        let (asked, said) = (self.asked, self.said);
+        let (client, line, last) = (self.line.client, self.line.number, self.last_of(asked));
+        match tell_done(rt, alloc, turn, seat, by, client, line, last, said, dn) {
+            Ok(()) => {
+                self.cut(asked, Answer::OutOfMemory);
+                Did::Ended
+            }
+            Err(cause) => self.put_off(rt, turn, seat, by, asked, cause),
+        }
+    }
+}
+
+/// What a line has done to a datanode. There is nothing where its command is another, nor of a line that isn't numbered as those
+/// of a script are.
+fn command_in(line: &Line) -> Option<Commanded>
+    ensures its { IfSome result (λ it. IsCommandOf line.now it.dn it.done) }
+    ensures numbers { IfSome result (λ it. HasNumbers line.now) }
+{
+    if line.client > MOST_CLIENTS || line.number == 0 {
+        return None;
+    }
+    let Command::Admin(command) = &line.command else {
+        return None;
+    };
+    match command {
+        AdminCommand::Stop { dn } => Some(Commanded {
+            dn: *dn,
+            done: NodeCommand::Stop,
+        }),
+        AdminCommand::Start { dn } => Some(Commanded {
+            dn: *dn,
+            done: NodeCommand::Start,
+        }),
+        AdminCommand::Wipe { dn } => Some(Commanded {
+            dn: *dn,
+            done: NodeCommand::Wipe,
+        }),
+        AdminCommand::Close | AdminCommand::Containers | AdminCommand::Drain => None,
+    }
+}

@@ -122,25 +122,17 @@ fn command_in(line: &Line) -> Option<Commanded>
     ensures its { IfSome result (λ it. IsCommandOf line.now it.dn it.done) }
     ensures numbers { IfSome result (λ it. HasNumbers line.now) }
 {
-    if line.client > MOST_CLIENTS || line.number == 0 {
+    if usize::from(line.client) > MOST_CLIENTS || line.number == 0 {
         return None;
     }
     let Command::Admin(command) = &line.command else {
         return None;
     };
-    match command {
-        AdminCommand::Stop { dn } => Some(Commanded {
-            dn: *dn,
-            done: NodeCommand::Stop,
-        }),
-        AdminCommand::Start { dn } => Some(Commanded {
-            dn: *dn,
-            done: NodeCommand::Start,
-        }),
-        AdminCommand::Wipe { dn } => Some(Commanded {
-            dn: *dn,
-            done: NodeCommand::Wipe,
-        }),
-        AdminCommand::Close | AdminCommand::Containers | AdminCommand::Drain => None,
-    }
+    let (dn, done) = match command {
+        AdminCommand::Stop(dn) => (*dn, NodeCommand::Stop),
+        AdminCommand::Start(dn) => (*dn, NodeCommand::Start),
+        AdminCommand::Wipe(dn) => (*dn, NodeCommand::Wipe),
+        AdminCommand::Close | AdminCommand::Containers | AdminCommand::Drain => return None,
+    };
+    Some(Commanded { dn, done })
 }

@@ -28,6 +28,7 @@ module _ (Coherent : Type 0) (opening : Opening) (bytes : OpeningBytes) (script 
     kept = before.kept;
     number = number;
     is = kept;
+    not_behind = repeated.not_behind;
     led = λ coherent. subst (λ (n : ℕ). HasLed script n before.kept.seen before.kept.mine line.client line.number) number (repeated.led coherent);
   }
 

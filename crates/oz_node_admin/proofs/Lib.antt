@@ -1,4 +1,3 @@
 pub mod Emptying
-pub mod Since
 pub mod Told
 pub mod Came

@@ -1,5 +1,5 @@
 -- What who has something done to a datanode has seen then.
-use Rattle.std.specs.Prelude.{◌≡◌, ℕ, true, false, List, Result, Ok, Err, Some}
+use Rattle.std.specs.Prelude.{◌≡◌, ℕ, ◌≤◌, true, false, List, Result, Ok, Err, Some, slice_index}
 use Rattle.oz_core.specs.declared.event.Event.{Event}
 use Rattle.oz_core.specs.declared.event.EventKind.TheVariants.{Wipe}
 use Rattle.oz_core.specs.declared.event.Node.TheVariants.{Datanode}
@@ -29,6 +29,7 @@ module _ (Coherent : Type 0) (opening : Opening) (bytes : OpeningBytes) (script 
     pub kept : SeatView
     pub number : kept.dn ≡ dn
     pub is : IsKept Coherent opening bytes script kept
+    pub not_behind : line.number ≤ slice_index kept.last line.client
     pub led : Coherent → HasLed script dn kept.seen kept.mine line.client line.number
 
   -- by the answer: it was done, or the datanode's Halt is seen, or it was led before; of want of memory nothing is known

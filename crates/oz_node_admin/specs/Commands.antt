@@ -1,5 +1,5 @@
 -- What a line's command to a datanode comes to, and what one to stop or start it does.
-use Rattle.std.specs.Prelude.{◌≡◌, ℕ, Bool, true, false, List, [], ◌∷◌, ◌++◌, Result, Ok, Err, Some, if◌then◌else◌, not, slice_set}
+use Rattle.std.specs.Prelude.{◌≡◌, ℕ, ◌≤◌, Bool, true, false, List, [], ◌∷◌, ◌++◌, Result, Ok, Err, Some, if◌then◌else◌, not, slice_index, slice_set}
 use Rattle.oz_core.specs.declared.event.Event.{Event}
 use Rattle.oz_core.specs.declared.event.Node.TheVariants.{Datanode}
 use Rattle.oz_core.specs.Due.{IsAway, IsBack}
@@ -69,9 +69,11 @@ module _ {D S : Type 0} (before after : CellView D SeatView) (scm_before scm_aft
     pub seen : halt_of (Datanode before.kept.dn) seen_after ≡ Some count
     pub untouched : IsUntouched
 
-  -- This line, or a later one of its client, had something done to it before, where the opening is coherent.
+  -- This line, or a later one of its client, is the last that had something done to it, and where the opening is coherent such a
+  -- line of the script has.
   pub record IsRepeated (Coherent : Type 0) (script : Script) (line : Line) : Type 0 where
     pub unhalted : is_halted before.node ≡ false
+    pub not_behind : line.number ≤ slice_index before.kept.last line.client
     pub led : Coherent → HasLed script before.kept.dn before.kept.seen before.kept.mine line.client line.number
     pub untouched : IsUntouched
 

@@ -5,13 +5,11 @@
 mod changing;
 mod commanding;
 mod fault;
-mod laws;
 mod locked;
 mod running;
 mod wiped;
 
 pub use fault::AdminFault;
-pub use laws::a_wipe_is_since_its_lines_start;
 pub use locked::have_done;
 pub use running::{start_at, stop_at};
 pub use wiped::wipe_at;

@@ -7,3 +7,4 @@ mod Excluding
 mod Refusing
 mod Putting
 mod Getting
+mod Commanding

@@ -18,6 +18,7 @@ use oz_client::Step;
 use oz_core::SERVICE_CLIENT;
 use oz_fields::TryClone;
 use oz_locks::Loaded;
+use oz_node_admin::take_down_halted;
 use oz_om::{Manager, Refusal};
 use oz_requests::{Answer, AskId, Family, Request};
 use oz_servers::Servers;
@@ -58,8 +59,8 @@ impl<'s> LineAtWork<'s> {
         }
     }
 
-    /// Its stripe had no block for it: it asks again, knowing how long the story is, and where there is none still, once
-    /// more behind a grant. Where others took what was granted it asks later.
+    /// Its stripe had no block for it: datanodes that have halted are taken for down, and it asks again, knowing how long the
+    /// story is, and where there is none still, once more behind a grant. Where others took what was granted it asks later.
     fn ask_for_more<D: Disk, O: Opened, L: Loaded, R: Ring, W: Wait>(
         &mut self,
         rt: &W,
@@ -82,6 +83,11 @@ impl<'s> LineAtWork<'s> {
         ensures went_on { result ≡ Did.WentOn → HasGoneOn self.old self.new }
         ensures unended { result ≢ Did.Ended }
     {
+        let (scm, nodes, count) = (&servers.scm, &servers.nodes, servers.node_count());
+        if take_down_halted(rt, alloc, turn, scm, nodes, seat, count).is_err() {
+            self.cut(self.asked, Answer::OutOfMemory);
+            return Did::WentOn;
+        }
         let place = story_length(rt, turn, seat, by);
         if let Some(did) = self.ask_once(rt, alloc, turn, &servers.manager, seat, by) {
             return did;

@@ -61,7 +61,10 @@ mod tests {
             ("a volume info /v\nb volume info /v", "2 of 2"),
             ("a key put /v/b/k text x\na admin containers", "2 later"),
             ("a admin stop 0\na admin start 15\na admin wipe 2", "3 of 1"),
-            ("b admin wipe 2\na after b 1 admin stop 2\na admin drain", "3 later"),
+            (
+                "b admin wipe 2\na after b 1 admin stop 2\na admin drain",
+                "3 later",
+            ),
             ("a admin stop 16", "1 form"),
             ("a admin start", "1 form"),
             ("a key put /v/b/k fill 1 65537\na key get /v/b/k", "2 of 1"),

@@ -1,6 +1,8 @@
 -- Which lines are served today.
 use Rattle.std.specs.Prelude.{ℕ, Bool, true, false, not, is_none, List, Option}
 use Rattle.std.specs.List.{position}
+use Rattle.oz_command.specs.declared.command.AdminCommand.{AdminCommand}
+use Rattle.oz_command.specs.declared.command.AdminCommand.TheVariants.{Stop, Start, Wipe, Close, Containers, Drain}
 use Rattle.oz_command.specs.declared.command.Command.{Command}
 use Rattle.oz_command.specs.declared.command.Command.TheVariants.{VolumeCreate, VolumeDelete, VolumeInfo, BucketCreate}
 use Rattle.oz_command.specs.declared.command.Command.TheVariants.{BucketDelete, BucketInfo, BucketList, KeyPut, KeyOpen}
@@ -9,7 +11,16 @@ use Rattle.oz_command.specs.declared.command.Command.TheVariants.{KeyExpire, Sna
 use Rattle.oz_command.specs.declared.command.Command.TheVariants.{SnapshotList, Admin}
 use Rattle.oz_lines.specs.declared.script.Line.{Line}
 
--- The command is served: all but those that ask for a snapshot, and those of the admin.
+-- The command of the admin is served: one that is done to a datanode. Those on containers aren't.
+abbrev pub is_served_admin : AdminCommand → Bool
+is_served_admin (Stop dn) = true
+is_served_admin (Start dn) = true
+is_served_admin (Wipe dn) = true
+is_served_admin Close = false
+is_served_admin Containers = false
+is_served_admin Drain = false
+
+-- The command is served: all but those that ask for a snapshot, and those of the admin on containers.
 abbrev pub is_served_command : Command → Bool
 is_served_command (VolumeCreate volume) = true
 is_served_command (VolumeDelete volume) = true
@@ -30,7 +41,7 @@ is_served_command (SnapshotCreate volume bucket snapshot) = false
 is_served_command (SnapshotDelete volume bucket snapshot) = false
 is_served_command (SnapshotInfo volume bucket snapshot) = false
 is_served_command (SnapshotList volume bucket) = false
-is_served_command (Admin command) = false
+is_served_command (Admin command) = is_served_admin command
 
 -- so is the line that has it
 abbrev pub is_served : Line → Bool

@@ -1,9 +1,9 @@
 //! Which lines are served today.
 
 ghost use Rattle.std.specs.Prelude.{◌≡◌};
-ghost use Rattle.oz_placed.specs.Served.{is_served, is_served_command, later_index};
+ghost use Rattle.oz_placed.specs.Served.{is_served, is_served_admin, is_served_command, later_index};
 
-use oz_command::Command;
+use oz_command::{AdminCommand, Command};
 use oz_fields::List;
 use oz_lines::Line;
 
@@ -42,7 +42,16 @@ fn is_served_command(command: &Command) -> bool
         Command::SnapshotCreate { .. }
         | Command::SnapshotDelete { .. }
         | Command::SnapshotInfo { .. }
-        | Command::SnapshotList { .. }
-        | Command::Admin(_) => false,
+        | Command::SnapshotList { .. } => false,
+        Command::Admin(command) => is_served_admin(*command),
+    }
+}
+
+fn is_served_admin(command: AdminCommand) -> bool
+    ensures { result ≡ is_served_admin command }
+{
+    match command {
+        AdminCommand::Stop(_) | AdminCommand::Start(_) | AdminCommand::Wipe(_) => true,
+        AdminCommand::Close | AdminCommand::Containers | AdminCommand::Drain => false,
     }
 }

@@ -142,7 +142,9 @@ mod tests {
             ("a volume create v", "script 1 form\n"),
             ("a volume create /vol1\n\n#\nx\n", "script 4 form\n"),
             ("a volume create /v\nb admin close\n", "script 2 later\n"),
-            ("a volume create /v\na admin stop 0\n", "script 2 later\n"),
+            ("a volume create /v\na admin drain\n", "script 2 later\n"),
+            ("a admin stop 0\na admin containers\n", "script 2 later\n"),
+            ("a admin wipe 16\n", "script 1 form\n"),
             (
                 "a volume create /v\na key get /v/b/.snapshot/s01/k\n",
                 "script 2 later\n",

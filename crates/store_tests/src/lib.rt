@@ -1,5 +1,6 @@
 //! Tests of runs over all disks of a store: what a first run writes to each, each disk that fails at each call of its
-//! loading, disks that are damaged, and disks that don't agree.
+//! loading, disks that are damaged, disks that don't agree, keys with bytes, and datanodes that are stopped, started and
+//! wiped, or whose disks fail.
 #![tactic(auto)]
 
 #[cfg(test)]
@@ -14,3 +15,5 @@ mod failing;
 mod first;
 #[cfg(test)]
 mod store;
+#[cfg(test)]
+mod told;

@@ -10,6 +10,8 @@ mod bytes;
 #[cfg(test)]
 mod damage;
 #[cfg(test)]
+mod datanodes;
+#[cfg(test)]
 mod failing;
 #[cfg(test)]
 mod first;

@@ -16,6 +16,8 @@ mod failing;
 #[cfg(test)]
 mod first;
 #[cfg(test)]
+mod halted;
+#[cfg(test)]
 mod store;
 #[cfg(test)]
 mod told;

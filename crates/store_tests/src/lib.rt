@@ -18,6 +18,8 @@ mod first;
 #[cfg(test)]
 mod halted;
 #[cfg(test)]
+mod halted_scm;
+#[cfg(test)]
 mod store;
 #[cfg(test)]
 mod told;

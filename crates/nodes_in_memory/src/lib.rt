@@ -28,8 +28,21 @@ pub fn disk_with(
     bytes: &[u8],
     failing: Option<FailingCall>,
 ) -> Result<MemoryDisk, OutOfMemory> {
+    match failing {
+        Some(call) => disk_where(alloc, name, bytes, &[call]),
+        None => disk_where(alloc, name, bytes, &[]),
+    }
+}
+
+/// A disk of this name with these bytes, which fails at its own of these calls.
+pub fn disk_where(
+    alloc: Global,
+    name: DiskName,
+    bytes: &[u8],
+    failing: &[FailingCall],
+) -> Result<MemoryDisk, OutOfMemory> {
     let mut fails = Vec::new(alloc);
-    if let Some(this) = failing {
+    for this in failing {
         if this.name == name {
             fails.push(this.call)?;
         }
@@ -42,15 +55,15 @@ fn node_with(
     alloc: Global,
     dn: u8,
     bytes: Option<&NodeDisks<Vec<u8>>>,
-    failing: Option<FailingCall>,
+    failing: &[FailingCall],
 ) -> Result<NodeDisks<MemoryDisk>, OutOfMemory> {
     let (meta, slots): (&[u8], &[u8]) = match bytes {
         Some(bytes) => (&bytes.meta, &bytes.slots),
         None => (&[], &[]),
     };
     Ok(NodeDisks {
-        meta: disk_with(alloc, DiskName::Meta(dn), meta, failing)?,
-        slots: disk_with(alloc, DiskName::Slots(dn), slots, failing)?,
+        meta: disk_where(alloc, DiskName::Meta(dn), meta, failing)?,
+        slots: disk_where(alloc, DiskName::Slots(dn), slots, failing)?,
     })
 }
 
@@ -59,7 +72,7 @@ fn nodes_with(
     alloc: Global,
     count: u8,
     bytes: &[NodeDisks<Vec<u8>>],
-    failing: Option<FailingCall>,
+    failing: &[FailingCall],
 ) -> Result<Vec<NodeDisks<MemoryDisk>>, OutOfMemory>
     ensures { IfOk result (λ nodes. length nodes.items ≡ count) }
 {
@@ -76,7 +89,7 @@ fn nodes_named(
     words: &[String],
     read: Words,
     bytes: &[NodeDisks<Vec<u8>>],
-    failing: Option<FailingCall>,
+    failing: &[FailingCall],
 ) -> Result<Vec<NodeDisks<MemoryDisk>>, OutOfMemory>
     requires { IsRead (map string_bytes words.now) read }
     ensures { (nodes workers : ℕ) → IsRunWith (map string_bytes words.now) nodes workers →
@@ -89,7 +102,24 @@ fn nodes_named(
 }
 
 /// As many datanodes as these words say, and three where they are wrong: the first ones with these bytes and the others
-/// with empty disks.
+/// with empty disks. They fail at these calls.
+pub fn nodes_where(
+    alloc: Global,
+    words: &[String],
+    bytes: &[NodeDisks<Vec<u8>>],
+    failing: &[FailingCall],
+) -> Result<Vec<NodeDisks<MemoryDisk>>, OutOfMemory>
+    ensures { (nodes workers : ℕ) → IsRunWith (map string_bytes words.now) nodes workers →
+        IfOk result (λ disks. length disks.items ≡ nodes) }
+{
+    words_of_a_run_have_no_fault();
+    match read_words(words) {
+        Ok(read) => nodes_named(alloc, words, read, bytes, failing),
+        Err(_) => nodes_with(alloc, 3, bytes, failing),
+    }
+}
+
+/// The same, where a call of one disk fails, or none.
 pub fn nodes_for(
     alloc: Global,
     words: &[String],
@@ -99,9 +129,8 @@ pub fn nodes_for(
     ensures { (nodes workers : ℕ) → IsRunWith (map string_bytes words.now) nodes workers →
         IfOk result (λ disks. length disks.items ≡ nodes) }
 {
-    words_of_a_run_have_no_fault();
-    match read_words(words) {
-        Ok(read) => nodes_named(alloc, words, read, bytes, failing),
-        Err(_) => nodes_with(alloc, 3, bytes, failing),
+    match failing {
+        Some(call) => nodes_where(alloc, words, bytes, &[call]),
+        None => nodes_where(alloc, words, bytes, &[]),
     }
 }

@@ -1,6 +1,6 @@
 //! Runs over the disks of a store in memory.
 
-use nodes_in_memory::{FailingCall, disk_with, nodes_for};
+use nodes_in_memory::{FailingCall, disk_where, nodes_where};
 use oz_cluster::{Disks, NodeDisks, run};
 use oz_nodes_loaded::DiskName;
 use oz_world::{MemoryDisk, MemorySink, MemorySource, OpenGate, OutOfMemory};
@@ -53,22 +53,22 @@ fn nodes_of(
     Ok(all)
 }
 
-/// What a run with these words leaves of disks with these bytes, where a call of one of them fails, or none.
-pub fn runs_failing<R: Threads + Wait + Sync + AllocGlobal>(
+/// What a run with these words leaves of disks with these bytes, where these calls of them fail.
+pub fn runs_where<R: Threads + Wait + Sync + AllocGlobal>(
     rt: &R,
     words: &str,
     script: &str,
     bytes: &Bytes,
-    failing: Option<FailingCall>,
+    failing: &[FailingCall],
 ) -> Result<Left, OutOfMemory> {
     let alloc = rt.alloc();
     let words = words_of(alloc, words)?;
     let mut source = MemorySource::new(script.as_bytes().to_vec(alloc)?, Vec::new(alloc));
     let mut out = MemorySink::new(alloc, Vec::new(alloc))?;
     let disks = Disks {
-        manager: disk_with(alloc, DiskName::Manager, &bytes.manager, failing)?,
-        scm: disk_with(alloc, DiskName::Scm, &bytes.scm, failing)?,
-        nodes: nodes_for(alloc, &words, &bytes.nodes, failing)?,
+        manager: disk_where(alloc, DiskName::Manager, &bytes.manager, failing)?,
+        scm: disk_where(alloc, DiskName::Scm, &bytes.scm, failing)?,
+        nodes: nodes_where(alloc, &words, &bytes.nodes, failing)?,
     };
     let ended = run(rt, alloc, &words, &mut source, &mut out, disks, &OpenGate);
     Ok(Left {
@@ -82,6 +82,20 @@ pub fn runs_failing<R: Threads + Wait + Sync + AllocGlobal>(
     })
 }
 
+/// The same, where a call of one of them fails, or none.
+pub fn runs_failing<R: Threads + Wait + Sync + AllocGlobal>(
+    rt: &R,
+    words: &str,
+    script: &str,
+    bytes: &Bytes,
+    failing: Option<FailingCall>,
+) -> Result<Left, OutOfMemory> {
+    match failing {
+        Some(call) => runs_where(rt, words, script, bytes, &[call]),
+        None => runs_where(rt, words, script, bytes, &[]),
+    }
+}
+
 /// The same, where no call fails.
 pub fn runs<R: Threads + Wait + Sync + AllocGlobal>(
     rt: &R,
@@ -89,7 +103,7 @@ pub fn runs<R: Threads + Wait + Sync + AllocGlobal>(
     script: &str,
     bytes: &Bytes,
 ) -> Result<Left, OutOfMemory> {
-    runs_failing(rt, words, script, bytes, None)
+    runs_where(rt, words, script, bytes, &[])
 }
 
 /// Whether the disks of these datanodes have the same bytes.

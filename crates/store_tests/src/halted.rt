@@ -1,7 +1,7 @@
 //! Datanodes whose disks fail behind their loading.
 
 use crate::store::{nothing, runs_where};
-use crate::told::{ABC, MADE, PRELUDE, RUNS, all_print_where, lines, prints, prints_where};
+use crate::told::{ABC, HELLO, MADE, PRELUDE, RUNS, all_print_where, lines, prints, prints_where};
 use nodes_in_memory::FailingCall;
 use oz_nodes_loaded::DiskName;
 use oz_world::OutOfMemory;
@@ -94,6 +94,28 @@ fn a_datanode_halted_by_a_put_is_not_started(rt: HostRuntime) -> Result<(), Fail
         call: 3,
     }];
     all_print_where(&rt, script.as_str(), &slots, (5, wanted.as_str()))?;
+    Ok(())
+}
+
+/// The last datanode that has a key halts at a put of another. That one is read from the others, and the first from nobody.
+#[test]
+fn a_halted_datanode_is_not_read(rt: HostRuntime) -> Result<(), Fail> {
+    let alloc = rt.alloc();
+    let script = format!(in alloc;
+        "{PRELUDE}a key put /vol1/bk1/k text abc; a admin wipe 0; a admin wipe 1; a key get /vol1/bk1/k; \
+        a key put /vol1/bk1/n text hello; a key get /vol1/bk1/k; a key get /vol1/bk1/n"
+    )?;
+    let wanted = format!(in alloc;
+        "{MADE}d 1 3 1 CreateKey OK; d 1 3 2 AllocateBlock OK; d 1 3 3 CommitKey OK; t 1 3 OK 3; \
+        t 1 4 OK; t 1 5 OK; d 1 6 1 LookupKey OK; t 1 6 OK {ABC}; \
+        d 1 7 1 CreateKey OK; d 1 7 2 AllocateBlock OK; h dn2 1; d 1 7 3 CommitKey OK; t 1 7 OK 5; \
+        d 1 8 1 LookupKey OK; t 1 8 NO_REPLICA piece 0; d 1 9 1 LookupKey OK; t 1 9 OK {HELLO}"
+    )?;
+    let failing = [FailingCall {
+        name: DiskName::Meta(2),
+        call: 8,
+    }];
+    all_print_where(&rt, script.as_str(), &failing, (5, wanted.as_str()))?;
     Ok(())
 }
 

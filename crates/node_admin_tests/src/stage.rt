@@ -39,7 +39,9 @@ impl Opened for ThreeNodes {
 
 pub type Book = Ledger<ThreeNodes>;
 
-pub type Cell<R> = NodeCell<MemoryDisk, NodeSeat<Book, ThreeNodes, R>>;
+pub type Own<R> = NodeSeat<Book, ThreeNodes, R>;
+
+pub type Cell<R> = NodeCell<MemoryDisk, Own<R>>;
 
 pub type Manager<R> = ScmCell<MemoryDisk, Book, ThreeNodes, R>;
 
@@ -91,8 +93,13 @@ pub type Disks = NodeDisks<MemoryDisk>;
 
 /// Two empty disks of a datanode.
 pub fn empty_disks(alloc: Global) -> Result<Disks, OutOfMemory> {
+    disks_failing(alloc, 0)
+}
+
+/// The same, where one call of the journal's disk fails, or none where this is 0.
+pub fn disks_failing(alloc: Global, on_meta: u64) -> Result<Disks, OutOfMemory> {
     Ok(NodeDisks {
-        meta: disk(alloc, 0)?,
+        meta: disk(alloc, on_meta)?,
         slots: disk(alloc, 0)?,
     })
 }

@@ -1,6 +1,7 @@
 //! Lines, and what is told, in short.
 
 ghost use Rattle.std.specs.Prelude.{◌≡◌};
+ghost use Rattle.oz_turn.specs.Seat.{IsReady};
 ghost use Rattle.oz_turn.specs.Turn.{turn_id};
 
 use crate::stage::{Book, Stage};
@@ -8,7 +9,7 @@ use oz_command::{AdminCommand, Command};
 use oz_core::{Event, EventKind, Node};
 use oz_fields::OutOfMemory;
 use oz_lines::Line;
-use oz_turn::{Ring, Turn};
+use oz_turn::{Ring, Seat, Turn};
 use std::alloc::Global;
 use std::process::Abort;
 use std::sync::Wait;
@@ -41,6 +42,7 @@ fn in_short(alloc: Global, story: &[Event]) -> Result<Vec<u8>, OutOfMemory> {
             EventKind::Down { dn: 0 } => b'd',
             EventKind::Up { dn: 0 } => b'u',
             EventKind::Wipe { dn: 0 } => b'w',
+            EventKind::Refused { dn: 0, .. } => b'n',
             EventKind::Halt {
                 node: Node::Datanode(0),
                 count: 1,
@@ -64,7 +66,21 @@ pub fn tells<R: Ring, W: Wait + Abort>(
 ) -> Result<(), Fail>
     requires turn { turn_id turn.now ≡ R.turn }
 {
-    let story = turn.look(rt, alloc, &mut stage.worker, 0)?;
+    told(rt, alloc, turn, &mut stage.worker, wanted)
+}
+
+/// The same, as a worker sees it.
+pub fn told<W: Wait + Abort>(
+    rt: &W,
+    alloc: Global,
+    turn: &Turn<Book>,
+    worker: &mut Seat<Book>,
+    wanted: &str,
+) -> Result<(), Fail>
+    requires ready { IsReady (turn_id turn.now) 5 worker.old }
+    ensures ready { IsReady (turn_id turn.now) 5 worker.new }
+{
+    let story = turn.look(rt, alloc, worker, 0)?;
     let said = in_short(alloc, story.as_slice())?;
     holds(rt, said.as_slice() == wanted.as_bytes(), "what is told");
     Ok(())

@@ -1,3 +1,4 @@
 pub mod Emptying
 pub mod Told
 pub mod Came
+pub mod Down

@@ -1,4 +1,5 @@
 pub mod Commands
 pub mod Wipes
 pub mod Came
+pub mod Halts
 pub mod laws

@@ -7,4 +7,4 @@ mod Excluding
 mod Refusing
 mod Putting
 mod Getting
-mod Commanding
+mod Commands

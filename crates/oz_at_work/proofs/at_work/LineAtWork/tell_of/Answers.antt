@@ -3,7 +3,7 @@ use Rattle.oz_requests.specs.declared.answer.Answer.TheVariants as answers
 use Rattle.oz_turn.specs.Seat.{mine_of, seen_of}
 use Rattle.oz_at_work.specs.AtWork.{HasLeft, IsAtWork, WorkView, left_of}
 use Rattle.oz_at_work.specs.inner.Commanded.{IsCommandOf, IsDoneDue}
-use Rattle.oz_at_work.proofs.Commanding.{done_left, due_fits}
+use Rattle.oz_at_work.proofs.Commands.{done_left, due_fits}
 use Rattle.oz_at_work.proofs.Cutting.{cut_so}
 use Rattle.oz_at_work.proofs.Staying.{work_still}
 use Rattle.oz_at_work.proofs.at_work.LineAtWork.tell_of.Goals as goal

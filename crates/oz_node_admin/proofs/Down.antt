@@ -1,5 +1,5 @@
 -- What is known of a datanode that has halted.
-use Rattle.std.proofs.Common.{◌≡◌, ◌≢◌, ℕ, ◌+◌, ◌<◌, Bool, true, false, ◌&&◌, cond, List, [], ◌++◌, Option, None, Some, is_none, refl, sym, ap, ◌∙◌, subst, append-nil, below_more}
+use Rattle.std.proofs.Common.{◌≡◌, ◌≢◌, ℕ, ◌+◌, Bool, true, false, ◌&&◌, List, [], Option, None, Some, is_none, refl, sym, ap, ◌∙◌, append-nil, below_more}
 use Rattle.std.specs.Prelude.{is_some, Result, Ok, Err, OnOk}
 use Rattle.oz_buffer.specs.Buffer.{AllFollow, Follows}
 use Rattle.oz_core.specs.declared.event.Event.{Event}

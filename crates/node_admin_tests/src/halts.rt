@@ -1,6 +1,7 @@
 //! A disk of a datanode fails while a block is put. The datanode is taken for down then, and that is told once.
 
-ghost use Rattle.std.specs.Prelude.{◌≡◌, ◌≤◌, vec_len, IfOk};
+ghost use Rattle.std.specs.Prelude.{◌≡◌, ◌≤◌, length, vec_len, IfOk};
+ghost use Rattle.oz_replicas.specs.Cells.{AreInOrder};
 ghost use Rattle.oz_turn.specs.Seat.{AreNewSeats, IsReady};
 ghost use Rattle.oz_turn.specs.Turn.{turn_id};
 
@@ -61,6 +62,20 @@ fn put<R: Ring, W: Wait + Abort>(
     Ok(())
 }
 
+/// No other cells, and then this one.
+fn with_first<R: Ring>(cells: Vec<Cell<R>>, cell: Cell<R>) -> Result<Vec<Cell<R>>, Fail>
+    requires its { cell.node.id ≡ 0 }
+    requires count { length cells.items ≡ 0 }
+    requires in_order { AreInOrder cells.items }
+    ensures count { IfOk result (λ more. length more.items ≡ 1) }
+    ensures in_order { IfOk result (λ more. AreInOrder more.items) }
+{
+    cells_stay_in_order::<MemoryDisk, Own<R>>();
+    let mut more = cells;
+    more.push(cell)?;
+    Ok(more)
+}
+
 /// The datanode alone, behind its lock.
 fn alone<R: Ring>(alloc: Global, cell: Cell<R>) -> Result<Nodes<MemoryDisk, Own<R>>, Fail>
     ensures { IfOk result (λ nodes. nodes ≡ 1) }
@@ -69,8 +84,7 @@ fn alone<R: Ring>(alloc: Global, cell: Cell<R>) -> Result<Nodes<MemoryDisk, Own<
     if cell.node.id() != 0 {
         return Err("another datanode".into());
     }
-    let mut cells = Vec::new(alloc);
-    cells.push(cell)?;
+    let cells = with_first(Vec::new(alloc), cell)?;
     match Nodes::make(alloc, cells) {
         Ok(nodes) => Ok(nodes),
         Err((_cells, error)) => Err(error.into()),

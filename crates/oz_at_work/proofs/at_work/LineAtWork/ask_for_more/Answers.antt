@@ -8,11 +8,11 @@ use Rattle.oz_at_work.proofs.at_work.LineAtWork.ask_for_more.Goals as goal
 pub returns-then-is_err-clause-works : goal.returns-then-is_err-clause-works
 returns-then-is_err-clause-works g c coherent =
     let O = g.O.Opened in
-    cut_so O.coherent O.opening O.bytes O.script (seen_of c.take_down_halted.new.seat) (seen_of c.args.seat.now) c.args.self.now c.cut.new.self _
-    answers.OutOfMemory coherent c.take_down_halted.ensures.begins tt c.cut.ensures (c.requires.works coherent)
+    cut_so O.coherent O.opening O.bytes O.script (seen_of c.take_down_halted.new.seat) (seen_of c.args.seat.now) c.args.self.now c.cut-then-is_err.new.self _
+    answers.OutOfMemory coherent c.take_down_halted.ensures.begins tt c.cut-then-is_err.ensures (c.requires.works coherent)
 
 pub returns-then-is_err-clause-went_on : goal.returns-then-is_err-clause-went_on
-returns-then-is_err-clause-went_on g c went = cut_goes_on c.args.self.now c.args.self.now c.cut.new.self _ _ c.cut.ensures
+returns-then-is_err-clause-went_on g c went = cut_goes_on c.args.self.now c.args.self.now c.cut-then-is_err.new.self _ _ c.cut-then-is_err.ensures
 
 pub ask_once-requires-clause-works : goal.ask_once-requires-clause-works
 ask_once-requires-clause-works g c coherent =

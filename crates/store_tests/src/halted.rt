@@ -131,7 +131,7 @@ const TWO: [FailingCall; 2] = [
     },
 ];
 
-/// Two datanodes halt at a put. The storage container manager takes them for up still.
+/// Two datanodes halt at a put. The storage container manager takes them for down before it grants anything.
 #[test]
 fn two_halted_by_a_put(rt: HostRuntime) -> Result<(), Fail> {
     let alloc = rt.alloc();
@@ -140,9 +140,9 @@ fn two_halted_by_a_put(rt: HostRuntime) -> Result<(), Fail> {
         a key put /vol1/bk1/n text abc; a key put /vol1/bk1/e fill 0 0"
     )?;
     let wanted = format!(in alloc;
-        "{MADE}d 1 3 1 CreateKey OK; d 1 3 2 AllocateBlock OK; h dn0 1; h dn1 1; t 1 3 NO_QUORUM; \
-        d 1 4 1 CreateKey OK; d 1 4 2 AllocateBlock OK; t 1 4 NO_QUORUM; t 1 5 NODE_HALTED dn 0 count 1; \
-        d 1 6 1 CreateKey OK; d 1 6 2 AllocateBlock OK; t 1 6 NO_QUORUM; \
+        "{MADE}d 1 3 1 CreateKey OK; d 1 3 2 AllocateBlock OK; h dn0 1; h dn1 1; t 1 3 NO_PIPELINE; \
+        d 1 4 1 CreateKey OK; d 1 4 2 AllocateBlock OK; t 1 4 NO_PIPELINE; t 1 5 NODE_HALTED dn 0 count 1; \
+        d 1 6 1 CreateKey OK; d 1 6 2 AllocateBlock OK; t 1 6 NO_PIPELINE; \
         d 1 7 1 CreateKey OK; d 1 7 2 CommitKey OK; t 1 7 OK 0"
     )?;
     all_print_where(&rt, script.as_str(), &TWO, (5, wanted.as_str()))?;
@@ -187,7 +187,7 @@ fn two_of_four_halted_by_a_put(rt: HostRuntime) -> Result<(), Fail> {
     )?;
     let wanted = format!(in alloc;
         "{MADE}d 1 3 1 CreateKey OK; d 1 3 2 AllocateBlock OK; h dn3 1; h dn0 1; d 1 3 3 AllocateBlock OK; \
-        d 1 3 4 AllocateBlock OK; d 1 3 5 CommitKey OK; t 1 3 OK 3; d 1 4 1 LookupKey OK; t 1 4 OK {ABC}"
+        d 1 3 4 CommitKey OK; t 1 3 OK 3; d 1 4 1 LookupKey OK; t 1 4 OK {ABC}"
     )?;
     let next = format!(in alloc; "d 1 1 1 LookupKey OK; t 1 1 OK {ABC}")?;
     for words in RUNS {

@@ -258,9 +258,8 @@ fn all_go_on<R: Threads + Wait + Abort + Sync + AllocGlobal>(
         let script = format!(in alloc; "{PRELUDE}a key put /vol1/bk1/k text abc; {script}")?;
         let script = lines(alloc, script.as_str())?;
         let left = runs(rt, words, script.as_str(), &nothing(alloc))?;
-        let report = left.text.as_str();
-        assert_eq!(rt; left.status, 0, "by {words}: {report}");
-        has_lines(rt, words, report, wanted)?;
+        assert_eq!(rt; left.status, 0, "by {words}");
+        has_lines(rt, words, left.text.as_str(), wanted)?;
     }
     Ok(())
 }

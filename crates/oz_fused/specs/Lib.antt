@@ -1,0 +1,2 @@
+pub mod FusedDisk
+pub mod laws

@@ -1,6 +1,6 @@
 //! Going through the cases in a folder.
 
-use crate::judging::{Judge, Judged};
+use crate::judging::Judged;
 use crate::statement::{Statement, statements};
 use crate::sweep::{Each, eaches_of, turn_behind, turn_text, turns_of};
 use std::alloc::{AllocError, Global};
@@ -57,13 +57,14 @@ fn add_all(
 }
 
 /// Judges the turns of a case.
-fn judge_turns<R: AllocGlobal, J: Judge<R>>(
-    rt: &R,
+fn judge_turns<J: Fn(&[Statement]) -> Result<Judged, AllocError>>(
+    alloc: Global,
     judge: &J,
     text: &str,
     eaches: &[Each],
-) -> Result<Vec<String>, AllocError> {
-    let alloc = rt.alloc();
+) -> Result<Vec<String>, AllocError>
+    requires { J.IsAlwaysCallable judge.now }
+{
     let mut told = Vec::new(alloc);
     let mut next = 0u64;
     for turn in 0..turns_of(eaches) {
@@ -72,7 +73,7 @@ fn judge_turns<R: AllocGlobal, J: Judge<R>>(
         }
         let (text, called) = turn_text(alloc, eaches, turn, text)?;
         let case = turn_of(alloc, text.as_str())?;
-        let Judged { differs, is_last } = judge.judge(rt, &case)?;
+        let Judged { differs, is_last } = judge(&case)?;
         add_all(alloc, &mut told, called.as_str(), &differs)?;
         if is_last {
             next = turn_behind(eaches, turn);
@@ -82,14 +83,15 @@ fn judge_turns<R: AllocGlobal, J: Judge<R>>(
 }
 
 /// Judges a case: what differs, a line each.
-fn judge_text<R: AllocGlobal, J: Judge<R>>(
-    rt: &R,
+fn judge_text<J: Fn(&[Statement]) -> Result<Judged, AllocError>>(
+    alloc: Global,
     judge: &J,
     text: &str,
-) -> Result<Vec<String>, AllocError> {
-    let alloc = rt.alloc();
+) -> Result<Vec<String>, AllocError>
+    requires { J.IsAlwaysCallable judge.now }
+{
     match eaches_of(alloc, &statements(alloc, text)?)? {
-        Ok(eaches) => judge_turns(rt, judge, text, &eaches),
+        Ok(eaches) => judge_turns(alloc, judge, text, &eaches),
         Err(line) => {
             let mut told = Vec::new(alloc);
             told.push(format!(in alloc; " line {line}: its values can't be read")?)?;
@@ -99,14 +101,16 @@ fn judge_text<R: AllocGlobal, J: Judge<R>>(
 }
 
 /// Judges the case of a name, and tells what came of it.
-fn go<R: Files + Print + AllocGlobal, J: Judge<R>>(
+fn go<R: Files + Print + AllocGlobal, J: Fn(&[Statement]) -> Result<Judged, AllocError>>(
     rt: &R,
     judge: &J,
     name: &str,
-) -> io::Result<bool> {
+) -> io::Result<bool>
+    requires { J.IsAlwaysCallable judge.now }
+{
     let file = format!(in rt.alloc(); "{name}.case")?;
     let text = fs::read_to_string(rt, file.as_str())?;
-    let differs = judge_text(rt, judge, text.as_str())?;
+    let differs = judge_text(rt.alloc(), judge, text.as_str())?;
     if differs.is_empty() {
         println!(rt; "ok {name}")?;
         return Ok(true);
@@ -119,12 +123,14 @@ fn go<R: Files + Print + AllocGlobal, J: Judge<R>>(
 }
 
 /// Goes through the cases of the folder in which the program runs, in the order of their names, or through the chosen ones, and
-/// prints of each whether it came out as it says, and at last how many did. A case that can't be read is one that didn't.
-pub fn go_through<R: Files + Print + AllocGlobal + Clone + Drop, J: Judge<R>>(
-    rt: &R,
-    chosen: &[String],
-    judge: &J,
-) -> io::Result<Counts> {
+/// prints of each whether it came out as it says, and at last how many did. A case that can't be read is one that didn't. Who judges
+/// takes the statements of a case, and answers what differs.
+pub fn go_through<
+    R: Files + Print + AllocGlobal + Clone + Drop,
+    J: Fn(&[Statement]) -> Result<Judged, AllocError>,
+>(rt: &R, chosen: &[String], judge: &J) -> io::Result<Counts>
+    requires { J.IsAlwaysCallable judge.now }
+{
     let all = names_in(rt)?;
     let names: &[String] = if chosen.is_empty() { &all } else { chosen };
     let mut counts = Counts {

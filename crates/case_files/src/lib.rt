@@ -20,6 +20,6 @@ mod sweep;
 pub use bytes::bytes_of;
 pub use fill::filled;
 pub use going::{Counts, go_through};
-pub use judging::{Judge, Judged};
+pub use judging::Judged;
 pub use statement::{Statement, joined, statements};
 pub use sweep::{Each, values_of};

@@ -64,6 +64,24 @@ fn words_of(alloc: Global, line: &str) -> Result<Vec<String>, AllocError> {
     Ok(words)
 }
 
+/// Adds a line of a block to the statement above it. Where there is none it is a statement of its own, without a word.
+fn add_inner(
+    alloc: Global,
+    statements: &mut Vec<Statement>,
+    number: u64,
+    inner: &str,
+) -> Result<(), AllocError> {
+    if let Some(above) = statements.last_mut() {
+        return add_line(alloc, &mut above.block, inner);
+    }
+    statements.push(Statement {
+        line: number,
+        words: Vec::new(alloc),
+        block: Vec::new(alloc),
+    })?;
+    Ok(())
+}
+
 /// Adds what a line says to the statements before it.
 fn add(
     alloc: Global,
@@ -72,10 +90,7 @@ fn add(
     line: &str,
 ) -> Result<(), AllocError> {
     if let Some(inner) = line.strip_prefix("  ") {
-        return match statements.last_mut() {
-            Some(above) => add_line(alloc, &mut above.block, inner),
-            None => Ok(()),
-        };
+        return add_inner(alloc, statements, number, inner);
     }
     if line.is_empty() || line.starts_with('#') {
         return Ok(());

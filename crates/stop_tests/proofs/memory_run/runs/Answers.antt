@@ -1,8 +1,0 @@
-use Rattle.std.proofs.Common.{map, sym, ◌∙◌, subst}
-use Rattle.std.specs.String.{string_bytes}
-use Rattle.oz_words.specs.Words.{IsRunWith}
-use Rattle.stop_tests.proofs.memory_run.runs.Goals as goal
-
-pub run-status-requires-clause-nodes : goal.run-status-requires-clause-nodes
-run-status-requires-clause-nodes g c κs within nodes workers is =
-    c.in_ok-nodes_for.ensures nodes workers (subst (λ words. IsRunWith (map string_bytes words) nodes workers) (c.deref-2.ensures.value ∙ sym c.deref.ensures.value) is)

@@ -1,3 +1,0 @@
-pub mod Empty
-pub mod Standing
-pub mod Seats

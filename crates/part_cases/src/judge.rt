@@ -1,0 +1,21 @@
+//! Which part of the store a case is of.
+
+use crate::unread::{holds, unread};
+use case_files::{Judge, Judged, Statement};
+use std::alloc::AllocError;
+
+/// Judges the cases of the parts.
+pub struct Parts;
+
+impl<R: AllocGlobal> Judge<R> for Parts {
+    /// The first statement says the part.
+    fn judge(&self, rt: &R, case: &[Statement]) -> Result<Judged, AllocError> {
+        let alloc = rt.alloc();
+        let Some(first) = case.first() else {
+            return Ok(holds(alloc));
+        };
+        match first.word(0) {
+            _ => unread(alloc, first, "no part has this name"),
+        }
+    }
+}

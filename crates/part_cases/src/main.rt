@@ -1,0 +1,24 @@
+//! Goes through the cases in its folder that call parts of the store below a run, and prints what came of each.
+#![tactic(auto)]
+
+mod judge;
+mod unread;
+
+use case_files::{Counts, go_through};
+use judge::Parts;
+use std::process::ExitCode;
+use std::{env, io};
+
+/// The words are the names of the cases to go through, without `.case`; with no word it goes through all.
+fn main(rt: HostRuntime) -> io::Result<ExitCode> {
+    let mut names = Vec::new(rt.alloc());
+    for word in env::args(&rt)?.skip(1) {
+        names.push(word)?;
+    }
+    let Counts { failed, .. } = go_through(&rt, &names, &Parts)?;
+    Ok(if failed == 0 {
+        ExitCode::SUCCESS
+    } else {
+        ExitCode::FAILURE
+    })
+}

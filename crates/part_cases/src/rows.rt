@@ -186,11 +186,11 @@ impl Place<'_> {
         name: &Name,
         state: SnapshotState,
     ) -> Result<String, AllocError> {
-        let state = match state {
-            SnapshotState::Live => "live",
-            SnapshotState::Marked => "marked",
+        let (kind, state) = match state {
+            SnapshotState::Live => ("snapshot", "live"),
+            SnapshotState::Marked => ("deleted-snapshot", "marked"),
         };
-        self.named(alloc, "snapshot", name, String::from_str(alloc, state)?)
+        self.named(alloc, kind, name, String::from_str(alloc, state)?)
     }
 }
 
@@ -281,7 +281,7 @@ pub fn first_other<'a>(lines: &'a [String], wanted: &'a [String]) -> Option<(&'a
 /// The rows are those of the namespace, and each block that was granted stands in them once.
 pub fn stand_alike(alloc: Global, store: &Store) -> Result<(), Wrong> {
     let Rows { mut lines, blocks } = row_lines(alloc, &store.cached)?;
-    lines.retain(|line| !line.starts_with("deleted") && !line.ends_with(" marked"));
+    lines.retain(|line| !line.starts_with("deleted"));
     lines.sort()?;
     let mut wanted = namespace_lines(alloc, &store.namespace)?;
     wanted.sort()?;

@@ -1,8 +1,17 @@
 //! Goes through the cases in its folder that call parts of the store below a run, and prints what came of each.
 #![tactic(auto)]
 
+mod asked;
+mod drawn;
+mod full;
+mod given;
 mod judge;
+mod requests;
+mod rows;
+mod said;
+mod store;
 mod unread;
+mod wrong;
 
 use case_files::{Counts, go_through};
 use judge::Parts;

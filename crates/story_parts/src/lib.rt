@@ -20,5 +20,8 @@ mod texts;
 mod unread;
 mod words;
 
+pub use replies::reply;
+pub use requests::request;
 pub use texts::{opening_of, story_of};
 pub use unread::Unread;
+pub use words::Words;

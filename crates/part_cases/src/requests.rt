@@ -1,0 +1,102 @@
+//! Cases of requests: what the plain program of one thread replies to each, and what is decided of it over rows.
+//!
+//! - `ask` and a block of requests, each with what it has to come to behind ` = `: a reply, `not_yet` or `no_block`; with
+//!   nothing behind it a request may not be refused. A line with two further blanks says the batch of the request above it.
+//!   Afterwards the rows have to be those of the namespace.
+//! - `plain` and a block of requests that the plain program alone is asked.
+//! - `rows` and a block of all rows, in the order of their keys.
+//! - `reach` and the blocks that keys, sessions and snapshots reach.
+//! - `flush`: what was entered goes down to the tables.
+//! - `stripes NUMBER`: so many numbers were drawn in each stripe.
+//! - `snapshot VOLUME BUCKET NUMBER NAME STATE`: a row of a snapshot, `live` or `marked`.
+//! - `full VOLUME BUCKETS KEYS SESSIONS`: a volume with so many buckets, the first of which has so many keys and sessions.
+//! - `drawn` and `among`: requests that are drawn.
+
+use crate::asked::{ask_all, tell_all};
+use crate::drawn::drawn;
+use crate::full::give_full;
+use crate::given::{give_snapshot, give_stripes};
+use crate::rows::{first_other, row_lines};
+use crate::said::{blocks_text, cannot, line};
+use crate::store::{Store, flush};
+use crate::wrong::Wrong;
+use case_files::{Judged, Statement};
+use oz_fields::List;
+use oz_model::reach;
+use std::alloc::{AllocError, Global};
+
+/// Judges a case of requests.
+pub fn judge_requests(alloc: Global, case: &[Statement]) -> Result<Judged, AllocError> {
+    let mut differs = Vec::new(alloc);
+    match go(alloc, case) {
+        Ok(()) => {}
+        Err(Wrong::Line(line)) => differs.push(line)?,
+        Err(Wrong::OutOfMemory) => {
+            differs.push(String::from_str(alloc, "a call answered that memory ran out")?)?
+        }
+    }
+    Ok(Judged {
+        differs,
+        is_last: false,
+    })
+}
+
+fn go(alloc: Global, case: &[Statement]) -> Result<(), Wrong> {
+    let mut store = Store::new(alloc);
+    for statement in case.iter().skip(1) {
+        if let Err(wrong) = step(alloc, case, &mut store, statement) {
+            return Err(at(alloc, statement.line, wrong)?);
+        }
+    }
+    Ok(())
+}
+
+/// The same with the number of the line.
+fn at(alloc: Global, number: u64, wrong: Wrong) -> Result<Wrong, AllocError> {
+    match wrong {
+        Wrong::Line(text) => Ok(Wrong::Line(format!(in alloc; "line {number}: {text}")?)),
+        Wrong::OutOfMemory => Ok(Wrong::OutOfMemory),
+    }
+}
+
+fn step(
+    alloc: Global,
+    case: &[Statement],
+    store: &mut Store,
+    statement: &Statement,
+) -> Result<(), Wrong> {
+    match statement.word(0) {
+        "ask" => ask_all(alloc, store, &statement.block),
+        "plain" => tell_all(alloc, store, &statement.block),
+        "rows" => are_rows(alloc, store, &statement.block),
+        "reach" => is_reached(alloc, store, statement.word(1)),
+        "stripes" => give_stripes(alloc, store, statement),
+        "snapshot" => give_snapshot(alloc, store, statement),
+        "full" => give_full(alloc, store, statement),
+        "drawn" => drawn(alloc, case, store, statement),
+        "flush" => Ok(flush(&mut store.cached)),
+        "among" => Ok(()),
+        _ => cannot(alloc, "no statement begins so"),
+    }
+}
+
+/// The rows are these.
+fn are_rows(alloc: Global, store: &Store, wanted: &[String]) -> Result<(), Wrong> {
+    let rows = row_lines(alloc, &store.cached)?;
+    match first_other(&rows.lines, wanted) {
+        None => Ok(()),
+        Some((row, wanted)) => line(format!(in alloc;
+            "wanted the row `{wanted}`, there is `{row}`"
+        )),
+    }
+}
+
+/// The blocks that are reached are these.
+fn is_reached(alloc: Global, store: &Store, wanted: &str) -> Result<(), Wrong> {
+    let reached = List::of(reach(alloc, &store.namespace)?);
+    let reached = blocks_text(alloc, &reached)?;
+    if reached.as_str() == wanted {
+        return Ok(());
+    }
+    line(format!(in alloc; "wanted the blocks `{wanted}`, reached are `{reached}`"))
+}

@@ -1,0 +1,102 @@
+//! What a case of requests has: rows, the namespace beside them, and what was opened and granted.
+
+ghost use Rattle.std.specs.Prelude.{◌≡◌, ◌<◌};
+
+use oz_cache::Cached;
+use oz_epochs::Steps;
+use oz_fields::{Block, List, OutOfMemory};
+use oz_model::Namespace;
+use oz_requests::Reply;
+use oz_rows::Change;
+use oz_tables::Tables;
+use std::alloc::{AllocError, Global};
+use std::marker::Brand;
+use std::sync::ledger::{Blank, Ledger};
+
+/// A block that was granted to a session.
+#[derive(Drop)]
+pub struct Grant {
+    pub session: String,
+    pub block: Block,
+}
+
+/// Rows and the namespace beside them.
+#[derive(Drop)]
+pub struct Store {
+    pub cached: Cached,
+    pub namespace: Namespace,
+    /// The sessions that were opened, each by its volume, bucket, key and number.
+    pub opened: Vec<String>,
+    pub grants: Vec<Grant>,
+    /// The operations of the last request that was decided.
+    pub batch: List<u8>,
+}
+
+impl Store {
+    pub fn new(alloc: Global) -> Store {
+        Store {
+            cached: Cached::over(alloc, Tables::new(alloc)),
+            namespace: Namespace::new(alloc),
+            opened: Vec::new(alloc),
+            grants: Vec::new(alloc),
+            batch: List::new(alloc),
+        }
+    }
+
+    /// Enters changes of the rows under the next epoch.
+    pub fn enter(&mut self, alloc: Global, changes: List<Change>) -> Result<(), OutOfMemory> {
+        if changes.is_empty() {
+            return Ok(());
+        }
+        let epoch = self.cached.last_epoch();
+        let prepared = self.cached.prepare(alloc, changes.into_items())?;
+        if epoch < 1 << 62 {
+            self.cached.enter(epoch + 1, prepared);
+        }
+        Ok(())
+    }
+
+    /// Notes what the reply to a request opened or granted.
+    pub fn note(&mut self, alloc: Global, said: &str, reply: &Reply) -> Result<(), AllocError> {
+        match reply {
+            Reply::Session(number) => {
+                let key = some_words(alloc, said, 3)?;
+                self.opened.push(format!(in alloc; "{key} {number}")?)?;
+            }
+            Reply::Granted(block, _) => {
+                let session = some_words(alloc, said, 4)?;
+                let block = *block;
+                self.grants.push(Grant { session, block })?;
+            }
+            _ => {}
+        }
+        Ok(())
+    }
+}
+
+/// So many words of a request, behind the first.
+pub fn some_words(alloc: Global, said: &str, count: usize) -> Result<String, AllocError> {
+    let mut text = String::new(alloc);
+    for word in said.split(' ').skip(1).take(count) {
+        if !text.is_empty() {
+            text.push(' ')?;
+        }
+        text.push_str(word)?;
+    }
+    Ok(text)
+}
+
+/// Moves what was entered down into the tables.
+pub fn flush(cached: &mut Cached) {
+    bring_down::<Brand>(cached, Blank::new(1));
+}
+
+fn bring_down<L: Ledger>(cached: &mut Cached, blank: Blank)
+    requires name { blank.name ≡ L.name }
+    requires parts { blank.parts ≡ L.parts }
+    requires some { 0 < L.parts }
+{
+    let mut steps = Steps::<L>::start(blank);
+    let epoch = cached.last_epoch();
+    cached.flushed(epoch, &mut steps);
+}

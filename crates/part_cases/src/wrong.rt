@@ -1,0 +1,24 @@
+//! Why a case doesn't hold.
+
+use std::alloc::{AllocError, AllocFailed};
+
+/// Why a case doesn't hold.
+#[derive(Debug, Drop)]
+pub enum Wrong {
+    /// A call answered that memory ran out.
+    OutOfMemory,
+    /// What differs, or can't be read.
+    Line(String),
+}
+
+impl From<AllocError> for Wrong {
+    fn from(_error: AllocError) -> Wrong {
+        Wrong::OutOfMemory
+    }
+}
+
+impl<T: Drop> From<AllocFailed<T>> for Wrong {
+    fn from(_error: AllocFailed<T>) -> Wrong {
+        Wrong::OutOfMemory
+    }
+}

@@ -1,5 +1,6 @@
 //! Which part of the store a case is of.
 
+use crate::stories::judge_stories;
 use crate::unread::{holds, unread};
 use case_files::{Judge, Judged, Statement};
 use std::alloc::AllocError;
@@ -15,6 +16,7 @@ impl<R: AllocGlobal> Judge<R> for Parts {
             return Ok(holds(alloc));
         };
         match first.word(0) {
+            "stories" => judge_stories(alloc, case),
             _ => unread(alloc, first, "no part has this name"),
         }
     }

@@ -1,7 +1,9 @@
 //! Goes through the cases in its folder that call parts of the store below a run, and prints what came of each.
 #![tactic(auto)]
 
+mod found;
 mod judge;
+mod stories;
 mod unread;
 
 use case_files::{Counts, go_through};

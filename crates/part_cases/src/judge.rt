@@ -1,5 +1,6 @@
 //! Which part of the store a case is of.
 
+use crate::steps::judge_steps;
 use crate::stories::judge_stories;
 use crate::unread::{holds, unread};
 use case_files::{Judge, Judged, Statement};
@@ -17,6 +18,7 @@ impl<R: AllocGlobal> Judge<R> for Parts {
         };
         match first.word(0) {
             "stories" => judge_stories(alloc, case),
+            "steps" => judge_steps(alloc, case),
             _ => unread(alloc, first, "no part has this name"),
         }
     }

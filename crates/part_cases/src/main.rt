@@ -3,6 +3,9 @@
 
 mod found;
 mod judge;
+mod names;
+mod parts;
+mod steps;
 mod stories;
 mod unread;
 

@@ -15,6 +15,14 @@ pub fn compared(alloc: Global, wanted: &str, came: &str) -> Found {
     Ok(Some(format!(in alloc; "wanted \"{wanted}\" and \"{came}\" came")?))
 }
 
+/// What differs where a text came of a row of a table that isn't the wanted one.
+pub fn row_compared(alloc: Global, row: &str, wanted: &str, came: &str) -> Found {
+    if wanted == came {
+        return Ok(None);
+    }
+    Ok(Some(format!(in alloc; "of \"{row}\" \"{came}\" came")?))
+}
+
 /// What can't be read.
 pub fn no_such(alloc: Global, text: &str) -> Unread {
     match String::from_str(alloc, text) {

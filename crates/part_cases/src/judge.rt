@@ -1,8 +1,11 @@
 //! Which part of the store a case is of.
 
+use crate::commands::judge_commands;
+use crate::scripts::judge_scripts;
 use crate::steps::judge_steps;
 use crate::stories::judge_stories;
 use crate::unread::{holds, unread};
+use crate::words::judge_words;
 use case_files::{Judge, Judged, Statement};
 use std::alloc::AllocError;
 
@@ -18,7 +21,10 @@ impl<R: AllocGlobal> Judge<R> for Parts {
         };
         match first.word(0) {
             "stories" => judge_stories(alloc, case),
+            "commands" => judge_commands(alloc, case),
+            "scripts" => judge_scripts(alloc, case),
             "steps" => judge_steps(alloc, case),
+            "words" => judge_words(alloc, case),
             _ => unread(alloc, first, "no part has this name"),
         }
     }

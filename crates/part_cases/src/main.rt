@@ -1,13 +1,16 @@
 //! Goes through the cases in its folder that call parts of the store below a run, and prints what came of each.
 #![tactic(auto)]
 
+mod commands;
 mod found;
 mod judge;
 mod names;
 mod parts;
+mod scripts;
 mod steps;
 mod stories;
 mod unread;
+mod words;
 
 use case_files::{Counts, go_through};
 use judge::Parts;

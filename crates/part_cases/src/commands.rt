@@ -62,10 +62,12 @@ fn piece(alloc: Global, words: &str, first: u64, length: u32) -> Result<Vec<u8>,
     let Some(command) = command_of(alloc, words.as_bytes())? else {
         return Err(no_such(alloc, words));
     };
-    if first.saturating_add(u64::from(length)) > data_length(&command) {
-        return Err(no_such(alloc, "a piece past the data's end"));
+    match first.checked_add(u64::from(length)) {
+        Some(end) if end <= data_length(&command) => {
+            Ok(piece_of(alloc, &command, first, length)?)
+        }
+        _ => Err(no_such(alloc, "a piece past the data's end")),
     }
-    Ok(piece_of(alloc, &command, first, length)?)
 }
 
 /// The piece has so many bytes, which begin with these.

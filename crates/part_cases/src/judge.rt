@@ -1,6 +1,10 @@
 //! Which part of the store a case is of.
 
 use crate::commands::judge_commands;
+use crate::containers::judge_containers;
+use crate::logs::judge_logs;
+use crate::nodes::judge_nodes;
+use crate::scm::judge_scm;
 use crate::scripts::judge_scripts;
 use crate::steps::judge_steps;
 use crate::stories::judge_stories;
@@ -22,6 +26,10 @@ impl<R: AllocGlobal> Judge<R> for Parts {
         match first.word(0) {
             "stories" => judge_stories(alloc, case),
             "commands" => judge_commands(alloc, case),
+            "containers" => judge_containers(alloc, case),
+            "logs" => judge_logs(alloc, case),
+            "nodes" => judge_nodes(alloc, case),
+            "scm" => judge_scm(alloc, case),
             "scripts" => judge_scripts(alloc, case),
             "steps" => judge_steps(alloc, case),
             "words" => judge_words(alloc, case),

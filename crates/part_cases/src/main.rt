@@ -1,11 +1,16 @@
 //! Goes through the cases in its folder that call parts of the store below a run, and prints what came of each.
 #![tactic(auto)]
 
+mod calls;
 mod commands;
+mod containers;
 mod found;
 mod judge;
+mod logs;
 mod names;
+mod nodes;
 mod parts;
+mod scm;
 mod scripts;
 mod steps;
 mod stories;

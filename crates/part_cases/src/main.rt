@@ -2,19 +2,32 @@
 #![tactic(auto)]
 
 mod asked;
+mod calls;
+mod commands;
+mod containers;
 mod drawn;
+mod found;
 mod full;
 mod given;
 mod judge;
+mod logs;
+mod names;
+mod nodes;
+mod parts;
 mod requests;
 mod rows;
 mod said;
+mod scm;
+mod scripts;
+mod steps;
 mod store;
+mod stories;
 mod unread;
+mod words;
 mod wrong;
 
-use case_files::{Counts, go_through};
-use judge::Parts;
+use case_files::{Counts, Statement, go_through};
+use judge::judge;
 use std::process::ExitCode;
 use std::{env, io};
 
@@ -24,7 +37,11 @@ fn main(rt: HostRuntime) -> io::Result<ExitCode> {
     for word in env::args(&rt)?.skip(1) {
         names.push(word)?;
     }
-    let Counts { failed, .. } = go_through(&rt, &names, &Parts)?;
+    let Counts { failed, .. } = go_through(
+        &rt,
+        &names,
+        &|case: &[Statement]| judge(rt.alloc(), case),
+    )?;
     Ok(if failed == 0 {
         ExitCode::SUCCESS
     } else {

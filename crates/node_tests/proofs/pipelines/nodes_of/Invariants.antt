@@ -1,5 +1,0 @@
-use Rattle.std.proofs.Common.{◌≡◌, length}
-use Rattle.node_tests.proofs.pipelines.nodes_of.Given as goal
-
-abbrev pub invariant-loop-dn : goal.invariant-loop-dn
-invariant-loop-dn l = length l.nodes ≡ l.count

@@ -1,0 +1,33 @@
+//! Names in texts that show values.
+
+use std::alloc::{AllocError, Global};
+
+const FRONT: &str = "Name { bytes: [";
+
+const BEHIND: &str = "] }";
+
+/// Adds the bytes of a name.
+fn add_name(text: &mut String, bytes: &str) -> Result<(), AllocError> {
+    text.push('"')?;
+    for byte in bytes.split(", ") {
+        if let Ok(byte) = byte.parse::<u8>() {
+            text.push(char::from(byte))?;
+        }
+    }
+    text.push('"')
+}
+
+/// A value as it is shown, with each name as its bytes, between quotes.
+pub fn named(alloc: Global, shown: &str) -> Result<String, AllocError> {
+    let mut text = String::new(alloc);
+    for part in shown.split(FRONT) {
+        match part.split_once(BEHIND) {
+            Some((bytes, rest)) if !text.is_empty() => {
+                add_name(&mut text, bytes)?;
+                text.push_str(rest)?;
+            }
+            _ => text.push_str(part)?,
+        }
+    }
+    Ok(text)
+}

@@ -637,22 +637,21 @@ def bytes_of(path):
 
 
 class Disk:
-    """A disk that is a journal: its entries with their places, what they make, and its first fault."""
+    """A disk that is a journal: its entries with their places, what they make, and its first fault, one of the journal first."""
 
     def __init__(self, folder, name, kind):
         self.name = name
         found = bytes_of(f"{folder}/{name}")
         self.is_there = found is not None
         self.journal = Journal(found or b"")
-        self.made, self.entries, self.fault = kind(), [], None
+        self.made, self.entries, self.fault = kind(), [], self.journal.fault
         for place, body in self.journal.bodies:
             try:
                 self.entries.append((place, self.made.read(body)))
             except Fault as fault:
-                self.fault = fault.behind(place)
+                self.fault = self.fault or fault.behind(place)
                 self.made = functools.reduce(taken, self.journal.bodies[: len(self.entries)], kind())
                 return
-        self.fault = self.journal.fault
 
     def size(self):
         return len(self.journal.disk)

@@ -16,7 +16,7 @@ rounds=${1:-31}
 work=$(mktemp -d "${2:-/dev/shm}/buckets.XXXXXX")
 trap 'rm -rf "$work"' EXIT
 
-"$top/ozone" --version >"$work/version"    # proves and builds the program where that is to be done
+[[ ${OZONE_PROGRAM:-} ]] || "$top/ozone" build
 program=${OZONE_PROGRAM:-$top/crates/oz_main/out/oz_main}
 counts=(10 20 100 200 900 1000 1010 1024)
 

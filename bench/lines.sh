@@ -18,7 +18,7 @@ top=$(dirname "$(dirname "$(readlink -f "${BASH_SOURCE[0]}")")")
 lines=${1:-100} rounds=${2:-21}
 work=$(mktemp -d "${3:-$top/data}/lines.XXXXXX")
 trap 'rm -rf "$work"' EXIT
-"$top/ozone" --version >"$work/version"    # proves and builds the program where that is to be done
+[[ ${OZONE_PROGRAM:-} ]] || "$top/ozone" build
 program=${OZONE_PROGRAM:-$top/crates/oz_main/out/oz_main}
 
 cat >"$work/measure.py" <<'PYTHON'

@@ -1,0 +1,2 @@
+//! Tests in which threads meet at a turn, at a lock or at a gate.
+#![tactic(auto)]

@@ -3,7 +3,7 @@
 #
 # usage: bench/memory.sh [CRATE] [WORD] [MOST]
 #
-# The tests of CRATE (buffer_tests) whose names have WORD in them are run as the gate built them, so `rt ci` is to have
+# The tests of CRATE (beside_tests) whose names have WORD in them are run as the gate built them, so `rt ci` is to have
 # run first. A test is run once with no allocation refused, which counts them, and then once for each of them, MOST (2000)
 # at most, with that one refused (`refuse.c`, which gcc compiles). A line of each test has its name, how many allocations there are,
 # and how many of the runs
@@ -17,7 +17,7 @@
 # flusher nothing is told but what the disk below takes. The status is 1 where a run ended in another way.
 set -uo pipefail
 top=$(dirname "$(dirname "$(readlink -f "${BASH_SOURCE[0]}")")")
-crate=${1:-buffer_tests}
+crate=${1:-beside_tests}
 word=${2:-}
 most=${3:-2000}
 program=$top/crates/$crate/out/${crate}_tests

@@ -1,0 +1,13 @@
+//! Tests in which threads meet at a turn, at a lock or at a gate, and of calls whose refusals no run reaches.
+#![tactic(auto)]
+
+#[cfg(test)]
+mod book;
+#[cfg(test)]
+mod flushes;
+#[cfg(test)]
+mod longest;
+#[cfg(test)]
+mod stripes;
+#[cfg(test)]
+mod turns;

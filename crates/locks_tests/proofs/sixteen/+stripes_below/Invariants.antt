@@ -1,5 +1,0 @@
-use Rattle.locks_tests.proofs.sixteen.+stripes_below.Given as goal
-
--- one fewer each time
-abbrev pub decreases-stripes_below : goal.decreases-stripes_below
-decreases-stripes_below g l = l.count

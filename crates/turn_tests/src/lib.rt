@@ -1,5 +1,0 @@
-//! Tests of a value that threads take in turn.
-#![tactic(auto)]
-
-#[cfg(test)]
-mod turn;

@@ -53,7 +53,7 @@ use crate::om_store::{Book, Office, Worker, last_worker, made, opened};
 use oz_fields::Name;
 use oz_requests::{AskId, Request};
 use oz_turn::{Ring, Seat, Turn};
-use std::alloc::Global;
+use std::alloc::{AllocError, Global};
 use std::env;
 use std::marker::Brand;
 use std::sync::Wait;
@@ -87,7 +87,7 @@ fn kind_of(line: u16, volumes: u16) -> Kind {
 }
 
 /// The request on the volume of this number.
-fn request(alloc: Global, kind: Kind, volume: u16) -> Result<Request, Fail>
+fn request(alloc: Global, kind: Kind, volume: u16) -> Result<Request, AllocError>
     ensures { IfOk result (λ request. is_decided request ≡ true) }
 {
     let name = format!(in alloc; "vol{volume}")?;

@@ -10,7 +10,7 @@ use oz_fields::Name;
 use oz_requests::{AskId, Reply, Request};
 use oz_turn::{Ring, Seat, Turn};
 use oz_world::{Gate, Point};
-use std::alloc::Global;
+use std::alloc::{AllocError, Global};
 use std::marker::Brand;
 use std::sync::atomic::{AtomicBool, Ordering};
 use std::sync::{Barrier, Wait};
@@ -58,7 +58,7 @@ impl Gate for Meeting {
     }
 }
 
-fn request(alloc: Global, volume: &[u8]) -> Result<Request, Fail>
+fn request(alloc: Global, volume: &[u8]) -> Result<Request, AllocError>
     ensures { IfOk result (λ request. is_decided request ≡ true) }
 {
     Ok(Request::CreateVolume {
@@ -87,10 +87,10 @@ fn makes<R: Ring, W: Wait>(
         line,
         step: 1,
     };
-    matches!(
-        office.ask(rt, alloc, turn, seat, by, id, request, 0),
-        Ok(Reply::Done)
-    )
+    match &office.ask(rt, alloc, turn, seat, by, id, request, 0) {
+        Ok(reply) => matches!(reply, Reply::Done),
+        Err(_) => false,
+    }
 }
 
 /// Once the other thread waits, a line asks for `vol1`, whose stripe is 2. Answers whether it is made, and the other thread hears of it.

@@ -8,6 +8,10 @@ mod flushes;
 #[cfg(test)]
 mod longest;
 #[cfg(test)]
+mod om_beside;
+#[cfg(test)]
+mod om_store;
+#[cfg(test)]
 mod stripes;
 #[cfg(test)]
 mod turns;

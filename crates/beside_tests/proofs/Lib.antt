@@ -1,0 +1,2 @@
+pub mod OmSeats
+pub mod OmEmpty

@@ -77,24 +77,22 @@ pub fn push_key(text: &mut String, key: &RowKey) -> Result<(), OutOfMemory> {
 }
 
 fn push_blocks(text: &mut String, blocks: &List<Block>) -> Result<(), OutOfMemory> {
-    let mut mark = "";
-    for block in blocks {
-        write!(text, "{mark}{}.{}", block.container, block.local)?;
-        mark = ",";
+    for (place, block) in blocks.iter().enumerate() {
+        if place > 0 {
+            text.push(',')?;
+        }
+        write!(text, "{}.{}", block.container, block.local)?;
     }
     text.push_str(if blocks.is_empty() { "-" } else { "" })
 }
 
 fn push_pieces(text: &mut String, pieces: &List<Piece>) -> Result<(), OutOfMemory> {
-    let mut mark = "";
-    for piece in pieces {
+    for (place, piece) in pieces.iter().enumerate() {
+        if place > 0 {
+            text.push(',')?;
+        }
         let block = piece.block;
-        write!(
-            text,
-            "{mark}{}.{}:{}",
-            block.container, block.local, piece.length
-        )?;
-        mark = ",";
+        write!(text, "{}.{}:{}", block.container, block.local, piece.length)?;
     }
     text.push_str(if pieces.is_empty() { "-" } else { "" })
 }

@@ -84,13 +84,14 @@ fn stripe_in(found: Option<(&RowKey, &Row)>) -> Option<(u8, u64)> {
 }
 
 fn say_numbers<M: RowMap>(rows: &M, came: &mut String) -> Result<(), OutOfMemory> {
-    let mut mark = "";
     for stripe in 0..STRIPES {
-        match number_in(rows.get(&RowKey::Stripe { stripe })) {
-            Some(number) => write!(came, "{mark}{number}")?,
-            None => write!(came, "{mark}-")?,
+        if stripe > 0 {
+            came.push(' ')?;
         }
-        mark = " ";
+        match number_in(rows.get(&RowKey::Stripe { stripe })) {
+            Some(number) => write!(came, "{number}")?,
+            None => came.push('-')?,
+        }
     }
     came.push('\n')
 }

@@ -12,6 +12,7 @@ use crate::stories::judge_stories;
 use crate::unread::{holds, unread};
 use crate::words::judge_words;
 use case_files::{Judged, Statement};
+use row_parts::judge_rows;
 use std::alloc::{AllocError, Global};
 
 /// Judges a case: its first statement says of which part it is.
@@ -30,6 +31,7 @@ pub fn judge(alloc: Global, case: &[Statement]) -> Result<Judged, AllocError> {
         "scripts" => judge_scripts(alloc, case),
         "steps" => judge_steps(alloc, case),
         "words" => judge_words(alloc, case),
+        "cache" | "names" | "rows" | "tables" => judge_rows(alloc, case),
         _ => unread(alloc, first, "no part has this name"),
     }
 }

@@ -1,7 +1,0 @@
-use Rattle.std.proofs.lemmas.List.Elements.{All-from_recursion}
-use Rattle.oz_rows.specs.Operations.{OperationFits}
-use Rattle.manager_tests.proofs.again.body_of.Goals as goal
-
-pub put_operation-requires : goal.put_operation-requires
-put_operation-requires c =
-    rw c.operation-item.is (All-from_recursion OperationFits c.args.items.now c.requires.items c.loop-operation.operation-index _ c.loop-operation-test.true)

@@ -12,6 +12,7 @@ use crate::stories::judge_stories;
 use crate::unread::{holds, unread};
 use crate::words::judge_words;
 use case_files::{Judged, Statement};
+use node_parts::{judge_datanode, judge_journal};
 use std::alloc::{AllocError, Global};
 
 /// Judges a case: its first statement says of which part it is.
@@ -23,6 +24,8 @@ pub fn judge(alloc: Global, case: &[Statement]) -> Result<Judged, AllocError> {
         "stories" => judge_stories(alloc, case),
         "commands" => judge_commands(alloc, case),
         "containers" => judge_containers(alloc, case),
+        "datanode" => judge_datanode(alloc, case),
+        "journal" => judge_journal(alloc, case),
         "logs" => judge_logs(alloc, case),
         "nodes" => judge_nodes(alloc, case),
         "requests" => judge_requests(alloc, case),

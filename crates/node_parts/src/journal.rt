@@ -4,13 +4,14 @@
 //! bytes, as `5 [97, 98];`, or their number and that of all their bytes where there are a hundred. `load cut SIZE` loads only so
 //! many bytes, and `load set PLACE BYTE` loads them with another byte at a place. Then `append BYTES` gives the moment from which on the body is
 //! stable, and `clear`, `stopped` and `faults` are called; `end` hands the disk back.
+//! `no-memory` gives the text of that fault.
 
 use crate::drive::Drive;
 use crate::going::{Subject, judge};
 use crate::told::Stuck;
 use crate::words::bytes;
 use case_files::{Judged, Statement};
-use oz_journal::{Body, Frame, Journal, LONGEST_FRAME};
+use oz_journal::{Body, Frame, Journal, LONGEST_FRAME, LoadFault};
 use oz_world::MemoryDisk;
 use std::alloc::{AllocError, Global};
 
@@ -80,6 +81,10 @@ impl Subject for Kept {
             }
             "end" => {
                 self.end();
+                Ok(())
+            }
+            "no-memory" => {
+                write!(came, "{}", LoadFault::OutOfMemory)?;
                 Ok(())
             }
             _ => self.ask(alloc, name, words, came),

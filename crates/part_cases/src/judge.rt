@@ -12,6 +12,7 @@ use crate::stories::judge_stories;
 use crate::unread::{holds, unread};
 use crate::words::judge_words;
 use case_files::{Judged, Statement};
+use node_parts::{judge_datanode, judge_journal};
 use row_parts::judge_rows;
 use std::alloc::{AllocError, Global};
 
@@ -24,6 +25,8 @@ pub fn judge(alloc: Global, case: &[Statement]) -> Result<Judged, AllocError> {
         "stories" => judge_stories(alloc, case),
         "commands" => judge_commands(alloc, case),
         "containers" => judge_containers(alloc, case),
+        "datanode" => judge_datanode(alloc, case),
+        "journal" => judge_journal(alloc, case),
         "logs" => judge_logs(alloc, case),
         "nodes" => judge_nodes(alloc, case),
         "requests" => judge_requests(alloc, case),

@@ -1,15 +1,17 @@
 //! Scripts: what they say, or where their fault is.
 //!
 //! `script` has the lines of one in its block, with a newline between two, `text` with one behind each, and `bytes BYTES` has
-//! its bytes. Behind it, of the last one,
+//! its bytes; `generated NUMBER COUNT` is the script of generated load. Behind it, of the last one,
 //!
 //! - `read LINES` says for each line its place, client and number, and the line that it waits for: `3: 1.1 after 2.1;`;
-//! - `parsed LINES of CLIENTS` says how many it has;
-//! - `read LINE CAUSE` and `parsed LINE CAUSE` say where its fault is.
+//! - `parsed LINES of CLIENTS` says how many it has, and `written LINES of CLIENTS` how many, served or not;
+//! - `read LINE CAUSE` and `parsed LINE CAUSE` say where its fault is;
+//! - `long COUNT` says how many bytes it has, and `is` has all its lines in its block.
 
 use crate::found::{Found, compared, judged, no_such, tell};
 use case_files::{Judged, Statement, bytes_of};
 use oz_draft::ScriptFault;
+use oz_freon::MOST_KEYS;
 use oz_lines::Line;
 use oz_placed::{PlacedScript, read_lines};
 use oz_script::parse;
@@ -53,7 +55,18 @@ fn read(alloc: Global, script: &[u8]) -> Result<String, AllocError> {
     }
 }
 
-/// How many lines and clients a script has, or where its fault is.
+/// How many lines and clients a script has, whether a run serves its lines or not, or where its fault is.
+fn written(alloc: Global, script: &[u8]) -> Result<String, AllocError> {
+    match read_lines(alloc, script) {
+        Ok(placed) => {
+            let (clients, lines) = (placed.script.clients.len(), placed.script.lines.len());
+            format!(in alloc; "{lines} of {clients}")
+        }
+        Err(fault) => fault_shown(alloc, fault),
+    }
+}
+
+/// How many lines and clients a script has of which a run serves each line, or where its fault is.
 fn parsed(alloc: Global, script: &[u8]) -> Result<String, AllocError> {
     match parse(alloc, script) {
         Ok(script) => {
@@ -81,6 +94,22 @@ fn script_of(alloc: Global, row: &Statement) -> Result<Vec<u8>, Unread> {
     Ok(Vec::from_slice(alloc, text.as_bytes())?)
 }
 
+/// The script of generated load that a row names.
+fn generated(alloc: Global, row: &Statement) -> Result<Vec<u8>, Unread> {
+    if let (Some(number), Some(count)) = (row.number(1), row.number(2)) {
+        if 1 <= count && count <= u64::from(MOST_KEYS) {
+            return Ok(oz_freon::script(alloc, number, count as u16)?);
+        }
+    }
+    Err(no_such(alloc, row.words_from(alloc, 0)?.as_str()))
+}
+
+/// Whether a script is the text of a row's block.
+fn is_text(alloc: Global, script: &[u8], row: &Statement) -> Found {
+    let text = String::from_utf8_lossy(alloc, script)?;
+    compared(alloc, row.text(alloc)?.as_str(), text.as_str())
+}
+
 /// What a row comes to.
 fn found(alloc: Global, script: &mut Vec<u8>, row: &Statement) -> Found {
     match row.word(0) {
@@ -88,6 +117,21 @@ fn found(alloc: Global, script: &mut Vec<u8>, row: &Statement) -> Found {
             *script = script_of(alloc, row)?;
             Ok(None)
         }
+        "generated" => {
+            *script = generated(alloc, row)?;
+            Ok(None)
+        }
+        "written" => compared(
+            alloc,
+            row.words_from(alloc, 1)?.as_str(),
+            written(alloc, script)?.as_str(),
+        ),
+        "long" => compared(
+            alloc,
+            row.words_from(alloc, 1)?.as_str(),
+            format!(in alloc; "{}", script.len())?.as_str(),
+        ),
+        "is" => is_text(alloc, script, row),
         "read" => compared(
             alloc,
             row.words_from(alloc, 1)?.as_str(),

@@ -131,15 +131,25 @@ pub fn last_worker<R: Ring>(seats: &mut Vec<Seat<Book>>) -> Result<Worker<R>, Fa
     })
 }
 
-/// The flusher's seat is the first of all.
-fn desk_of<R: Ring>(flusher: Flusher<MemoryDisk>, mut seats: Vec<Seat<Book>>) -> Desk<R>
+/// The flusher's seat, which is the first of all.
+fn first_seat<R: Ring>(mut seats: Vec<Seat<Book>>) -> Seat<Book>
+    requires some { 1 ≤ vec_len seats }
+    requires new { AreNewSeats R.turn seats.items }
+    ensures { IsReady R.turn 0 result }
+{
+    new_seats_are_ready::<Book>();
+    seats.swap_remove(0)
+}
+
+/// The flusher with its seat.
+fn desk_of<R: Ring>(flusher: Flusher<MemoryDisk>, seats: Vec<Seat<Book>>) -> Desk<R>
     requires some { 1 ≤ vec_len seats }
     requires new { AreNewSeats R.turn seats.items }
 {
-    new_seats_are_ready::<Book>();
+    let seat = first_seat::<R>(seats);
     Desk {
         flusher,
-        seat: seats.swap_remove(0),
+        seat,
         of: PhantomData,
     }
 }

@@ -1,6 +1,6 @@
 //! Two threads at one turn.
 
-ghost use Rattle.std.specs.Prelude.{◌≡◌};
+ghost use Rattle.std.specs.Prelude.{◌≡◌, ◌<◌};
 ghost use Rattle.oz_turn.specs.Seat.{IsReady};
 ghost use Rattle.oz_turn.specs.Turn.{turn_id};
 

@@ -25,14 +25,6 @@ fn journal_of(alloc: Global, lines: &[String]) -> Result<Option<Vec<u8>>, OutOfM
     Ok(Some(journal))
 }
 
-/// Whether a statement ends with the word `bodies`, behind which a block may stand.
-pub fn is_of_bodies(statement: &Statement) -> bool {
-    statement
-        .words
-        .last()
-        .is_some_and(|word| word.as_str() == "bodies")
-}
-
 /// The bytes that the words from a place on say: words of bytes, or `bodies`, with a block that has a body a line, for the
 /// journal of these. None where they can't be read.
 pub fn bytes_from(
@@ -40,7 +32,7 @@ pub fn bytes_from(
     statement: &Statement,
     place: usize,
 ) -> Result<Option<Vec<u8>>, OutOfMemory> {
-    if is_of_bodies(statement) && statement.words.len() == place.saturating_add(1) {
+    if statement.word(place) == "bodies" {
         return journal_of(alloc, &statement.block);
     }
     if statement.words.len() <= place {

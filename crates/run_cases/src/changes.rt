@@ -11,34 +11,33 @@ fn offset_at(statement: &Statement, place: usize) -> Option<usize> {
     usize::try_from(number).ok()
 }
 
-/// These bytes with others in the place of as many from an offset on; none where there aren't as many.
+/// The first of these bytes, so many, or all where they aren't as many.
+fn front(bytes: &[u8], count: usize) -> &[u8] {
+    bytes.get(..count).unwrap_or(bytes)
+}
+
+/// These bytes with others in the place of those from an offset on.
 fn overwritten(
     alloc: Global,
     before: &[u8],
     at: usize,
     others: &[u8],
-) -> Result<Option<Vec<u8>>, OutOfMemory> {
-    let behind = at.saturating_add(others.len());
-    let (Some(front), Some(rest)) = (before.get(..at), before.get(behind..)) else {
-        return Ok(None);
-    };
-    let mut bytes = front.to_vec(alloc)?;
+) -> Result<Vec<u8>, OutOfMemory> {
+    let mut bytes = front(before, at).to_vec(alloc)?;
     bytes.extend_from_slice(others)?;
-    bytes.extend_from_slice(rest)?;
-    Ok(Some(bytes))
+    let behind = at.saturating_add(others.len());
+    bytes.extend_from_slice(before.get(behind..).unwrap_or(&[]))?;
+    Ok(bytes)
 }
 
-/// `cut LENGTH`: the first bytes; none where there are fewer.
+/// `cut LENGTH`: the first bytes.
 fn cut(
     alloc: Global,
     before: &[u8],
     statement: &Statement,
 ) -> Result<Option<Vec<u8>>, OutOfMemory> {
-    let Some(count) = offset_at(statement, 3) else {
-        return Ok(None);
-    };
-    match before.get(..count) {
-        Some(front) if statement.words.len() == 4 => Ok(Some(front.to_vec(alloc)?)),
+    match offset_at(statement, 3) {
+        Some(count) if statement.words.len() == 4 => Ok(Some(front(before, count).to_vec(alloc)?)),
         _ => Ok(None),
     }
 }
@@ -55,36 +54,21 @@ fn flipped(
     let bits = statement.word(4).parse::<u8>().ok();
     match (before.get(at).copied(), bits) {
         (Some(byte), Some(bits)) if statement.words.len() == 5 => {
-            overwritten(alloc, before, at, &[byte ^ bits])
+            Ok(Some(overwritten(alloc, before, at, &[byte ^ bits])?))
         }
         _ => Ok(None),
     }
 }
 
-/// `at OFFSET BYTES`: others in the place of these, which have to be there.
+/// `at OFFSET BYTES` or `add BYTES`: others from an offset on, or behind the last one.
 fn put(
     alloc: Global,
     before: &[u8],
-    statement: &Statement,
+    at: Option<usize>,
+    others: Option<Vec<u8>>,
 ) -> Result<Option<Vec<u8>>, OutOfMemory> {
-    match (offset_at(statement, 3), bytes_from(alloc, statement, 4)?) {
-        (Some(at), Some(others)) if !others.is_empty() => overwritten(alloc, before, at, &others),
-        _ => Ok(None),
-    }
-}
-
-/// `add BYTES`: others behind the last one.
-fn added(
-    alloc: Global,
-    before: &[u8],
-    statement: &Statement,
-) -> Result<Option<Vec<u8>>, OutOfMemory> {
-    match bytes_from(alloc, statement, 3)? {
-        Some(others) if !others.is_empty() => {
-            let mut bytes = before.to_vec(alloc)?;
-            bytes.extend_from_slice(&others)?;
-            Ok(Some(bytes))
-        }
+    match (at, others) {
+        (Some(at), Some(others)) => Ok(Some(overwritten(alloc, before, at, &others)?)),
         _ => Ok(None),
     }
 }
@@ -99,8 +83,14 @@ pub fn changed(
         "has" => bytes_from(alloc, statement, 3),
         "cut" => cut(alloc, before, statement),
         "flip" => flipped(alloc, before, statement),
-        "at" => put(alloc, before, statement),
-        "add" => added(alloc, before, statement),
+        "at" => {
+            let others = bytes_from(alloc, statement, 4)?;
+            put(alloc, before, offset_at(statement, 3), others)
+        }
+        "add" => {
+            let others = bytes_from(alloc, statement, 3)?;
+            put(alloc, before, Some(before.len()), others)
+        }
         _ => Ok(None),
     }
 }

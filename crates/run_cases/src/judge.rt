@@ -1,6 +1,5 @@
 //! A case of runs, one statement after another.
 
-use crate::bytes::is_of_bodies;
 use crate::going::go;
 use crate::inputs::take;
 use crate::law::judge_law;
@@ -43,20 +42,12 @@ fn run<R: Threads + Wait + Sync + AllocGlobal>(
     }
 }
 
-/// Whether a statement may have a block.
-fn may_have_block(statement: &Statement) -> bool {
-    matches!(statement.word(0), "script" | "text" | "client") || is_of_bodies(statement)
-}
-
 /// What one statement comes to.
 fn step<R: Threads + Wait + Sync + AllocGlobal>(
     rt: &R,
     stage: &mut Stage,
     statement: &Statement,
 ) -> Result<Said, OutOfMemory> {
-    if !statement.block.is_empty() && !may_have_block(statement) {
-        return Ok(Said::Unread);
-    }
     if matches!(statement.word(0), "go" | "go-unjudged") {
         return run(rt, stage, statement);
     }

@@ -33,21 +33,12 @@ fn want_client(alloc: Global, left: &Left, statement: &Statement) -> Result<Said
     compare(alloc, text_of(alloc, statement)?.as_str(), came.as_str())
 }
 
-/// The events of a story, each on a line, as `Down { dn: 1 }`.
-fn lines_of(alloc: Global, story: &[Event]) -> Result<String, OutOfMemory> {
-    let mut lines = String::new(alloc);
-    for event in story {
-        writeln!(lines, "{:?}", event.kind)?;
-    }
-    Ok(lines)
-}
-
-/// `count NUMBERS PATTERN`: so many lines of the report fit the pattern. `noted NUMBERS PATTERN`: so many events of the story.
-fn want_count(alloc: Global, text: &str, statement: &Statement) -> Result<Said, OutOfMemory> {
+/// `count NUMBERS PATTERN`: so many lines of the report fit the pattern.
+fn want_count(alloc: Global, left: &Left, statement: &Statement) -> Result<Said, OutOfMemory> {
     let Some(counts) = values_of(alloc, statement.words.get(1..2).unwrap_or(&[]))? else {
         return Ok(Said::Unread);
     };
-    let found = count(statement.words.get(2..).unwrap_or(&[]), text);
+    let found = count(statement.words.get(2..).unwrap_or(&[]), left.text.as_str());
     let came = format!(in alloc; "{found}")?;
     let is_so = counts.contains(&found);
     Said::differs_unless(alloc, is_so, statement.word(1), came.as_str())
@@ -211,8 +202,7 @@ pub fn want(alloc: Global, stage: &Stage, statement: &Statement) -> Result<Said,
             left.text.as_str(),
         ),
         "client" => want_client(alloc, left, statement),
-        "count" => want_count(alloc, left.text.as_str(), statement),
-        "noted" => want_count(alloc, lines_of(alloc, &left.story)?.as_str(), statement),
+        "count" => want_count(alloc, left, statement),
         "order" => want_order(alloc, left, statement),
         "told" => want_told(alloc, left, statement),
         "holds" | "starts" => want_bytes(alloc, stage, statement),

@@ -1,11 +1,11 @@
 -- A datanode that hasn't a block, and neither puts nor copies it, hasn't it later.
-use Rattle.std.proofs.Common.{◌≡◌, ℕ, Bool, true, false, ◌&&◌, ◌||◌, ◌==◌, cond, List, [], ◌∷◌, ◌++◌, length, drop, fold, Option, None, Some, refl, sym, ap, ◌∙◌, subst, append_assoc}
+use Rattle.std.proofs.Common.{◌≡◌, ℕ, Bool, true, false, ◌&&◌, ◌==◌, cond, List, [], ◌∷◌, ◌++◌, length, drop, fold, Option, None, Some, refl, sym, ap, ◌∙◌, subst, append_assoc}
 use Rattle.std.proofs.Math.Seq.{drop-append_seam}
 use Rattle.std.proofs.lemmas.Bool.{and_from, and_parts, false≢true, or_left}
-use Rattle.std.proofs.lemmas.List.Elements.{filter_map-append}
+use Rattle.std.proofs.lemmas.List.Elements.{All-head, All-tail, filter_map-append}
 use Rattle.std.proofs.lemmas.List.Folds.{list_any-append}
 use Rattle.std.proofs.lemmas.List.Sums.{fold-append}
-use Rattle.std.specs.Prelude.{map}
+use Rattle.std.specs.Prelude.{All, map}
 use Rattle.std.specs.List.{list_any}
 use Rattle.oz_core.specs.declared.event.Event.{Event}
 use Rattle.oz_core.specs.declared.event.EventKind.{EventKind}
@@ -15,7 +15,7 @@ use Rattle.oz_core.specs.declared.opening.Unretired.{Unretired}
 use Rattle.oz_core.specs.Law.{puts_or_copies}
 use Rattle.oz_core.specs.Nodes.{deletes, held_after, holds, was_held}
 use Rattle.oz_core.specs.Scm.{logged, logs}
-use Rattle.oz_core.specs.Stories.{all_told, has_event, last_told, newer}
+use Rattle.oz_core.specs.Stories.{all_told, last_told, newer}
 use Rattle.oz_dellog.specs.declared.txn.Txn.{Txn}
 use Rattle.oz_fields.specs.declared.block.Block.{Block}
 use Rattle.oz_telling.specs.Still.{StandsStill}
@@ -91,15 +91,14 @@ module _ (txns : List Txn) (dn : ℕ) (block : Block) where
       by false = refl
   none_put kind none = refl
 
-  never_held : (story : List Event) → has_event (puts_or_copies dn block) story ≡ false → last_told (held_after txns dn block) false story ≡ false
+  abbrev PutsNot : Event → Type 0
+  PutsNot event = puts_or_copies dn block event.kind ≡ false
+
+  never_held : (story : List Event) → All PutsNot story → last_told (held_after txns dn block) false story ≡ false
   never_held [] none = refl
   never_held (event ∷ story) none =
-      let both = neither (puts_or_copies dn block event.kind) (has_event (puts_or_copies dn block) story) none in
-      subst (λ (t : Bool). last_told (held_after txns dn block) t story ≡ false) (sym (none_put event.kind both.0)) (never_held story both.1)
-    where
-      neither : (a b : Bool) → (a || b) ≡ false → (a ≡ false) × (b ≡ false)
-      neither true b is = absurd (false≢true (sym is))
-      neither false b is = (refl, is)
+      subst (λ (t : Bool). last_told (held_after txns dn block) t story ≡ false) (sym (none_put event.kind (All-head PutsNot event story none)))
+      (never_held story (All-tail PutsNot event story none))
 
 pub absent_still : (opening : Opening) (story front : List Event) (dn : ℕ) (block : Block) → BeginsWith story front → holds opening front dn block ≡ false
     → StandsStill story (rests.Without dn block (length front)) → holds opening story dn block ≡ false
@@ -108,8 +107,8 @@ absent_still opening story front dn block begins none still =
     let txns : List Txn = logs opening front ++ all_told logged more in
     let first : last_told (held_after txns dn block) (was_held opening dn block) front ≡ false =
     fewer_held (logs opening front) (all_told logged more) dn block front (was_held opening dn block) (was_held opening dn block) (λ is. is) none in
-    let behind : has_event (puts_or_copies dn block) more ≡ false =
-    subst (λ (l : List Event). has_event (puts_or_copies dn block) l ≡ false) (ap (drop (length front)) begins.1 ∙ drop-append_seam front more) still in
+    let behind : All (λ (event : Event). puts_or_copies dn block event.kind ≡ false) more =
+    subst (λ (l : List Event). All (λ (event : Event). puts_or_copies dn block event.kind ≡ false) l) (ap (drop (length front)) begins.1 ∙ drop-append_seam front more) still in
     ap (λ (l : List Event). holds opening l dn block) begins.1
     ∙ (ap (λ (l : List Txn). last_told (held_after l dn block) (was_held opening dn block) (front ++ more)) (logs_more opening front more)
     ∙ (fold-append (λ (told : Bool) (event : Event). newer (held_after txns dn block event.kind) told) (was_held opening dn block) front more

@@ -28,9 +28,9 @@ use Rattle.oz_core.specs.Scm.{containers, members}
 use Rattle.oz_fields.specs.declared.block.Piece.{Piece}
 use Rattle.oz_lines.specs.declared.script.Line.{Line}
 use Rattle.oz_lines.specs.declared.script.Script.{Script}
-use Rattle.oz_reading.specs.declared.lacking.Doubted.{Doubted}
-use Rattle.oz_reading.specs.declared.lacking.Lack.{Lack}
-use Rattle.oz_reading.specs.declared.lacking.Lack.TheVariants as lacking
+use Rattle.oz_reading.specs.declared.lack.Doubted.{Doubted}
+use Rattle.oz_reading.specs.declared.lack.Lack.{Lack}
+use Rattle.oz_reading.specs.declared.lack.Lack.TheVariants as lacking
 use Rattle.oz_reading.specs.Lacks.{doubted_in, stills_in}
 use Rattle.oz_reading.specs.Read.{MayRead}
 use Rattle.oz_requests.specs.declared.answer.Answer.{Answer}

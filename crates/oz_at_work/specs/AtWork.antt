@@ -24,7 +24,7 @@ use Rattle.oz_fields.specs.declared.block.Piece.{Piece}
 use Rattle.oz_lines.specs.declared.script.Line.{Line}
 use Rattle.oz_lines.specs.declared.script.Script.{Script}
 use Rattle.oz_lines.specs.Numbered.{IsNumbered}
-use Rattle.oz_reading.specs.declared.lacking.Doubted.{Doubted}
+use Rattle.oz_reading.specs.declared.lack.Doubted.{Doubted}
 use Rattle.oz_reading.specs.Lacks.{AreDoubted}
 use Rattle.oz_requests.specs.declared.answer.Answer.{Answer}
 use Rattle.oz_requests.specs.declared.request.AskId.{AskId}

@@ -16,7 +16,7 @@ use Rattle.oz_replicas.specs.declared.note.Note.{Note}
 use Rattle.oz_replicas.specs.declared.note.Note.TheVariants as notes
 use Rattle.oz_requests.specs.declared.request.AskId.{AskId}
 use Rattle.oz_turn.specs.Told.{BeginsWith}
-use Rattle.oz_reading.specs.declared.lacking.Doubted.{Doubted}
+use Rattle.oz_reading.specs.declared.lack.Doubted.{Doubted}
 use Rattle.oz_reading.specs.Lacks.{AreDoubted}
 use Rattle.oz_reading.specs.Read.{TellsFor}
 

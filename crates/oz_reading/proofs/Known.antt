@@ -22,8 +22,8 @@ use Rattle.oz_telling.specs.Still.{AllStandStill, StandsStill}
 use Rattle.oz_turn.specs.Told.{BeginsWith}
 use Rattle.oz_underway.specs.laws.Going.{begins_itself, begins_through}
 use Rattle.oz_world.specs.Disk.{Images}
-use Rattle.oz_reading.specs.declared.lacking.Lack.{Lack}
-use Rattle.oz_reading.specs.declared.lacking.Lack.TheVariants as lacking
+use Rattle.oz_reading.specs.declared.lack.Lack.{Lack}
+use Rattle.oz_reading.specs.declared.lack.Lack.TheVariants as lacking
 use Rattle.oz_reading.specs.Lacks.{IsDoubted, doubted_in, stills_in}
 use Rattle.oz_reading.specs.Member.{LacksIt}
 use Rattle.oz_reading.specs.Read.{GaveAt, MayRead, NobodyHasIt, subject_of}

@@ -24,7 +24,7 @@ use Rattle.oz_replicas.specs.declared.note.Note.TheVariants as notes
 use Rattle.oz_requests.specs.declared.request.AskId.{AskId}
 use Rattle.oz_turn.specs.Told.{BeginsWith}
 use Rattle.oz_world.specs.Disk.{Images}
-use Rattle.oz_reading.specs.declared.lacking.Lack.TheVariants as lacking
+use Rattle.oz_reading.specs.declared.lack.Lack.TheVariants as lacking
 use Rattle.oz_reading.specs.Lacks.{IsDoubted, has_notes, lack_of}
 use Rattle.oz_reading.specs.Member.{IsGivenAt, LacksIt}
 use Rattle.oz_reading.specs.Read.{subject_of}

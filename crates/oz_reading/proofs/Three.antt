@@ -10,8 +10,8 @@ use Rattle.oz_lines.specs.declared.script.Script.{Script}
 use Rattle.oz_requests.specs.declared.request.AskId.{AskId}
 use Rattle.oz_turn.specs.Told.{BeginsWith}
 use Rattle.oz_world.specs.Disk.{Images}
-use Rattle.oz_reading.specs.declared.lacking.Doubted.{Doubted}
-use Rattle.oz_reading.specs.declared.lacking.Lack.{Lack}
+use Rattle.oz_reading.specs.declared.lack.Doubted.{Doubted}
+use Rattle.oz_reading.specs.declared.lack.Lack.{Lack}
 use Rattle.oz_reading.specs.Lacks.{IsAsked}
 use Rattle.oz_reading.specs.Read.{AllLack, EndsShort, FirstGives, GaveAt, LacksAt}
 use Rattle.oz_reading.proofs.Told.{nothing_told}

@@ -9,9 +9,9 @@ use Rattle.oz_replicas.specs.declared.note.Note.{Note}
 use Rattle.oz_requests.specs.declared.request.AskId.{AskId}
 use Rattle.oz_telling.specs.declared.still.Still.{Still}
 use Rattle.oz_telling.specs.declared.still.Still.TheVariants as rests
-use Rattle.oz_reading.specs.declared.lacking.Doubted.{Doubted}
-use Rattle.oz_reading.specs.declared.lacking.Lack.{Lack}
-use Rattle.oz_reading.specs.declared.lacking.Lack.TheVariants as lacking
+use Rattle.oz_reading.specs.declared.lack.Doubted.{Doubted}
+use Rattle.oz_reading.specs.declared.lack.Lack.{Lack}
+use Rattle.oz_reading.specs.declared.lack.Lack.TheVariants as lacking
 
 -- A datanode has refused the block for the ask, or told for it that it is bad: since its event stands in the story that
 -- stays so, and the datanode isn't intact for the ask whatever comes.

@@ -17,9 +17,9 @@ use Rattle.oz_underway.specs.GoingOn.{FromHereOn}
 use Rattle.oz_world.specs.Disk.{Images}
 use Rattle.oz_reading.specs.declared.member.AtMember.{AtMember}
 use Rattle.oz_reading.specs.declared.member.AtMember.TheVariants.{Gave, Nothing}
-use Rattle.oz_reading.specs.declared.lacking.Doubted.{Doubted}
-use Rattle.oz_reading.specs.declared.lacking.Lack.{Lack}
-use Rattle.oz_reading.specs.declared.lacking.Lack.TheVariants as lacking
+use Rattle.oz_reading.specs.declared.lack.Doubted.{Doubted}
+use Rattle.oz_reading.specs.declared.lack.Lack.{Lack}
+use Rattle.oz_reading.specs.declared.lack.Lack.TheVariants as lacking
 use Rattle.oz_reading.specs.Lacks.{IsAsked, IsDoubted}
 use Rattle.oz_reading.specs.Read.{GaveAt, GaveNone, LacksAt, TellsFor, subject_of}
 

@@ -19,9 +19,9 @@ use Rattle.oz_requests.specs.declared.request.AskId.{AskId}
 use Rattle.oz_telling.specs.Still.{AllStandStill}
 use Rattle.oz_underway.specs.GoingOn.{FromHereOn}
 use Rattle.oz_world.specs.Disk.{Images}
-use Rattle.oz_reading.specs.declared.lacking.Doubted.{Doubted}
-use Rattle.oz_reading.specs.declared.lacking.Lack.{Lack}
-use Rattle.oz_reading.specs.declared.lacking.Lack.TheVariants as lacking
+use Rattle.oz_reading.specs.declared.lack.Doubted.{Doubted}
+use Rattle.oz_reading.specs.declared.lack.Lack.{Lack}
+use Rattle.oz_reading.specs.declared.lack.Lack.TheVariants as lacking
 use Rattle.oz_reading.specs.declared.reading.Reading.{Reading}
 use Rattle.oz_reading.specs.declared.reading.Reading.TheVariants.{Bytes, Nobody}
 use Rattle.oz_reading.specs.Lacks.{IsAsked, IsDoubted, has_notes, lack_of, stills_in}

@@ -2,12 +2,12 @@
 //! refused the block, or told that it is bad, stays so; and one that hasn't the block may come to have it.
 #![tactic(auto)]
 
-mod lacking;
+mod lack;
 mod member;
 mod noted;
 mod reading;
 mod wanted;
 mod watching;
 
-pub use lacking::{Doubted, Lack};
+pub use lack::{Doubted, Lack};
 pub use reading::{Reading, read_at_members};

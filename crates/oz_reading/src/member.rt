@@ -9,7 +9,7 @@ ghost use Rattle.oz_turn.specs.Seat.{IsReady, mine_of, room_of, seen_of};
 ghost use Rattle.oz_turn.specs.Told.{BeginsWith};
 ghost use Rattle.oz_turn.specs.Turn.{turn_id};
 
-use crate::lacking::{Lack, lack_of};
+use crate::lack::{Lack, lack_of};
 use crate::noted::{Given, read_noted};
 use crate::wanted::Wanted;
 use oz_buffer::{Ledger, Opened};

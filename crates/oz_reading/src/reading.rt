@@ -8,7 +8,7 @@ ghost use Rattle.oz_turn.specs.Seat.{IsReady, mine_of, room_of, seen_of};
 ghost use Rattle.oz_turn.specs.Told.{BeginsWith};
 ghost use Rattle.oz_turn.specs.Turn.{turn_id};
 
-use crate::lacking::{Doubted, Lack};
+use crate::lack::{Doubted, Lack};
 use crate::member::{AtMember, read_member};
 use crate::wanted::Wanted;
 use oz_buffer::{Ledger, Opened};

@@ -1,6 +1,6 @@
 //! What is read, for whom, and where.
 
-use crate::lacking::Doubted;
+use crate::lack::Doubted;
 use oz_fields::Piece;
 use oz_requests::AskId;
 

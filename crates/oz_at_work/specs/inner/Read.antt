@@ -10,8 +10,8 @@ use Rattle.oz_core.specs.Coherent.{IsCoherent}
 use Rattle.oz_core.specs.Contents.{HasContent, OpeningBytes}
 use Rattle.oz_fields.specs.declared.block.Piece.{Piece}
 use Rattle.oz_lines.specs.declared.script.Script.{Script}
-use Rattle.oz_reading.specs.declared.lacking.Lack.{Lack}
-use Rattle.oz_reading.specs.declared.lacking.Lack.TheVariants as lacking
+use Rattle.oz_reading.specs.declared.lack.Lack.{Lack}
+use Rattle.oz_reading.specs.declared.lack.Lack.TheVariants as lacking
 use Rattle.oz_reading.specs.Lacks.{IsDoubted}
 use Rattle.oz_reading.specs.Read.{NobodyHasIt}
 use Rattle.oz_turn.specs.Told.{BeginsWith}

@@ -1,5 +1,5 @@
 use Rattle.std.proofs.Common.{◌≡◌, ℕ, List, Contains, ap, ◌∙◌, subst, sym}
-use Rattle.oz_reading.specs.declared.lacking.Lack.TheVariants as lacking
+use Rattle.oz_reading.specs.declared.lack.Lack.TheVariants as lacking
 use Rattle.oz_reading.specs.declared.reading.Reading.TheVariants as readings
 use Rattle.oz_reading.specs.Lacks.{AreDoubted, IsDoubted}
 use Rattle.oz_reading.specs.Read.{IsKnownOf, MayRead, NobodyHasIt}

@@ -99,6 +99,6 @@ module _ {D : Type 0} (told : D → Option (List ℕ)) (clock : D → ℕ) (imag
     where
       by : (t : Bool) → has_notes given.said ≡ t → LacksIt Coherent opening bytes script id piece dn later (lack_of dn piece.block t (length later))
       by true noted = (refl, λ coherent. told_doubted told clock image faults id piece dns dn old new seen later member given noted)
-      by false none coherent story begins all still =
+      by false none = λ coherent story begins all still.
           ap (λ (t : Bool). t && not (has_event (doubts dn piece.block id) story))
           (absent_still opening story later dn piece.block begins (silent_absent given coherent (content coherent) (whole coherent) none) still)

@@ -1,5 +1,5 @@
 -- What comes next by the steps of a line may come.
-use Rattle.std.proofs.Common.{◌≡◌, ⊎_elim, ℕ, ◌+◌, Bool, true, false, not, ◌||◌, ◌&&◌, is_some, cond, List, [], ◌∷◌, ◌++◌, length, suc, Option, None, Some, Contains, refl, sym, ap, ◌∙◌, subst, arith}
+use Rattle.std.proofs.Common.{◌≡◌, ◌≢◌, ⊎_elim, ℕ, zero, ◌+◌, Bool, true, false, not, ◌||◌, ◌&&◌, is_some, cond, List, [], ◌∷◌, ◌++◌, length, suc, Option, None, Some, Contains, refl, sym, ap, ◌∙◌, subst, arith}
 use Rattle.std.proofs.lemmas.Bool.{false≢true}
 use Rattle.std.proofs.lemmas.List.Folds.{list_all-append, list_any-append}
 use Rattle.std.proofs.lemmas.Option.{none-some}
@@ -252,15 +252,15 @@ label_same Coherent opening bytes script line command left story since coherent 
 -- an event that says nothing of a line's blocks
 said_by_none : (client line : ℕ) (story : List Event) (event : Event) → says client line event.kind ≡ false → times_said client line (story ++ event ∷ []) ≡ times_said client line story
 said_by_none client line story event none =
-    let more = said-push client line story event in
-    let nothing : cond (says client line event.kind) 1 0 ≡ 0 = ap (λ (t : Bool). cond t 1 0) none in
-    omega (arith, more, nothing)
+    let more : times_said client line (story ++ event ∷ []) ≡ times_said client line story + 0 =
+    said-push client line story event ∙ ap (λ (t : Bool). times_said client line story + cond t 1 0) none in
+    omega (arith, more)
 
 -- among no members is none
 none_among : (dn : ℕ) → Contains none_doubted.dns (Some dn) → ⊥
-none_among dn (0, lt, is) = none-some dn is
-none_among dn (1, lt, is) = none-some dn is
-none_among dn (2, lt, is) = none-some dn is
+none_among dn (zero, lt, is) = none-some dn is
+none_among dn (suc zero, lt, is) = none-some dn is
+none_among dn (suc (suc zero), lt, is) = none-some dn is
 none_among dn (suc (suc (suc n)), lt, is) = omega (arith, lt)
 
 -- ---- what comes next

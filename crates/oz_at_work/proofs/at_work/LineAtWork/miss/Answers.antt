@@ -21,5 +21,5 @@ returns-clause-works g c coherent seen was =
     let so : WasMissed O.coherent O.opening O.bytes O.script seen work c.args.piece c.args.lacks =
     subst (λ (w : WorkView). WasMissed O.coherent O.opening O.bytes O.script seen w c.args.piece c.args.lacks) (sym c.self.view_is) was in
     subst (λ (l : List Still). IsAtWork O.coherent O.opening O.bytes O.script seen
-    (record work { doubted = c.of.result; refused = Some (record { answer = answers.NoReplica c.in-Ok.number c.args.piece.block; asked = work.asked; still = l }) })) (sym c.of-2.ensures)
-    (missed_works O.coherent O.opening O.bytes O.script seen work c.args.piece c.args.lacks coherent so c.in-Ok.number (c.in-Ok.ensures.1 ∙ c.pieces_read.ensures) c.of.result c.of.ensures)
+    (record work { doubted = c.of-self-inside.result; refused = Some (record { answer = answers.NoReplica c.in-Ok.number c.args.piece.block; asked = work.asked; still = l }) })) (sym c.of.ensures)
+    (missed_works O.coherent O.opening O.bytes O.script seen work c.args.piece c.args.lacks coherent so c.in-Ok.number (c.in-Ok.ensures.1 ∙ c.pieces_read.ensures) c.of-self-inside.result c.of-self-inside.ensures)

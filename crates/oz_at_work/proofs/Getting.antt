@@ -1,8 +1,8 @@
 -- A line that reads its next piece, and what it knows once that was looked for.
-use Rattle.std.proofs.Common.{◌≡◌, ◌≢◌, ⊎_elim, inl, inr, ℕ, ◌+◌, ◌≤◌, ◌<◌, Bool, true, false, cond, List, [], ◌∷◌, ◌++◌, length, Option, None, Some, IsSome, Contains, refl, sym, ap, ◌∙◌, subst, length-append, arith}
-use Rattle.std.proofs.lemmas.Option.{none-some}
+use Rattle.std.proofs.Common.{◌≡◌, ◌≢◌, ⊎_elim, inl, inr, ℕ, zero, suc, ◌+◌, ◌≤◌, ◌<◌, Bool, true, false, cond, List, [], ◌∷◌, ◌++◌, length, Option, None, Some, IsSome, Contains, refl, sym, ap, ◌∙◌, subst, length-append, arith}
+use Rattle.std.proofs.lemmas.Option.{none-some, same_Some}
 use Rattle.std.specs.FinMap.{get}
-use Rattle.std.specs.Prelude.{All}
+use Rattle.std.specs.Prelude.{All, map}
 use Rattle.std.specs.Global.{Vec}
 use Rattle.oz_asker.specs.laws.Asks.{legal_of_follow}
 use Rattle.oz_buffer.specs.Buffer.{AllFollow, Follows}
@@ -28,12 +28,15 @@ use Rattle.oz_core.specs.Scm.{containers, members}
 use Rattle.oz_fields.specs.declared.block.Piece.{Piece}
 use Rattle.oz_lines.specs.declared.script.Line.{Line}
 use Rattle.oz_lines.specs.declared.script.Script.{Script}
+use Rattle.oz_reading.specs.declared.lack.Doubted.{Doubted}
+use Rattle.oz_reading.specs.declared.lack.Lack.{Lack}
+use Rattle.oz_reading.specs.declared.lack.Lack.TheVariants as lacking
+use Rattle.oz_reading.specs.Lacks.{doubted_in, stills_in}
 use Rattle.oz_reading.specs.Read.{MayRead}
 use Rattle.oz_requests.specs.declared.answer.Answer.{Answer}
 use Rattle.oz_requests.specs.declared.answer.Answer.TheVariants as answers
 use Rattle.oz_requests.specs.declared.request.Request.{Request}
 use Rattle.oz_steps.specs.Grants.{has_fate_written}
-use Rattle.oz_telling.specs.declared.still.Still.{Still}
 use Rattle.oz_telling.specs.Tells.{MayTell}
 use Rattle.oz_turn.specs.Told.{BeginsWith}
 use Rattle.oz_underway.specs.UnderWay.{IsUnderWay, ask_of, is_all_written}
@@ -49,7 +52,7 @@ use Rattle.oz_at_work.specs.declared.refused.Refused.{Refused}
 use Rattle.oz_at_work.specs.inner.Read.{IsReadNext, WasMissed, WasRead, gives_piece}
 use Rattle.oz_at_work.specs.inner.Taken.{HasStepped, IsTakenUp}
 use Rattle.oz_at_work.proofs.Cutting.{label_none, some_last, told_stays}
-use Rattle.oz_at_work.proofs.Staying.{all_written, begun_still, said_was, with_refused, work_still}
+use Rattle.oz_at_work.proofs.Staying.{all_written, begun_still, said_was, with_doubted, with_refused, work_still}
 use Rattle.oz_at_work.proofs.Stepping.{IsBeforeReading, stepped_works, stopped_works}
 
 -- who reads a piece asks and writes nothing behind that
@@ -77,7 +80,7 @@ module _ (Coherent : Type 0) (opening : Opening) (bytes : OpeningBytes) (script 
   abbrev Follow : List Event → Event → Type 0
   Follow = Follows Coherent opening bytes script
 
-  pub next_read : IsNextRead Coherent opening bytes script seen work.line work.asked work.said work.gave_up piece work.state.progress
+  pub next_read : IsNextRead Coherent opening bytes script seen work.line work.asked work.said work.gave_up work.doubted piece work.state.progress
   next_read = subst (IsNextFit Coherent opening bytes script seen work) its.next at_work.next
 
   -- each block of the line is written: it has none
@@ -137,7 +140,7 @@ module _ (Coherent : Type 0) (opening : Opening) (bytes : OpeningBytes) (script 
   got : Got
   got = gots.Read (Some read)
 
-  fit : IsNextRead Coherent opening bytes script was.before work.line work.asked work.said work.gave_up was.piece work.state.progress
+  fit : IsNextRead Coherent opening bytes script was.before work.line work.asked work.said work.gave_up work.doubted was.piece work.state.progress
   fit = next_read Coherent opening bytes script was.before work was.piece coherent was.at_work was.its
 
   pub read_works : (new : WorkView) → IsTakenUp work (gots.Read (Some read)) work.asked work.said false new → IsAtWork Coherent opening bytes script seen new
@@ -156,8 +159,15 @@ module _ (Coherent : Type 0) (opening : Opening) (bytes : OpeningBytes) (script 
 
 -- ---- nobody has it
 
-module _ (Coherent : Type 0) (opening : Opening) (bytes : OpeningBytes) (script : Script) (seen : List Event) (work : WorkView) (piece : Piece) (stills : List Still) (coherent : Coherent)
-    (was : WasMissed Coherent opening bytes script seen work piece stills) (number : ℕ) (so_many : number ≡ length work.state.progress.read) where
+-- who is among those that were doubted was
+doubted_of : (lacks : List Lack) (dn : ℕ) → Contains (map doubted_in lacks) (Some dn) → Contains lacks (lacking.Doubted dn)
+doubted_of [] dn (k, lt, is) = absurd (omega (arith, lt))
+doubted_of (lacking.Doubted other ∷ lacks) dn (zero, lt, is) = (0, omega arith, ap lacking.Doubted (same_Some other dn is))
+doubted_of (lacking.Absent still ∷ lacks) dn (zero, lt, is) = absurd (none-some dn is)
+doubted_of (lack ∷ lacks) dn (suc k, lt, is) = let rest = doubted_of lacks dn (k, omega (arith, lt), is) in (suc rest.0, omega (arith, rest.1), rest.2)
+
+module _ (Coherent : Type 0) (opening : Opening) (bytes : OpeningBytes) (script : Script) (seen : List Event) (work : WorkView) (piece : Piece) (lacks : List Lack) (coherent : Coherent)
+    (was : WasMissed Coherent opening bytes script seen work piece lacks) (number : ℕ) (so_many : number ≡ length work.state.progress.read) where
   missed : Answer
   missed = answers.NoReplica number piece.block
 
@@ -165,7 +175,7 @@ module _ (Coherent : Type 0) (opening : Opening) (bytes : OpeningBytes) (script 
   behind story begins = begins_through story seen was.before begins was.goes_on
 
   missed_fits : (story : List Event) (said : ℕ) → BeginsWith story seen → AllFollow (Follows Coherent opening bytes script) [] story
-      → MayTell opening story work.line.client work.line.number (last_of work.line work.asked) said stills (answers.NoReplica number piece.block)
+      → MayTell opening story work.line.client work.line.number (last_of work.line work.asked) said (stills_in lacks) (answers.NoReplica number piece.block)
       → EventFits opening bytes script story (Told work.line.client work.line.number (answers.NoReplica number piece.block))
   missed_fits story said begins all may =
       let goes = behind story begins in
@@ -179,7 +189,7 @@ module _ (Coherent : Type 0) (opening : Opening) (bytes : OpeningBytes) (script 
             (may.asked ∙ some_last work.line work.asked (λ none. absurd (omega (arith, none, step)))) (was.nobody story begins all may.still));
       }
 
-  pub missed_told : MayBeTold Coherent opening bytes script seen work.line (last_of work.line work.asked) (λ said. Unit {0}) stills (answers.NoReplica number piece.block) None
+  pub missed_told : MayBeTold Coherent opening bytes script seen work.line (last_of work.line work.asked) (λ said. Unit {0}) (stills_in lacks) (answers.NoReplica number piece.block) None
   missed_told = record {
     fits = λ story begins all said as_said may. missed_fits story said begins all may;
     leaves = λ story begins all before seat said from as_said may told.
@@ -187,8 +197,11 @@ module _ (Coherent : Type 0) (opening : Opening) (bytes : OpeningBytes) (script 
         (told_stays Coherent opening bytes script story before seat work.line (answers.NoReplica number piece.block) coherent all told);
   }
 
-  pub missed_works : IsAtWork Coherent opening bytes script seen
-      (record work { refused = Some (record { answer = answers.NoReplica number piece.block; asked = work.asked; still = stills }) })
-  missed_works =
-      with_refused Coherent opening bytes script seen work (Some (record { answer = answers.NoReplica number piece.block; asked = work.asked; still = stills })) missed_told
-      (work_still Coherent opening bytes script seen was.before was.goes_on work was.at_work)
+  pub missed_works : (doubted : Doubted) → doubted.dns ≡ map doubted_in lacks → IsAtWork Coherent opening bytes script seen
+      (record work { doubted = doubted; refused = Some (record { answer = answers.NoReplica number piece.block; asked = work.asked; still = stills_in lacks }) })
+  missed_works doubted are =
+      with_refused Coherent opening bytes script seen (record work { doubted = doubted })
+      (Some (record { answer = answers.NoReplica number piece.block; asked = work.asked; still = stills_in lacks })) missed_told
+      (with_doubted Coherent opening bytes script seen work doubted piece was.its.next
+      (λ dn among. was.doubted dn (doubted_of lacks dn (subst (λ (l : List (Option ℕ)). Contains l (Some dn)) are among)))
+      (work_still Coherent opening bytes script seen was.before was.goes_on work was.at_work))

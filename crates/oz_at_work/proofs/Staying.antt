@@ -11,8 +11,13 @@ use Rattle.oz_client.specs.declared.step.Step.TheVariants as steps
 use Rattle.oz_core.specs.declared.event.Event.{Event}
 use Rattle.oz_core.specs.declared.opening.Opening.{Opening}
 use Rattle.oz_core.specs.Contents.{OpeningBytes}
+use Rattle.oz_core.specs.Nodes.{doubts}
+use Rattle.oz_fields.specs.declared.block.Block.{Block}
+use Rattle.oz_fields.specs.declared.block.Piece.{Piece}
 use Rattle.oz_lines.specs.declared.script.Line.{Line}
 use Rattle.oz_lines.specs.declared.script.Script.{Script}
+use Rattle.oz_reading.specs.declared.lack.Doubted.{Doubted}
+use Rattle.oz_reading.specs.Lacks.{AreDoubted}
 use Rattle.oz_requests.specs.declared.answer.Answer.{Answer}
 use Rattle.oz_requests.specs.declared.request.AskId.{AskId}
 use Rattle.oz_steps.specs.declared.came.Granted.{Granted}
@@ -22,11 +27,11 @@ use Rattle.oz_telling.specs.declared.still.Still.{Still}
 use Rattle.oz_turn.specs.Told.{BeginsWith}
 use Rattle.oz_underway.specs.GoingOn.{FromHereOn}
 use Rattle.oz_underway.specs.UnderWay.{is_all_written}
-use Rattle.oz_underway.specs.laws.Going.{begins_itself, begins_through}
+use Rattle.oz_underway.specs.laws.Going.{begins_itself, begins_through, happened_still}
 use Rattle.oz_underway.specs.laws.Starting.{started_still}
 use Rattle.oz_underway.specs.laws.Told.{told_still}
 use Rattle.oz_underway.specs.laws.UnderWay.{still_under_way, whatever_said}
-use Rattle.oz_at_work.specs.AtWork.{HasLeft, IsAtWork, IsFollowed, IsNextFit, IsRefusalFit, IsStarted, MayBegin, MayBeTold, WasSaid, WorkView}
+use Rattle.oz_at_work.specs.AtWork.{HasLeft, IsAtWork, IsFollowed, IsNextFit, IsRefusalFit, IsStarted, MayBegin, MayBeTold, WasSaid, WorkView, id_of}
 use Rattle.oz_at_work.specs.declared.refused.Refused.{Refused}
 use Rattle.oz_at_work.specs.inner.Replied.{holds_where_said, is_write}
 
@@ -57,6 +62,10 @@ pub all_written : (progress : Progress) (gave_up : Bool) → progress.came.writi
     → gave_up ≡ false → is_all_written progress ≡ true
 all_written progress gave_up idle put none =
     ap (λ (w : Option Granted). is_none w && list_all has_fate_written progress.came.attempts) idle ∙ put none
+
+-- who was doubted is
+pub doubted_still : (later seen : List Event) (id : AskId) (block : Block) (doubted : Doubted) → BeginsWith later seen → AreDoubted seen id block doubted → AreDoubted later id block doubted
+doubted_still later seen id block doubted begins are dn among = happened_still (doubts dn block id) later seen begins (are dn among)
 
 module _ (Coherent : Type 0) (opening : Opening) (bytes : OpeningBytes) (script : Script) (later seen : List Event) (begins : BeginsWith later seen) where
   pub here_still : (Holds : List Event → Type 0) → FromHereOn Coherent opening bytes script seen Holds → FromHereOn Coherent opening bytes script later Holds
@@ -95,6 +104,7 @@ module _ (Coherent : Type 0) (opening : Opening) (bytes : OpeningBytes) (script 
   next_still work (steps.Read piece) fit = record {
     followed = followed_still work.line work.asked work.said work.gave_up work.state.progress fit.followed;
     reads = fit.reads;
+    are_doubted = doubted_still later seen (id_of work.line work.asked) piece.block work.doubted begins fit.are_doubted;
   }
   next_still work (steps.Tell answer) fit = told_fit_still work.line _ _ _ answer _ fit
   next_still work step fit = tt
@@ -127,6 +137,7 @@ module _ (Coherent : Type 0) (opening : Opening) (bytes : OpeningBytes) (script 
       alone = fit.followed.alone;
     };
     reads = fit.reads;
+    are_doubted = fit.are_doubted;
   }
   said_fit work said (steps.Tell answer) none fit = record {
     fits = λ story goes all now as_said may. fit.fits story goes all now (λ gave. absurd (false≢true (sym none ∙ gave))) may;
@@ -198,4 +209,25 @@ module _ (Coherent : Type 0) (opening : Opening) (bytes : OpeningBytes) (script 
     said = at_work.said;
     next = refused_fit work refused work.next at_work.next;
     refusal = fits;
+  }
+
+  -- nor does it otherwise which members were doubted, but for what it reads
+  doubted_fit : (work : WorkView) (doubted : Doubted) (piece : Piece) (step : Step) → step ≡ steps.Read piece → AreDoubted seen (id_of work.line work.asked) piece.block doubted
+      → IsNextFit Coherent opening bytes script seen work step → IsNextFit Coherent opening bytes script seen (record work { doubted = doubted }) step
+  doubted_fit work doubted piece (steps.Read other) is are fit = record {
+    followed = fit.followed;
+    reads = fit.reads;
+    are_doubted = let same : piece ≡ other = cc in subst (λ (p : Piece). AreDoubted seen (id_of work.line work.asked) p.block doubted) same are;
+  }
+  doubted_fit work doubted piece step is are fit = absurd cc
+
+  pub with_doubted : (work : WorkView) (doubted : Doubted) (piece : Piece) → work.next ≡ steps.Read piece → AreDoubted seen (id_of work.line work.asked) piece.block doubted
+      → IsAtWork Coherent opening bytes script seen work → IsAtWork Coherent opening bytes script seen (record work { doubted = doubted })
+  with_doubted work doubted piece is are at_work = record {
+    begun = at_work.begun;
+    does = at_work.does;
+    nodes = at_work.nodes;
+    said = at_work.said;
+    next = doubted_fit work doubted piece work.next is are at_work.next;
+    refusal = at_work.refusal;
   }

@@ -1,5 +1,5 @@
 -- What comes next by the steps of a line may come.
-use Rattle.std.proofs.Common.{◌≡◌, ⊎_elim, ℕ, ◌+◌, Bool, true, false, not, ◌||◌, ◌&&◌, is_some, cond, List, [], ◌∷◌, ◌++◌, length, Option, None, Some, refl, sym, ap, ◌∙◌, subst}
+use Rattle.std.proofs.Common.{◌≡◌, ◌≢◌, ⊎_elim, ℕ, zero, ◌+◌, Bool, true, false, not, ◌||◌, ◌&&◌, is_some, cond, List, [], ◌∷◌, ◌++◌, length, suc, Option, None, Some, Contains, refl, sym, ap, ◌∙◌, subst, arith}
 use Rattle.std.proofs.lemmas.Bool.{false≢true}
 use Rattle.std.proofs.lemmas.List.Folds.{list_all-append, list_any-append}
 use Rattle.std.proofs.lemmas.Option.{none-some}
@@ -7,7 +7,8 @@ use Rattle.std.specs.Prelude.{count_by, nat_le, slice_get}
 use Rattle.std.specs.List.{list_any, list_all}
 use Rattle.oz_asker.specs.Decided.{IsDecideAt}
 use Rattle.oz_buffer.specs.Buffer.{AllFollow, Follows}
-use Rattle.oz_buffer.specs.Courses.{times_said}
+use Rattle.oz_buffer.specs.Courses.{says, times_said}
+use Rattle.oz_buffer.specs.laws.Courses.{said-push}
 use Rattle.oz_client.specs.declared.progress.Progress.{Progress}
 use Rattle.oz_client.specs.declared.step.Got.{Got}
 use Rattle.oz_client.specs.declared.step.Got.TheVariants as gots
@@ -23,7 +24,8 @@ use Rattle.oz_core.specs.declared.event.Event.{Event}
 use Rattle.oz_core.specs.declared.event.EventKind.TheVariants.{Ask}
 use Rattle.oz_core.specs.declared.event.PutRefusal.{PutRefusal}
 use Rattle.oz_core.specs.declared.opening.Opening.{Opening}
-use Rattle.oz_core.specs.Asks.{ask_id, asks_of, pending, replies_to}
+use Rattle.oz_core.specs.declared.limits.TheConstants.{SERVICE_CLIENT}
+use Rattle.oz_core.specs.Asks.{ask_id, asks_of, is_told, pending, replies_to}
 use Rattle.oz_core.specs.Contents.{OpeningBytes, written_for}
 use Rattle.oz_core.specs.Fits.{EventFits}
 use Rattle.oz_core.specs.Law.{AskIsEnabled, writes as is_wrote}
@@ -33,7 +35,9 @@ use Rattle.oz_fields.specs.declared.block.Block.{Block}
 use Rattle.oz_fields.specs.declared.block.Piece.{Piece}
 use Rattle.oz_lines.specs.declared.script.Line.{Line}
 use Rattle.oz_lines.specs.declared.script.Script.{Script}
+use Rattle.oz_lines.specs.Numbered.{IsNumbered}
 use Rattle.oz_nodes.specs.Pipelines.{members_of}
+use Rattle.oz_reading.specs.Lacks.{none_doubted}
 use Rattle.oz_requests.specs.declared.answer.Answer.{Answer}
 use Rattle.oz_requests.specs.declared.answer.Answer.TheVariants as answers
 use Rattle.oz_requests.specs.declared.answer.Values.{Values}
@@ -54,11 +58,11 @@ use Rattle.oz_steps.specs.Requests.{command_by, put_by, request_by}
 use Rattle.oz_telling.specs.Tells.{MayTell, told_event}
 use Rattle.oz_turn.specs.Told.{BeginsWith}
 use Rattle.oz_underway.specs.UnderWay.{HaveAnswered, IsSaid, IsUnderWay, times_asked}
-use Rattle.oz_underway.specs.laws.Going.{begins_itself, begins_through, follow_before, none_more}
+use Rattle.oz_underway.specs.laws.Commits.{Opens, commit_same}
+use Rattle.oz_underway.specs.laws.Going.{begins_itself, begins_push, begins_through, follow_before, none_more}
 use Rattle.oz_underway.specs.laws.Granted.{decided_reply}
+use Rattle.oz_underway.specs.laws.Labels.{open_as_told, open_still}
 use Rattle.oz_underway.specs.laws.Lasting.{last_of_times, times_of_last}
-use Rattle.oz_underway.specs.laws.Said.{said_of_written}
-use Rattle.oz_underway.specs.laws.Told.{asks_stop}
 use Rattle.oz_underway.specs.laws.UnderWay.{ask_fits, begins_started, pending_is_request, reply_comes, told_fits}
 use Rattle.oz_underway.specs.laws.Writing.{given_up_way, quorum_way}
 use Rattle.oz_telling.specs.laws.Told.{told_now}
@@ -66,7 +70,7 @@ use Rattle.oz_writing.specs.Written.{is_quorum}
 use Rattle.oz_at_work.specs.AtWork.{HasPutAlone, IsAtWork, IsLabelOf, IsNextAsk, IsNextFit, IsNextRead, IsNextWrite, IsSaidAsKnown, IsStarted, IsTelling, MayBegin, MayBeTold, WasSaid, WorkView, id_of, last_of}
 use Rattle.oz_at_work.specs.inner.Put.{WasWritten}
 use Rattle.oz_at_work.specs.inner.Replied.{IsAsking, WasReplied}
-use Rattle.oz_at_work.specs.inner.Taken.{HasStepped, HasStopped, IsTakenUp, leaves_label}
+use Rattle.oz_at_work.specs.inner.Taken.{HasStepped, HasStopped, IsTakenUp}
 use Rattle.oz_at_work.proofs.Cutting.{cut_fits, told_stays}
 use Rattle.oz_at_work.proofs.Staying.{all_written, begun_still, said_now, said_was, there_still}
 use Rattle.oz_at_work.proofs.Taking.{nodes_stay}
@@ -234,12 +238,30 @@ module _ (opening : Opening) (script : Script) (story : List Event) (line : Line
   leaves_by (commands.KeyOpen name volume bucket key payload) got answer plain next clean of_line is_open = is_open
   leaves_by command got answer plain next clean of_line is_open = tt
 
--- who leaves no label by what it is told
-leaves_none : (story : List Event) (line : Line) (command : Command) (came : Came) (answer : Answer) → leaves_label command (steps.Tell answer) ≡ false
-    → is_open_at story line ≡ was_told_ok (Some answer) → IsLabelOf story line command (left_by command came (steps.Tell answer))
-leaves_none story line (commands.KeyOpen name volume bucket key payload) came (answers.Ok values) none is_open = absurd (false≢true (sym none))
-leaves_none story line (commands.KeyOpen name volume bucket key payload) came answer none is_open = is_open
-leaves_none story line command came answer none is_open = tt
+-- what a label stands for stays once the line that opened it was told
+label_same : (Coherent : Type 0) (opening : Opening) (bytes : OpeningBytes) (script : Script) (line : Line) (command : Command) (left : Option Label) (story since : List Event) → Coherent
+    → IsNumbered script → Contains script.lines line → line.client ≢ SERVICE_CLIENT → line.command ≡ command → AllFollow (Follows Coherent opening bytes script) [] story → BeginsWith story since
+    → is_told line.client line.number since ≡ true → IsLabelOf since line command left → IsLabelOf story line command left
+label_same Coherent opening bytes script line (commands.KeyOpen name volume bucket key payload) (Some label) story since coherent numbered there other does all begins was_told is =
+    let opens : Opens line.command = record { label = name; volume = volume; bucket = bucket; key = key; payload = payload; is = does } in
+    commit_same Coherent opening bytes script numbered line there other opens story since coherent all begins was_told ∙ is
+label_same Coherent opening bytes script line (commands.KeyOpen name volume bucket key payload) None story since coherent numbered there other does all begins was_told is =
+    open_still Coherent opening bytes script line story since coherent all begins was_told ∙ is
+label_same Coherent opening bytes script line command left story since coherent numbered there other does all begins was_told is = tt
+
+-- an event that says nothing of a line's blocks
+said_by_none : (client line : ℕ) (story : List Event) (event : Event) → says client line event.kind ≡ false → times_said client line (story ++ event ∷ []) ≡ times_said client line story
+said_by_none client line story event none =
+    let more : times_said client line (story ++ event ∷ []) ≡ times_said client line story + 0 =
+    said-push client line story event ∙ ap (λ (t : Bool). times_said client line story + cond t 1 0) none in
+    omega (arith, more)
+
+-- among no members is none
+none_among : (dn : ℕ) → Contains none_doubted.dns (Some dn) → ⊥
+none_among dn (zero, lt, is) = none-some dn is
+none_among dn (suc zero, lt, is) = none-some dn is
+none_among dn (suc (suc zero), lt, is) = none-some dn is
+none_among dn (suc (suc (suc n)), lt, is) = omega (arith, lt)
 
 -- ---- what comes next
 
@@ -258,41 +280,35 @@ module _ (Coherent : Type 0) (opening : Opening) (bytes : OpeningBytes) (script 
         by true is = as_said is
         by false is = absurd (false≢true (sym some ∙ all_written progress gave_up idle put is))
 
-    step_leaves : (answer : Answer) → progress.came.writing ≡ None → (gave_up ≡ true → leaves_label line.command (steps.Tell answer) ≡ false)
-        → IsNext line.command progress got (steps.Tell answer)
+    step_leaves : (answer : Answer) → progress.came.writing ≡ None → IsNext line.command progress got (steps.Tell answer)
         → (IsNoCode (steps.Tell answer) → list_any is_code progress.came.replies ≡ false)
-        → (story : List Event) → BeginsWith story seen → AllFollow Follow [] story → (before : List Event) (seat known : ℕ) → BeginsWith before seen
+        → (story : List Event) → BeginsWith story seen → AllFollow Follow [] story → (before : List Event) (seat known : ℕ) → BeginsWith before seen → IsSaidAsKnown gave_up said known
         → MayTell opening before line.client line.number (last_of line asked) known [] answer
         → BeginsWith story (before ++ told_event seat line.client line.number answer ∷ [])
         → IsLabelOf story line line.command (left_by line.command progress.came (steps.Tell answer))
-    step_leaves answer idle unlabelled next clean story goes all before seat known from may behind = by gave_up refl
-      where
-        is_open : is_open_at story line ≡ was_told_ok (Some answer)
-        is_open = told_stays Coherent opening bytes script story before seat line answer coherent all behind
-
-        by : (t : Bool) → gave_up ≡ t → IsLabelOf story line line.command (left_by line.command progress.came (steps.Tell answer))
-        by true gave = leaves_none story line line.command progress.came answer (unlabelled gave) is_open
-        by false none =
-            let event : Event = told_event seat line.client line.number answer in
-            let told_all = follow_before Follow story (before ++ event ∷ []) behind all in
-            let before_all = follow_before Follow (before ++ event ∷ []) before (event ∷ [], refl) told_all in
-            let so : times_asked before line ≡ asked = times_of_last Coherent opening bytes script line.client line.number asked before way.of_client coherent before_all (last_of line asked)
-            (last_of_times line.client line.number asked) may.asked in
-            let stop = asks_stop Coherent opening bytes script line.client line.number story (before ++ event ∷ []) way.of_client coherent all behind
-            (told_now before seat line.client line.number answer) in
-            let none_asked = none_more (ask_id line.client line.number) before event (asks_of line.client line.number before) refl refl in
-            let times : times_asked story line ≡ asked = ap length (stop ∙ none_asked) ∙ so in
-            let written = all_written progress gave_up idle put none in
-            let at = way.has story (begins_through story seen way.since goes way.goes_on) all times (said_of_written story line said progress written) in
-            leaves_by opening script story line progress line.command got answer plain next clean at.of_line is_open
+    step_leaves answer idle next clean story goes all before seat known from as_said may behind =
+        let event : Event = told_event seat line.client line.number answer in
+        let mid : List Event = before ++ event ∷ [] in
+        let mid_all = follow_before Follow story mid behind all in
+        let before_all = follow_before Follow mid before (event ∷ [], refl) mid_all in
+        let so : times_asked before line ≡ asked = times_of_last Coherent opening bytes script line.client line.number asked before way.of_client coherent before_all (last_of line asked)
+        (last_of_times line.client line.number asked) may.asked in
+        let times : times_asked mid line ≡ asked = ap length (none_more (ask_id line.client line.number) before event (asks_of line.client line.number before) refl refl) ∙ so in
+        let same : times_said line.client line.number mid ≡ times_said line.client line.number before = said_by_none line.client line.number before event refl in
+        let as_often : IsSaidAsKnown gave_up said (times_said line.client line.number mid) = λ gave. same ∙ (may.as_said ∙ as_said gave) in
+        let there = begins_push before seen event from in
+        let at = way.has mid (begins_through mid seen way.since there way.goes_on) mid_all times (said_so idle mid as_often) in
+        label_same Coherent opening bytes script line line.command (left_by line.command progress.came (steps.Tell answer)) story mid coherent begun.numbered begun.there way.of_client refl all
+        behind (told_now before seat line.client line.number answer)
+        (leaves_by opening script mid line progress line.command got answer plain next clean at.of_line (open_as_told before seat line answer))
 
     pub next_fits : (nodes : ℕ) (state : LineState) (step : Step) → state.progress ≡ progress → state.left ≡ left_by line.command progress.came step
-        → (IsTelling step → progress.came.writing ≡ None) → (gave_up ≡ true → leaves_label line.command step ≡ false)
+        → (IsTelling step → progress.came.writing ≡ None)
         → (IsNoCode step → HasPutAlone progress gave_up) → (IsBeforeReading step → progress.read ≡ [])
         → IsNext line.command progress got step → IsStepEverywhere line.command progress got step
         → IsNextFit Coherent opening bytes script seen
-        (record { line = line; state = state; nodes = nodes; asked = asked; said = said; next = step; is_cut = false; gave_up = gave_up; refused = None }) step
-    next_fits nodes state (steps.Ask request) same left idle unlabelled alone unread next everywhere =
+        (record { line = line; state = state; nodes = nodes; asked = asked; said = said; next = step; is_cut = false; gave_up = gave_up; doubted = none_doubted; refused = None }) step
+    next_fits nodes state (steps.Ask request) same left idle alone unread next everywhere =
         let its = onward line.command progress got (steps.Ask request) plain next tt in
         subst (λ (p : Progress). IsNextAsk Coherent opening bytes script seen line asked said gave_up request p) (sym same) (record {
           followed = record { under_way = way; alone = alone tt };
@@ -304,27 +320,28 @@ module _ (Coherent : Type 0) (opening : Opening) (bytes : OpeningBytes) (script 
           same = λ story goes all other as_said is. pending_is_request Coherent opening bytes script seen line asked said line.command progress got request coherent way everywhere
               (has_plain opening bytes script line line.command progress got plain) begun.numbered story goes all (said_so its.0 story as_said) other is;
         })
-    next_fits nodes state (steps.Write block members first count) same left idle unlabelled alone unread next everywhere =
+    next_fits nodes state (steps.Write block members first count) same left idle alone unread next everywhere =
         subst (λ (p : Progress). IsNextWrite Coherent opening bytes script seen line asked said gave_up block members first count p) (sym same) (record {
           followed = record { under_way = way; alone = alone tt };
           unread = unread tt;
           writes = onward line.command progress got (steps.Write block members first count) plain next tt;
         })
-    next_fits nodes state (steps.Read piece) same left idle unlabelled alone unread next everywhere =
-        subst (λ (p : Progress). IsNextRead Coherent opening bytes script seen line asked said gave_up piece p) (sym same) (record {
+    next_fits nodes state (steps.Read piece) same left idle alone unread next everywhere =
+        subst (λ (p : Progress). IsNextRead Coherent opening bytes script seen line asked said gave_up none_doubted piece p) (sym same) (record {
           followed = record { under_way = way; alone = alone tt };
           reads = onward line.command progress got (steps.Read piece) plain next tt;
+          are_doubted = λ dn among. absurd (none_among dn among);
         })
-    next_fits nodes state (steps.Tell answer) same left idle unlabelled alone unread next everywhere =
+    next_fits nodes state (steps.Tell answer) same left idle alone unread next everywhere =
         subst (MayBeTold Coherent opening bytes script seen line (last_of line asked) (IsSaidAsKnown gave_up said) [] answer) (sym left) (record {
           fits = λ story goes all known as_said may.
               let so : IsSaidAsKnown gave_up said (times_said line.client line.number story) = λ gave. may.as_said ∙ as_said gave in
               told_fits Coherent opening bytes script seen line asked said line.command progress got answer (last_of line asked) coherent way everywhere
               (last_of_times line.client line.number asked) story goes all may.asked (said_so (idle tt) story so) (has_plain opening bytes script line line.command progress got plain story);
           leaves = λ story goes all before seat known from as_said may behind.
-              step_leaves answer (idle tt) unlabelled next (λ other. (alone other).no_code) story goes all before seat known from may behind;
+              step_leaves answer (idle tt) next (λ other. (alone other).no_code) story goes all before seat known from as_said may behind;
         })
-    next_fits nodes state step same left idle unlabelled alone unread next everywhere = tt
+    next_fits nodes state step same left idle alone unread next everywhere = tt
 
   -- ---- a line begins
 
@@ -332,7 +349,7 @@ module _ (Coherent : Type 0) (opening : Opening) (bytes : OpeningBytes) (script 
       → AllFollow Follow [] seen
       → IsNext line.command (nothing_yet nodes label) gots.Start step → IsStepEverywhere line.command (nothing_yet nodes label) gots.Start step
       → IsAtWork Coherent opening bytes script seen
-      (record { line = line; state = state_after (state_before line.command nodes label) gots.Start step; nodes = nodes; asked = 0; said = 0; next = step; is_cut = false; gave_up = false; refused = None })
+      (record { line = line; state = state_after (state_before line.command nodes label) gots.Start step; nodes = nodes; asked = 0; said = 0; next = step; is_cut = false; gave_up = false; doubted = none_doubted; refused = None })
   begin_works seen line nodes label step coherent may all next everywhere =
       let way = begins_started Coherent opening bytes script may.begun.numbered seen line 0 line.command nodes label coherent may.begun.there all may.begun.started refl
       (may.labelled seen (begins_itself seen) all) in
@@ -342,7 +359,7 @@ module _ (Coherent : Type 0) (opening : Opening) (bytes : OpeningBytes) (script 
         nodes = refl;
         said = record { before = []; goes_on = (seen, refl); so_often = refl };
         next = next_fits seen line 0 0 false (nothing_yet nodes label) gots.Start coherent may.begun tt (λ none. refl) way nodes
-            (state_after (state_before line.command nodes label) gots.Start step) step refl refl (λ tells. refl) (λ wrong. absurd (false≢true wrong))
+            (state_after (state_before line.command nodes label) gots.Start step) step refl refl (λ tells. refl)
             (λ other. record { no_code = refl; put = λ none. refl }) (λ before. refl) next everywhere;
         refusal = tt;
       }
@@ -352,13 +369,13 @@ module _ (Coherent : Type 0) (opening : Opening) (bytes : OpeningBytes) (script 
       → before ≡ state_before line.command nodes label → after ≡ state_after before gots.Start step
       → IsNext before.command after.progress gots.Start step → IsStepEverywhere before.command after.progress gots.Start step
       → IsAtWork Coherent opening bytes script seen
-      (record { line = line; state = after; nodes = nodes; asked = 0; said = 0; next = step; is_cut = false; gave_up = false; refused = None })
+      (record { line = line; state = after; nodes = nodes; asked = 0; said = 0; next = step; is_cut = false; gave_up = false; doubted = none_doubted; refused = None })
   begin_so seen line nodes label before after step coherent may all is_before is_after next everywhere =
       let first : after ≡ state_after (state_before line.command nodes label) gots.Start step = is_after ∙ ap (λ (s : LineState). state_after s gots.Start step) is_before in
       let command : before.command ≡ line.command = ap (λ (s : LineState). s.command) is_before in
       let progress : after.progress ≡ nothing_yet nodes label = ap (λ (s : LineState). s.progress) first in
       subst (λ (s : LineState). IsAtWork Coherent opening bytes script seen
-      (record { line = line; state = s; nodes = nodes; asked = 0; said = 0; next = step; is_cut = false; gave_up = false; refused = None })) (sym first)
+      (record { line = line; state = s; nodes = nodes; asked = 0; said = 0; next = step; is_cut = false; gave_up = false; doubted = none_doubted; refused = None })) (sym first)
       (begin_works seen line nodes label step coherent may all
       (subst (λ (p : Progress). IsNext line.command p gots.Start step) progress (subst (λ (c : Command). IsNext c after.progress gots.Start step) command next))
       (subst (λ (p : Progress). IsStepEverywhere line.command p gots.Start step) progress
@@ -390,7 +407,7 @@ module _ (Coherent : Type 0) (opening : Opening) (bytes : OpeningBytes) (script 
         nodes = nodes_stay before.state.progress got ∙ nodes;
         said = was;
         next = next_fits seen line asked said gave_up progress got coherent begun plain put way before.nodes state stepped.step refl
-            (ap (λ (c : Command). left_by c progress.came stepped.step) does) (idle stepped.step next) stepped.unlabelled (alone stepped.step next) (unread stepped.step next) next so;
+            (ap (λ (c : Command). left_by c progress.came stepped.step) does) (idle stepped.step next) (alone stepped.step next) (unread stepped.step next) next so;
         refusal = tt;
       })
 

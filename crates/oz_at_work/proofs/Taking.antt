@@ -1,5 +1,5 @@
 -- A line that takes up what came back.
-use Rattle.std.proofs.Common.{◌≡◌, ⊎_elim, inl, inr, ℕ, ◌+◌, ◌<◌, Bool, true, false, ◌&&◌, cond, None, Some, refl, sym, ap, ◌∙◌, subst}
+use Rattle.std.proofs.Common.{◌≡◌, ⊎_elim, inl, inr, ℕ, ◌+◌, ◌<◌, Bool, None, Some, refl, sym, ap, ◌∙◌, subst}
 use Rattle.oz_client.specs.declared.progress.Progress.{Progress}
 use Rattle.oz_client.specs.declared.step.Got.{Got}
 use Rattle.oz_client.specs.declared.step.Got.TheVariants as gots
@@ -10,7 +10,7 @@ use Rattle.oz_client.specs.Stories.{IsStepEverywhere}
 use Rattle.oz_requests.specs.declared.answer.Answer.TheVariants as answers
 use Rattle.oz_at_work.specs.AtWork.{HasGoneOn, IsTelling, WorkView}
 use Rattle.oz_at_work.specs.inner.Replied.{cut_with}
-use Rattle.oz_at_work.specs.inner.Taken.{IsTakenUp, come_to, leaves_label}
+use Rattle.oz_at_work.specs.inner.Taken.{IsTakenUp, come_to}
 
 pub nodes_stay : (progress : Progress) (got : Got) → (progress_after progress got).nodes ≡ progress.nodes
 nodes_stay progress (gots.Read None) = refl
@@ -27,29 +27,14 @@ cut_taken before state got asked said gave_up after same is =
 pub come_taken : (before : WorkView) (state : LineState) (got : Got) (step : Step) (asked said : ℕ) (gave_up : Bool) (after : WorkView) → state ≡ state_after before.state got step
     → IsNext before.state.command state.progress got step → IsStepEverywhere before.state.command state.progress got step
     → after ≡ come_to (record before { state = state }) asked said gave_up step → IsTakenUp before got asked said gave_up after
-come_taken before state got step asked said gave_up after same next so is = by (gave_up && leaves_label before.line.command step) refl is
-  where
-    stepped : LineState → WorkView
-    stepped s = record before { state = s; asked = asked; said = said; next = step; is_cut = false; gave_up = gave_up; refused = None }
-
-    by : (t : Bool) → (gave_up && leaves_label before.line.command step) ≡ t
-        → after ≡ cond t (cut_with (record before { state = state }) asked answers.OutOfMemory) (stepped state) → IsTakenUp before got asked said gave_up after
-    by true leaves is =
-        inr (record {
-          state = state;
-          command = ap (λ (s : LineState). s.command) same;
-          nodes = ap (λ (s : LineState). s.progress.nodes) same ∙ nodes_stay before.state.progress got;
-          is = is;
-        })
-    by false none is =
-        let progress : after.state.progress ≡ state.progress = ap (λ (w : WorkView). w.state.progress) is in
-        inl (record {
-          step = step;
-          next = subst (λ (p : Progress). IsNext before.state.command p got step) (sym progress) next;
-          so = subst (λ (p : Progress). IsStepEverywhere before.state.command p got step) (sym progress) so;
-          unlabelled = λ gave. sym (ap (λ (b : Bool). b && leaves_label before.line.command step) gave) ∙ none;
-          is = is ∙ ap stepped same;
-        })
+come_taken before state got step asked said gave_up after same next so is =
+    let progress : after.state.progress ≡ state.progress = ap (λ (w : WorkView). w.state.progress) is in
+    inl (record {
+      step = step;
+      next = subst (λ (p : Progress). IsNext before.state.command p got step) (sym progress) next;
+      so = subst (λ (p : Progress). IsStepEverywhere before.state.command p got step) (sym progress) so;
+      is = is ∙ ap (λ (s : LineState). come_to (record before { state = s }) asked said gave_up step) same;
+    })
 
 -- ---- what that is
 

@@ -24,6 +24,8 @@ use Rattle.oz_fields.specs.declared.block.Piece.{Piece}
 use Rattle.oz_lines.specs.declared.script.Line.{Line}
 use Rattle.oz_lines.specs.declared.script.Script.{Script}
 use Rattle.oz_lines.specs.Numbered.{IsNumbered}
+use Rattle.oz_reading.specs.declared.lack.Doubted.{Doubted}
+use Rattle.oz_reading.specs.Lacks.{AreDoubted}
 use Rattle.oz_requests.specs.declared.answer.Answer.{Answer}
 use Rattle.oz_requests.specs.declared.request.AskId.{AskId}
 use Rattle.oz_requests.specs.declared.request.Request.{Request}
@@ -40,7 +42,8 @@ use Rattle.oz_at_work.specs.declared.refused.Refused.{Refused}
 
 -- A line, what came back to it, for how many datanodes its steps are, how often it has asked, how often something was
 -- said of its blocks at its last look, what it does next, whether that isn't of its steps, whether a block that it was
--- granted was given up, and with what it is refused for now, if it is.
+-- granted was given up, which members of the block that it reads next were doubted when it looked before, and with what it
+-- is refused for now, if it is.
 pub record WorkView : Type 0 where
   pub line : Line
   pub state : LineState
@@ -50,6 +53,7 @@ pub record WorkView : Type 0 where
   pub next : Step
   pub is_cut : Bool
   pub gave_up : Bool
+  pub doubted : Doubted
   pub refused : Option Refused
 
 -- the id of a line's Ask of this number, and of the last of so many
@@ -137,14 +141,15 @@ module _ (Coherent : Type 0) (opening : Opening) (bytes : OpeningBytes) (script 
     pub unread : progress.read ≡ []
     pub writes : IsWriting line.command progress block members first count
 
-  -- The line's next step is to read this piece.
-  pub record IsNextRead (line : Line) (asked said : ℕ) (gave_up : Bool) (piece : Piece) (progress : Progress) : Type 0
-    where
-      pub followed : IsFollowed line asked said gave_up progress
-      pub reads : IsReading line.command progress piece
+  -- The line's next step is to read this piece, of whose block these members were doubted for its last ask.
+  pub record IsNextRead (line : Line) (asked said : ℕ) (gave_up : Bool) (doubted : Doubted) (piece : Piece)
+      (progress : Progress) : Type 0 where
+    pub followed : IsFollowed line asked said gave_up progress
+    pub reads : IsReading line.command progress piece
+    pub are_doubted : AreDoubted seen (id_of line asked) piece.block doubted
 
-  -- From here on the answer is the line's wherever it may be told it, for which so much may be said of its blocks and
-  -- these seats have to stand still, and once it is told this is what it left.
+  -- From here on the answer is the line's wherever it may be told it, for which so much may be said of its blocks and this
+  -- has to stay as it is, and once it is told this is what it left.
   pub record MayBeTold (line : Line) (last : Option AskId) (MaySay : ℕ → Type 0) (stills : List Still) (answer : Answer)
       (left : Option Label) : Type 0 where
     pub fits : FromHereOn Coherent opening bytes script seen (λ story. (said : ℕ) → MaySay said
@@ -163,7 +168,7 @@ module _ (Coherent : Type 0) (opening : Opening) (bytes : OpeningBytes) (script 
   IsNextFit work (steps.Write block members first count) =
       IsNextWrite work.line work.asked work.said work.gave_up block members first count work.state.progress
   IsNextFit work (steps.Read piece) =
-      IsNextRead work.line work.asked work.said work.gave_up piece work.state.progress
+      IsNextRead work.line work.asked work.said work.gave_up work.doubted piece work.state.progress
   IsNextFit work (steps.Tell answer) = MayBeTold work.line (last_of work.line work.asked)
       (IsSaidAsKnown work.gave_up work.said) [] answer (left_of work)
   IsNextFit work step = Unit {0}

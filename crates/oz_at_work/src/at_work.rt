@@ -8,6 +8,7 @@ use crate::counted::CountedSteps;
 use crate::refused::Refused;
 use oz_client::Step;
 use oz_lines::Line;
+use oz_reading::Doubted;
 use oz_requests::{Answer, AskId};
 use oz_steps::Label;
 use std::marker::Model;
@@ -27,6 +28,8 @@ pub struct LineAtWork<'s> {
     pub(crate) is_cut: bool,
     /// Whether a block that it was granted was given up.
     pub(crate) gave_up: bool,
+    /// The members of the block that it reads next which have refused it, or told that it is bad, at an earlier look.
+    pub(crate) doubted: Doubted,
     /// With what it is refused for now: it is told that, or tries again what comes next.
     pub(crate) refused: Option<Refused>,
 }
@@ -45,6 +48,7 @@ impl<'s> Model for LineAtWork<'s> {
       next = w.next;
       is_cut = w.is_cut;
       gave_up = w.gave_up;
+      doubted = w.doubted;
       refused = w.refused;
     } };
 }
@@ -70,6 +74,7 @@ impl<'s> LineAtWork<'s> {
             next: _,
             is_cut,
             gave_up: _,
+            doubted: _,
             refused: _,
         } = self;
         if is_cut { None } else { steps.label() }

@@ -13,6 +13,7 @@ use oz_buffer::Opened;
 use oz_client::Got;
 use oz_fields::OutOfMemory;
 use oz_lines::Line;
+use oz_reading::Doubted;
 use oz_steps::Label;
 use std::alloc::Global;
 
@@ -44,6 +45,7 @@ impl<'s> LineAtWork<'s> {
             next,
             is_cut: false,
             gave_up: false,
+            doubted: Doubted::none(),
             refused: None,
         })
     }

@@ -1,11 +1,11 @@
 //! How a line's steps go on with what came back.
 
 ghost use Rattle.std.specs.Prelude.{◌≡◌};
-ghost use Rattle.oz_at_work.specs.inner.Taken.{IsTakenUp, come_to, leaves_label};
+ghost use Rattle.oz_at_work.specs.inner.Taken.{IsTakenUp, come_to};
 
 use crate::at_work::LineAtWork;
 use oz_client::{Got, Step};
-use oz_command::Command;
+use oz_reading::Doubted;
 use oz_requests::Answer;
 use std::alloc::Global;
 
@@ -25,30 +25,16 @@ impl<'s> LineAtWork<'s> {
         }
     }
 
-    /// This comes next by its steps. Where it would leave a label though a block was given up, it is told next that there
-    /// is no memory.
+    /// This comes next by its steps.
     fn come_to(&mut self, asked: u16, said: u64, gave_up: bool, next: Step)
         ensures { self.new ≡ come_to self.old asked said gave_up next }
     {
-        if gave_up && leaves_label(&self.line.command, &next) {
-            self.cut(asked, Answer::OutOfMemory);
-            return;
-        }
         self.asked = asked;
         self.said = said;
         self.next = next;
         self.is_cut = false;
         self.gave_up = gave_up;
+        self.doubted = Doubted::none();
         self.refused = None;
-    }
-}
-
-/// Whether a line with this command leaves something in a label by this step.
-fn leaves_label(command: &Command, step: &Step) -> bool
-    ensures { result ≡ leaves_label command.now step.now }
-{
-    match (command, step) {
-        (Command::KeyOpen { .. }, Step::Tell(Answer::Ok(_))) => true,
-        _ => false,
     }
 }

@@ -1,11 +1,12 @@
 //! How a line reads its next piece.
 
-ghost use Rattle.std.specs.Prelude.{◌≡◌, ◌≢◌, ◌<◌, [], All, List, IfSome};
+ghost use Rattle.std.specs.Prelude.{◌≡◌, ◌≢◌, ◌<◌, [], All, List, IfSome, IsSome, map};
 ghost use Rattle.oz_at_work.specs.AtWork.{HasGoneOn, IsAtWork};
 ghost use Rattle.oz_at_work.specs.inner.Read.{IsReadNext, WasMissed, WasRead};
 ghost use Rattle.oz_buffer.specs.Buffer.{AllFollow, Follows};
 ghost use Rattle.oz_core.specs.declared.event.Event.{Event as AnyEvent};
 ghost use Rattle.oz_core.specs.Scm.{members};
+ghost use Rattle.oz_reading.specs.Lacks.{doubted_in};
 ghost use Rattle.oz_turn.specs.Seat.{IsReady, mine_of, room_of, seen_of};
 ghost use Rattle.oz_turn.specs.Told.{BeginsWith};
 ghost use Rattle.oz_turn.specs.Turn.{turn_id};
@@ -19,10 +20,9 @@ use oz_buffer::{Ledger, Opened};
 use oz_client::{Got, Step};
 use oz_fields::Piece;
 use oz_locks::Loaded;
-use oz_reading::{Reading, read_at_members};
+use oz_reading::{Doubted, Lack, Reading, read_at_members};
 use oz_requests::Answer;
 use oz_servers::Servers;
-use oz_telling::Still;
 use oz_turn::{Ring, Seat, Turn};
 use oz_world::Disk;
 use std::alloc::Global;
@@ -30,7 +30,8 @@ use std::sync::Wait;
 
 impl<'s> LineAtWork<'s> {
     /// The line reads its next piece at the members of the piece's block, and goes on by its bytes. Where no member gives them it is
-    /// told so next, as long as nobody has them. Where the members aren't known, or memory runs out, it is told next that
+    /// told so next, as long as nobody comes to have them. Members that refused the block, or told that it is bad, when the line
+    /// looked before aren't asked again. Where the members aren't known, or memory runs out, it is told next that
     /// there is none.
     pub(crate) fn read<D: Disk, O: Opened, L: Loaded, R: Ring, W: Wait>(
         &mut self,
@@ -63,10 +64,12 @@ impl<'s> LineAtWork<'s> {
             self.cut(asked, Answer::OutOfMemory);
             return Did::WentOn;
         };
-        let (id, nodes) = (self.id(asked), &servers.nodes);
-        match read_at_members(rt, alloc, turn, nodes, seat, by, id, piece, members) {
+        let (id, nodes, doubted) = (self.id(asked), &servers.nodes, self.doubted);
+        match read_at_members(
+            rt, alloc, turn, nodes, seat, by, id, piece, members, doubted,
+        ) {
             Ok(Reading::Bytes(bytes)) => self.take_in::<O>(alloc, bytes),
-            Ok(Reading::Nobody(still)) => self.miss::<O>(piece, still),
+            Ok(Reading::Nobody(lacks)) => self.miss::<O>(piece, lacks),
             Err(_error) => {
                 self.cut(asked, Answer::OutOfMemory);
                 Did::WentOn
@@ -99,12 +102,14 @@ impl<'s> LineAtWork<'s> {
         Did::WentOn
     }
 
-    /// It is told next that nobody has the piece that it reads next, as long as these seats stand still.
-    fn miss<O: Opened>(&mut self, piece: Piece, still: [Still; 3]) -> Did
+    /// It is told next that nobody has the piece that it reads next, for these reasons, as long as they stand. It remembers which
+    /// members were doubted.
+    fn miss<O: Opened>(&mut self, piece: Piece, lacks: [Lack; 3]) -> Did
         ensures line { self.new.line ≡ self.old.line }
         ensures works { O.coherent → (seen : List AnyEvent) →
-            WasMissed O.coherent O.opening O.bytes O.script seen self.old piece still →
+            WasMissed O.coherent O.opening O.bytes O.script seen self.old piece lacks →
             IsAtWork O.coherent O.opening O.bytes O.script seen self.new }
+        ensures remembers { IsSome self.new.refused → self.new.doubted.dns ≡ map doubted_in lacks }
         ensures went_on { HasGoneOn self.old self.new }
         ensures is { result ≡ Did.WentOn }
     {
@@ -114,13 +119,14 @@ impl<'s> LineAtWork<'s> {
             return Did::WentOn;
         };
         let block = piece.block;
+        self.doubted = Doubted::of(lacks);
         self.refused = Some(Refused {
             answer: Answer::NoReplica {
                 piece: number,
                 block,
             },
             asked,
-            still: Stills::three(still),
+            still: Stills::of(lacks),
         });
         Did::WentOn
     }

@@ -3,7 +3,8 @@
 use crate::stills::Stills;
 use oz_requests::Answer;
 
-/// What a line is told whose next step can't be done now: as long as it has asked so often, and these seats stand still.
+/// What a line is told whose next step can't be done now: as long as it has asked so often, and this stays as
+/// it is.
 #[derive(Drop)]
 pub struct Refused {
     pub(crate) answer: Answer,

@@ -1,14 +1,16 @@
-//! Seats that have to stand still.
+//! What has to stay as it is.
 
-ghost use Rattle.std.specs.Prelude.{◌≡◌};
+ghost use Rattle.std.specs.Prelude.{◌≡◌, []};
+ghost use Rattle.oz_reading.specs.Lacks.{stills_in};
 
+use oz_reading::Lack;
 use oz_telling::Still;
 use std::marker::Model;
 
-/// Two seats that have to stand still, or three.
+/// What has to stay as it is, at most three things.
 #[derive(Drop)]
 pub struct Stills {
-    seats: [Still; 3],
+    all: [Still; 3],
     count: usize,
 }
 
@@ -18,34 +20,66 @@ impl Model for Stills {
 
     ghost Value = { List Still };
 
-    ghost view = { λ s. take s.count s.seats };
+    ghost view = { λ s. take s.count s.all };
 
     ghost invariant = { λ s. s.count ≤ 3 };
 }
 
 impl Stills {
     /// These two.
-    pub(crate) fn two(seats: [Still; 2]) -> Stills
-        ensures { result ≡ seats }
+    pub(crate) fn two(all: [Still; 2]) -> Stills
+        ensures { result ≡ all }
     {
-        let [first, second] = seats;
+        let [first, second] = all;
         Stills {
-            seats: [first, second, second],
+            all: [first, second, second],
             count: 2,
         }
     }
 
-    /// These three.
-    pub(crate) fn three(seats: [Still; 3]) -> Stills
-        ensures { result ≡ seats }
+    /// So that three members lack a block as they do: those that were doubted will, whatever comes.
+    pub(crate) fn of(lacks: [Lack; 3]) -> Stills
+        ensures { result ≡ stills_in lacks }
     {
-        Stills { seats, count: 3 }
+        match lacks {
+            [
+                Lack::Absent(first),
+                Lack::Absent(second),
+                Lack::Absent(third),
+            ] => Stills {
+                all: [first, second, third],
+                count: 3,
+            },
+            [Lack::Absent(first), Lack::Absent(second), Lack::Doubted(_)]
+            | [Lack::Absent(first), Lack::Doubted(_), Lack::Absent(second)]
+            | [Lack::Doubted(_), Lack::Absent(first), Lack::Absent(second)] => {
+                Stills::two([first, second])
+            }
+            [Lack::Absent(one), Lack::Doubted(_), Lack::Doubted(_)]
+            | [Lack::Doubted(_), Lack::Absent(one), Lack::Doubted(_)]
+            | [Lack::Doubted(_), Lack::Doubted(_), Lack::Absent(one)] => Stills {
+                all: [one, one, one],
+                count: 1,
+            },
+            [Lack::Doubted(_), Lack::Doubted(_), Lack::Doubted(_)] => Stills::none(),
+        }
     }
 
-    /// The seats, in order.
+    /// Nothing.
+    fn none() -> Stills
+        ensures { result ≡ [] }
+    {
+        let unused = Still::Seat { seat: 0, place: 0 };
+        Stills {
+            all: [unused, unused, unused],
+            count: 0,
+        }
+    }
+
+    /// All of it, in order.
     pub(crate) fn as_slice(&self) -> &[Still]
         ensures { result.now ≡ self.now }
     {
-        &self.seats[..self.count]
+        &self.all[..self.count]
     }
 }

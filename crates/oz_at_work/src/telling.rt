@@ -70,8 +70,8 @@ impl<'s> LineAtWork<'s> {
         }
     }
 
-    /// Where it is refused the line is told so, if that may be. There is nothing to tell where it isn't refused, nor where a
-    /// seat has moved that had to stand still: then it isn't refused any more.
+    /// Where it is refused the line is told so, if that may be. There is nothing to tell where it isn't refused, nor where
+    /// something hasn't stayed as it had to: then it isn't refused any more.
     pub(crate) fn tell_refused<O: Opened, W: Wait>(
         &mut self,
         rt: &W,

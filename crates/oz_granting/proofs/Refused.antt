@@ -39,6 +39,7 @@ use Rattle.oz_striped.specs.Shares.{share_of}
 use Rattle.oz_striped.specs.laws.Requests.{share_answers}
 use Rattle.oz_striped.specs.laws.Shares.{share_is_there}
 use Rattle.oz_striped.specs.laws.Stories.{share_of_seen}
+use Rattle.oz_telling.specs.declared.still.Still.TheVariants as rests
 use Rattle.oz_telling.specs.Still.{StandsStill}
 use Rattle.oz_turn.specs.Told.{BeginsWith}
 use Rattle.oz_underway.specs.laws.Going.{begins_through, follow_behind}
@@ -165,9 +166,9 @@ module _ (Coherent : Type 0) (opening : Opening) (bytes : OpeningBytes) (script 
         → ((story : List Event) → AllFollow Follow [] story → IsRefusal opening (own scm_seat story) exclude fault → IsRefusal opening story exclude fault)
         → IsDueWhileStill Coherent opening bytes script later id (answer_of fault) (stills_of reached stripe place)
     refused_due of_script later reached before mine stopped fault goes_on within gave had after refused law line client number other story begins all last still =
-        let scm_still = All-head (StandsStill story) (record { seat = scm_seat; place = reached }) (record { seat = stripe_seat stripe; place = place } ∷ []) still in
-        let stripe_still = All-head (StandsStill story) (record { seat = stripe_seat stripe; place = place }) []
-        (All-tail (StandsStill story) (record { seat = scm_seat; place = reached }) (record { seat = stripe_seat stripe; place = place } ∷ []) still) in
+        let scm_still = All-head (StandsStill story) (rests.Seat scm_seat reached) (rests.Seat (stripe_seat stripe) place ∷ []) still in
+        let stripe_still = All-head (StandsStill story) (rests.Seat (stripe_seat stripe) place) []
+        (All-tail (StandsStill story) (rests.Seat scm_seat reached) (rests.Seat (stripe_seat stripe) place ∷ []) still) in
         let from_there : BeginsWith story was.story = begins_through story later was.story begins (begins_through later seen was.story goes_on was.begins) in
         let so : own scm_seat story ≡ mine = still_own scm_seat story reached scm_still ∙ (ap (own scm_seat) (take_begins scm_seat story later reached begins within) ∙ gave) in
         let same = still_since (stripe_seat stripe) story was.story place from_there was.reached stripe_still in
@@ -179,7 +180,7 @@ module _ (Coherent : Type 0) (opening : Opening) (bytes : OpeningBytes) (script 
         (law story all (subst (λ (l : List Event). IsRefusal opening l exclude fault) (sym so) refused))
 
     -- where the storage container manager has stood still, it gave nothing since
-    pub had_then : (shown now : List Event) → BeginsWith shown seen → BeginsWith now shown → StandsStill now (record { seat = scm_seat; place = place })
+    pub had_then : (shown now : List Event) → BeginsWith shown seen → BeginsWith now shown → StandsStill now (rests.Seat scm_seat place)
         → own scm_seat was.story ≡ own scm_seat shown
     had_then shown now goes_on later stood =
         let first = begins_through shown seen was.story goes_on was.begins in

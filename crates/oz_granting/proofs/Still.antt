@@ -7,6 +7,7 @@ use Rattle.std.proofs.Math.Seq.{take-append_seam}
 use Rattle.std.proofs.lemmas.List.Elements.{All-head, All-tail, Contains-append_cases, Contains-append_left, Contains-append_right, filter-append}
 use Rattle.oz_core.specs.declared.event.Event.{Event}
 use Rattle.oz_turn.specs.Told.{BeginsWith, own_entries}
+use Rattle.oz_telling.specs.declared.still.Still.TheVariants as rests
 use Rattle.oz_telling.specs.Still.{StandsStill}
 
 pub same_rest : {A : Type 0} (xs ys zs : List A) → xs ++ ys ≡ xs ++ zs → ys ≡ zs
@@ -34,7 +35,7 @@ module _ (seat : ℕ) where
       by false is rest = ap (λ (t : Bool). cond t (event ∷ own story) (own story)) is ∙ rest
 
   -- who stands still gave what it had given by then
-  pub still_own : (story : List Event) (place : ℕ) → StandsStill story (record { seat = seat; place = place }) → own story ≡ own (take place story)
+  pub still_own : (story : List Event) (place : ℕ) → StandsStill story (rests.Seat seat place) → own story ≡ own (take place story)
   still_own story place still =
       ap own (sym (take-append-drop place story))
       ∙ (own-append (take place story) (drop place story)
@@ -54,7 +55,7 @@ module _ (seat : ℕ) where
 
   -- so it is from each place behind that from which it stands still
   pub still_since : (story front : List Event) (place : ℕ) → BeginsWith story front → place ≤ length front
-      → StandsStill story (record { seat = seat; place = place }) → own story ≡ own front
+      → StandsStill story (rests.Seat seat place) → own story ≡ own front
   still_since story front place begins within still =
       let there : own story ≡ own (take place front) = still_own story place still ∙ ap own (take_begins story front place begins within) in
       there ∙ sym (between (take place front) front story (drop place front, sym (take-append-drop place front)) begins there)

@@ -23,6 +23,7 @@ use Rattle.oz_scm.specs.declared.fault.GrantFault.{GrantFault}
 use Rattle.oz_scm.specs.declared.fault.GrantFault.TheVariants as faults
 use Rattle.oz_scm_events.specs.Granted.{by_scm}
 use Rattle.oz_telling.specs.declared.still.Still.{Still}
+use Rattle.oz_telling.specs.declared.still.Still.TheVariants as rests
 use Rattle.oz_telling.specs.Still.{AllStandStill, StandsStill}
 use Rattle.oz_turn.specs.Told.{BeginsWith}
 use Rattle.oz_underway.specs.GoingOn.{FromHereOn}
@@ -56,7 +57,7 @@ answer_of faults.OutOfMemory = answers.OutOfMemory
 -- the seats that have to stand still for it: the storage container manager's, and the stripe's
 abbrev pub stills_of : ℕ → ℕ → ℕ → List Still
 stills_of length stripe place =
-    record { seat = scm_seat; place = length } ∷ record { seat = stripe_seat stripe; place = place } ∷ []
+    rests.Seat scm_seat length ∷ rests.Seat (stripe_seat stripe) place ∷ []
 
 module _ (Coherent : Type 0) (opening : Opening) (bytes : OpeningBytes) (script : Script) (seen : List Event) where
   -- From here on the answer is due to the id's line, as long as that is what it asked last and the seats stand still. A
@@ -71,5 +72,5 @@ module _ (Coherent : Type 0) (opening : Opening) (bytes : OpeningBytes) (script 
   abbrev pub IsKnownThen : ℕ → AskId → ℕ → Granting → Type 0
   IsKnownThen place id stripe Granted =
       (container pipeline first count : ℕ) × Contains seen (by_scm (Grant stripe container pipeline first count))
-  IsKnownThen place id stripe Moved = StandsStill seen (record { seat = scm_seat; place = place }) → ⊥
+  IsKnownThen place id stripe Moved = StandsStill seen (rests.Seat scm_seat place) → ⊥
   IsKnownThen place id stripe (Refused answer stills) = Coherent → IsDueWhileStill id answer stills

@@ -102,7 +102,7 @@ fn grant_locked<D: Disk, O: Opened, R: Ring, W: Wait>(
     a_need_stays_until_a_grant::<O>();
     a_refusal_is_of_the_story::<O>();
     cell.show(rt, turn, seat);
-    let scm_still = Still {
+    let scm_still = Still::Seat {
         seat: SCM_SEAT,
         place,
     };
@@ -123,11 +123,11 @@ fn stills(length: u64, stripe: u8, place: u64) -> [Still; 2]
     ensures { result ≡ stills_of length stripe place }
 {
     [
-        Still {
+        Still::Seat {
             seat: SCM_SEAT,
             place: length,
         },
-        Still {
+        Still::Seat {
             seat: FIRST_STRIPE_SEAT + u16::from(stripe),
             place,
         },

@@ -16,6 +16,8 @@ use Rattle.oz_replicas.specs.declared.note.Note.{Note}
 use Rattle.oz_replicas.specs.declared.note.Note.TheVariants as notes
 use Rattle.oz_requests.specs.declared.request.AskId.{AskId}
 use Rattle.oz_turn.specs.Told.{BeginsWith}
+use Rattle.oz_reading.specs.declared.lack.Doubted.{Doubted}
+use Rattle.oz_reading.specs.Lacks.{AreDoubted}
 use Rattle.oz_reading.specs.Read.{TellsFor}
 
 -- ---- events that stand in a story
@@ -84,3 +86,7 @@ pub doubted : (opening : Opening) (id : AskId) (block : Block) (dn : ℕ) (story
     → is_intact opening story id block dn ≡ false
 doubted opening id block dn story so =
     and_right (holds opening story dn block) (not (has_event (doubts dn block id) story)) (ap (λ (t : Bool). not t) so)
+
+-- so it is later, of each
+pub are_later : (id : AskId) (block : Block) (dns : Doubted) (later seen : List Event) → BeginsWith later seen → AreDoubted seen id block dns → AreDoubted later id block dns
+are_later id block dns later seen begins are dn among = has_later (doubts dn block id) later seen begins (are dn among)

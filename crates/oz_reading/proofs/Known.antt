@@ -1,12 +1,14 @@
 -- What is known of a piece once its members were asked for it.
-use Rattle.std.proofs.Common.{◌≡◌, ℕ, false, List, [], ◌∷◌, length, get_or, Option, Some, sym, subst}
-use Rattle.std.proofs.lemmas.List.Elements.{All-cons, All-head, All-nil, All-tail}
-use Rattle.std.specs.Prelude.{All}
+use Rattle.std.proofs.Common.{◌≡◌, ⊎_elim, ℕ, zero, suc, false, List, [], ◌∷◌, length, get_or, Option, Some, sym, ap, ◌∙◌, subst, arith}
+use Rattle.std.proofs.lemmas.List.Elements.{All-cons, All-head, All-nil, All-tail, Contains-append_cases}
+use Rattle.std.proofs.lemmas.Option.{none-some, same_Some}
+use Rattle.std.specs.Prelude.{All, Contains}
+use Rattle.oz_buffer.specs.Buffer.{AllFollow, Follows}
 use Rattle.oz_core.specs.declared.event.Event.{Event}
 use Rattle.oz_core.specs.declared.event.Node.{Node}
 use Rattle.oz_core.specs.declared.opening.Opening.{Opening}
 use Rattle.oz_core.specs.Contents.{HasContent, OpeningBytes}
-use Rattle.oz_core.specs.Nodes.{is_intact}
+use Rattle.oz_core.specs.Nodes.{doubts, is_intact}
 use Rattle.oz_datanode.specs.Datanode.{State}
 use Rattle.oz_datanode.specs.Reading.{IsRead}
 use Rattle.oz_fields.specs.declared.block.Piece.{Piece}
@@ -16,14 +18,21 @@ use Rattle.oz_replicas.specs.Notes.{Goes}
 use Rattle.oz_replicas.specs.Stays.{Stays}
 use Rattle.oz_replicas.specs.declared.note.Note.{Note}
 use Rattle.oz_requests.specs.declared.request.AskId.{AskId}
-use Rattle.oz_telling.specs.declared.still.Still.{Still}
-use Rattle.oz_telling.specs.Still.{StandsStill}
+use Rattle.oz_telling.specs.Still.{AllStandStill, StandsStill}
 use Rattle.oz_turn.specs.Told.{BeginsWith}
-use Rattle.oz_underway.specs.laws.Going.{begins_through}
+use Rattle.oz_underway.specs.laws.Going.{begins_itself, begins_through}
 use Rattle.oz_world.specs.Disk.{Images}
+use Rattle.oz_reading.specs.declared.lack.Lack.{Lack}
+use Rattle.oz_reading.specs.declared.lack.Lack.TheVariants as lacking
+use Rattle.oz_reading.specs.Lacks.{IsDoubted, doubted_in, stills_in}
 use Rattle.oz_reading.specs.Member.{LacksIt}
+use Rattle.oz_reading.specs.Read.{GaveAt, MayRead, NobodyHasIt, subject_of}
+use Rattle.oz_reading.proofs.Doubts.{doubted, has_later}
 use Rattle.oz_reading.proofs.Three.{as_three}
-use Rattle.oz_reading.specs.Read.{GaveAt, MayRead, NobodyHasIt, still_from, subject_of}
+
+in_one : {A : Type 0} (x y : A) → Contains (x ∷ []) y → x ≡ y
+in_one x y (zero, lt, is) = is
+in_one x y (suc k, lt, is) = absurd (omega (arith, lt))
 
 module _ (Coherent : Type 0) (opening : Opening) (bytes : OpeningBytes) (script : Script) (id : AskId) (piece : Piece) where
   -- what may be read may be in each story that goes on
@@ -35,33 +44,56 @@ module _ (Coherent : Type 0) (opening : Opening) (bytes : OpeningBytes) (script 
     its_members = λ story begins all. may.its_members story (begins_through story later seen begins goes) all;
   }
 
-  module _ (one two three : ℕ) (first second third seen : List Event) (to_second : BeginsWith second first) (to_third : BeginsWith third second) (to_end : BeginsWith third seen)
-      (of_first : LacksIt Coherent opening bytes script id piece one first) (of_second : LacksIt Coherent opening bytes script id piece two second)
-      (of_third : LacksIt Coherent opening bytes script id piece three third) (may : MayRead Coherent opening bytes script id piece (one ∷ two ∷ three ∷ []) seen) where
-    pub nobody : NobodyHasIt Coherent opening bytes script id piece (still_from one first ∷ still_from two second ∷ still_from three third ∷ []) third
-    nobody story begins all still =
-        let Has : ℕ → Type 0 = λ dn. is_intact opening story id piece.block dn ≡ false in
-        let rest = All-tail (StandsStill story) (still_from one first) (still_from two second ∷ still_from three third ∷ []) still in
-        let last = All-tail (StandsStill story) (still_from two second) (still_from three third ∷ []) rest in
-        let from_second = begins_through story third second begins to_third in
-        let from_first = begins_through story second first from_second to_second in
-        subst (All Has) (sym (may.its_members story (begins_through story third seen begins to_end) all))
-        (All-cons Has one (two ∷ three ∷ [])
-        (of_first story from_first all (All-head (StandsStill story) (still_from one first) (still_from two second ∷ still_from three third ∷ []) still))
-        (All-cons Has two (three ∷ []) (of_second story from_second all (All-head (StandsStill story) (still_from two second) (still_from three third ∷ []) rest))
-        (All-cons Has three [] (of_third story begins all (All-head (StandsStill story) (still_from three third) [] last)) (All-nil Has))))
+  -- a member that lacks the block isn't intact in each story that goes on
+  module _ (story : List Event) (all : AllFollow (Follows Coherent opening bytes script) [] story) (coherent : Coherent) where
+    lacks_still : (lack : Lack) (rest : List Lack) (dn : ℕ) (front : List Event) → LacksIt Coherent opening bytes script id piece dn front lack → BeginsWith story front
+        → AllStandStill story (stills_in (lack ∷ rest)) → (is_intact opening story id piece.block dn ≡ false) × AllStandStill story (stills_in rest)
+    lacks_still (lacking.Doubted other) rest dn front is begins still =
+        (doubted opening id piece.block dn story (has_later (doubts dn piece.block id) story front begins (is.1 coherent)), still)
+    lacks_still (lacking.Absent one) rest dn front is begins still =
+        (is coherent story begins all (All-head (StandsStill story) one (stills_in rest) still), All-tail (StandsStill story) one (stills_in rest) still)
 
-  -- so it is where these are the places, in the order of the members
-  pub nobody_at : (dns : List ℕ) (s t u : Still) (first second third seen : List Event) → length dns ≡ 3 → s ≡ still_from (get_or dns 0 0) first → t ≡ still_from (get_or dns 1 0) second → u ≡ still_from (get_or dns 2 0) third
-      → BeginsWith second first → BeginsWith third second → BeginsWith third seen → LacksIt Coherent opening bytes script id piece (get_or dns 0 0) first
-      → LacksIt Coherent opening bytes script id piece (get_or dns 1 0) second → LacksIt Coherent opening bytes script id piece (get_or dns 2 0) third
-      → MayRead Coherent opening bytes script id piece dns seen → NobodyHasIt Coherent opening bytes script id piece (s ∷ t ∷ u ∷ []) third
-  nobody_at dns s t u first second third seen count is_s is_t is_u to_second to_third to_end of_first of_second of_third may =
-      let it = nobody (get_or dns 0 0) (get_or dns 1 0) (get_or dns 2 0) first second third seen to_second to_third to_end of_first of_second of_third
-      (subst (λ (l : List ℕ). MayRead Coherent opening bytes script id piece l seen) (as_three dns count) may) in
-      subst (λ (x : Still). NobodyHasIt Coherent opening bytes script id piece (x ∷ t ∷ u ∷ []) third) (sym is_s)
-      (subst (λ (x : Still). NobodyHasIt Coherent opening bytes script id piece (still_from (get_or dns 0 0) first ∷ x ∷ u ∷ []) third) (sym is_t)
-      (subst (λ (x : Still). NobodyHasIt Coherent opening bytes script id piece (still_from (get_or dns 0 0) first ∷ still_from (get_or dns 1 0) second ∷ x ∷ []) third) (sym is_u) it))
+    none_has : (one two three : Lack) (x y z : ℕ) (first second third : List Event) → BeginsWith story first → BeginsWith story second → BeginsWith story third
+        → LacksIt Coherent opening bytes script id piece x first one → LacksIt Coherent opening bytes script id piece y second two → LacksIt Coherent opening bytes script id piece z third three
+        → AllStandStill story (stills_in (one ∷ two ∷ three ∷ [])) → All (λ dn. is_intact opening story id piece.block dn ≡ false) (x ∷ y ∷ z ∷ [])
+    none_has one two three x y z first second third from_first from_second from_third of_first of_second of_third still =
+        let Has : ℕ → Type 0 = λ dn. is_intact opening story id piece.block dn ≡ false in
+        let a = lacks_still one (two ∷ three ∷ []) x first of_first from_first still in
+        let b = lacks_still two (three ∷ []) y second of_second from_second a.1 in
+        let c = lacks_still three [] z third of_third from_third b.1 in
+        All-cons Has x (y ∷ z ∷ []) a.0 (All-cons Has y (z ∷ []) b.0 (All-cons Has z [] c.0 (All-nil Has)))
+
+  -- a member of which that is said is doubted
+  told_then : (lack : Lack) (dn other : ℕ) (front story : List Event) → LacksIt Coherent opening bytes script id piece dn front lack → Coherent → lack ≡ lacking.Doubted other → BeginsWith story front
+      → IsDoubted story id piece.block other
+  told_then (lacking.Doubted it) dn other front story is coherent same begins =
+      subst (λ (n : ℕ). IsDoubted story id piece.block n) (sym is.0 ∙ same_Some it other (ap doubted_in same)) (has_later (doubts dn piece.block id) story front begins (is.1 coherent))
+  told_then (lacking.Absent one) dn other front story is coherent same begins = absurd (none-some other (ap doubted_in same))
+
+  either : (lack : Lack) (rest : List Lack) (it : Lack) (Is : Type 0) → (lack ≡ it → Is) → (Contains rest it → Is) → Contains (lack ∷ rest) it → Is
+  either lack rest it Is here there among =
+      ⊎_elim (λ one. here (in_one lack it one)) there (Contains-append_cases (lack ∷ []) rest it among)
+
+  pub doubted_among : (one two three : Lack) (x y z : ℕ) (first second third : List Event) → BeginsWith second first → BeginsWith third second
+      → LacksIt Coherent opening bytes script id piece x first one → LacksIt Coherent opening bytes script id piece y second two → LacksIt Coherent opening bytes script id piece z third three
+      → Coherent → (dn : ℕ) → Contains (one ∷ two ∷ three ∷ []) (lacking.Doubted dn) → IsDoubted third id piece.block dn
+  doubted_among one two three x y z first second third to_second to_third of_first of_second of_third coherent dn =
+      let it = lacking.Doubted dn in
+      let Is : Type 0 = IsDoubted third id piece.block dn in
+      either one (two ∷ three ∷ []) it Is (λ same. told_then one x dn first third of_first coherent same (begins_through third second first to_third to_second))
+      (either two (three ∷ []) it Is (λ same. told_then two y dn second third of_second coherent same to_third)
+      (either three [] it Is (λ same. told_then three z dn third third of_third coherent same (begins_itself third)) (λ none. absurd (omega (arith, none.1)))))
+
+  -- so it is where these are the members, in their order
+  pub nobody_at : (dns : List ℕ) (one two three : Lack) (first second third seen : List Event) → length dns ≡ 3
+      → BeginsWith second first → BeginsWith third second → BeginsWith third seen → LacksIt Coherent opening bytes script id piece (get_or dns 0 0) first one
+      → LacksIt Coherent opening bytes script id piece (get_or dns 1 0) second two → LacksIt Coherent opening bytes script id piece (get_or dns 2 0) third three
+      → Coherent → MayRead Coherent opening bytes script id piece dns seen → NobodyHasIt Coherent opening bytes script id piece (one ∷ two ∷ three ∷ []) third
+  nobody_at dns one two three first second third seen count to_second to_third to_end of_first of_second of_third coherent may story begins all still =
+      let from_second = begins_through story third second begins to_third in
+      let from_first = begins_through story second first from_second to_second in
+      subst (All (λ dn. is_intact opening story id piece.block dn ≡ false)) (sym (may.its_members story (begins_through story third seen begins to_end) all ∙ as_three dns count))
+      (none_has story all coherent one two three (get_or dns 0 0) (get_or dns 1 0) (get_or dns 2 0) first second third from_first from_second begins of_first of_second of_third still)
 
 -- what a member gave is the content
 module _ {D : Type 0} (told : D → Option (List ℕ)) (clock : D → ℕ) (image : D → Images) (faults : D → ℕ) (Coherent : Type 0) (opening : Opening) (bytes : OpeningBytes) (script : Script)

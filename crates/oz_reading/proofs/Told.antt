@@ -1,5 +1,5 @@
 -- What was told of notes is told in each story that goes on.
-use Rattle.std.proofs.Common.{◌≡◌, ℕ, List, [], Option, refl, subst, append-nil}
+use Rattle.std.proofs.Common.{◌≡◌, ℕ, List, [], length, Option, None, refl, subst, append-nil}
 use Rattle.oz_core.specs.declared.event.Event.{Event}
 use Rattle.oz_core.specs.declared.event.Node.{Node}
 use Rattle.oz_core.specs.declared.opening.Opening.{Opening}
@@ -14,7 +14,9 @@ use Rattle.oz_requests.specs.declared.request.AskId.{AskId}
 use Rattle.oz_turn.specs.Told.{BeginsWith}
 use Rattle.oz_world.specs.Disk.{Images}
 use Rattle.oz_reading.specs.Member.{IsGivenAt}
-use Rattle.oz_reading.specs.Read.{GaveAt, TellsFor}
+use Rattle.oz_reading.specs.declared.lack.Lack.{Lack}
+use Rattle.oz_reading.specs.Lacks.{has_notes, lack_of}
+use Rattle.oz_reading.specs.Read.{GaveAt, GaveNone, TellsFor}
 
 pub nothing_told : (id : AskId) (seen later : List Event) → BeginsWith later seen → TellsFor id seen [] later
 nothing_told id seen later begins = record { since = begins.0; goes_on = begins.1; told = tt }
@@ -35,6 +37,12 @@ given_later told clock image faults id piece dns old new given seen mid later is
   given_so = is.given_so;
 }
 
+pub said_later : {D : Type 0} (told : D → Option (List ℕ)) (clock : D → ℕ) (image : D → Images) (faults : D → ℕ) (id : AskId) (piece : Piece) (dns : List ℕ) (old new : State D)
+    (given : Option (List ℕ)) (seen mid later : List Event) (is : IsGivenAt told clock image faults id piece dns old new given seen mid) (begins : BeginsWith later mid)
+    → (given_later told clock image faults id piece dns old new given seen mid later is begins).said ≡ is.said
+unfolding given_later
+said_later told clock image faults id piece dns old new given seen mid later is begins = refl
+
 -- under the lock of a member
 pub gave_at : {D : Type 0} (told : D → Option (List ℕ)) (clock : D → ℕ) (image : D → Images) (faults : D → ℕ) (Coherent : Type 0) (opening : Opening) (bytes : OpeningBytes) (script : Script)
     (loaded : Node → ℕ) (id : AskId) (piece : Piece) (dns : List ℕ) (dn : ℕ) (given : Option (List ℕ)) (seen later : List Event) (old new : State D) (before after : SeatView)
@@ -52,3 +60,13 @@ gave_at told clock image faults Coherent opening bytes script loaded id piece dn
   goes = is.goes;
   given_so = is.given_so;
 }
+
+-- which gave none for this reason
+pub none_at : {D : Type 0} (told : D → Option (List ℕ)) (clock : D → ℕ) (image : D → Images) (faults : D → ℕ) (Coherent : Type 0) (opening : Opening) (bytes : OpeningBytes) (script : Script)
+    (loaded : Node → ℕ) (id : AskId) (piece : Piece) (dns : List ℕ) (dn : ℕ) (lack : Lack) (seen later : List Event) (old new : State D) (before after : SeatView)
+    → old.id ≡ dn → StandsFor told clock image faults Coherent opening bytes script loaded before old → StandsFor told clock image faults Coherent opening bytes script loaded after new
+    → after.seen ≡ later → (is : IsGivenAt told clock image faults id piece dns old new None seen later) → lack ≡ lack_of dn piece.block (has_notes is.said) (length later)
+    → GaveNone told clock image faults Coherent opening bytes script loaded id piece dns dn lack seen later
+unfolding gave_at
+none_at told clock image faults Coherent opening bytes script loaded id piece dns dn lack seen later old new before after member stood stands shown is why =
+    (gave_at told clock image faults Coherent opening bytes script loaded id piece dns dn None seen later old new before after member stood stands shown is, why)

@@ -1,2 +1,4 @@
+pub mod Lacks
 pub mod Read
 pub mod Member
+pub mod laws

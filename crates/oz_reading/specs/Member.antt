@@ -17,7 +17,11 @@ use Rattle.oz_underway.specs.GoingOn.{FromHereOn}
 use Rattle.oz_world.specs.Disk.{Images}
 use Rattle.oz_reading.specs.declared.member.AtMember.{AtMember}
 use Rattle.oz_reading.specs.declared.member.AtMember.TheVariants.{Gave, Nothing}
-use Rattle.oz_reading.specs.Read.{GaveAt, TellsFor, still_from, subject_of}
+use Rattle.oz_reading.specs.declared.lack.Doubted.{Doubted}
+use Rattle.oz_reading.specs.declared.lack.Lack.{Lack}
+use Rattle.oz_reading.specs.declared.lack.Lack.TheVariants as lacking
+use Rattle.oz_reading.specs.Lacks.{IsAsked, IsDoubted}
+use Rattle.oz_reading.specs.Read.{GaveAt, GaveNone, LacksAt, TellsFor, subject_of}
 
 -- A datanode gave these bytes, or none, and what came of that was told.
 pub record IsGivenAt {D : Type 0} (told : D → Option (List ℕ)) (clock : D → ℕ) (image : D → Images) (faults : D → ℕ)
@@ -28,16 +32,29 @@ pub record IsGivenAt {D : Type 0} (told : D → Option (List ℕ)) (clock : D �
   pub goes : Goes told clock image faults (subject_of piece dns) said old new
   pub given_so : IsGiven told clock image faults (subject_of piece dns) piece.length old new given said
 
--- from here on a datanode isn't intact for the id, as long as its seat stands still
-abbrev pub LacksIt : Type 0 → Opening → OpeningBytes → Script → AskId → Piece → ℕ → List Event → Type 0
-LacksIt Coherent opening bytes script id piece dn seen = FromHereOn Coherent opening bytes script seen
-    (λ story. StandsStill story (still_from dn seen) → is_intact opening story id piece.block dn ≡ false)
+-- A datanode isn't intact for the id: it is doubted; or it hasn't the block, as long as it doesn't come to have it.
+abbrev pub LacksIt : Type 0 → Opening → OpeningBytes → Script → AskId → Piece → ℕ → List Event → Lack → Type 0
+LacksIt Coherent opening bytes script id piece dn seen (lacking.Doubted other) =
+    (other ≡ dn) × (Coherent → IsDoubted seen id piece.block dn)
+LacksIt Coherent opening bytes script id piece dn seen (lacking.Absent still) = Coherent
+    → FromHereOn Coherent opening bytes script seen
+    (λ story. StandsStill story still → is_intact opening story id piece.block dn ≡ false)
 
--- A member gave bytes; or it gave none, and its seat is to stand still from here on.
+-- A member that was asked gave bytes; or it gave none, and isn't intact.
 abbrev pub CameAt : {D : Type 0} → (D → Option (List ℕ)) → (D → ℕ) → (D → Images) → (D → ℕ) → Type 0 → Opening
     → OpeningBytes → Script → (Node → ℕ) → AskId → Piece → List ℕ → ℕ → List Event → List Event → AtMember → Type 0
 CameAt told clock image faults Coherent opening bytes script loaded id piece dns dn seen later (Gave read) =
     GaveAt told clock image faults Coherent opening bytes script loaded id piece dns dn (Some read.items) seen later
-CameAt told clock image faults Coherent opening bytes script loaded id piece dns dn seen later (Nothing still) =
-    GaveAt told clock image faults Coherent opening bytes script loaded id piece dns dn None seen later
-    × (still ≡ still_from dn later) × (Coherent → LacksIt Coherent opening bytes script id piece dn later)
+CameAt told clock image faults Coherent opening bytes script loaded id piece dns dn seen later (Nothing lack) =
+    GaveNone told clock image faults Coherent opening bytes script loaded id piece dns dn lack seen later
+    × LacksIt Coherent opening bytes script id piece dn later lack
+
+-- A member gave bytes, or gives none and isn't intact. One that was doubted before isn't asked.
+abbrev pub ComesAt : {D : Type 0} → (D → Option (List ℕ)) → (D → ℕ) → (D → Images) → (D → ℕ) → Type 0 → Opening
+    → OpeningBytes → Script → (Node → ℕ) → AskId → Piece → List ℕ → Doubted → ℕ → List Event → List Event → AtMember
+    → Type 0
+ComesAt told clock image faults Coherent opening bytes script loaded id piece dns doubted dn seen later (Gave read) =
+    IsAsked doubted dn × GaveAt told clock image faults Coherent opening bytes script loaded id piece dns dn (Some read.items) seen later
+ComesAt told clock image faults Coherent opening bytes script loaded id piece dns doubted dn seen later (Nothing lack) =
+    LacksAt told clock image faults Coherent opening bytes script loaded id piece dns doubted dn lack seen later
+    × LacksIt Coherent opening bytes script id piece dn later lack

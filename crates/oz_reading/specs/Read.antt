@@ -1,5 +1,5 @@
 -- What a line knows of a piece that it reads at the members of its block, and what comes of that.
-use Rattle.std.specs.Prelude.{◌≡◌, ℕ, false, List, [], ◌∷◌, length, Option, None, Some, All}
+use Rattle.std.specs.Prelude.{◌≡◌, ◌⊎◌, ℕ, false, List, [], ◌∷◌, length, Option, None, Some, All, Contains}
 use Rattle.oz_core.specs.declared.event.Event.{Event}
 use Rattle.oz_core.specs.declared.event.Node.{Node}
 use Rattle.oz_core.specs.declared.opening.Opening.{Opening}
@@ -8,21 +8,23 @@ use Rattle.oz_core.specs.Contents.{HasContent, OpeningBytes}
 use Rattle.oz_core.specs.Law.{IsNamed}
 use Rattle.oz_core.specs.Nodes.{is_intact}
 use Rattle.oz_core.specs.Scm.{members}
-use Rattle.oz_core.specs.Seats.{datanode_seat}
 use Rattle.oz_fields.specs.declared.block.Piece.{Piece}
 use Rattle.oz_lines.specs.declared.script.Script.{Script}
 use Rattle.oz_node_events.specs.NodeSeat.{SeatView, StandsFor}
 use Rattle.oz_node_events.specs.Noting.{AreTold}
 use Rattle.oz_replicas.specs.Notes.{Subject}
-use Rattle.oz_replicas.specs.Reading.{Gave, IsFirstGiven, ReadsShort}
+use Rattle.oz_replicas.specs.Reading.{Gave}
 use Rattle.oz_replicas.specs.declared.note.Note.{Note}
 use Rattle.oz_requests.specs.declared.request.AskId.{AskId}
-use Rattle.oz_telling.specs.declared.still.Still.{Still}
 use Rattle.oz_telling.specs.Still.{AllStandStill}
 use Rattle.oz_underway.specs.GoingOn.{FromHereOn}
 use Rattle.oz_world.specs.Disk.{Images}
+use Rattle.oz_reading.specs.declared.lack.Doubted.{Doubted}
+use Rattle.oz_reading.specs.declared.lack.Lack.{Lack}
+use Rattle.oz_reading.specs.declared.lack.Lack.TheVariants as lacking
 use Rattle.oz_reading.specs.declared.reading.Reading.{Reading}
 use Rattle.oz_reading.specs.declared.reading.Reading.TheVariants.{Bytes, Nobody}
+use Rattle.oz_reading.specs.Lacks.{IsAsked, IsDoubted, has_notes, lack_of, stills_in}
 
 -- what is noted of: the piece's block, and the datanodes that are asked for it. Nothing is put
 abbrev pub subject_of : Piece → List ℕ → Subject
@@ -36,10 +38,6 @@ TellsFor id seen said later = AreTold id 0 said seen later
 abbrev pub HasSeenJust : List Event → SeatView → Type 0
 HasSeenJust story view = view.seen ≡ story
 
--- a datanode's seat, from the end of this story on
-abbrev pub still_from : ℕ → List Event → Still
-still_from dn story = record { seat = datanode_seat dn; place = length story }
-
 module _ (Coherent : Type 0) (opening : Opening) (bytes : OpeningBytes) (script : Script) (id : AskId)
     (piece : Piece) where
   -- From here on a Decide of the id, which isn't its line's own, named the piece's block; the content of the block is
@@ -52,16 +50,19 @@ module _ (Coherent : Type 0) (opening : Opening) (bytes : OpeningBytes) (script 
     pub its_members : FromHereOn Coherent opening bytes script seen
         (λ story. members opening story piece.block.container ≡ dns)
 
-  -- From here on no member of the block's container is intact for the id, as long as these seats stand still.
-  abbrev pub NobodyHasIt : List Still → List Event → Type 0
-  NobodyHasIt stills seen = FromHereOn Coherent opening bytes script seen (λ story. AllStandStill story stills
+  -- From here on no member of the block's container is intact for the id, as long as those that hadn't the block don't
+  -- come to have it. Those that were doubted never will be, whatever comes.
+  abbrev pub NobodyHasIt : List Lack → List Event → Type 0
+  NobodyHasIt lacks seen = FromHereOn Coherent opening bytes script seen (λ story. AllStandStill story (stills_in lacks)
       → All (λ dn. is_intact opening story id piece.block dn ≡ false) (members opening story piece.block.container))
 
-  -- what is known then: the bytes are the content of the block, and as many as the piece has; or nobody has it
+  -- What is known then: the bytes are the content of the block, and as many as the piece has; or nobody has it, and
+  -- those are doubted of which it is said.
   abbrev pub IsKnownOf : List Event → Reading → Type 0
   IsKnownOf seen (Bytes read) =
       (length read.items ≡ piece.length) × (Coherent → HasContent opening bytes script seen piece.block read.items)
-  IsKnownOf seen (Nobody stills) = Coherent → NobodyHasIt stills seen
+  IsKnownOf seen (Nobody lacks) = Coherent
+      → ((dn : ℕ) → Contains lacks (lacking.Doubted dn) → IsDoubted seen id piece.block dn) × NobodyHasIt lacks seen
 
 module _ {D : Type 0} (told : D → Option (List ℕ)) (clock : D → ℕ) (image : D → Images) (faults : D → ℕ)
     (Coherent : Type 0) (opening : Opening) (bytes : OpeningBytes) (script : Script) (loaded : Node → ℕ) (id : AskId)
@@ -72,24 +73,41 @@ module _ {D : Type 0} (told : D → Option (List ℕ)) (clock : D → ℕ) (imag
       Gave told clock image faults (StandsFor told clock image faults Coherent opening bytes script loaded)
       (TellsFor id) HasSeenJust (subject_of piece dns) piece.length dn given seen later
 
-  -- Each of these members gave none, one after the other, and of each this is the seat, from the story on that there
-  -- was then.
-  abbrev pub NoneGave : List ℕ → List Still → List Event → List Event → Type 0
-  NoneGave [] [] seen later = later ≡ seen
-  NoneGave [] (still ∷ stills) seen later = ⊥
-  NoneGave (dn ∷ rest) [] seen later = ⊥
-  NoneGave (dn ∷ rest) (still ∷ stills) seen later =
-      (next : List Event) × (GaveAt dn None seen next × (still ≡ still_from dn next) × NoneGave rest stills next later)
+  -- A member that was asked gave none, and lacks the block for this reason.
+  abbrev pub GaveNone : ℕ → Lack → List Event → List Event → Type 0
+  GaveNone dn lack seen later =
+      (gave : GaveAt dn None seen later) × (lack ≡ lack_of dn piece.block (has_notes gave.said) (length later))
 
-  -- The bytes are those of the first member that gave any. Where nobody has them all members gave none.
-  abbrev pub ComesOf : List Event → List Event → Reading → Type 0
-  ComesOf seen later (Bytes read) =
-      IsFirstGiven told clock image faults (StandsFor told clock image faults Coherent opening bytes script loaded)
-      (TellsFor id) HasSeenJust (subject_of piece dns) piece.length dns (Some read.items) seen later
-  ComesOf seen later (Nobody stills) = NoneGave dns stills seen later
+  module _ (doubted : Doubted) where
+    -- A member gives none for this reason. One that was doubted isn't asked, and nothing is appended.
+    abbrev pub LacksAt : ℕ → Lack → List Event → List Event → Type 0
+    LacksAt dn lack seen later =
+        (Contains doubted.dns (Some dn) × (lack ≡ lacking.Doubted dn) × (later ≡ seen))
+        ⊎ (IsAsked doubted dn × GaveNone dn lack seen later)
 
-  -- Some of the members gave none, and nothing was told of the next one for want of memory.
-  abbrev pub EndsShort : List Event → List Event → Type 0
-  EndsShort seen later =
-      ReadsShort told clock image faults (StandsFor told clock image faults Coherent opening bytes script loaded)
-      (TellsFor id) HasSeenJust (subject_of piece dns) piece.length dns seen later
+    -- Each of these members gives none, one after the other, for these reasons.
+    abbrev pub AllLack : List ℕ → List Lack → List Event → List Event → Type 0
+    AllLack [] [] seen later = later ≡ seen
+    AllLack [] (lack ∷ lacks) seen later = ⊥
+    AllLack (dn ∷ rest) [] seen later = ⊥
+    AllLack (dn ∷ rest) (lack ∷ lacks) seen later =
+        (next : List Event) × (LacksAt dn lack seen next × AllLack rest lacks next later)
+
+    -- The bytes are those of the first of these members that gives any.
+    abbrev pub FirstGives : List ℕ → List ℕ → List Event → List Event → Type 0
+    FirstGives [] read seen later = ⊥
+    FirstGives (dn ∷ rest) read seen later =
+        (IsAsked doubted dn × GaveAt dn (Some read) seen later)
+        ⊎ ((lack : Lack) × ((next : List Event) × (LacksAt dn lack seen next × FirstGives rest read next later)))
+
+    -- What comes of it that the members are asked: bytes, or nobody has them.
+    abbrev pub ComesOf : List Event → List Event → Reading → Type 0
+    ComesOf seen later (Bytes read) = FirstGives dns read.items seen later
+    ComesOf seen later (Nobody lacks) = AllLack dns lacks seen later
+
+    -- Some of these members gave none, and nothing was told of the next one for want of memory.
+    abbrev pub EndsShort : List ℕ → List Event → List Event → Type 0
+    EndsShort [] seen later = ⊥
+    EndsShort (dn ∷ rest) seen later =
+        (IsAsked doubted dn × TellsFor id seen [] later)
+        ⊎ ((lack : Lack) × ((next : List Event) × (LacksAt dn lack seen next × EndsShort rest next later)))

@@ -3,6 +3,7 @@
 ghost use Rattle.std.specs.Prelude.{◌≡◌, Contains, IfOk};
 ghost use Rattle.std.specs.Option.{option_map};
 ghost use Rattle.oz_node_events.specs.NodeSeat.{StandsFor};
+ghost use Rattle.oz_reading.specs.Lacks.{has_notes};
 ghost use Rattle.oz_reading.specs.Member.{IsGivenAt};
 ghost use Rattle.oz_reading.specs.Read.{MayRead};
 ghost use Rattle.oz_turn.specs.Seat.{IsReady, mine_of, room_of, seen_of};
@@ -10,6 +11,7 @@ ghost use Rattle.oz_turn.specs.Told.{BeginsWith};
 ghost use Rattle.oz_turn.specs.Turn.{turn_id};
 
 use crate::wanted::Wanted;
+use crate::watching::Watching;
 use oz_buffer::{Ledger, Opened};
 use oz_fields::OutOfMemory;
 use oz_node_events::{NodeSeat, Noting};
@@ -19,8 +21,15 @@ use oz_world::Disk;
 use std::alloc::Global;
 use std::sync::Wait;
 
-/// Reads the piece at the datanode of a cell whose lock is held, and notes what comes of it. It is None where the
-/// datanode doesn't give so many bytes.
+/// What a datanode gave of a piece, and whether it told anything: that it refused, or that the block is bad.
+#[derive(Drop)]
+pub(crate) struct Given {
+    pub bytes: Option<Vec<u8>>,
+    pub has_told: bool,
+}
+
+/// Reads the piece at the datanode of a cell whose lock is held, and notes what comes of it. There are no
+/// bytes where the datanode doesn't give so many.
 pub(crate) fn read_noted<D: Disk, O: Opened, R: Ring, W: Wait>(
     rt: &W,
     alloc: Global,
@@ -28,15 +37,15 @@ pub(crate) fn read_noted<D: Disk, O: Opened, R: Ring, W: Wait>(
     cell: &mut NodeCell<D, NodeSeat<Ledger<O>, O, R>>,
     seat: &mut Seat<Ledger<O>>,
     wanted: Wanted,
-) -> Result<Option<Vec<u8>>, OutOfMemory>
+) -> Result<Given, OutOfMemory>
     requires turn { turn_id turn.now ≡ R.turn }
     requires ready { IsReady R.turn wanted.by seat.old }
     requires member { Contains wanted.members cell.old.node.id }
     requires may { O.coherent → MayRead O.coherent O.opening O.bytes O.script wanted.id wanted.piece wanted.members
         (seen_of seat.old) }
-    ensures given { IfOk result (λ given. IsGivenAt D.told D.clock D.image D.faults wanted.id wanted.piece
-        wanted.members cell.old.node cell.new.node (option_map (λ bytes. bytes.items) given) (seen_of seat.old)
-        (seen_of seat.new)) }
+    ensures given { IfOk result (λ given. (is : IsGivenAt D.told D.clock D.image D.faults wanted.id wanted.piece
+        wanted.members cell.old.node cell.new.node (option_map (λ bytes. bytes.items) given.bytes) (seen_of seat.old)
+        (seen_of seat.new)) × (given.has_told ≡ has_notes is.said)) }
     ensures stood { StandsFor D.told D.clock D.image D.faults O.coherent O.opening O.bytes O.script O.faults
         cell.old.kept cell.old.node }
     ensures stands { StandsFor D.told D.clock D.image D.faults O.coherent O.opening O.bytes O.script O.faults
@@ -46,7 +55,7 @@ pub(crate) fn read_noted<D: Disk, O: Opened, R: Ring, W: Wait>(
     ensures mine { mine_of seat.new ≡ mine_of seat.old }
     ensures goes_on { BeginsWith (seen_of seat.new) (seen_of seat.old) }
 {
-    let mut noting = Noting::<D, Ledger<O>, O, R, W>::new(
+    let noter = Noting::<D, Ledger<O>, O, R, W>::new(
         rt,
         alloc,
         turn,
@@ -57,7 +66,15 @@ pub(crate) fn read_noted<D: Disk, O: Opened, R: Ring, W: Wait>(
         wanted.members,
         &[],
     );
-    let given = read_at(alloc, cell, wanted.piece, &mut noting);
-    let _seat = noting.into_seat();
-    given
+    let mut watching = Watching {
+        noter,
+        has_noted: false,
+    };
+    let given = read_at(alloc, cell, wanted.piece, &mut watching);
+    let Watching { noter, has_noted } = watching;
+    let _seat = noter.into_seat();
+    Ok(Given {
+        bytes: given?,
+        has_told: has_noted,
+    })
 }

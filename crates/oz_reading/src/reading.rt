@@ -2,11 +2,13 @@
 
 ghost use Rattle.std.specs.Prelude.{◌≡◌, ◌<◌, [], All, IfOk, OnErr};
 ghost use Rattle.oz_buffer.specs.Buffer.{AllFollow, Follows};
+ghost use Rattle.oz_reading.specs.Lacks.{AreDoubted};
 ghost use Rattle.oz_reading.specs.Read.{ComesOf, EndsShort, IsKnownOf, MayRead};
 ghost use Rattle.oz_turn.specs.Seat.{IsReady, mine_of, room_of, seen_of};
 ghost use Rattle.oz_turn.specs.Told.{BeginsWith};
 ghost use Rattle.oz_turn.specs.Turn.{turn_id};
 
+use crate::lack::{Doubted, Lack};
 use crate::member::{AtMember, read_member};
 use crate::wanted::Wanted;
 use oz_buffer::{Ledger, Opened};
@@ -14,7 +16,6 @@ use oz_fields::{OutOfMemory, Piece};
 use oz_node_events::{NodeSeat, what_is_given_is_the_content};
 use oz_replicas::Nodes;
 use oz_requests::AskId;
-use oz_telling::Still;
 use oz_turn::{Ring, Seat, Turn};
 use oz_world::Disk;
 use std::alloc::Global;
@@ -25,13 +26,14 @@ use std::sync::Wait;
 pub enum Reading {
     /// Its bytes, from the first member that gave them.
     Bytes(Vec<u8>),
-    /// No member gave them, and none has the block intact as long as their seats stand still from these places on. They
-    /// are in the order of the members.
-    Nobody([Still; 3]),
+    /// No member gives them, for these reasons, in the order of the members. None has the block intact, as long as those
+    /// that hadn't it don't come to have it.
+    Nobody([Lack; 3]),
 }
 
 /// Reads a piece for an ask of a line at the three members of its block, in their order, each under its lock, until
-/// one gives as many bytes as the piece has. `by` is the number of the worker's seat. A member that is stopped, or
+/// one gives as many bytes as the piece has. Those that were doubted for the ask before, as `doubted` says, aren't asked
+/// again: nothing more is told of them. `by` is the number of the worker's seat. A member that is stopped, or
 /// halts in the call, tells that it refused, and one whose bytes haven't the digests that are kept tells that the
 /// block is bad; one that hasn't the block, or has it in another length, tells nothing. The worker's seat has seen all
 /// that.
@@ -47,21 +49,24 @@ pub fn read_at_members<D: Disk, O: Opened, R: Ring, W: Wait>(
     id: AskId,
     piece: Piece,
     members: [u8; 3],
+    doubted: Doubted,
 ) -> Result<Reading, OutOfMemory>
     requires turn { turn_id turn.now ≡ R.turn }
     requires ready { IsReady R.turn by seat.old }
     requires there { All (λ dn. dn < nodes.now) members }
     requires may { O.coherent → MayRead O.coherent O.opening O.bytes O.script id piece members (seen_of seat.old) }
+    requires doubted { O.coherent → AreDoubted (seen_of seat.old) id piece.block doubted }
     ensures ready { IsReady R.turn by seat.new }
     ensures room { room_of seat.new ≡ room_of seat.old }
     ensures mine { mine_of seat.new ≡ mine_of seat.old }
     ensures goes_on { BeginsWith (seen_of seat.new) (seen_of seat.old) }
-    ensures follow { AllFollow (Follows O.coherent O.opening O.bytes O.script) [] (seen_of seat.new) }
+    ensures follow { AllFollow (Follows O.coherent O.opening O.bytes O.script) [] (seen_of seat.old) →
+        AllFollow (Follows O.coherent O.opening O.bytes O.script) [] (seen_of seat.new) }
     ensures came { IfOk result (ComesOf D.told D.clock D.image D.faults O.coherent O.opening O.bytes O.script
-        O.faults id piece members (seen_of seat.old) (seen_of seat.new)) }
+        O.faults id piece members doubted (seen_of seat.old) (seen_of seat.new)) }
     ensures known { IfOk result (IsKnownOf O.coherent O.opening O.bytes O.script id piece (seen_of seat.new)) }
     ensures lacks { OnErr result (EndsShort D.told D.clock D.image D.faults O.coherent O.opening O.bytes O.script
-        O.faults id piece members (seen_of seat.old) (seen_of seat.new)) }
+        O.faults id piece members doubted members (seen_of seat.old) (seen_of seat.new)) }
 {
     what_is_given_is_the_content::<D, O>();
     let wanted = Wanted {
@@ -69,19 +74,20 @@ pub fn read_at_members<D: Disk, O: Opened, R: Ring, W: Wait>(
         id,
         piece,
         members,
+        doubted,
     };
     let [first, second, third] = members;
     let first = match read_member(rt, alloc, turn, nodes, seat, wanted, first)? {
         AtMember::Gave(bytes) => return Ok(Reading::Bytes(bytes)),
-        AtMember::Nothing(still) => still,
+        AtMember::Nothing(lack) => lack,
     };
     let second = match read_member(rt, alloc, turn, nodes, seat, wanted, second)? {
         AtMember::Gave(bytes) => return Ok(Reading::Bytes(bytes)),
-        AtMember::Nothing(still) => still,
+        AtMember::Nothing(lack) => lack,
     };
     let third = match read_member(rt, alloc, turn, nodes, seat, wanted, third)? {
         AtMember::Gave(bytes) => return Ok(Reading::Bytes(bytes)),
-        AtMember::Nothing(still) => still,
+        AtMember::Nothing(lack) => lack,
     };
     Ok(Reading::Nobody([first, second, third]))
 }

@@ -74,10 +74,14 @@ fn line_asks<R: Ring, W: Wait>(
 /// A refusal names the seats of the storage container manager and of the stripe, the latter from where it had no block.
 fn names_seats(asked: Asked, still: &[Still; 2]) -> bool {
     let [scm, stripe] = still;
-    scm.seat == 3
-        && scm.place >= asked.place
-        && stripe.seat == 20 + u16::from(asked.stripe)
-        && stripe.place == asked.place
+    let its = Still::Seat {
+        seat: 20 + u16::from(asked.stripe),
+        place: asked.place,
+    };
+    match scm {
+        Still::Seat { seat, place } => *seat == 3 && *place >= asked.place && *stripe == its,
+        Still::Without { .. } => false,
+    }
 }
 
 fn outcome_of(asked: Asked, granting: &Granting) -> Came {

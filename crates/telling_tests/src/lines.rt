@@ -405,13 +405,13 @@ fn a_line_is_told_while_a_seat_stands_still(rt: HostRuntime) -> Result<(), Fail>
     holds(&rt, wrote.is_ok(), "written");
     let place = length(&rt, &turn, &mut seats);
     holds(&rt, place == 1, "one event");
-    let before = Still { seat: 2, place: 0 };
+    let before = Still::Seat { seat: 2, place: 0 };
     let moved = told_while(&rt, alloc, &turn, &mut seats, 1, before);
     holds(&rt, moved == Err(Untold::Moved), "it gave one since");
-    let since = Still { seat: 2, place };
+    let since = Still::Seat { seat: 2, place };
     let it = told_while(&rt, alloc, &turn, &mut seats, 1, since);
     holds(&rt, it.is_ok(), "and none behind it");
-    let other = Still { seat: 1, place: 0 };
+    let other = Still::Seat { seat: 1, place: 0 };
     let it = told_while(&rt, alloc, &turn, &mut seats, 3, other);
     holds(&rt, it.is_ok(), "another gave none");
     Ok(())

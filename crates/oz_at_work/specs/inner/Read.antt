@@ -1,5 +1,5 @@
 -- For private calls: a line that looked for its next piece.
-use Rattle.std.specs.Prelude.{◌≡◌, ℕ, Bool, true, false, List, [], Some}
+use Rattle.std.specs.Prelude.{◌≡◌, ℕ, Bool, true, false, List, [], Some, Contains}
 use Rattle.oz_buffer.specs.Buffer.{AllFollow, Follows}
 use Rattle.oz_client.specs.declared.step.Got.{Got}
 use Rattle.oz_client.specs.declared.step.Got.TheVariants as gots
@@ -10,8 +10,10 @@ use Rattle.oz_core.specs.Coherent.{IsCoherent}
 use Rattle.oz_core.specs.Contents.{HasContent, OpeningBytes}
 use Rattle.oz_fields.specs.declared.block.Piece.{Piece}
 use Rattle.oz_lines.specs.declared.script.Script.{Script}
+use Rattle.oz_reading.specs.declared.lack.Lack.{Lack}
+use Rattle.oz_reading.specs.declared.lack.Lack.TheVariants as lacking
+use Rattle.oz_reading.specs.Lacks.{IsDoubted}
 use Rattle.oz_reading.specs.Read.{NobodyHasIt}
-use Rattle.oz_telling.specs.declared.still.Still.{Still}
 use Rattle.oz_turn.specs.Told.{BeginsWith}
 use Rattle.oz_at_work.specs.AtWork.{IsAtWork, WorkView, id_of}
 
@@ -36,12 +38,13 @@ pub record WasRead (Coherent : Type 0) (opening : Opening) (bytes : OpeningBytes
   pub its : IsReadNext work piece
   pub has : HasContent opening bytes script seen piece.block read
 
--- Behind what was seen before this piece, its next, was looked for nobody has it, as long as these seats stand still.
+-- Behind what was seen before this piece, its next, was looked for nobody has it, for these reasons.
 pub record WasMissed (Coherent : Type 0) (opening : Opening) (bytes : OpeningBytes) (script : Script)
-    (seen : List Event) (work : WorkView) (piece : Piece) (stills : List Still) : Type 0 where
+    (seen : List Event) (work : WorkView) (piece : Piece) (lacks : List Lack) : Type 0 where
   pub before : List Event
   pub at_work : IsAtWork Coherent opening bytes script before work
   pub goes_on : BeginsWith seen before
   pub whole : IsCoherent opening bytes
   pub its : IsReadNext work piece
-  pub nobody : NobodyHasIt Coherent opening bytes script (id_of work.line work.asked) piece stills seen
+  pub doubted : (dn : ℕ) → Contains lacks (lacking.Doubted dn) → IsDoubted seen (id_of work.line work.asked) piece.block dn
+  pub nobody : NobodyHasIt Coherent opening bytes script (id_of work.line work.asked) piece lacks seen

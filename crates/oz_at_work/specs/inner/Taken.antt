@@ -1,53 +1,35 @@
 -- For private calls: a line that goes on with what came back.
-use Rattle.std.specs.Prelude.{◌≡◌, ◌⊎◌, ℕ, Bool, true, false, ◌&&◌, if◌then◌else◌, None}
+use Rattle.std.specs.Prelude.{◌≡◌, ◌⊎◌, ℕ, Bool, false, None}
 use Rattle.oz_client.specs.declared.step.Got.{Got}
 use Rattle.oz_client.specs.declared.step.Step.{Step}
-use Rattle.oz_client.specs.declared.step.Step.TheVariants as steps
 use Rattle.oz_client.specs.LineState.{LineState, state_after}
 use Rattle.oz_client.specs.Onward.{IsNext}
 use Rattle.oz_client.specs.Stories.{IsStepEverywhere}
-use Rattle.oz_command.specs.declared.command.Command.{Command}
-use Rattle.oz_command.specs.declared.command.Command.TheVariants as commands
+use Rattle.oz_reading.specs.Lacks.{none_doubted}
 use Rattle.oz_requests.specs.declared.answer.Answer.TheVariants as answers
 use Rattle.oz_at_work.specs.AtWork.{WorkView}
 use Rattle.oz_at_work.specs.inner.Replied.{cut_with}
 
--- a line with this command leaves something in a label by this step
-abbrev pub leaves_label : Command → Step → Bool
-leaves_label (commands.KeyOpen name volume bucket key payload) (steps.Tell (answers.Ok values)) = true
-leaves_label command step = false
-
 -- This comes next by its steps, once it has asked so often, so often something was said of its blocks, and one was given
--- up or not. Where one was and it would leave a label, it is told that there is no memory: what a label stands for isn't
--- known then.
+-- up or not. Of the block that it reads then no member was doubted yet.
 abbrev pub come_to : WorkView → ℕ → ℕ → Bool → Step → WorkView
-come_to work asked said gave_up step =
-    if gave_up && leaves_label work.line.command step then cut_with work asked answers.OutOfMemory
-    else record work {
-      asked = asked;
-      said = said;
-      next = step;
-      is_cut = false;
-      gave_up = gave_up;
-      refused = None;
-    }
+come_to work asked said gave_up step = record work {
+  asked = asked;
+  said = said;
+  next = step;
+  is_cut = false;
+  gave_up = gave_up;
+  doubted = none_doubted;
+  refused = None;
+}
 
 -- Its steps went on with what came back, and this comes next, once it has asked so often, so often something was said of
--- its blocks, and one was given up or not. Where one was it leaves no label.
+-- its blocks, and one was given up or not.
 pub record HasStepped (before : WorkView) (got : Got) (asked said : ℕ) (gave_up : Bool) (after : WorkView) : Type 0 where
   pub step : Step
   pub next : IsNext before.state.command after.state.progress got step
   pub so : IsStepEverywhere before.state.command after.state.progress got step
-  pub unlabelled : gave_up ≡ true → leaves_label before.line.command step ≡ false
-  pub is : after ≡ record before {
-    state = state_after before.state got step;
-    asked = asked;
-    said = said;
-    next = step;
-    is_cut = false;
-    gave_up = gave_up;
-    refused = None;
-  }
+  pub is : after ≡ come_to (record before { state = state_after before.state got step }) asked said gave_up step
 
 -- It is told next that there is no memory. Its steps may have gone on.
 pub record HasStopped (before : WorkView) (asked : ℕ) (after : WorkView) : Type 0 where

@@ -8,6 +8,7 @@ use Rattle.oz_grants.specs.declared.entry.Grant.{Grant as MadeGrant}
 use Rattle.oz_requests.specs.declared.answer.Answer.{Answer}
 use Rattle.oz_scm_events.specs.Granted.{by_scm, own_after}
 use Rattle.oz_telling.specs.declared.still.Still.{Still}
+use Rattle.oz_telling.specs.declared.still.Still.TheVariants as rests
 use Rattle.oz_telling.specs.Still.{StandsStill}
 use Rattle.oz_turn.specs.Seat.{seen_of}
 use Rattle.oz_underway.specs.laws.Going.{begins_through}
@@ -23,7 +24,7 @@ grant-requires-clause-needed g c coherent story begins all asker gave container 
     let shown = seen_of c.show.new.seat in
     let now = seen_of c.has_stood_still.new.seat in
     let was = c.requires.empty coherent in
-    let stood : StandsStill now (record { seat = scm_seat; place = c.args.place }) = c.has_stood_still.ensures.stood.0 c.if-not-has_stood_still.false in
+    let stood : StandsStill now (rests.Seat scm_seat c.args.place) = c.has_stood_still.ensures.stood.0 c.if-not-has_stood_still.false in
     let had = had_then O.coherent O.opening O.bytes O.script coherent seen c.args.place c.args.id c.args.stripe c.args.exclude.now was shown now c.show.ensures.begins c.has_stood_still.ensures.goes_on stood in
     let from_there = begins_through story now was.story begins
     (begins_through now shown was.story c.has_stood_still.ensures.goes_on (begins_through shown seen was.story c.show.ensures.begins was.begins)) in
@@ -58,7 +59,7 @@ returns-clause-known g c coherent =
     let granted = seen_of c.grant.new.seat in
     let later = seen_of c.length_at_rest-length.new.seat in
     let was = c.requires.empty coherent in
-    let stood : StandsStill now (record { seat = scm_seat; place = c.args.place }) = c.has_stood_still.ensures.stood.0 c.if-not-has_stood_still.false in
+    let stood : StandsStill now (rests.Seat scm_seat c.args.place) = c.has_stood_still.ensures.stood.0 c.if-not-has_stood_still.false in
     let had = had_then O.coherent O.opening O.bytes O.script coherent seen c.args.place c.args.id c.args.stripe c.args.exclude.now was shown now c.show.ensures.begins c.has_stood_still.ensures.goes_on stood in
     let goes_on = begins_through later granted seen c.length_at_rest-length.ensures.goes_on
     (begins_through granted now seen c.grant.ensures.begins (begins_through now shown seen c.has_stood_still.ensures.goes_on c.show.ensures.begins)) in

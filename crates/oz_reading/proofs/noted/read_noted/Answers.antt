@@ -1,9 +1,9 @@
-use Rattle.std.proofs.Common.{inl, sym, ◌∙◌, arith}
+use Rattle.std.proofs.Common.{inl, sym, ◌∙◌, arith, rules}
 use Rattle.std.proofs.lemmas.Bool.{false≢true}
 use Rattle.oz_reading.proofs.noted.read_noted.Goals as goal
 
-pub new-noting-requires-clause-knows : goal.new-noting-requires-clause-knows
-new-noting-requires-clause-knows g c = record {
+pub new-noter-requires-clause-knows : goal.new-noter-requires-clause-knows
+new-noter-requires-clause-knows g c = record {
   may = λ coherent story begins all.
       let named = (c.requires.may coherent).named story begins all in
       record {
@@ -13,3 +13,10 @@ new-noting-requires-clause-knows g c = record {
       };
   most = omega arith;
 }
+
+pub returns-clause-given : goal.returns-clause-given
+returns-clause-given g c =
+    let it = c.in_ok-given.ensures.given in (
+      record { said = it.0; told_so = search rules; goes = search rules; given_so = search rules },
+      it.1.0.1,
+    )

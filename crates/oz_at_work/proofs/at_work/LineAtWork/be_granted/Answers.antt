@@ -61,7 +61,7 @@ returns-in-Ok-Refused-clause-works g c coherent =
     let wanted = c.in-Some.wanted in
     let answer = c.in-Ok-Refused.answer in
     let still = c.in-Ok-Refused.still in
-    let work : WorkView = record { line = inside.line.now; state = inside.steps; nodes = inside.nodes; asked = inside.asked; said = inside.said; next = inside.next; is_cut = inside.is_cut; gave_up = inside.gave_up; refused = inside.refused } in
+    let work : WorkView = record { line = inside.line.now; state = inside.steps; nodes = inside.nodes; asked = inside.asked; said = inside.said; next = inside.next; is_cut = inside.is_cut; gave_up = inside.gave_up; doubted = inside.doubted; refused = inside.refused } in
     let at_work : IsAtWork O.coherent O.opening O.bytes O.script seen work =
     subst (IsAtWork O.coherent O.opening O.bytes O.script seen) (sym c.self.view_is) (c.requires.works coherent) in
     let short : IsShort O.opening seen work = subst (IsShort O.opening seen) (sym c.self.view_is) (c.requires.short coherent) in

@@ -17,9 +17,9 @@ pub returns-clause-works : goal.returns-clause-works
 returns-clause-works g c coherent seen was =
     let O = g.O.Opened in
     let inside = c.self.inside in
-    let work : WorkView = record { line = inside.line.now; state = inside.steps; nodes = inside.nodes; asked = inside.asked; said = inside.said; next = inside.next; is_cut = inside.is_cut; gave_up = inside.gave_up; refused = inside.refused } in
-    let so : WasMissed O.coherent O.opening O.bytes O.script seen work c.args.piece c.args.still =
-    subst (λ (w : WorkView). WasMissed O.coherent O.opening O.bytes O.script seen w c.args.piece c.args.still) (sym c.self.view_is) was in
+    let work : WorkView = record { line = inside.line.now; state = inside.steps; nodes = inside.nodes; asked = inside.asked; said = inside.said; next = inside.next; is_cut = inside.is_cut; gave_up = inside.gave_up; doubted = inside.doubted; refused = inside.refused } in
+    let so : WasMissed O.coherent O.opening O.bytes O.script seen work c.args.piece c.args.lacks =
+    subst (λ (w : WorkView). WasMissed O.coherent O.opening O.bytes O.script seen w c.args.piece c.args.lacks) (sym c.self.view_is) was in
     subst (λ (l : List Still). IsAtWork O.coherent O.opening O.bytes O.script seen
-    (record work { refused = Some (record { answer = answers.NoReplica c.in-Ok.number c.args.piece.block; asked = work.asked; still = l }) })) (sym c.three.ensures)
-    (missed_works O.coherent O.opening O.bytes O.script seen work c.args.piece c.args.still coherent so c.in-Ok.number (c.in-Ok.ensures.1 ∙ c.pieces_read.ensures))
+    (record work { doubted = c.of-self-inside.result; refused = Some (record { answer = answers.NoReplica c.in-Ok.number c.args.piece.block; asked = work.asked; still = l }) })) (sym c.of.ensures)
+    (missed_works O.coherent O.opening O.bytes O.script seen work c.args.piece c.args.lacks coherent so c.in-Ok.number (c.in-Ok.ensures.1 ∙ c.pieces_read.ensures) c.of-self-inside.result c.of-self-inside.ensures)

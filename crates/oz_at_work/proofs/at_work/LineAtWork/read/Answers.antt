@@ -1,5 +1,7 @@
-use Rattle.std.proofs.Common.{◌≡◌, List, ap, ◌∙◌, subst, sym}
+use Rattle.std.proofs.Common.{◌≡◌, ℕ, List, Contains, ap, ◌∙◌, subst, sym}
+use Rattle.oz_reading.specs.declared.lack.Lack.TheVariants as lacking
 use Rattle.oz_reading.specs.declared.reading.Reading.TheVariants as readings
+use Rattle.oz_reading.specs.Lacks.{AreDoubted, IsDoubted}
 use Rattle.oz_reading.specs.Read.{IsKnownOf, MayRead, NobodyHasIt}
 use Rattle.oz_requests.specs.declared.answer.Answer.TheVariants as answers
 use Rattle.oz_requests.specs.declared.request.AskId.{AskId}
@@ -7,7 +9,8 @@ use Rattle.oz_turn.specs.Seat.{seen_of}
 use Rattle.oz_underway.specs.laws.Going.{begins_itself, begins_through}
 use Rattle.oz_at_work.specs.AtWork.{WorkView, id_of}
 use Rattle.oz_at_work.proofs.Cutting.{cut_so}
-use Rattle.oz_at_work.proofs.Getting.{may_read}
+use Rattle.oz_at_work.proofs.Getting.{may_read, next_read}
+use Rattle.oz_at_work.proofs.Staying.{doubted_still}
 use Rattle.oz_at_work.proofs.at_work.LineAtWork.read.Goals as goal
 
 pub returns-in_default-clause-works : goal.returns-in_default-clause-works
@@ -34,6 +37,19 @@ read_at_members-requires-clause-may g c coherent =
     (may_read O.coherent O.opening O.bytes O.script (seen_of c.args.seat.now) work piece coherent (c.requires.works coherent) c.in-Some.ensures (c.opens.ensures.store coherent).disks
     later c.members_of.ensures.goes_on c.members_of.ensures.follow c.in-Some-members_of.members (c.in-Some-members_of.ensures.are coherent))
 
+pub read_at_members-requires-clause-doubted : goal.read_at_members-requires-clause-doubted
+read_at_members-requires-clause-doubted g c coherent =
+    let O = g.O.Opened in
+    let work : WorkView = c.args.self.now in
+    let piece = c.in-Some.piece in
+    let seen = seen_of c.args.seat.now in
+    let later = seen_of c.members_of.new.seat in
+    let id : c.id-id.result ≡ id_of work.line work.asked = c.id-id.ensures ∙ ap (λ (w : WorkView). id_of work.line w.asked) c.self.view_is in
+    let fit = next_read O.coherent O.opening O.bytes O.script seen work piece coherent (c.requires.works coherent) c.in-Some.ensures in
+    subst (λ (i : AskId). AreDoubted later i piece.block c.self.inside.doubted) (sym id)
+    (subst (λ (w : WorkView). AreDoubted later (id_of work.line work.asked) piece.block w.doubted) (sym c.self.view_is)
+    (doubted_still later seen (id_of work.line work.asked) piece.block work.doubted c.members_of.ensures.goes_on fit.are_doubted))
+
 pub returns-in-Ok-Bytes-clause-works : goal.returns-in-Ok-Bytes-clause-works
 returns-in-Ok-Bytes-clause-works g c coherent =
     let O = g.O.Opened in
@@ -45,7 +61,7 @@ returns-in-Ok-Bytes-clause-works g c coherent =
       before = seen;
       at_work = c.requires.works coherent;
       goes_on = begins_through later (seen_of c.members_of.new.seat) seen c.read_at_members.ensures.goes_on c.members_of.ensures.goes_on;
-      follow = c.read_at_members.ensures.follow;
+      follow = c.read_at_members.ensures.follow c.members_of.ensures.follow;
       piece = c.in-Some.piece;
       its = c.in-Some.ensures;
       has = known.1 coherent;
@@ -58,7 +74,7 @@ returns-in-Ok-Nobody-clause-works g c coherent =
     let seen = seen_of c.args.seat.now in
     let later = seen_of c.read_at_members.new.seat in
     let id : c.id-id.result ≡ id_of work.line work.asked = c.id-id.ensures ∙ ap (λ (w : WorkView). id_of work.line w.asked) c.self.view_is in
-    let known : IsKnownOf O.coherent O.opening O.bytes O.script c.id-id.result c.in-Some.piece later (readings.Nobody c.in-Ok-Nobody.still) =
+    let known : IsKnownOf O.coherent O.opening O.bytes O.script c.id-id.result c.in-Some.piece later (readings.Nobody c.in-Ok-Nobody.lacks) =
     rw (c.in-Ok-Nobody.is, c.in-Ok-Nobody.field-0-is) at c.read_at_members.ensures.known in
     c.miss.ensures.works coherent later (record {
       before = seen;
@@ -66,7 +82,8 @@ returns-in-Ok-Nobody-clause-works g c coherent =
       goes_on = begins_through later (seen_of c.members_of.new.seat) seen c.read_at_members.ensures.goes_on c.members_of.ensures.goes_on;
       whole = (c.opens.ensures.store coherent).disks;
       its = c.in-Some.ensures;
-      nobody = subst (λ (i : AskId). NobodyHasIt O.coherent O.opening O.bytes O.script i c.in-Some.piece c.in-Ok-Nobody.still later) id (known coherent);
+      doubted = subst (λ (i : AskId). (dn : ℕ) → Contains c.in-Ok-Nobody.lacks (lacking.Doubted dn) → IsDoubted later i c.in-Some.piece.block dn) id (known coherent).0;
+      nobody = subst (λ (i : AskId). NobodyHasIt O.coherent O.opening O.bytes O.script i c.in-Some.piece c.in-Ok-Nobody.lacks later) id (known coherent).1;
     })
 
 pub returns-in-Err-clause-works : goal.returns-in-Err-clause-works

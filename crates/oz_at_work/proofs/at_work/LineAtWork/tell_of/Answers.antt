@@ -13,7 +13,7 @@ tell_done-requires-clause-fits g c coherent story begins all may =
     let O = g.O.Opened in
     let inside = c.self.inside in
     let seen = seen_of c.args.seat.now in
-    let work : WorkView = record { line = inside.line.now; state = inside.steps; nodes = inside.nodes; asked = inside.asked; said = inside.said; next = inside.next; is_cut = inside.is_cut; gave_up = inside.gave_up; refused = inside.refused } in
+    let work : WorkView = record { line = inside.line.now; state = inside.steps; nodes = inside.nodes; asked = inside.asked; said = inside.said; next = inside.next; is_cut = inside.is_cut; gave_up = inside.gave_up; doubted = inside.doubted; refused = inside.refused } in
     let at_work : IsAtWork O.coherent O.opening O.bytes O.script seen work =
     subst (IsAtWork O.coherent O.opening O.bytes O.script seen) (sym c.self.view_is) (c.requires.works coherent) in
     let due : IsDoneDue O.coherent O.opening O.bytes O.script seen work.line c.args.dn =
@@ -37,7 +37,7 @@ returns-in-Ok-clause-ended g c ended coherent =
     let inside = c.self.inside in
     let seen = seen_of c.args.seat.now in
     let later = seen_of c.tell_done.new.seat in
-    let work : WorkView = record { line = inside.line.now; state = inside.steps; nodes = inside.nodes; asked = inside.asked; said = inside.said; next = inside.next; is_cut = inside.is_cut; gave_up = inside.gave_up; refused = inside.refused } in
+    let work : WorkView = record { line = inside.line.now; state = inside.steps; nodes = inside.nodes; asked = inside.asked; said = inside.said; next = inside.next; is_cut = inside.is_cut; gave_up = inside.gave_up; doubted = inside.doubted; refused = inside.refused } in
     let its : IsCommandOf work.line c.args.dn c.args.done = subst (λ (w : WorkView). IsCommandOf w.line c.args.dn c.args.done) (sym c.self.view_is) c.requires.commands in
     let left : HasLeft O.coherent O.opening O.bytes O.script later work.line None =
     done_left O.coherent O.opening O.bytes O.script seen later (mine_of c.args.seat.now) (mine_of c.tell_done.new.seat) work.line c.args.dn c.args.done c.args.by work.said _ its c.in-Ok.ensures.told in

@@ -3,8 +3,8 @@ use Rattle.std.proofs.Common.{◌≡◌, ℕ, zero, suc, List, [], None, refl, s
 use Rattle.std.specs.FinMap.{empty, get-empty}
 use Rattle.std.specs.Option.{option_map}
 use Rattle.std.specs.Ordering.{nat_cmp}
-use Rattle.oz_grants.specs.declared.container.Container.{Container as MadeContainer}
-use Rattle.oz_grants.specs.Made.{container_at}
+use Rattle.oz_scm.specs.declared.grants.container.Container.{Container as MadeContainer}
+use Rattle.oz_scm.specs.grants.Made.{container_at}
 use Rattle.oz_scm_events.specs.Kept.{as_told, AreContainers}
 
 at_none : (number : ℕ) → option_map as_told (container_at [] number) ≡ None

@@ -8,7 +8,7 @@ use crate::stage::{Book, Stage};
 use oz_command::{AdminCommand, Command};
 use oz_core::{Event, EventKind, Node};
 use oz_fields::OutOfMemory;
-use oz_lines::Line;
+use oz_script::Line;
 use oz_turn::{Ring, Seat, Turn};
 use std::alloc::Global;
 use std::process::Abort;

@@ -1,7 +1,7 @@
 //! A manager with its flusher and its workers, and what they do.
 
 ghost use Rattle.std.specs.Prelude.{◌≡◌, true, vec_len, OnOk};
-ghost use Rattle.oz_deciding.specs.Decided.{is_decided};
+ghost use Rattle.oz_om.specs.decider.Decided.{is_decided};
 ghost use Rattle.oz_turn.specs.Seat.{AreNewSeats, IsReady};
 ghost use Rattle.oz_turn.specs.Turn.{turn_id};
 

@@ -1,7 +1,7 @@
 //! What is asked in the tests, and what is replied.
 
 ghost use Rattle.std.specs.Prelude.{◌≡◌, true, IfOk};
-ghost use Rattle.oz_deciding.specs.Decided.{is_decided};
+ghost use Rattle.oz_om.specs.decider.Decided.{is_decided};
 
 use oz_fields::{List, Name};
 use oz_names::Code;

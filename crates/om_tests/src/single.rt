@@ -1,7 +1,7 @@
 //! What one thread asks.
 
 ghost use Rattle.std.specs.Prelude.{◌≡◌, true, vec_len};
-ghost use Rattle.oz_deciding.specs.Decided.{is_decided};
+ghost use Rattle.oz_om.specs.decider.Decided.{is_decided};
 ghost use Rattle.oz_turn.specs.Seat.{AreNewSeats};
 ghost use Rattle.oz_turn.specs.Turn.{turn_id};
 

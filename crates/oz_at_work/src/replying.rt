@@ -11,10 +11,10 @@ ghost use Rattle.oz_turn.specs.Told.{BeginsWith};
 ghost use Rattle.oz_turn.specs.Turn.{turn_id};
 
 use crate::at_work::LineAtWork;
+use oz_asker::times_said;
 use oz_buffer::{Ledger, Opened};
 use oz_client::Got;
 use oz_requests::{Answer, Reply};
-use oz_telling::times_said;
 use oz_turn::{Seat, Turn};
 use std::alloc::Global;
 use std::sync::Wait;

@@ -9,7 +9,9 @@ mod listing;
 mod lists;
 mod loading;
 mod planning;
+mod shelf;
 
 pub use blocks::Blocks;
 pub use fault::BlockFault;
 pub use laws::a_disk_stands_for_one_node;
+pub use shelf::{Shelf, Unwritten, Written, each_place_has_its_last_chunk};

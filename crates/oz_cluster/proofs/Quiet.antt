@@ -7,8 +7,8 @@ use Rattle.oz_cluster.specs.Stopped.{IsScript, status_of_store}
 use Rattle.oz_cluster.proofs.Causes.{no_script_and_fault}
 use Rattle.oz_core.specs.Contents.{OpeningBytes}
 use Rattle.oz_datanode.specs.declared.disks.NodeDisks.{NodeDisks}
-use Rattle.oz_disk_run.specs.declared.disks.Disks.{Disks}
-use Rattle.oz_disk_run.specs.Refused.{ManagerIsRefused, ManagerIsSo, NodesAreRefused, store_fault_of}
+use Rattle.oz_running.specs.declared.disk_run.disks.Disks.{Disks}
+use Rattle.oz_running.specs.disk_run.Refused.{ManagerIsRefused, ManagerIsSo, NodesAreRefused, store_fault_of}
 use Rattle.oz_effects.specs.Build.{Builds, BuildsFrom, no_head}
 use Rattle.oz_headline.specs.declared.status.Status.TheVariants as ends
 use Rattle.oz_journal.specs.declared.load_fault.LoadFault.{LoadFault}
@@ -27,7 +27,7 @@ use Rattle.oz_rows.specs.RowMaps.{row_of}
 use Rattle.oz_sound.specs.Sound.{IsSoundButRenames}
 use Rattle.oz_sound.specs.StandsFor.{StandsFor}
 use Rattle.oz_store.specs.Store.{IsStore, empty_store}
-use Rattle.oz_words.specs.Words.{IsRun, IsFirstFault}
+use Rattle.oz_command.specs.command_line.Words.{IsRun, IsFirstFault}
 use Rattle.oz_world.specs.Disk.{Seen}
 
 -- ids of the same rows

@@ -6,9 +6,9 @@ use Rattle.oz_chunk.specs.Slots.{IsWithin}
 use Rattle.oz_cluster.specs.Wrong.{IsDamaged, IsOnDisk, IsWrong, MakeARowOf, MetaTells}
 use Rattle.oz_datanode.specs.declared.disks.NodeDisks.{NodeDisks}
 use Rattle.oz_datanode.specs.Datanode.{State as Datanode, IsLowestPast, node_in}
-use Rattle.oz_disk_run.specs.declared.disks.Disks.{Disks}
+use Rattle.oz_running.specs.declared.disk_run.disks.Disks.{Disks}
 use Rattle.oz_entries.specs.Node.{Node, is_used}
-use Rattle.oz_grants.specs.Made.{Made}
+use Rattle.oz_scm.specs.grants.Made.{Made}
 use Rattle.oz_journal.specs.Grammar.{IsJournal}
 use Rattle.oz_loaded.specs.Loads.{IsDamagedDisk as IsDamagedManager, IsLoaded}
 use Rattle.oz_loaded.specs.Unseated.{UnseatedView}

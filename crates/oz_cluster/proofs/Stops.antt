@@ -6,9 +6,9 @@ use Rattle.oz_cluster.specs.declared.stop.Stop.{Stop}
 use Rattle.oz_cluster.specs.declared.stop.Stop.TheVariants.{Words, Read, Script, Store, OutOfMemory}
 use Rattle.oz_cluster.specs.Stopped.{status_of, text_of, IsSo, Reads, Spares, IsStopped}
 use Rattle.oz_cluster.specs.Streams.{script_limit, TakesUpTo}
-use Rattle.oz_disk_run.specs.declared.disks.Disks.{Disks}
-use Rattle.oz_disk_run.specs.Refused.{AreAtMostLoaded, IsRefusedFor}
-use Rattle.oz_disk_run.specs.laws.Untouched.{left_as_are}
+use Rattle.oz_running.specs.declared.disk_run.disks.Disks.{Disks}
+use Rattle.oz_running.specs.disk_run.Refused.{AreAtMostLoaded, IsRefusedFor}
+use Rattle.oz_running.specs.disk_run.laws.Untouched.{left_as_are}
 use Rattle.oz_headline.specs.declared.status.Status.{Status}
 use Rattle.oz_headline.specs.Printed.{Says}
 use Rattle.oz_nodes_loaded.specs.declared.fault.StoreFault.{StoreFault}

@@ -3,9 +3,9 @@ use Rattle.std.specs.Prelude.{◌≡◌, ◌≢◌, ◌⊎◌, ℕ, ◌≤◌, L
 use Rattle.oz_block.specs.Blocks.{StandsFor as StandsForNode, IsDamagedDisk as IsDamagedMeta}
 use Rattle.oz_datanode.specs.declared.disks.NodeDisks.{NodeDisks}
 use Rattle.oz_datanode.specs.Datanode.{IsLowestPast}
-use Rattle.oz_disk_run.specs.declared.disks.Disks.{Disks}
+use Rattle.oz_running.specs.declared.disk_run.disks.Disks.{Disks}
 use Rattle.oz_entries.specs.Node.{Node}
-use Rattle.oz_grants.specs.Made.{Made}
+use Rattle.oz_scm.specs.grants.Made.{Made}
 use Rattle.oz_journal.specs.Grammar.{IsJournal}
 use Rattle.oz_loaded.specs.Loads.{IsDamagedDisk as IsDamagedManager, IsLoaded}
 use Rattle.oz_loaded.specs.Counted.{HasId}

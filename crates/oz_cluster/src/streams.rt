@@ -7,8 +7,8 @@ ghost use Rattle.oz_world.specs.Faults.{Rose, HasCause};
 ghost use Rattle.oz_cluster.specs.Streams.{IsReadThrough, TakesUpTo, script_limit};
 ghost use Rattle.oz_headline.specs.Printed.{HoldsPrefix};
 
-use oz_draft::MOST_BYTES;
 use oz_fields::OutOfMemory;
+use oz_script::MOST_BYTES;
 use oz_world::{Failed, Sink, Source};
 use std::alloc::Global;
 

@@ -8,7 +8,7 @@ ghost use Rattle.oz_fields.specs.declared.block.TheConstants.{LONGEST_PIECE};
 ghost use Rattle.oz_rows.specs.Rows.{IsBlock};
 ghost use Rattle.oz_entries.specs.Held.{any_in};
 ghost use Rattle.oz_chunk.specs.Taken.{is_taken};
-ghost use Rattle.oz_shelf.specs.Written.{chunks_in, written_of, written_besides};
+ghost use Rattle.oz_block.specs.shelf.Written.{chunks_in, written_of, written_besides};
 ghost use Rattle.oz_datanode.specs.Copying.{CopyGoes};
 ghost use Rattle.oz_datanode.specs.Datanode.{Runs, stop_of, DisksGoOn};
 ghost use Rattle.oz_datanode.specs.Pairs.{Content, NodeHolds, journal_seen, with_content};

@@ -6,7 +6,7 @@ ghost use Rattle.oz_entries.specs.Node.{is_held, is_deleted, is_same_block};
 ghost use Rattle.oz_fields.specs.declared.block.Block.{Block as BlockName};
 ghost use Rattle.oz_fields.specs.declared.block.TheConstants.{LONGEST_PIECE};
 ghost use Rattle.oz_rows.specs.Rows.{IsBlock};
-ghost use Rattle.oz_shelf.specs.Written.{makes, row_of, written_of};
+ghost use Rattle.oz_block.specs.shelf.Written.{makes, row_of, written_of};
 ghost use Rattle.oz_datanode.specs.Datanode.{stop_of, Runs, DisksGoOn};
 ghost use Rattle.oz_datanode.specs.Pairs.{Content, Has, NodeHolds, journal_seen, with_content};
 ghost use Rattle.oz_datanode.specs.Writing.{is_open, state_for, HasPart, MakeBytes, contents_with, WriteEnds, PutEnds, Abandons};
@@ -15,10 +15,9 @@ ghost use Rattle.oz_datanode.specs.declared.refusal.NodeRefusal.TheVariants as r
 
 use crate::datanode::Datanode;
 use crate::refusal::NodeRefusal;
-use oz_block::{BlockFault, a_disk_stands_for_one_node};
+use oz_block::{BlockFault, Unwritten, a_disk_stands_for_one_node, each_place_has_its_last_chunk};
 use oz_container::State;
 use oz_fields::Block;
-use oz_shelf::{Unwritten, each_place_has_its_last_chunk};
 use oz_world::Disk;
 use std::alloc::Global;
 

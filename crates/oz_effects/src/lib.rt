@@ -3,6 +3,7 @@
 #![tactic(auto)]
 
 mod batches;
+mod changes;
 mod parts;
 
 pub use batches::{
@@ -10,4 +11,5 @@ pub use batches::{
     closed_sessions_are_a_batch, copied_keys_are_a_batch, dropped_keys_are_a_batch,
     moved_rows_are_a_batch, no_bytes_are_no_changes,
 };
+pub use changes::{closed_sessions, copied_keys, dropped_keys, moved_rows, operation_changes};
 pub use parts::{Part, RowRef, first_key, part_rows};

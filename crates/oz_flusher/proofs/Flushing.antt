@@ -1,7 +1,7 @@
 -- One flush as a whole.
 use Rattle.std.proofs.Common.{◌≡◌, ◌⊎◌, inl, inr, ℕ, ◌+◌, ◌<◌, ◌≤◌, List, [], ◌∷◌, ◌++◌, length, Option, None, Some, Result, Ok, Err, is_err, IfSome, IsSome, refl, sym, ap, ◌∙◌, subst, arith, length-append, append_assoc}
 use Rattle.std.proofs.lemmas.Bool.{cases_lt, false≢true}
-use Rattle.oz_batches.specs.Body.{body_bytes}
+use Rattle.oz_journal.specs.batches.Body.{body_bytes}
 use Rattle.oz_buffer.specs.Buffer.{buffer_of}
 use Rattle.oz_core.specs.declared.event.Event.{Event}
 use Rattle.oz_core.specs.declared.event.EventKind.{EventKind}

@@ -4,3 +4,4 @@ pub mod Laws
 pub mod Bodies
 pub mod Stopping
 pub mod Flushing
+pub mod flushing_lemmas

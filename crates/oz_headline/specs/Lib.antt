@@ -7,3 +7,5 @@ pub mod History
 pub mod Reads
 pub mod Counts
 pub mod Headline
+pub mod halts
+pub mod restored

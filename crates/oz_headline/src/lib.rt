@@ -2,9 +2,17 @@
 #![tactic(auto)]
 
 mod ended;
+mod halts;
 mod laws;
+mod restored;
 mod status;
 
 pub use ended::the_story_keeps_the_headline;
+pub use halts::{
+    a_halted_node_counted, halts_of_all_nodes_are_named, the_story_keeps_the_headline_of_all_disks,
+};
 pub use laws::{all_are_told_by_count, one_history_says_the_rest};
+pub use restored::{
+    a_prefix_builds, a_stop_leaves_a_prefix, decided_batches_lead_on, stripes_stand_together,
+};
 pub use status::Status;

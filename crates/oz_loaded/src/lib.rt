@@ -5,6 +5,7 @@ mod counting;
 mod laws;
 mod loading;
 mod parting;
+mod standing;
 mod unseated;
 mod walking;
 
@@ -14,4 +15,5 @@ pub use laws::{
 };
 pub use loading::load;
 pub use parting::part;
+pub use standing::{namespace_of, parts_show_their_namespace};
 pub use unseated::{Counted, Unseated};

@@ -4,3 +4,4 @@ pub mod Ids
 pub mod Loads
 pub mod Refused
 pub mod Steps
+pub mod store_opening

@@ -12,7 +12,7 @@ ghost use Rattle.oz_core.specs.Fits.{EventFits};
 ghost use Rattle.oz_core.specs.Law.{AskIsEnabled};
 ghost use Rattle.oz_core.specs.Manager.{asked_late};
 ghost use Rattle.oz_core.specs.Seats.{IsAskSeat};
-ghost use Rattle.oz_deciding.specs.Decided.{is_decided};
+ghost use Rattle.oz_om.specs.decider.Decided.{is_decided};
 ghost use Rattle.oz_om.specs.Decided.{IsDecided, IsPoolEmpty, IsTooMuch, WasAsSaid};
 ghost use Rattle.oz_om.specs.Refusals.{AskStands, IsOfStripe};
 ghost use Rattle.oz_om.specs.declared.refusal.Refusal.TheVariants as refusals;

@@ -2,6 +2,7 @@
 #![tactic(auto)]
 
 mod asking;
+mod decider;
 mod deciding;
 mod draft;
 mod drafting;
@@ -12,5 +13,6 @@ mod refusal;
 mod seating;
 mod telling;
 
+pub use decider::{Outcome, decide};
 pub use manager::Manager;
 pub use refusal::Refusal;

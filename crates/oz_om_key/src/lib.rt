@@ -4,7 +4,9 @@
 mod asking;
 mod deciding;
 mod listing;
+mod om_change;
 mod place;
 mod reading;
 
 pub use deciding::decide;
+pub use om_change::decide_change;

@@ -3,7 +3,9 @@
 
 mod allocating;
 mod committing;
+mod om_open;
 mod pieces;
 
 pub use allocating::decide_allocate;
 pub use committing::decide_commit;
+pub use om_open::decide_open;

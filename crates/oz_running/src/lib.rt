@@ -3,6 +3,7 @@
 
 mod closing;
 mod counting;
+mod disk_run;
 mod hiring;
 mod leaving;
 mod parting;
@@ -12,6 +13,7 @@ mod staff;
 mod unstarted;
 mod working;
 
+pub use disk_run::{Disks, RefusedStore, StoreRan, run_over_disks};
 pub use ran::Ran;
 pub use running::run_lines;
 pub use unstarted::Unstarted;

@@ -3,10 +3,10 @@
 ghost use Rattle.std.specs.Prelude.{◌≡◌};
 ghost use Rattle.oz_turn.specs.Turn.{turn_id};
 
+use oz_at_work::Servers;
 use oz_buffer::{Ledger, Opened};
-use oz_flushing::{Flushing, Mounted};
+use oz_flusher::{Flushing, Mounted};
 use oz_locks::Loaded;
-use oz_servers::Servers;
 use oz_turn::{Ring, Turn};
 use oz_worker::{Job, finish, work_together};
 use oz_world::{Disk, Gate};

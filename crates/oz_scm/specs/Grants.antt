@@ -2,12 +2,12 @@
 use Rattle.std.specs.Prelude.{◌≡◌, ◌⊎◌, ℕ, ◌+◌, ◌<◌, ◌≤◌, Bool, true, false, List, [], ◌∷◌, ◌++◌, Result, Ok, Err}
 use Rattle.std.specs.Prelude.{IfOk, IfErr, IfSome, OnOk, OnErr}
 use Rattle.oz_fields.specs.declared.block.TheConstants.{GREATEST_BLOCK_NUMBER}
-use Rattle.oz_grants.specs.declared.entry.Entry.TheVariants.{Granted}
-use Rattle.oz_grants.specs.declared.entry.Grant.{Grant}
-use Rattle.oz_grants.specs.declared.limits.TheConstants.{GRANTED_IDS}
-use Rattle.oz_grants.specs.Due.{IsChosen}
-use Rattle.oz_grants.specs.Entries.{entry_bytes}
-use Rattle.oz_grants.specs.Made.{Made, after_grant}
+use Rattle.oz_scm.specs.declared.grants.entry.Entry.TheVariants.{Granted}
+use Rattle.oz_scm.specs.declared.grants.entry.Grant.{Grant}
+use Rattle.oz_scm.specs.declared.grants.limits.TheConstants.{GRANTED_IDS}
+use Rattle.oz_scm.specs.grants.Due.{IsChosen}
+use Rattle.oz_scm.specs.grants.Entries.{entry_bytes}
+use Rattle.oz_scm.specs.grants.Made.{Made, after_grant}
 use Rattle.oz_journal.specs.Grammar.{IsJournal, TellsBodies}
 use Rattle.oz_nodes.specs.Pipelines.{IsAnyUp, IsFree, IsFirstFree}
 use Rattle.oz_requests.specs.declared.request.Exclude.{Exclude}

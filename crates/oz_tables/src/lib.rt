@@ -1,6 +1,8 @@
 //! The manager's rows in memory, as one ordered map.
 #![tactic(auto)]
 
+mod build;
 mod tables;
 
+pub use build::{BuildFault, bodies_make_one_thing, build};
 pub use tables::Tables;

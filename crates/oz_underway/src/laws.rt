@@ -37,9 +37,9 @@ ghost use Rattle.oz_core.specs.Steps.{GrantedBlock, commit_step, is_open_at, ope
 ghost use Rattle.oz_core.specs.Stories.{has_event};
 ghost use Rattle.oz_fields.specs.declared.block.Block.{Block as AnyBlock};
 ghost use Rattle.oz_fields.specs.declared.block.Piece.{Piece as AnyPiece};
-ghost use Rattle.oz_granted.specs.Granted.{AreNumbered};
-ghost use Rattle.oz_lines.specs.declared.script.Line.{Line as AnyLine};
-ghost use Rattle.oz_lines.specs.Numbered.{IsNumbered};
+ghost use Rattle.oz_store.specs.granted.Granted.{AreNumbered};
+ghost use Rattle.oz_script.specs.declared.lines.script.Line.{Line as AnyLine};
+ghost use Rattle.oz_script.specs.lines.Numbered.{IsNumbered};
 ghost use Rattle.oz_model.specs.Answers.{Answers};
 ghost use Rattle.oz_model.specs.Reach.{IsReached};
 ghost use Rattle.oz_namespace.specs.declared.namespace.Namespace.{Namespace as AnyNamespace};

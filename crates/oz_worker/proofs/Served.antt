@@ -18,9 +18,9 @@ use Rattle.oz_core.specs.declared.opening.Opening.{Opening}
 use Rattle.oz_core.specs.Contents.{OpeningBytes}
 use Rattle.oz_core.specs.Lines.{HasStarted}
 use Rattle.oz_core.specs.Steps.{is_opened_as, opening_line}
-use Rattle.oz_lines.specs.declared.script.Line.{Line}
-use Rattle.oz_lines.specs.declared.script.Script.{Script}
-use Rattle.oz_lines.specs.Numbered.{IsNumbered}
+use Rattle.oz_script.specs.declared.lines.script.Line.{Line}
+use Rattle.oz_script.specs.declared.lines.script.Script.{Script}
+use Rattle.oz_script.specs.lines.Numbered.{IsNumbered}
 use Rattle.oz_steps.specs.declared.label.Label.{Label}
 use Rattle.oz_underway.specs.UnderWay.{LabelStays}
 use Rattle.oz_worker.specs.declared.client.Client.{Client}

@@ -2,7 +2,7 @@
 
 ghost use Rattle.std.specs.Prelude.{◌≡◌, ◌≤◌, ◌↔◌, List, IfOk, IsTrue, map, slice_get, vec_len};
 ghost use Rattle.oz_core.specs.declared.event.Event.{Event as AnyEvent};
-ghost use Rattle.oz_lines.specs.Numbered.{IsNumbered};
+ghost use Rattle.oz_script.specs.lines.Numbered.{IsNumbered};
 ghost use Rattle.oz_worker.specs.ClientLines.{lines_of_client};
 ghost use Rattle.oz_worker.specs.Served.{IsServed};
 
@@ -10,7 +10,7 @@ use crate::labels::Labels;
 use oz_at_work::LineAtWork;
 use oz_buffer::Opened;
 use oz_fields::OutOfMemory;
-use oz_lines::{Line, Script};
+use oz_script::{Line, Script};
 use std::alloc::Global;
 
 /// A client of a script: its lines in order, how many of them were told, the one that is worked for, and its labels.

@@ -5,7 +5,7 @@ ghost use Rattle.oz_turn.specs.Turn.{turn_id};
 
 use crate::worker::MOST_LOOKS;
 use oz_buffer::{Ledger, Opened};
-use oz_flushing::{Flushing, Mounted, flush_in_turn};
+use oz_flusher::{Flushing, Mounted, flush_in_turn};
 use oz_turn::{Ring, Turn};
 use oz_world::{Disk, Gate};
 use std::sync::atomic::{AtomicU64, Ordering};

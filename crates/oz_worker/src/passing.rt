@@ -1,7 +1,7 @@
 //! How a worker goes on with its clients.
 
 ghost use Rattle.std.specs.Prelude.{◌≡◌, All};
-ghost use Rattle.oz_lines.specs.Numbered.{IsNumbered};
+ghost use Rattle.oz_script.specs.lines.Numbered.{IsNumbered};
 ghost use Rattle.oz_turn.specs.Seat.{IsReady, seen_of};
 ghost use Rattle.oz_turn.specs.Told.{BeginsWith};
 ghost use Rattle.oz_turn.specs.Turn.{turn_id};
@@ -9,10 +9,9 @@ ghost use Rattle.oz_worker.specs.Served.{IsServed};
 ghost use Rattle.oz_worker.specs.Workers.{IsOfWorker};
 
 use crate::client::Client;
-use oz_at_work::{Did, what_is_at_work_stays};
+use oz_at_work::{Did, Servers, what_is_at_work_stays};
 use oz_buffer::{Ledger, Opened};
 use oz_locks::Loaded;
-use oz_servers::Servers;
 use oz_turn::{Ring, Seat, Turn};
 use oz_world::{Disk, Gate};
 use std::alloc::Global;

@@ -4,7 +4,7 @@ ghost use Rattle.std.specs.Prelude.{◌≡◌, ◌≤◌, ◌<◌, List, None, S
 ghost use Rattle.oz_at_work.specs.AtWork.{HasLeft, left_of};
 ghost use Rattle.oz_core.specs.declared.event.Event.{Event as AnyEvent};
 ghost use Rattle.oz_core.specs.Seats.{IsLineSeat};
-ghost use Rattle.oz_lines.specs.Numbered.{IsNumbered};
+ghost use Rattle.oz_script.specs.lines.Numbered.{IsNumbered};
 ghost use Rattle.oz_nodes.specs.declared.nodes.TheConstants.{FEWEST_NODES, MOST_NODES};
 ghost use Rattle.oz_turn.specs.Seat.{IsReady, seen_of};
 ghost use Rattle.oz_turn.specs.Told.{BeginsWith};
@@ -12,11 +12,10 @@ ghost use Rattle.oz_turn.specs.Turn.{turn_id};
 ghost use Rattle.oz_worker.specs.Served.{IsServed, next_line};
 
 use crate::client::Client;
-use oz_at_work::{Did, LineAtWork, a_label_was_left, what_is_at_work_stays};
+use oz_asker::has_started;
+use oz_at_work::{Did, LineAtWork, Servers, a_label_was_left, what_is_at_work_stays};
 use oz_buffer::{Ledger, Opened};
 use oz_locks::Loaded;
-use oz_servers::Servers;
-use oz_telling::has_started;
 use oz_turn::{Ring, Seat, Turn};
 use oz_world::{Disk, Gate};
 use std::alloc::Global;

@@ -2,7 +2,7 @@
 
 ghost use Rattle.std.specs.Prelude.{◌≡◌, ◌<◌, All, List, IfOk, IfErr};
 ghost use Rattle.oz_core.specs.declared.event.Event.{Event as AnyEvent};
-ghost use Rattle.oz_lines.specs.Numbered.{IsNumbered};
+ghost use Rattle.oz_script.specs.lines.Numbered.{IsNumbered};
 ghost use Rattle.oz_turn.specs.Seat.{IsReady};
 ghost use Rattle.oz_turn.specs.Turn.{turn_id};
 ghost use Rattle.oz_worker.specs.Served.{IsServed};
@@ -10,13 +10,13 @@ ghost use Rattle.oz_worker.specs.Workers.{IsOfWorker};
 
 use crate::client::Client;
 use crate::passing::{Pass, each_goes_on};
+use oz_at_work::Servers;
 use oz_buffer::{Ledger, Opened};
 use oz_core::Event;
 use oz_fields::OutOfMemory;
-use oz_flushing::{Flushing, Mounted, flush_if_free};
-use oz_lines::Script;
+use oz_flusher::{Flushing, Mounted, flush_if_free};
 use oz_locks::Loaded;
-use oz_servers::Servers;
+use oz_script::Script;
 use oz_turn::{Ring, Seat, Told, Turn};
 use oz_world::{Disk, Gate};
 use std::alloc::Global;
@@ -45,7 +45,7 @@ pub struct Worker<'s, T: Told<Entry = Event>, O: Opened, R: Ring> {
 
 impl<'s, T: Told<Entry = Event>, O: Opened, R: Ring> Model for Worker<'s, T, O, R> {
     ghost use Rattle.std.specs.Prelude.{ℕ, All};
-    ghost use Rattle.oz_lines.specs.Numbered.{IsNumbered};
+    ghost use Rattle.oz_script.specs.lines.Numbered.{IsNumbered};
     ghost use Rattle.oz_turn.specs.Seat.{IsReady, seen_of};
     ghost use Rattle.oz_worker.specs.Served.{IsServed};
     ghost use Rattle.oz_worker.specs.Workers.{IsOfWorker};

@@ -7,14 +7,14 @@ ghost use Rattle.oz_turn.specs.Turn.{turn_id};
 use crate::store::{
     Book, ask, ask_knowing, decide, first_id, flush, flusher, holds, made, say_wrote,
 };
-use oz_asker::AskFault;
+use oz_asker::{
+    AskFault, Settlement, Still, Untold, Unwritten, has_started, settle_line, story_length, tell,
+    times_said,
+};
 use oz_command::{AdminCommand, Command};
 use oz_flusher::Flusher;
-use oz_lines::Line;
 use oz_requests::{Answer, AskId, Values};
-use oz_telling::{
-    Settlement, Still, Untold, Unwritten, has_started, settle_line, story_length, tell, times_said,
-};
+use oz_script::Line;
 use oz_turn::{Seat, Turn, seats_stay_ready};
 use oz_world::MemoryDisk;
 use std::alloc::Global;

@@ -5,14 +5,13 @@ ghost use Rattle.oz_buffer.specs.Buffer.{IsDecide, batch_in};
 ghost use Rattle.oz_turn.specs.Seat.{AreReady, IsReady};
 ghost use Rattle.oz_turn.specs.Turn.{turn_id};
 
-use oz_asker::{AskFault, put_ask};
+use oz_asker::{AskFault, Unwritten, put_ask, tell_written};
 use oz_buffer::{Ledger, Opened, Ready, Reserve, a_reserve_is_room_enough};
 use oz_core::{Event, EventKind};
 use oz_fields::{Block, List, Name};
 use oz_flusher::Flusher;
 use oz_journal::Journal;
 use oz_requests::{AskId, Reply, Request};
-use oz_telling::{Unwritten, tell_written};
 use oz_turn::{Seat, Turn, new_seats_are_ready, seats_stay_ready};
 use oz_world::{MemoryDisk, OpenGate};
 use std::alloc::Global;

@@ -9,7 +9,7 @@ use Rattle.oz_requests.specs.declared.request.AskId.{AskId}
 use Rattle.oz_turn.specs.Seat.{seen_of}
 use Rattle.oz_underway.specs.UnderWay.{HaveAnswered}
 use Rattle.oz_underway.specs.laws.Going.{begins_itself}
-use Rattle.oz_writing.specs.Written.{IsWritten}
+use Rattle.oz_line_blocks.specs.writing.Written.{IsWritten}
 use Rattle.oz_at_work.specs.AtWork.{HasGoneOn, IsAtWork, WorkView, id_of}
 use Rattle.oz_at_work.specs.inner.Put.{IsPutNext, WasWritten}
 use Rattle.oz_at_work.proofs.Cutting.{cut_goes_on, cut_so}

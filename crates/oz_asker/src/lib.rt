@@ -1,4 +1,5 @@
-//! What the seat of who asks the manager does: it appends an Ask, sees what was decided, and whether that is stable.
+//! What the seat of a line does in the story: it asks, sees what was decided and whether that is stable, and tells the line
+//! its answer.
 #![tactic(auto)]
 
 mod asking;

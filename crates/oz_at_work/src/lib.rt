@@ -1,4 +1,4 @@
-//! A line of a script that a worker works for: how far it is, and what it does next.
+//! A line of a script that a worker works for: how far it is, what it does next, and the servers that all workers share.
 #![tactic(auto)]
 
 mod asking;

@@ -1,4 +1,5 @@
-//! The blocks of a datanode: their rows, and the states and transactions of replicas, kept in a journal.
+//! The blocks of a datanode: their rows, states and transactions in a journal, and the slots with what was written of them
+//! and not put.
 #![tactic(auto)]
 
 mod adding;

@@ -1,4 +1,4 @@
-//! The words of a script's line: the commands, and the data that they put.
+//! Words: the commands of a script's line with the data that they put, and what the command line asks for.
 #![tactic(auto)]
 
 mod admin;

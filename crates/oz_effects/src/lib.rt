@@ -1,5 +1,5 @@
-//! What operations change among rows, which bytes are the batches and the bodies that make changes, and the rows of a
-//! bucket or a volume in any map of rows.
+//! What operations change among rows, row by row and in any map of rows; which bytes are the batches and bodies that make
+//! changes.
 #![tactic(auto)]
 
 mod batches;

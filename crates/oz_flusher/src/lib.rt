@@ -1,4 +1,5 @@
-//! The flusher: it takes what was decided, writes it as one body of the manager's journal, and says so in the story.
+//! The flusher: it writes what was decided as one body of the manager's journal and says so in the story; whoever finds its
+//! lock free flushes.
 #![tactic(auto)]
 
 mod flushed;

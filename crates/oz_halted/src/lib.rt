@@ -1,4 +1,5 @@
-//! What a stop leaves where nodes that halted have one body more than their events tell: laws on the definitions alone.
+//! That every legal story leaves an opening, also where nodes that halted have one body more than their events tell: laws
+//! alone.
 #![tactic(auto)]
 
 mod example;

@@ -1,4 +1,5 @@
-//! The headline of a run over threads, and that a story which the turn told keeps it.
+//! The headline of a run over threads, that a story which the turn told keeps it, and what halts and stops leave of the
+//! nodes.
 #![tactic(auto)]
 
 mod ended;

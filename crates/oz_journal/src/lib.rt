@@ -1,4 +1,5 @@
-//! Bodies one after another on a disk, each of them whole or not there, whenever the disk stops.
+//! A journal: bodies one after another on a disk, each of them whole or not there whenever the disk stops, and batches that
+//! wait to become one.
 #![tactic(auto)]
 
 mod batches;

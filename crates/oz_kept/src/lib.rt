@@ -1,4 +1,4 @@
-//! What every legal story keeps: laws on the definitions alone.
+//! What every legal story keeps, and what a stop leaves of it: laws on the definitions alone.
 #![tactic(auto)]
 
 mod laws;

@@ -1,4 +1,5 @@
-//! What the manager loads from its disk: the rows, parted into sixteen stripes, and the flusher of its journal.
+//! What the manager loads from its disk: the rows in sixteen stripes, the namespace that they stand for, and the flusher of
+//! its journal.
 #![tactic(auto)]
 
 mod counting;

@@ -1,5 +1,5 @@
-//! What datanodes do with blocks, told in the story: the seat that is kept beside a datanode, and a noter whose notes it
-//! appends.
+//! What datanodes do with blocks, told in the story: the seat beside a datanode, a noter for it, and when a datanode is
+//! full.
 #![tactic(auto)]
 
 mod appending;

@@ -1,4 +1,4 @@
-//! What is loaded from the disks of the storage container manager and of all datanodes, in their order.
+//! What is loaded from the disks of all nodes, in their order, and the opening of a run for which it stands.
 #![tactic(auto)]
 
 mod disk_name;

@@ -1,4 +1,4 @@
-//! The manager: requests are decided over sixteen stripes of rows, each at one place of the story.
+//! The manager: any request is decided by its crate, over sixteen stripes of rows, each at one place of the story.
 #![tactic(auto)]
 
 mod asking;

@@ -1,4 +1,4 @@
-//! The manager's requests on keys, decided over rows.
+//! The manager's requests on keys, decided over rows: look-ups and lists, and that a key goes or gets another name.
 #![tactic(auto)]
 
 mod asking;

@@ -1,4 +1,4 @@
-//! What becomes of a session, decided over rows: it gets a block, it becomes a key, and it ends.
+//! What becomes of a session, decided over rows: it is opened, gets a block, becomes a key, and ends.
 #![tactic(auto)]
 
 mod allocating;

@@ -1,4 +1,5 @@
-//! The middle of a run: from the loaded nodes to the story that all threads made, and the nodes as they leave them.
+//! A run of a script over the disks of a store: they are loaded, the lines run on threads over them, and the story is handed
+//! back.
 #![tactic(auto)]
 
 mod closing;

@@ -1,4 +1,4 @@
-//! The storage container manager: which block ids are granted where, kept in a journal.
+//! The storage container manager: which block ids are granted where, kept in a journal of entries.
 #![tactic(auto)]
 
 mod adding;

@@ -1,4 +1,4 @@
-//! The reading of a whole script.
+//! Scripts: what clients and lines are, and how a text is read as one or where it first is none.
 #![tactic(auto)]
 
 mod circles;

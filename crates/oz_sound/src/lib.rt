@@ -1,4 +1,5 @@
-//! Which namespace rows stand for, and what makes rows sound.
+//! Which namespace rows stand for, what makes rows sound, and what of both stays where the rows of one bucket or one stripe
+//! change.
 #![tactic(auto)]
 
 mod example;

@@ -1,4 +1,5 @@
-//! What the disks of a whole store stand for together, where the manager's rows are known. Definitions and laws alone.
+//! What the disks of a whole store stand for together, what a story makes of a stripe, and which blocks stripes hand out:
+//! definitions and laws alone.
 #![tactic(auto)]
 
 mod granted;

@@ -1,4 +1,4 @@
-//! The manager's rows in memory, as one ordered map.
+//! The manager's rows in memory, as one ordered map, and how the bodies of a journal make them.
 #![tactic(auto)]
 
 mod build;

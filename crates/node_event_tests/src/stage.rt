@@ -68,7 +68,7 @@ pub fn made(alloc: Global) -> Result<(Turn<Book>, Vec<Seat<Book>>), Fail>
     ensures count { IfOk result (λ r. vec_len r.1 ≡ 9) }
     ensures new { IfOk result (λ r. AreNewSeats (turn_id r.0) r.1.items) }
 {
-    match Turn::make(alloc, Book::over(alloc, 0), SEATS) {
+    match Turn::make(alloc, Book::over(alloc, 0)?, SEATS) {
         Ok(made) => Ok(made),
         Err((_, error)) => Err(error.into()),
     }

@@ -61,7 +61,7 @@ pub fn made(alloc: Global) -> Result<(Turn<Book>, Vec<Seat<Book>>), Fail>
     ensures seats { IfOk result (λ r. vec_len r.1 ≡ 3) }
     ensures ready { IfOk result (λ r. AreReady (turn_id r.0) r.1.items) }
 {
-    match Turn::make(alloc, Book::over(alloc, 0), 3) {
+    match Turn::make(alloc, Book::over(alloc, 0)?, 3) {
         Ok(made) => {
             new_seats_are_ready::<Book>();
             Ok(made)

@@ -58,7 +58,8 @@ impl Gate for Meeting {
     }
 }
 
-fn request(alloc: Global, volume: &[u8]) -> Result<Request, AllocError>
+/// A request for a volume of this name.
+pub fn request(alloc: Global, volume: &[u8]) -> Result<Request, AllocError>
     ensures { IfOk result (λ request. is_decided request ≡ true) }
 {
     Ok(Request::CreateVolume {

@@ -68,7 +68,7 @@ pub fn made(alloc: Global, seats: u16) -> Result<(Turn<Book>, Vec<Seat<Book>>), 
     ensures seats { IfOk result (λ r. (seats_of r.0 ≡ seats) × (vec_len r.1 ≡ seats)) }
     ensures new { IfOk result (λ r. AreNewSeats (turn_id r.0) r.1.items) }
 {
-    match Turn::make(alloc, Book::over(alloc, 0)?, seats) {
+    match Turn::make(alloc, Book::over(alloc, 0), seats) {
         Ok(made) => Ok(made),
         Err((_, error)) => Err(error.into()),
     }

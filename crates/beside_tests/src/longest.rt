@@ -29,7 +29,7 @@ fn decide(alloc: Global, ledger: &mut Book, index: u64) -> Result<(), Fail> {
 
 #[test]
 fn sixteen_of_the_longest_batches_fill_a_buffer(rt: HostRuntime) -> Result<(), Fail> {
-    let mut ledger = Book::over(rt.alloc(), 0)?;
+    let mut ledger = Book::over(rt.alloc(), 0);
     for index in 1..=16u64 {
         decide(rt.alloc(), &mut ledger, index)?;
     }

@@ -87,10 +87,11 @@ pub fn run_lines<
     ensures nodes { IfErr result (λ refused. refused.0.nodes.items ≡ nodes.items) }
 {
     let seats = FIRST_WORKER_SEAT + u16::from(workers);
-    let Ok(ledger) = Ledger::<O>::over(alloc, unseated.last_index()) else {
-        return Err((given_back(flusher, scm, nodes), OutOfMemory));
-    };
-    match Turn::make(alloc, ledger, seats) {
+    match Turn::make(
+        alloc,
+        Ledger::<O>::over(alloc, unseated.last_index()),
+        seats,
+    ) {
         Ok((turn, seats)) => {
             run_in_turn::<D, O, L, M, Brand, W, G>(
                 rt, alloc, gate, script, unseated, flusher, scm, nodes, turn, seats,

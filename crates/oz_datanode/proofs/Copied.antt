@@ -1,6 +1,7 @@
 -- How far the chunks of a block were read without a look at their digests, and what they are where each has its own.
 use Rattle.std.proofs.Common.{◌≡◌, ℕ, ◌+◌, ◌-◌, ◌<◌, ◌≤◌, List, [], ◌∷◌, ◌++◌, length, drop, get_or, Option, None, Some, IfSome, refl, sym, ap, subst, ◌∙◌, add-one, drop-cons, append_assoc}
 use Rattle.std.proofs.lemmas.List.{append-nil}
+use Rattle.std.proofs.lemmas.List.Elements.{All-head, All-tail}
 use Rattle.std.proofs.Math.ListN.{drop_of_length-le}
 use Rattle.oz_entries.specs.declared.row.Chunk.{Chunk}
 use Rattle.oz_fields.specs.declared.block.Block.{Block}
@@ -8,7 +9,7 @@ use Rattle.sha2.specs.Sha256.{sha256}
 use Rattle.oz_datanode.specs.Datanode.{State}
 use Rattle.oz_datanode.specs.Pairs.{part_of, parts_of, HaveDigests}
 use Rattle.oz_datanode.specs.Reading.{IsRead}
-use Rattle.oz_datanode.specs.Unverified.{AreAsKept, AreUnverified, IsUnverified, joined}
+use Rattle.oz_datanode.specs.Unverified.{AreAsKept, AreUnverified, HasItsDigest, IsUnverified, joined}
 use Rattle.oz_datanode.specs.declared.unverified.Unverified.{Unverified}
 
 -- the chunks before the rest were read
@@ -47,20 +48,17 @@ copied_all told size left chunks i read so_far past slots tells =
 
 -- together they have the bytes of the block
 are_parts : (size : ℕ) (chunks : List Chunk) (slots : List ℕ) (read : List Unverified) → AreUnverified size chunks slots read → joined read ≡ parts_of size chunks slots
-unfolding AreUnverified
-unfolding joined
-unfolding parts_of
+unfolding AreUnverified joined parts_of
 are_parts size [] slots read are = ap joined are
 are_parts size (chunk ∷ chunks) slots [] are = absurd are
 are_parts size (chunk ∷ chunks) slots (first ∷ rest) are =
     ap (λ (l : List ℕ). l ++ joined rest) are.0 ∙ ap (λ (l : List ℕ). part_of size chunk slots ++ l) (are_parts (size - 16384) chunks slots rest are.2)
 
 have_digests : (size : ℕ) (chunks : List Chunk) (slots : List ℕ) (read : List Unverified) → AreUnverified size chunks slots read → AreAsKept read → HaveDigests size chunks slots
-unfolding AreUnverified
-unfolding HaveDigests
+unfolding AreUnverified HaveDigests
 have_digests size [] slots read are kept = tt
 have_digests size (chunk ∷ chunks) slots [] are kept = absurd are
-have_digests size (chunk ∷ chunks) slots (first ∷ rest) are kept = (sym are.1 ∙ (kept.0 ∙ ap sha256 are.0), have_digests (size - 16384) chunks slots rest are.2 kept.1)
+have_digests size (chunk ∷ chunks) slots (first ∷ rest) are kept = (sym are.1 ∙ (All-head HasItsDigest first rest kept ∙ ap sha256 are.0), have_digests (size - 16384) chunks slots rest are.2 (All-tail HasItsDigest first rest kept))
 
 told_too : (P Q : List ℕ → Type 0) (told : Option (List ℕ)) → ((slots : List ℕ) → P slots → Q slots) → IfSome told P → IfSome told Q
 told_too P Q None all is = tt
@@ -76,3 +74,18 @@ read_as_kept told faults block read old new is kept = record {
   is = told_too _ _ _ (λ slots are. are_parts is.row.length is.row.chunks slots read are) is.are;
   digests = told_too _ _ _ (λ slots are. have_digests is.row.length is.row.chunks slots read are kept) is.are;
 }
+
+-- ---- their bytes, one behind the other
+
+pub join_more : (chunks : List Unverified) (i : ℕ) (d : Unverified) (bytes all : List ℕ) → i < length chunks → bytes ++ joined (drop i chunks) ≡ joined chunks → all ≡ bytes ++ (get_or chunks i d).bytes.items → all ++ joined (drop (i + 1) chunks) ≡ joined chunks
+unfolding joined
+join_more chunks i d bytes all less so_far more =
+    let rest_is : drop i chunks ≡ get_or chunks i d ∷ drop (i + 1) chunks = rw (add-one) (drop-cons chunks i d less) in
+    ap (λ (l : List ℕ). l ++ joined (drop (i + 1) chunks)) more
+    ∙ (append_assoc bytes (get_or chunks i d).bytes.items (joined (drop (i + 1) chunks))
+    ∙ (ap (λ (l : List Unverified). bytes ++ joined l) (sym rest_is) ∙ so_far))
+
+pub join_all : (chunks : List Unverified) (i : ℕ) (bytes : List ℕ) → bytes ++ joined (drop i chunks) ≡ joined chunks → length chunks ≤ i → bytes ≡ joined chunks
+unfolding joined
+join_all chunks i bytes so_far past =
+    sym (append-nil bytes) ∙ (ap (λ (l : List Unverified). bytes ++ joined l) (sym (drop_of_length-le chunks past)) ∙ so_far)

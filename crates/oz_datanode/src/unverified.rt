@@ -1,6 +1,6 @@
 //! Chunks that are read without a look at their digests, and that look by itself.
 
-ghost use Rattle.std.specs.Prelude.{◌≡◌, ◌≤◌, ◌↔◌, ◌×◌, ℕ, List, true, IsTrue, All, IfOk, IfErr, IfSome, IfNone};
+ghost use Rattle.std.specs.Prelude.{◌≡◌, ◌↔◌, ℕ, List, true, false, IsTrue, IfOk, IfErr, IfSome, IfNone};
 ghost use Rattle.std.specs.Option.{ForSome};
 ghost use Rattle.oz_chunk.specs.Slots.{IsWithin};
 ghost use Rattle.oz_datanode.specs.Datanode.{DisksGoOn};
@@ -60,7 +60,8 @@ impl<D: Disk> Datanode<D> {
         match copy_chunks(alloc, &mut self.shelf, row.length, row.chunks.items()) {
             Ok(chunks) => Ok(chunks),
             Err(Unread::Failed) => Err(self.halt()),
-            Err(Unread::Bad { .. } | Unread::OutOfMemory) => Err(NodeRefusal::OutOfMemory),
+            Err(Unread::Bad { kept, found }) => Err(NodeRefusal::Bad { kept, found }),
+            Err(Unread::OutOfMemory) => Err(NodeRefusal::OutOfMemory),
         }
     }
 }
@@ -75,7 +76,7 @@ fn copy_chunks<D: Disk>(
     requires running { shelf.old.failed ≡ false }
     requires within { IfSome (D.told shelf.old.slots.disk) (λ slots. (slot : ℕ) →
         any_in chunks.now slot ≡ true → IsWithin slot slots) }
-    ensures chunks { IfOk result (λ copied. ForSome (D.told shelf.old.slots.disk) (λ slots.
+    ensures copied { IfOk result (λ copied. ForSome (D.told shelf.old.slots.disk) (λ slots.
         AreUnverified size chunks.now slots copied.items)) }
     ensures not_bad { IfErr result (λ why. (kept found : List ℕ) → why ≡ Unread.Bad kept found → ⊥) }
     ensures reads { OnlyReads shelf.old shelf.new
@@ -120,12 +121,7 @@ pub fn verified(alloc: Global, chunks: &[Unverified]) -> Result<Option<Vec<u8>>,
 fn are_as_kept(chunks: &[Unverified]) -> bool
     ensures { IsTrue result ↔ AreAsKept chunks.now }
 {
-    for chunk in chunks {
-        if !has_its_digest(chunk) {
-            return false;
-        }
-    }
-    true
+    chunks.iter().all(|chunk| has_its_digest(chunk))
 }
 
 fn has_its_digest(chunk: &Unverified) -> bool

@@ -127,6 +127,11 @@ pub fn verified_piece(
     ensures differs { IfOk result (λ given. IfNone given
         ((bytes : List ℕ) → Opens piece.length (Some chunks.now) (Some bytes) → ⊥)) }
 {
-    let given = verified(alloc, chunks)?;
-    Ok(given.filter(|bytes| bytes.len() == piece.length as usize))
+    let Some(bytes) = verified(alloc, chunks)? else {
+        return Ok(None);
+    };
+    if bytes.len() != piece.length as usize {
+        return Ok(None);
+    }
+    Ok(Some(bytes))
 }

@@ -13,5 +13,5 @@ loop-chunk-preserved g c = record {
   so_far = copied_more _ _ _ c.args.chunks.now c.loop-chunk.chunk-index _ _ (omega arith) _ _ _ _ c.loop-chunk.invariant.so_far c.loop-chunk.invariant.reads.told c.in-Ok.ensures.bytes refl c.saturating_sub-left.ensures c.in-Ok-push.ensures.items;
 }
 
-pub returns-clause-chunks : goal.returns-clause-chunks
-returns-clause-chunks g c = λ slots tells. copied_all _ _ _ _ c.loop-chunk.chunk-index _ c.loop-chunk.invariant.so_far (omega arith) slots tells
+pub returns-clause-copied : goal.returns-clause-copied
+returns-clause-copied g c = λ slots tells. copied_all _ _ _ _ c.loop-chunk.chunk-index _ c.loop-chunk.invariant.so_far (omega arith) slots tells

@@ -33,7 +33,7 @@ returns-in-Ok-clause-chunks g c = rw (← c.self.view_is) (
       runs = runs_still g.D.Disk.faults c.self.inside.id c.self.inside.blocks c.copy_chunks.new.shelf c.self.inside.stopped runs.journal c.in-Ok.ensures.failed runs.line;
       row = c.in-Some.row.now;
       held = sym c.in-Some.ensures;
-      are = if_some _ _ (rw c.items.ensures at c.in-Ok.ensures.chunks);
+      are = if_some _ _ (rw c.items.ensures at c.in-Ok.ensures.copied);
     })
 
 pub returns-in-Ok-clause-pairs : goal.returns-in-Ok-clause-pairs
@@ -54,5 +54,21 @@ returns-in-Ok-clause-read g c = rw (← c.self.view_is) (
       runs = runs_still g.D.Disk.faults c.self.inside.id c.self.inside.blocks c.copy_chunks.new.shelf c.self.inside.stopped runs.journal c.in-Ok.ensures.failed runs.line;
       row = c.in-Some.row.now;
       held = sym c.in-Some.ensures;
-      are = if_some _ _ (rw c.items.ensures at c.in-Ok.ensures.chunks);
+      are = if_some _ _ (rw c.items.ensures at c.in-Ok.ensures.copied);
     }))
+
+-- ---- it never looks at the digests
+
+pub returns-in-Err-Bad-clause-refused : goal.returns-in-Err-Bad-clause-refused
+returns-in-Err-Bad-clause-refused g c = absurd (c.in-Err-Bad.ensures.not_bad c.in-Err-Bad.kept c.in-Err-Bad.found c.in-Err-Bad.field-0-is)
+
+pub returns-in-Err-Bad-clause-not_bad : goal.returns-in-Err-Bad-clause-not_bad
+returns-in-Err-Bad-clause-not_bad g c = absurd (c.in-Err-Bad.ensures.not_bad c.in-Err-Bad.kept c.in-Err-Bad.found c.in-Err-Bad.field-0-is)
+
+pub returns-in-Err-Bad-clause-pairs : goal.returns-in-Err-Bad-clause-pairs
+returns-in-Err-Bad-clause-pairs g c = rw (← c.self.view_is) (λ contents holds. pairs_read contents _ _ _ _ _ _ c.in-Err-Bad.ensures.reads holds)
+
+pub invariant_of-self-in-Err-Bad : goal.invariant_of-self-in-Err-Bad
+invariant_of-self-in-Err-Bad g c = λ going.
+    let runs = rw (← c.self.view_is) at (is_running g.D.Disk.faults c.args.self.now c.in_ok-check_running.ensures.running) in
+    rests_read (is_in_use (node_in_blocks c.self.inside.blocks)) c.self.inside.shelf _ _ _ (c.self.invariant runs.disks) c.in-Err-Bad.ensures.reads

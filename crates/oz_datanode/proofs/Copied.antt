@@ -1,8 +1,9 @@
 -- How far the chunks of a block were read without a look at their digests, and what they are where each has its own.
-use Rattle.std.proofs.Common.{◌≡◌, ℕ, ◌+◌, ◌-◌, ◌<◌, ◌≤◌, List, [], ◌∷◌, ◌++◌, length, drop, get_or, Option, None, Some, IfSome, refl, sym, ap, subst, ◌∙◌, add-one, drop-cons, append_assoc}
+use Rattle.std.proofs.Common.{◌≡◌, ℕ, ◌+◌, ◌-◌, ◌<◌, ◌≤◌, List, [], ◌∷◌, ◌++◌, length, min, drop, get_or, slice_range, Option, None, Some, IfSome, refl, sym, ap, subst, ◌∙◌, add-one, drop-cons, append_assoc}
 use Rattle.std.proofs.lemmas.List.{append-nil}
 use Rattle.std.proofs.lemmas.List.Elements.{All-head, All-tail}
 use Rattle.std.proofs.Math.ListN.{drop_of_length-le}
+use Rattle.oz_chunk.specs.Slots.{start_of}
 use Rattle.oz_entries.specs.declared.row.Chunk.{Chunk}
 use Rattle.oz_fields.specs.declared.block.Block.{Block}
 use Rattle.sha2.specs.Sha256.{sha256}
@@ -31,12 +32,12 @@ module _ (told : Option (List ℕ)) (size left : ℕ) (chunks : List Chunk) (i :
   unfolding AreUnverified
   one_more slots one more is digest are = (is, digest, are)
 
-  pub copied_more : (now : Option (List ℕ)) (after : ℕ) (one : Unverified) (all : List Unverified) → CopiedSoFar told size left chunks (drop i chunks) read → now ≡ told → ((slots : List ℕ) → now ≡ Some slots → one.bytes.items ≡ part_of left chunk slots) → one.digest ≡ chunk.digest → after ≡ left - 16384 → all ≡ read ++ one ∷ []
+  pub copied_more : (now : Option (List ℕ)) (after count : ℕ) (one : Unverified) (all : List Unverified) → CopiedSoFar told size left chunks (drop i chunks) read → now ≡ told → ((slots : List ℕ) → now ≡ Some slots → one.bytes.items ≡ slice_range slots (start_of chunk.slot) (start_of chunk.slot + count)) → count ≡ min left 16384 → one.digest ≡ chunk.digest → after ≡ left - 16384 → all ≡ read ++ one ∷ []
       → CopiedSoFar told size after chunks (drop (i + 1) chunks) all
-  copied_more now after one all so_far same is digest fewer behind = λ slots tells more are.
+  copied_more now after count one all so_far same is least digest fewer behind = λ slots tells more are.
       subst (λ (l : List Unverified). AreUnverified size chunks slots l) (sym (ap (λ (l : List Unverified). l ++ more) behind ∙ append_assoc read (one ∷ []) more))
       (so_far slots tells (one ∷ more) (subst (λ (l : List Chunk). AreUnverified left l slots (one ∷ more)) (sym rest_is)
-      (one_more slots one more (is slots (same ∙ tells)) digest (subst (λ (n : ℕ). AreUnverified n (drop (i + 1) chunks) slots more) fewer are))))
+      (one_more slots one more (is slots (same ∙ tells) ∙ ap (λ (n : ℕ). slice_range slots (start_of chunk.slot) (start_of chunk.slot + n)) least) digest (subst (λ (n : ℕ). AreUnverified n (drop (i + 1) chunks) slots more) fewer are))))
 
 none_left : (left : ℕ) (rest : List Chunk) (slots : List ℕ) → rest ≡ [] → AreUnverified left rest slots []
 unfolding AreUnverified
@@ -50,15 +51,15 @@ copied_all told size left chunks i read so_far past slots tells =
 are_parts : (size : ℕ) (chunks : List Chunk) (slots : List ℕ) (read : List Unverified) → AreUnverified size chunks slots read → joined read ≡ parts_of size chunks slots
 unfolding AreUnverified joined parts_of
 are_parts size [] slots read are = ap joined are
-are_parts size (chunk ∷ chunks) slots [] are = absurd are
-are_parts size (chunk ∷ chunks) slots (first ∷ rest) are =
-    ap (λ (l : List ℕ). l ++ joined rest) are.0 ∙ ap (λ (l : List ℕ). part_of size chunk slots ++ l) (are_parts (size - 16384) chunks slots rest are.2)
+are_parts size (c ∷ cs) slots [] are = absurd are
+are_parts size (c ∷ cs) slots (first ∷ rest) are =
+    ap (λ (l : List ℕ). l ++ joined rest) are.0 ∙ ap (λ (l : List ℕ). part_of size c slots ++ l) (are_parts (size - 16384) cs slots rest are.2)
 
 have_digests : (size : ℕ) (chunks : List Chunk) (slots : List ℕ) (read : List Unverified) → AreUnverified size chunks slots read → AreAsKept read → HaveDigests size chunks slots
 unfolding AreUnverified HaveDigests
 have_digests size [] slots read are kept = tt
-have_digests size (chunk ∷ chunks) slots [] are kept = absurd are
-have_digests size (chunk ∷ chunks) slots (first ∷ rest) are kept = (sym are.1 ∙ (All-head HasItsDigest first rest kept ∙ ap sha256 are.0), have_digests (size - 16384) chunks slots rest are.2 (All-tail HasItsDigest first rest kept))
+have_digests size (c ∷ cs) slots [] are kept = absurd are
+have_digests size (c ∷ cs) slots (first ∷ rest) are kept = (sym are.1 ∙ (All-head HasItsDigest first rest kept ∙ ap sha256 are.0), have_digests (size - 16384) cs slots rest are.2 (All-tail HasItsDigest first rest kept))
 
 told_too : (P Q : List ℕ → Type 0) (told : Option (List ℕ)) → ((slots : List ℕ) → P slots → Q slots) → IfSome told P → IfSome told Q
 told_too P Q None all is = tt

@@ -69,6 +69,7 @@ impl<'a> Hashed<'a> {
         requires { place * SLOT_BYTES < length self.now }
         ensures { result ≡ sha256 (chunk_at place self.now) }
     {
-        self.digests[place]
+        let digests = &self.digests;
+        digests[place]
     }
 }

@@ -10,7 +10,7 @@ pub loop-chunk-preserved : goal.loop-chunk-preserved
 loop-chunk-preserved g c = record {
   running = c.in-Ok.ensures.failed;
   reads = reads_then _ _ _ _ _ _ c.loop-chunk.invariant.reads c.in-Ok.ensures.reads;
-  so_far = copied_more _ _ _ c.args.chunks.now c.loop-chunk.chunk-index _ _ (omega arith) _ _ _ _ c.loop-chunk.invariant.so_far c.loop-chunk.invariant.reads.told c.in-Ok.ensures.bytes refl c.saturating_sub-left.ensures c.in-Ok-push.ensures.items;
+  so_far = copied_more _ _ _ c.args.chunks.now c.loop-chunk.chunk-index _ _ (omega arith) _ _ _ _ _ c.loop-chunk.invariant.so_far c.loop-chunk.invariant.reads.told c.in-Ok.ensures.bytes c.min.ensures refl c.saturating_sub-left.ensures c.in-Ok-push.ensures.items;
 }
 
 pub returns-clause-copied : goal.returns-clause-copied

@@ -7,7 +7,7 @@ use Rattle.std.specs.Prelude.{count_by, nat_le, slice_get}
 use Rattle.std.specs.List.{list_any, list_all}
 use Rattle.oz_asker.specs.Decided.{IsDecideAt}
 use Rattle.oz_buffer.specs.Buffer.{AllFollow, Follows}
-use Rattle.oz_buffer.specs.Courses.{says, times_said}
+use Rattle.oz_buffer.specs.Became.{says, times_said}
 use Rattle.oz_buffer.specs.laws.Courses.{said-push}
 use Rattle.oz_client.specs.declared.progress.Progress.{Progress}
 use Rattle.oz_client.specs.declared.step.Got.{Got}

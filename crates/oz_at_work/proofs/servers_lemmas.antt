@@ -1,2 +1,2 @@
-mod Placed
-mod Served
+pub mod Placed
+pub mod Served

@@ -2,7 +2,7 @@
 use Rattle.std.specs.Prelude.{◌≡◌, ◌⊎◌, ℕ, ◌+◌, ◌<◌, ◌==◌, Bool, true, false, List, [], ◌∷◌, ◌++◌, None, Option, Some}
 use Rattle.std.specs.Prelude.{if◌then◌else◌, length, Contains, IsSome}
 use Rattle.std.specs.List.{list_all, list_any}
-use Rattle.oz_buffer.specs.Courses.{times_said}
+use Rattle.oz_buffer.specs.Became.{times_said}
 use Rattle.oz_client.specs.declared.progress.Progress.{Progress}
 use Rattle.oz_client.specs.declared.step.Step.{Step}
 use Rattle.oz_client.specs.declared.step.Step.TheVariants as steps

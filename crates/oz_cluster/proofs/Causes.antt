@@ -25,7 +25,7 @@ use Rattle.oz_headline.specs.halts.Rising.{ItsCountRose}
 use Rattle.oz_headline.specs.declared.status.Status.{Status}
 use Rattle.oz_headline.specs.declared.status.Status.TheVariants as ends
 use Rattle.oz_headline.specs.Disks.{manager_disk}
-use Rattle.oz_headline.specs.Halts.{HaltsAreNamed, StatusNamesHalts}
+use Rattle.oz_headline.specs.NamedHalts.{HaltsAreNamed, StatusNamesHalts}
 use Rattle.oz_headline.specs.Printed.{IsPrinted}
 use Rattle.oz_headline.specs.Statuses.{status_number}
 use Rattle.oz_script.specs.declared.lines.script.Script.{Script as Lines}

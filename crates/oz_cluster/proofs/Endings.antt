@@ -5,7 +5,7 @@ use Rattle.oz_core.specs.declared.event.Event.{Event}
 use Rattle.oz_headline.specs.declared.status.Status.{Status}
 use Rattle.oz_headline.specs.declared.status.Status.TheVariants as ends
 use Rattle.oz_headline.specs.Counts.{AreToldAsMany}
-use Rattle.oz_headline.specs.Halts.{StatusNamesHalts}
+use Rattle.oz_headline.specs.NamedHalts.{StatusNamesHalts}
 use Rattle.oz_script.specs.declared.lines.script.Script.{Script as Lines}
 
 -- the Halts are as the status says

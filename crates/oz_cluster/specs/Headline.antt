@@ -13,7 +13,7 @@ use Rattle.oz_headline.specs.declared.status.Status.{Status}
 use Rattle.oz_headline.specs.declared.status.Status.TheVariants.{OutOfMemory}
 use Rattle.oz_headline.specs.Counts.{AreToldAsMany}
 use Rattle.oz_headline.specs.Disks.{manager_disk}
-use Rattle.oz_headline.specs.Halts.{HaltsAreNamed, StatusNamesHalts}
+use Rattle.oz_headline.specs.NamedHalts.{HaltsAreNamed, StatusNamesHalts}
 use Rattle.oz_headline.specs.Headline.{Headline}
 use Rattle.oz_headline.specs.Printed.{IsPrinted}
 use Rattle.oz_headline.specs.Statuses.{status_number}

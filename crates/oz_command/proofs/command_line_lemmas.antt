@@ -1,3 +1,3 @@
-mod Exact
-mod OptionsLemmas
-mod WordsLemmas
+pub mod Exact
+pub mod OptionsLemmas
+pub mod WordsLemmas

@@ -1,7 +1,7 @@
 pub mod Statuses
 pub mod Printed
 pub mod Disks
-pub mod Halts
+pub mod NamedHalts
 pub mod Places
 pub mod History
 pub mod Reads

@@ -1,7 +1,7 @@
-mod Outcomes
-mod Told
-mod Three
-mod Standing
-mod Doubts
-mod Lacking
-mod Known
+pub mod Outcomes
+pub mod Told
+pub mod Three
+pub mod Standing
+pub mod Doubts
+pub mod Lacking
+pub mod Known

@@ -1,2 +1,2 @@
-mod Seated
-mod Standing
+pub mod Seated
+pub mod Standing

@@ -1,8 +1,8 @@
-mod Filling
-mod Gathered
-mod OneBucket
-mod Results
-mod Shown
-mod Stands
-mod Striped
-mod Walking
+pub mod Filling
+pub mod Gathered
+pub mod OneBucket
+pub mod Results
+pub mod Shown
+pub mod Stands
+pub mod Striped
+pub mod Walking

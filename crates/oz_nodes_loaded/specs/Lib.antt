@@ -5,3 +5,5 @@ pub mod Loads
 pub mod Refused
 pub mod Steps
 pub mod store_opening
+pub use Rattle.oz_node_events.specs.Led
+pub use Rattle.oz_node_events.specs.NodeSeat

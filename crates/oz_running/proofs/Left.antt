@@ -11,7 +11,7 @@ use Rattle.oz_om.specs.Seated.{AreReadyStripeSeats, ArePlaced, HasStoodIn}
 use Rattle.oz_rows.specs.RowMaps.{Rows}
 use Rattle.oz_running.specs.Seats.{AddsReady, AreNewFrom, HasLeft, HaveLeft}
 use Rattle.oz_running.proofs.Placed.{joined_placed, one_placed, there}
-use Rattle.oz_at_work.specs.servers.Served.{AreServed, IsServed}
+use Rattle.oz_worker.specs.servers.Served.{AreServed, IsServed}
 use Rattle.oz_turn.specs.declared.seat.Seat.{Seat}
 use Rattle.oz_turn.specs.declared.told.Told.{Ghosts}
 use Rattle.oz_turn.specs.Ring.{TurnId}

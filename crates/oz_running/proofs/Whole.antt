@@ -24,7 +24,7 @@ use Rattle.oz_running.specs.Run.{IsQuietSeat}
 use Rattle.oz_running.proofs.Placed.{all_at, there}
 use Rattle.oz_scm.specs.Scm.{State as Scm}
 use Rattle.oz_scm_events.specs.Kept.{IsKept as ScmIsKept}
-use Rattle.oz_at_work.specs.servers.Served.{IsServed}
+use Rattle.oz_worker.specs.servers.Served.{IsServed}
 use Rattle.oz_turn.specs.declared.seat.Seat.{Seat}
 use Rattle.oz_turn.specs.declared.told.Told.{Ghosts}
 use Rattle.oz_turn.specs.Ring.{TurnId}

@@ -1,6 +1,6 @@
-mod Coming
-mod Bodies
-mod History
-mod Opened
-mod Rows
-mod Namespaces
+pub mod Coming
+pub mod Bodies
+pub mod History
+pub mod Opened
+pub mod Rows
+pub mod Namespaces

@@ -14,7 +14,7 @@ use Rattle.oz_rows.specs.RowMaps.{Rows}
 use Rattle.oz_running.specs.Seats.{HaveLeft}
 use Rattle.oz_scm.specs.Scm.{State as Scm}
 use Rattle.oz_scm_events.specs.Kept.{IsKept as ScmIsKept}
-use Rattle.oz_at_work.specs.servers.Served.{IsServed}
+use Rattle.oz_worker.specs.servers.Served.{IsServed}
 use Rattle.oz_turn.specs.declared.seat.Seat.{Seat}
 use Rattle.oz_turn.specs.declared.told.Told.{Ghosts}
 use Rattle.oz_turn.specs.Ring.{TurnId}

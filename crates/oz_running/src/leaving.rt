@@ -7,7 +7,6 @@ ghost use Rattle.oz_running.specs.Jobs.{AreJobs};
 ghost use Rattle.oz_running.specs.Left.{IsLeft};
 ghost use Rattle.oz_running.specs.Seats.{AddsReady, AreNewFrom};
 
-use oz_at_work::{Parts, Servers};
 use oz_buffer::{Ledger, Opened};
 use oz_core::Event;
 use oz_datanode::Datanode;
@@ -16,7 +15,7 @@ use oz_journal::Journal;
 use oz_locks::Loaded;
 use oz_scm::Scm;
 use oz_turn::{Ring, Seat, Told};
-use oz_worker::Job;
+use oz_worker::{Job, Parts, Servers};
 use oz_world::Disk;
 use std::sync::Wait;
 

@@ -12,7 +12,7 @@ ghost use Rattle.oz_om.specs.Opens.{Opens};
 ghost use Rattle.oz_om.specs.Seated.{ArePartsOf};
 ghost use Rattle.oz_running.specs.Run.{IsRun};
 ghost use Rattle.oz_running.specs.Staff.{IsStaff};
-ghost use Rattle.oz_at_work.specs.servers.Begun.{NodesStand, ScmStands};
+ghost use Rattle.oz_worker.specs.servers.Begun.{NodesStand, ScmStands};
 ghost use Rattle.oz_turn.specs.Seat.{AreNewSeats};
 ghost use Rattle.oz_turn.specs.Turn.{seats_of, turn_id};
 ghost use Rattle.oz_world.specs.Disk.{TellsAsBefore};

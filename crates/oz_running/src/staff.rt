@@ -9,12 +9,11 @@ ghost use Rattle.oz_nodes.specs.declared.nodes.TheConstants.{FEWEST_NODES, MOST_
 ghost use Rattle.oz_om.specs.Opens.{Opens};
 ghost use Rattle.oz_om.specs.Seated.{ArePartsOf, ArePlaced};
 ghost use Rattle.oz_running.specs.Staff.{IsStaff};
-ghost use Rattle.oz_at_work.specs.servers.Begun.{NodesStand, ScmStands};
+ghost use Rattle.oz_worker.specs.servers.Begun.{NodesStand, ScmStands};
 ghost use Rattle.oz_turn.specs.Seat.{AreNewSeats, IsNewSeat};
 
 use crate::hiring::hired;
 use crate::parting::{Parted, parted_seats};
-use oz_at_work::Servers;
 use oz_buffer::{Ledger, Opened};
 use oz_core::Event;
 use oz_datanode::Datanode;
@@ -25,7 +24,7 @@ use oz_om::Manager;
 use oz_scm::Scm;
 use oz_script::Script;
 use oz_turn::{Ring, Seat, Told};
-use oz_worker::Job;
+use oz_worker::{Job, Servers};
 use oz_world::Disk;
 use std::alloc::Global;
 

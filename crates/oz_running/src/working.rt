@@ -3,12 +3,11 @@
 ghost use Rattle.std.specs.Prelude.{◌≡◌};
 ghost use Rattle.oz_turn.specs.Turn.{turn_id};
 
-use oz_at_work::Servers;
 use oz_buffer::{Ledger, Opened};
 use oz_flusher::{Flushing, Mounted};
 use oz_locks::Loaded;
 use oz_turn::{Ring, Turn};
-use oz_worker::{Job, finish, work_together};
+use oz_worker::{Job, Servers, finish, work_together};
 use oz_world::{Disk, Gate};
 use std::alloc::Global;
 use std::sync::{Mutex, Wait};

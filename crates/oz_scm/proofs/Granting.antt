@@ -18,7 +18,7 @@ use Rattle.oz_world.specs.Disk.{Images, Seen, seen, TellsAsBefore, IsStable}
 use Rattle.oz_world.specs.Moments.{LeavesOnly}
 use Rattle.oz_scm.specs.declared.fault.GrantFault.{GrantFault}
 use Rattle.oz_scm.specs.declared.fault.GrantFault.TheVariants.{Stopped}
-use Rattle.oz_scm.specs.Grants.{Grants, IsDue, IsRefusedFor, IsBeforeOrGranted, StandsOrGranted, says_stopped, with_grant}
+use Rattle.oz_scm.specs.Granting.{Grants, IsDue, IsRefusedFor, IsBeforeOrGranted, StandsOrGranted, says_stopped, with_grant}
 use Rattle.oz_scm.specs.Scm.{State, StandsFor, Keeps}
 
 -- what is stable stands for the bodies that are told

@@ -3,7 +3,7 @@
 ghost use Rattle.std.specs.Prelude.{◌≡◌, ◌⊎◌, ◌<◌, ◌^◌, length, false, IfOk, IfErr, OnErr};
 ghost use Rattle.oz_scm.specs.grants.Made.{MayGrant};
 ghost use Rattle.oz_nodes.specs.Pipelines.{IsAnyUp};
-ghost use Rattle.oz_scm.specs.Grants.{IsDue, IsRefusedFor, says_stopped};
+ghost use Rattle.oz_scm.specs.Granting.{IsDue, IsRefusedFor, says_stopped};
 ghost use Rattle.oz_scm.specs.declared.fault.GrantFault.TheVariants.{NoPipeline as IsDown, Excluded as IsExcluded};
 
 use crate::fault::GrantFault;

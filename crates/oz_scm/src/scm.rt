@@ -11,7 +11,7 @@ ghost use Rattle.oz_journal.specs.Load.{IsLoadable};
 ghost use Rattle.oz_names.specs.declared.limits.TheConstants.{STRIPES};
 ghost use Rattle.oz_nodes.specs.declared.nodes.TheConstants.{FEWEST_NODES, MOST_NODES};
 ghost use Rattle.oz_nodes.specs.Pipelines.{members_of, is_node_up};
-ghost use Rattle.oz_scm.specs.Grants.{Grants};
+ghost use Rattle.oz_scm.specs.Granting.{Grants};
 ghost use Rattle.oz_scm.specs.Scm.{IsOfNodes, IsDamagedDisk, or_first};
 ghost use Rattle.oz_world.specs.Disk.{seen, TellsAsBefore, IsStable};
 ghost use Rattle.oz_world.specs.Faults.{Rose};

@@ -24,7 +24,7 @@ use Rattle.oz_nodes.specs.Pipelines.{IsUp, pipelines_of}
 use Rattle.oz_requests.specs.declared.request.Exclude.{Exclude}
 use Rattle.oz_scm.specs.declared.fault.GrantFault.{GrantFault}
 use Rattle.oz_scm.specs.declared.fault.GrantFault.TheVariants.{Stopped, NoPipeline, Excluded, IdsSpent, OutOfMemory}
-use Rattle.oz_scm.specs.Grants.{Grants, IsDue}
+use Rattle.oz_scm.specs.Granting.{Grants, IsDue}
 use Rattle.oz_scm.specs.Scm.{State}
 use Rattle.oz_scm_events.specs.Granted.{by_scm, told_of}
 use Rattle.oz_scm_events.specs.Kept.{as_told, AreContainers, IsKept}

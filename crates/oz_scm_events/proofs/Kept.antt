@@ -23,7 +23,7 @@ use Rattle.oz_nodes.specs.Pipelines.{IsAnyUp, IsFree, is_node_up}
 use Rattle.oz_requests.specs.declared.request.Exclude.{Exclude}
 use Rattle.oz_scm.specs.declared.fault.GrantFault.{GrantFault}
 use Rattle.oz_scm.specs.declared.fault.GrantFault.TheVariants.{Stopped, NoPipeline, Excluded, IdsSpent, OutOfMemory}
-use Rattle.oz_scm.specs.Grants.{Grants}
+use Rattle.oz_scm.specs.Granting.{Grants}
 use Rattle.oz_scm.specs.Scm.{State}
 use Rattle.oz_scm_events.specs.Granted.{by_scm, told_of, with_told, IsRefusal}
 use Rattle.oz_scm_events.specs.Kept.{as_told, AreContainers, IsKept}

@@ -1,3 +1,3 @@
-mod Passing
-mod Spreading
-mod Ways
+pub mod Passing
+pub mod Spreading
+pub mod Ways

@@ -1,4 +1,4 @@
-mod Counting
-mod DraftSteps
-mod Opened
-mod Places
+pub mod Counting
+pub mod DraftSteps
+pub mod Opened
+pub mod Places

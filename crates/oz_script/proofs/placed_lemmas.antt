@@ -1,2 +1,2 @@
-mod Afters
-mod Numbers
+pub mod Afters
+pub mod Numbers

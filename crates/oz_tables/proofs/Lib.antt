@@ -1,2 +1,2 @@
 pub mod Views
-pub mod build_lemmas
+pub mod built_lemmas

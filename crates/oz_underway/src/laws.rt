@@ -6,7 +6,7 @@ ghost use Rattle.std.specs.FinMap.{get};
 ghost use Rattle.std.specs.List.{list_all};
 ghost use Rattle.oz_asker.specs.Decided.{IsDecideAt};
 ghost use Rattle.oz_buffer.specs.Buffer.{AllFollow, Follows};
-ghost use Rattle.oz_buffer.specs.Courses.{times_said};
+ghost use Rattle.oz_buffer.specs.Became.{times_said};
 ghost use Rattle.oz_client.specs.declared.progress.Progress.{Progress as AnyProgress};
 ghost use Rattle.oz_client.specs.declared.step.Got.TheVariants as gots;
 ghost use Rattle.oz_client.specs.declared.step.Got.{Got as AnyGot};

@@ -1,6 +1,6 @@
 -- When a line may be told an answer, what is appended then, and what keeps it from being told.
 use Rattle.std.specs.Prelude.{◌≡◌, ◌≢◌, ℕ, ◌<◌, ◌≤◌, true, false, List, [], ◌∷◌, ◌++◌, Option, None, Some}
-use Rattle.oz_buffer.specs.Courses.{times_said}
+use Rattle.oz_buffer.specs.Became.{times_said}
 use Rattle.oz_core.specs.declared.event.Event.{Event}
 use Rattle.oz_core.specs.declared.event.EventKind.TheVariants.{Told}
 use Rattle.oz_core.specs.declared.event.Node.TheVariants.{Manager}

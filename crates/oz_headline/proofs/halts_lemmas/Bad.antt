@@ -18,7 +18,7 @@ use Rattle.oz_headline.specs.Reads.{NoneIsBad, is_bad}
 use Rattle.oz_headline.specs.halts.Nodes.{AreAsTold}
 use Rattle.oz_headline.proofs.halts_lemmas.Halts.{there}
 use Rattle.oz_script.specs.declared.lines.script.Script.{Script}
-use Rattle.oz_node_events.specs.NodeSeat.{is_bad as seat_bad}
+use Rattle.oz_nodes_loaded.specs.NodeSeat.{is_bad as seat_bad}
 use Rattle.oz_turn.specs.Told.{own_entries}
 use Rattle.oz_world.specs.Disk.{Images}
 

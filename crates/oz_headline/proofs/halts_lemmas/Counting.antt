@@ -7,7 +7,7 @@ use Rattle.oz_core.specs.declared.event.Node.TheVariants.{Manager, Scm, Datanode
 use Rattle.oz_core.specs.Manager.{halt_of}
 use Rattle.oz_datanode.specs.Datanode.{State as NodeState, count_of, meta_of, slots_of}
 use Rattle.oz_headline.specs.Disks.{RunDisk, faults_after, faults_loaded, has_stopped, manager_disk, together}
-use Rattle.oz_headline.specs.Halts.{HaltsAreNamed}
+use Rattle.oz_headline.specs.NamedHalts.{HaltsAreNamed}
 use Rattle.oz_headline.specs.halts.Disks.{AreAsMany, OtherDisks, OtherNodes, all_disks}
 use Rattle.oz_headline.specs.halts.Rising.{DatanodeRose, ItsCountRose}
 use Rattle.oz_headline.proofs.halts_lemmas.Halts.{absent_stopped, its_after, its_loaded, none_counted, there}

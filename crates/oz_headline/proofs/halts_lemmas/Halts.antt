@@ -28,7 +28,7 @@ use Rattle.oz_world.specs.Faults.{Rose}
 use Rattle.oz_headline.specs.Disks.{RunDisk, faults_after, faults_loaded, has_stopped, is_of, manager_disk, of_node, together}
 use Rattle.oz_headline.specs.halts.Disks.{AreAsMany, OtherDisks, OtherNodes, all_disks, datanode_disks, some_halted}
 use Rattle.oz_headline.specs.declared.status.Status.TheVariants.{Done, Disk}
-use Rattle.oz_headline.specs.Halts.{HaltIsNamed, HaltsAreNamed, StatusNamesHalts}
+use Rattle.oz_headline.specs.NamedHalts.{HaltIsNamed, HaltsAreNamed, StatusNamesHalts}
 use Rattle.oz_headline.specs.halts.Nodes.{AreAsTold, AreCounted, ScmIsAsTold}
 
 abbrev own : ℕ → List Event → List Event

@@ -10,8 +10,8 @@ use Rattle.oz_core.specs.Stories.{mine}
 use Rattle.oz_datanode.specs.Datanode.{State as Datanode, count_of}
 use Rattle.oz_headline.specs.halts.Disks.{OtherNodes}
 use Rattle.oz_script.specs.declared.lines.script.Script.{Script}
-use Rattle.oz_node_events.specs.Led.{no_lines}
-use Rattle.oz_node_events.specs.NodeSeat.{IsKept as SeatIsKept, SeatView, StandsFor, events_of}
+use Rattle.oz_nodes_loaded.specs.Led.{no_lines}
+use Rattle.oz_nodes_loaded.specs.NodeSeat.{IsKept as SeatIsKept, SeatView, StandsFor, events_of}
 use Rattle.oz_replicas.specs.Cells.{IsAtRest}
 use Rattle.oz_scm.specs.Scm.{State as Scm}
 use Rattle.oz_scm_events.specs.Kept.{IsKept as ScmIsKept}

@@ -10,7 +10,7 @@ ghost use Rattle.oz_headline.specs.halts.Disks.{AreAsMany, OtherDisks, OtherNode
 ghost use Rattle.oz_headline.specs.halts.Nodes.{AreAsTold, AreCounted, ScmIsAsTold};
 ghost use Rattle.oz_headline.specs.halts.Rising.{ItsCountRose};
 ghost use Rattle.oz_headline.specs.Disks.{manager_disk};
-ghost use Rattle.oz_headline.specs.Halts.{HaltsAreNamed, StatusNamesHalts};
+ghost use Rattle.oz_headline.specs.NamedHalts.{HaltsAreNamed, StatusNamesHalts};
 ghost use Rattle.oz_headline.specs.Headline.{Headline};
 ghost use Rattle.oz_script.specs.lines.Numbered.{IsNumbered};
 ghost use Rattle.oz_world.specs.Disk.{seen as seen_disk};

@@ -1,6 +1,6 @@
 -- What a story has of a block that a line wrote.
 use Rattle.std.specs.Prelude.{◌≡◌, ℕ, ◌+◌, Bool, true, nat_le, List, Option, Some, count_by, is_none, if◌then◌else◌}
-use Rattle.oz_buffer.specs.Courses.{times_said}
+use Rattle.oz_buffer.specs.Became.{times_said}
 use Rattle.oz_core.specs.declared.event.Event.{Event}
 use Rattle.oz_core.specs.declared.event.PutRefusal.{PutRefusal}
 use Rattle.oz_core.specs.Asks.{last_ask}

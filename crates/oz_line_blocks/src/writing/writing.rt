@@ -2,7 +2,7 @@
 
 ghost use Rattle.std.specs.Prelude.{◌≡◌, ◌≤◌, ◌<◌, ◌+◌, [], true, All, List, Option, length, IfOk};
 ghost use Rattle.oz_buffer.specs.Buffer.{AllFollow, Follows};
-ghost use Rattle.oz_buffer.specs.Courses.{times_said};
+ghost use Rattle.oz_buffer.specs.Became.{times_said};
 ghost use Rattle.oz_core.specs.declared.event.Event.{Event as AnyEvent};
 ghost use Rattle.oz_core.specs.declared.event.EventKind.TheVariants.{Wrote};
 ghost use Rattle.oz_core.specs.declared.event.PutRefusal.{PutRefusal as AnyRefusal};

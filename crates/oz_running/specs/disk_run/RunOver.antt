@@ -11,7 +11,7 @@ use Rattle.oz_headline.specs.halts.Nodes.{AreAsTold, ScmIsAsTold}
 use Rattle.oz_headline.specs.declared.status.Status.TheVariants.{Disk, Done}
 use Rattle.oz_headline.specs.Counts.{AreToldAsMany}
 use Rattle.oz_headline.specs.Disks.{manager_disk}
-use Rattle.oz_headline.specs.Halts.{HaltsAreNamed, StatusNamesHalts}
+use Rattle.oz_headline.specs.NamedHalts.{HaltsAreNamed, StatusNamesHalts}
 use Rattle.oz_headline.specs.Headline.{Headline}
 use Rattle.oz_journal.specs.Grammar.{IsJournal}
 use Rattle.oz_journal.specs.Load.{IsLeftAlone, IsLoadable, loaded_at}

@@ -10,7 +10,7 @@ use Rattle.oz_node_events.specs.full.Full.{JournalStands}
 use Rattle.oz_headline.specs.halts.Disks.{AreAsMany, OtherDisks, OtherNodes, all_disks, some_halted}
 use Rattle.oz_headline.specs.declared.status.Status.TheVariants.{Disk, Done}
 use Rattle.oz_headline.specs.Disks.{manager_disk}
-use Rattle.oz_headline.specs.Halts.{HaltsAreNamed, StatusNamesHalts}
+use Rattle.oz_headline.specs.NamedHalts.{HaltsAreNamed, StatusNamesHalts}
 use Rattle.oz_headline.specs.Headline.{Headline}
 use Rattle.oz_journal.specs.Grammar.{IsJournal}
 use Rattle.oz_script.specs.declared.lines.script.Script.{Script}

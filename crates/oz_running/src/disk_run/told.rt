@@ -13,7 +13,7 @@ ghost use Rattle.oz_node_events.specs.NodeSeat.{NumbersAreOld};
 ghost use Rattle.oz_nodes.specs.declared.nodes.TheConstants.{FEWEST_NODES, MOST_NODES};
 ghost use Rattle.oz_om.specs.Opens.{Opens};
 ghost use Rattle.oz_om.specs.Seated.{ArePartsOf};
-ghost use Rattle.oz_at_work.specs.servers.Begun.{ScmStands};
+ghost use Rattle.oz_worker.specs.servers.Begun.{ScmStands};
 ghost use Rattle.oz_world.specs.Disk.{seen, TellsAsBefore};
 ghost use Rattle.oz_world.specs.Moments.{Elapses};
 

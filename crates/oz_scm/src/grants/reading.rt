@@ -17,7 +17,7 @@ use oz_names::STRIPES;
 use oz_nodes::{FEWEST_NODES, MOST_NODES};
 
 /// The entry that the front of the bytes spells, and the bytes behind it.
-#[tactic(auto, unfolding(crate::grants::specs::Reading::entry_at))]
+#[tactic(auto, unfolding(crate::specs::grants::Reading::entry_at))]
 pub(crate) fn entry_of<'b>(
     found: &Option<Containers>,
     bytes: &'b [u8],
@@ -35,7 +35,7 @@ pub(crate) fn entry_of<'b>(
 }
 
 /// How many datanodes there are, behind the tag.
-#[tactic(auto, unfolding(crate::grants::specs::Reading::nodes_at))]
+#[tactic(auto, unfolding(crate::specs::grants::Reading::nodes_at))]
 fn nodes_of<'b>(found: &Option<Containers>, bytes: &'b [u8]) -> Result<(Entry, &'b [u8]), BadField>
     ensures { ReadsAs (λ x. (x.0, x.1.now)) result (nodes_at (made_in found.now) (length bytes.now + 1) bytes.now) }
 {
@@ -61,7 +61,7 @@ fn node_count_of(bytes: &[u8]) -> Result<(u8, &[u8]), BadField>
 }
 
 /// A grant, behind the tag.
-#[tactic(auto, unfolding(crate::grants::specs::Reading::granted_at))]
+#[tactic(auto, unfolding(crate::specs::grants::Reading::granted_at))]
 fn granted_of<'b>(
     found: &Option<Containers>,
     bytes: &'b [u8],
@@ -88,7 +88,7 @@ fn stripe_of(bytes: &[u8]) -> Result<(u8, &[u8]), BadField>
     }
 }
 
-#[tactic(auto, unfolding(crate::grants::specs::Reading::ids_at))]
+#[tactic(auto, unfolding(crate::specs::grants::Reading::ids_at))]
 fn ids_of<'b>(containers: &Containers, bytes: &'b [u8]) -> Result<(Grant, &'b [u8]), BadField>
     ensures { ReadsAs (λ x. (x.0, x.1.now)) result (ids_at containers.now.made bytes.now) }
 {

@@ -77,7 +77,7 @@ pub fn draft_of(alloc: Global, bytes: &[u8]) -> Result<Drafting, ScriptFault>
     Ok(drafting)
 }
 
-#[tactic(auto, unfolding(crate::draft::specs::Drafts::with_line, crate::draft::specs::Drafts::with_words))]
+#[tactic(auto, unfolding(crate::specs::draft::Drafts::with_line, crate::specs::draft::Drafts::with_words))]
 fn with_line(
     alloc: Global,
     drafting: Drafting,
@@ -108,7 +108,7 @@ fn with_line(
     with_said(alloc, drafting, place, said)
 }
 
-#[tactic(auto, unfolding(crate::draft::specs::Drafts::with_said))]
+#[tactic(auto, unfolding(crate::specs::draft::Drafts::with_said))]
 fn with_said(
     alloc: Global,
     drafting: Drafting,

@@ -21,7 +21,7 @@ pub struct Said {
 }
 
 /// What the words behind the client's name say, if they say anything.
-#[tactic(auto, unfolding(crate::draft::specs::Said::said_of))]
+#[tactic(auto, unfolding(crate::specs::draft::Said::said_of))]
 pub fn said_of(alloc: Global, client: &[u8], line: &[u8]) -> Result<Option<Said>, OutOfMemory>
     ensures { IfOk result (λ said. said ≡ said_of client.now (words line.now)) }
 {
@@ -31,7 +31,7 @@ pub fn said_of(alloc: Global, client: &[u8], line: &[u8]) -> Result<Option<Said>
     said_behind(alloc, client, line)
 }
 
-#[tactic(auto, unfolding(crate::draft::specs::Said::said_behind))]
+#[tactic(auto, unfolding(crate::specs::draft::Said::said_behind))]
 fn said_behind(alloc: Global, client: &[u8], line: &[u8]) -> Result<Option<Said>, OutOfMemory>
     ensures { IfOk result (λ said. said ≡ said_behind client.now (words line.now)) }
 {
@@ -52,7 +52,7 @@ fn said_behind(alloc: Global, client: &[u8], line: &[u8]) -> Result<Option<Said>
     }))
 }
 
-#[tactic(auto, unfolding(crate::draft::specs::Said::said_after))]
+#[tactic(auto, unfolding(crate::specs::draft::Said::said_after))]
 fn said_after(alloc: Global, client: &[u8], line: &[u8]) -> Result<Option<Said>, OutOfMemory>
     ensures { IfOk result (λ said. said ≡ said_after client.now (words line.now)) }
 {

@@ -21,7 +21,7 @@ pub struct PlacedScript {
 
 /// Reads a script, up to the test for lines that wait for themselves: the script, or the first line in none of
 /// the forms, too many, or with an unknown label, and else the first whose `after` names no line.
-#[tactic(auto, unfolding(crate::placed::specs::Placed::read_of))]
+#[tactic(auto, unfolding(crate::specs::placed::Placed::read_of))]
 pub fn read_lines(alloc: Global, bytes: &[u8]) -> Result<PlacedScript, ScriptFault>
     ensures exact { MatchResult result (λ placed. read_of bytes.now ≡ Ok placed)
         (λ fault. Fails fault (read_of bytes.now)) }
@@ -33,7 +33,7 @@ pub fn read_lines(alloc: Global, bytes: &[u8]) -> Result<PlacedScript, ScriptFau
 }
 
 /// The script that a draft makes, with the place of each line.
-#[tactic(auto, unfolding(crate::placed::specs::Placed::placed_of))]
+#[tactic(auto, unfolding(crate::specs::placed::Placed::placed_of))]
 fn placed_of(alloc: Global, drafting: Drafting) -> Result<PlacedScript, ScriptFault>
     requires { IsTracked drafting.draft drafting.counts.items drafting.opened }
     ensures { MatchResult result (λ placed. placed_of drafting.draft ≡ Ok placed)
@@ -119,7 +119,7 @@ fn with_after(
     }
 }
 
-#[tactic(auto, unfolding(crate::placed::specs::Placed::after_of))]
+#[tactic(auto, unfolding(crate::specs::placed::Placed::after_of))]
 fn after_of(drafting: &Drafting, entry: &Entry) -> Result<Option<(u16, u16)>, ScriptFault>
     requires { IsTracked drafting.now.draft drafting.now.counts.items drafting.now.opened }
     ensures { MatchResult result (λ after. after_of drafting.now.draft entry.now ≡ Ok after)

@@ -28,7 +28,7 @@ use Rattle.oz_core.specs.Stories.{all_told, count_events, has_event}
 use Rattle.oz_steps.specs.Grants.{refused_so}
 use Rattle.oz_asker.specs.laws.Asks.{legal_of_follow, same_id}
 use Rattle.oz_buffer.specs.Buffer.{AllFollow, Follows}
-use Rattle.oz_buffer.specs.Courses.{says, times_said}
+use Rattle.oz_buffer.specs.Became.{says, times_said}
 use Rattle.oz_kept.specs.laws.Contents.{its_grant, one_block}
 use Rattle.oz_kept.specs.laws.Deleted.{enabled_at, first_or_later, found_at}
 use Rattle.oz_kept.specs.laws.Granted.{one_id}

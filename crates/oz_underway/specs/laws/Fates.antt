@@ -24,7 +24,7 @@ use Rattle.oz_steps.specs.declared.fate.Fate.{Fate}
 use Rattle.oz_steps.specs.declared.fate.Fate.TheVariants as fates
 use Rattle.oz_steps.specs.Grants.{AreAnswers, AreGrants, IsAttempt, IsFate, IsUnsettled, fate_of, has_fate_written, is_fate_written, refused_so}
 use Rattle.oz_buffer.specs.Buffer.{AllFollow, Follows}
-use Rattle.oz_buffer.specs.Courses.{times_said}
+use Rattle.oz_buffer.specs.Became.{times_said}
 use Rattle.oz_kept.specs.laws.Deleted.{found_at}
 use Rattle.oz_kept.specs.reopened.laws.Named.{told_event}
 use Rattle.oz_turn.specs.Told.{BeginsWith}

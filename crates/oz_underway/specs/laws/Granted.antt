@@ -41,7 +41,7 @@ use Rattle.oz_client.specs.Stories.{IsAt}
 use Rattle.oz_asker.specs.Decided.{IsDecideAt}
 use Rattle.oz_asker.specs.laws.Asks.{legal_of_follow, same_id}
 use Rattle.oz_buffer.specs.Buffer.{AllFollow, Follows}
-use Rattle.oz_buffer.specs.Courses.{times_said}
+use Rattle.oz_buffer.specs.Became.{times_said}
 use Rattle.oz_buffer.specs.laws.Courses.{asked-push}
 use Rattle.oz_kept.specs.laws.Contents.{one_block}
 use Rattle.oz_kept.specs.laws.Deleted.{enabled_at, found_at, split_at}

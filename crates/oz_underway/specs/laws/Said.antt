@@ -24,7 +24,7 @@ use Rattle.oz_core.specs.Stories.{all_told, has_event}
 use Rattle.oz_client.specs.declared.progress.Progress.{Progress}
 use Rattle.oz_asker.specs.laws.Asks.{legal_of_follow}
 use Rattle.oz_buffer.specs.Buffer.{AllFollow, Follows}
-use Rattle.oz_buffer.specs.Courses.{says, times_said}
+use Rattle.oz_buffer.specs.Became.{says, times_said}
 use Rattle.oz_buffer.specs.laws.Courses.{said-push}
 use Rattle.oz_kept.specs.laws.Contents.{one_grant}
 use Rattle.oz_turn.specs.Told.{BeginsWith}

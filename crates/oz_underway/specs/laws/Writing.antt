@@ -44,7 +44,7 @@ use Rattle.oz_client.specs.LineState.{came_written, pieces_in, progress_after}
 use Rattle.oz_client.specs.Stories.{IsAt}
 use Rattle.oz_asker.specs.laws.Asks.{legal_of_follow, same_id}
 use Rattle.oz_buffer.specs.Buffer.{AllFollow, Follows}
-use Rattle.oz_buffer.specs.Courses.{times_said}
+use Rattle.oz_buffer.specs.Became.{times_said}
 use Rattle.oz_kept.specs.laws.Contents.{its_grant, one_block}
 use Rattle.oz_kept.specs.laws.Deleted.{enabled_at, first_or_later, found_at}
 use Rattle.oz_kept.specs.laws.Granted.{one_id, told_among}

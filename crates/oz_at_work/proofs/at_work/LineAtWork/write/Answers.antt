@@ -1,6 +1,6 @@
 use Rattle.std.proofs.Common.{◌≡◌, ℕ, ◌+◌, ◌≤◌, ◌<◌, List, length, sym, ap, ◌∙◌, subst}
 use Rattle.oz_buffer.specs.Buffer.{Follows}
-use Rattle.oz_buffer.specs.Courses.{times_said}
+use Rattle.oz_buffer.specs.Became.{times_said}
 use Rattle.oz_core.specs.declared.event.EventKind.TheVariants.{Wrote}
 use Rattle.oz_nodes.specs.declared.nodes.TheConstants.{FEWEST_NODES}
 use Rattle.oz_node_events.specs.Noting.{MayNote}

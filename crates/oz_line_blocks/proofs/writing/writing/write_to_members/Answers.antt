@@ -1,5 +1,5 @@
 use Rattle.std.proofs.Common.{◌≡◌, ◌+◌, Bool, true, cond, refl, sym, ap, ◌∙◌, arith}
-use Rattle.oz_buffer.specs.Courses.{times_said}
+use Rattle.oz_buffer.specs.Became.{times_said}
 use Rattle.oz_turn.specs.Seat.{seen_of}
 use Rattle.oz_underway.specs.laws.Going.{begins_through}
 use Rattle.oz_line_blocks.specs.writing.Written.{is_quorum}

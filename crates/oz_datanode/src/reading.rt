@@ -138,7 +138,7 @@ fn read_chunk<D: Disk>(
 }
 
 /// So many bytes from the beginning of a slot.
-fn read_slot<D: Disk>(
+pub(crate) fn read_slot<D: Disk>(
     alloc: Global,
     shelf: &mut Shelf<D>,
     slot: u32,

@@ -14,6 +14,7 @@ ghost use Rattle.oz_block.specs.shelf.Written.{chunks_in, makes, row_of, written
 ghost use Rattle.oz_world.specs.Disk.{seen, Same, Stands, TellsAsBefore, IsStable};
 ghost use Rattle.oz_world.specs.Faults.{Rose, HasCause};
 ghost use Rattle.oz_world.specs.Moments.{Spans};
+ghost use Rattle.sha2.specs.Sha256.{sha256};
 
 use crate::shelf::written::{Which, Written, add, let_go, makes, take_out};
 use oz_chunk::{SlotFault, SlotFull, Slots};
@@ -162,16 +163,18 @@ impl<D: Disk> Shelf<D> {
         take_out(&mut self.written, Which::AllOf { block });
     }
 
-    /// Writes a chunk to the lowest free slot. One that was written before to the same place of the block is let go.
+    /// Writes a chunk, of which this is the SHA-256, to the lowest free slot. One that was written before to the same place
+    /// of the block is let go.
     pub fn write(
         &mut self,
-        _alloc: Global,
         block: Block,
         place: u8,
         bytes: &[u8],
+        digest: [u8; 32],
     ) -> Result<(), Unwritten>
         requires least { 1 ≤ length bytes.now }
         requires most { length bytes.now ≤ SLOT_BYTES }
+        requires digest { digest ≡ sha256 bytes.now }
         requires running { self.old.failed ≡ false }
         requires within { IfSome (D.told self.old.slots.disk) (λ disk. (slot : ℕ) →
             is_taken self.old.slots.taken slot ≡ true → IsWithin slot disk) }
@@ -214,7 +217,7 @@ impl<D: Disk> Shelf<D> {
             Ok(slot) => slot,
             Err(full) => return Err(Unwritten::Full(full)),
         };
-        let Ok(digest) = self.slots.write_chunk(slot, bytes) else {
+        let Ok(()) = self.slots.write_bytes(slot, bytes) else {
             self.slots.free(slot);
             self.failed = true;
             return Err(Unwritten::Failed);

@@ -9,13 +9,14 @@ ghost use Rattle.oz_turn.specs.Seat.{IsReady, mine_of, room_of, seen_of};
 ghost use Rattle.oz_turn.specs.Told.{BeginsWith};
 ghost use Rattle.oz_turn.specs.Turn.{turn_id};
 
+use crate::reading::copied::{Copied, copy_member};
 use crate::reading::lack::{Lack, lack_of};
 use crate::reading::noted::{Given, read_noted};
 use crate::reading::wanted::Wanted;
 use oz_buffer::{Ledger, Opened};
 use oz_fields::OutOfMemory;
 use oz_node_events::{NodeSeat, it_stands_where_it_saw_more, what_is_given_is_the_content};
-use oz_replicas::{NodeCell, Nodes};
+use oz_replicas::{NodeCell, Nodes, verified_piece};
 use oz_turn::{Ring, Seat, Turn};
 use oz_world::Disk;
 use std::alloc::Global;
@@ -29,7 +30,9 @@ pub(crate) enum AtMember {
     Nothing(Lack),
 }
 
-/// Reads the piece at the datanode of this number, under its lock. A datanode that was doubted before isn't asked.
+/// Reads the piece at the datanode of this number, which isn't asked where it was doubted before. The chunks are copied under
+/// its lock, and verified once that is let go. Where they don't give the piece it is read again under the lock, and what is
+/// found there is told.
 pub(crate) fn read_member<D: Disk, O: Opened, R: Ring, W: Wait>(
     rt: &W,
     alloc: Global,
@@ -59,11 +62,18 @@ pub(crate) fn read_member<D: Disk, O: Opened, R: Ring, W: Wait>(
     if wanted.doubted.has(dn) {
         return Ok(AtMember::Nothing(Lack::Doubted(dn)));
     }
+    let chunks = match copy_member(rt, alloc, turn, nodes, seat, wanted, dn)? {
+        Copied::Chunks(chunks) => chunks,
+        Copied::Without(lack) => return Ok(AtMember::Nothing(lack)),
+    };
+    if let Some(bytes) = verified_piece(alloc, wanted.piece, &chunks)? {
+        return Ok(AtMember::Gave(bytes));
+    }
     let mut cell = nodes.lock(rt, dn);
     read_locked(rt, alloc, turn, &mut cell, seat, wanted, dn)
 }
 
-/// The same, while the lock is held. The worker's seat sees then all that the datanode's has seen.
+/// Reads the piece while the lock is held. The worker's seat sees then all that the datanode's has seen.
 fn read_locked<D: Disk, O: Opened, R: Ring, W: Wait>(
     rt: &W,
     alloc: Global,

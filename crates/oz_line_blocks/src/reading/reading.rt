@@ -31,8 +31,9 @@ pub enum Reading {
     Nobody([Lack; 3]),
 }
 
-/// Reads a piece for an ask of a line at the three members of its block, in their order, each under its lock, until
-/// one gives as many bytes as the piece has. Those that were doubted for the ask before, as `doubted` says, aren't asked
+/// Reads a piece for an ask of a line at the three members of its block, in their order, until one gives as many bytes as
+/// the piece has. A member's chunks are copied under its lock and verified without it; where one hasn't its digest, or they
+/// are too many or too few, the piece is read once more under the lock. Those that were doubted for the ask before, as `doubted` says, aren't asked
 /// again: nothing more is told of them. `by` is the number of the worker's seat. A member that is stopped, or
 /// halts in the call, tells that it refused, and one whose bytes haven't the digests that are kept tells that the
 /// block is bad; one that hasn't the block, or has it in another length, tells nothing. The worker's seat has seen all

@@ -109,9 +109,9 @@ gave_from told clock image faults Coherent opening bytes script loaded id piece 
 }
 
 pub came_from : {D : Type 0} (told : D → Option (List ℕ)) (clock : D → ℕ) (image : D → Images) (faults : D → ℕ) (Coherent : Type 0) (opening : Opening) (bytes : OpeningBytes) (script : Script)
-    (loaded : Node → ℕ) (id : AskId) (piece : Piece) (dns : List ℕ) (dn : ℕ) (seen mid later : List Event) (at : AtMember)
-    → CameAt told clock image faults Coherent opening bytes script loaded id piece dns dn mid later at → BeginsWith mid seen
-    → CameAt told clock image faults Coherent opening bytes script loaded id piece dns dn seen later at
+    (loaded : Node → ℕ) (id : AskId) (piece : Piece) (dns : List ℕ) (dn : ℕ) (seen mid later : List Event) (one : AtMember)
+    → CameAt told clock image faults Coherent opening bytes script loaded id piece dns dn mid later one → BeginsWith mid seen
+    → CameAt told clock image faults Coherent opening bytes script loaded id piece dns dn seen later one
 unfolding gave_from
 came_from told clock image faults Coherent opening bytes script loaded id piece dns dn seen mid later (Gave read) came begins =
     gave_from told clock image faults Coherent opening bytes script loaded id piece dns dn (Some read.items) seen mid later came begins
@@ -120,9 +120,9 @@ came_from told clock image faults Coherent opening bytes script loaded id piece 
 
 -- a member that was asked came so
 pub comes_from : {D : Type 0} (told : D → Option (List ℕ)) (clock : D → ℕ) (image : D → Images) (faults : D → ℕ) (Coherent : Type 0) (opening : Opening) (bytes : OpeningBytes) (script : Script)
-    (loaded : Node → ℕ) (id : AskId) (piece : Piece) (dns : List ℕ) (doubted : Doubted) (dn : ℕ) (seen mid later : List Event) (at : AtMember)
-    → IsAsked doubted dn → CameAt told clock image faults Coherent opening bytes script loaded id piece dns dn mid later at → BeginsWith mid seen
-    → ComesAt told clock image faults Coherent opening bytes script loaded id piece dns doubted dn seen later at
+    (loaded : Node → ℕ) (id : AskId) (piece : Piece) (dns : List ℕ) (doubted : Doubted) (dn : ℕ) (seen mid later : List Event) (one : AtMember)
+    → IsAsked doubted dn → CameAt told clock image faults Coherent opening bytes script loaded id piece dns dn mid later one → BeginsWith mid seen
+    → ComesAt told clock image faults Coherent opening bytes script loaded id piece dns doubted dn seen later one
 comes_from told clock image faults Coherent opening bytes script loaded id piece dns doubted dn seen mid later (Gave read) asked came begins =
     (asked, came_from told clock image faults Coherent opening bytes script loaded id piece dns dn seen mid later (Gave read) came begins)
 comes_from told clock image faults Coherent opening bytes script loaded id piece dns doubted dn seen mid later (Nothing lack) asked came begins =

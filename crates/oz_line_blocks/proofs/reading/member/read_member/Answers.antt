@@ -19,19 +19,19 @@ read_locked-requires-clause-may g c coherent =
 
 pub returns-in-Without-clause-came : goal.returns-in-Without-clause-came
 returns-in-Without-clause-came g c =
-    let at = rw c.in-Without.is at c.in_ok-chunks.ensures.copied in
-    (inr ((λ among. false≢true (sym c.if-has.false ∙ c.has.ensures.1 among)), at.0), at.1)
+    let copied = rw c.in-Without.is at c.in_ok-chunks.ensures.copied in
+    (inr ((λ among. false≢true (sym c.if-has.false ∙ c.has.ensures.1 among)), copied.0), copied.1)
 
 pub returns-in-Some-clause-came : goal.returns-in-Some-clause-came
 returns-in-Some-clause-came g c =
-    let at = rw c.in-Chunks.is at c.in_ok-chunks.ensures.copied in
-    let opens = rw c.in-Some.is at c.in_ok-bytes.ensures.opens in
-    ((λ among. false≢true (sym c.if-has.false ∙ c.has.ensures.1 among)), at c.in-Some.bytes.items opens)
+    let copied = rw c.in-Chunks.is at c.in_ok-chunks.ensures.copied in
+    let opens = rw (c.in-Some.is, c.deref.ensures.value) at c.in_ok-bytes.ensures.opens in
+    ((λ among. false≢true (sym c.if-has.false ∙ c.has.ensures.1 among)), copied c.in-Some.bytes.items opens)
 
 pub returns-clause-came : goal.returns-clause-came
 returns-clause-came g c =
     let O = g.O.Opened in
     let D = g.D.Disk in
     IfOk-weaker c.read_locked.result _ _
-    (λ at came. comes_from D.told D.clock D.image D.faults O.coherent O.opening O.bytes O.script O.faults c.args.wanted.id c.args.wanted.piece c.args.wanted.members c.args.wanted.doubted c.args.dn
-    (seen_of c.args.seat.now) (seen_of c.copy_member.new.seat) (seen_of c.read_locked.new.seat) at (λ among. false≢true (sym c.if-has.false ∙ c.has.ensures.1 among)) came c.copy_member.ensures.goes_on) c.read_locked.ensures.came
+    (λ one came. comes_from D.told D.clock D.image D.faults O.coherent O.opening O.bytes O.script O.faults c.args.wanted.id c.args.wanted.piece c.args.wanted.members c.args.wanted.doubted c.args.dn
+    (seen_of c.args.seat.now) (seen_of c.copy_member.new.seat) (seen_of c.read_locked.new.seat) one (λ among. false≢true (sym c.if-has.false ∙ c.has.ensures.1 among)) came c.copy_member.ensures.goes_on) c.read_locked.ensures.came

@@ -7,6 +7,8 @@ mod job;
 mod labels;
 mod laws;
 mod passing;
+mod pausing;
+mod resting;
 mod serving;
 mod together;
 mod worker;

@@ -9,6 +9,7 @@ ghost use Rattle.oz_worker.specs.Served.{IsServed};
 ghost use Rattle.oz_worker.specs.Workers.{IsOfWorker};
 
 use crate::client::Client;
+use crate::resting::{Care, Sight};
 use oz_at_work::{Did, Servers, what_is_at_work_stays};
 use oz_buffer::{Ledger, Opened};
 use oz_locks::Loaded;
@@ -29,7 +30,7 @@ pub(crate) enum Pass {
 }
 
 /// Each client's next line goes on by one thing, so that what many of them ask is flushed together. `by` is the seat's
-/// number, and `nodes` that of the datanodes.
+/// number, `nodes` that of the datanodes, and `care` says who is left out.
 pub(crate) fn each_goes_on<D: Disk, O: Opened, L: Loaded, R: Ring, W: Wait, G: Gate>(
     rt: &W,
     alloc: Global,
@@ -40,6 +41,7 @@ pub(crate) fn each_goes_on<D: Disk, O: Opened, L: Loaded, R: Ring, W: Wait, G: G
     by: u16,
     nodes: u8,
     clients: &mut [Client<'_>],
+    care: Care,
 ) -> Pass
     requires turn { turn_id turn.now ≡ R.turn }
     requires ready { IsReady R.turn by seat.old }
@@ -52,8 +54,9 @@ pub(crate) fn each_goes_on<D: Disk, O: Opened, L: Loaded, R: Ring, W: Wait, G: G
 {
     what_is_at_work_stays::<O>();
     let mut pass = Pass::Waits;
+    let mut sight = Sight::new(care);
     for client in clients.iter_mut() {
-        match client.go_on(rt, alloc, turn, servers, gate, seat, by, nodes) {
+        match client.look(rt, alloc, turn, servers, gate, seat, by, nodes, &mut sight) {
             Did::WentOn | Did::Ended => pass = Pass::WentOn,
             Did::Waits => {}
             Did::OutOfMemory => return Pass::OutOfMemory,

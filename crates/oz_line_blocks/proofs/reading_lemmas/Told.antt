@@ -46,6 +46,12 @@ given_of told clock image faults id piece dns old new chunks given seen mid is o
   given_so = is.opens given opens;
 }
 
+pub said_given : {D : Type 0} (told : D → Option (List ℕ)) (clock : D → ℕ) (image : D → Images) (faults : D → ℕ) (id : AskId) (piece : Piece) (dns : List ℕ) (old new : State D)
+    (chunks : Option (List Unverified)) (given : Option (List ℕ)) (seen mid : List Event) (is : IsCopiedAt told clock image faults id piece dns old new chunks seen mid) (opens : Opens piece.length chunks given)
+    → (given_of told clock image faults id piece dns old new chunks given seen mid is opens).said ≡ is.said
+unfolding given_of
+said_given told clock image faults id piece dns old new chunks given seen mid is opens = refl
+
 -- so it is of what a datanode gave
 pub given_later : {D : Type 0} (told : D → Option (List ℕ)) (clock : D → ℕ) (image : D → Images) (faults : D → ℕ) (id : AskId) (piece : Piece) (dns : List ℕ) (old new : State D)
     (given : Option (List ℕ)) (seen mid later : List Event) → IsGivenAt told clock image faults id piece dns old new given seen mid → BeginsWith later mid

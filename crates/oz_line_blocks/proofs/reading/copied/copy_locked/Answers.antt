@@ -9,7 +9,7 @@ use Rattle.oz_line_blocks.specs.declared.reading.lack.Lack.{Lack}
 use Rattle.oz_line_blocks.specs.reading.Lacks.{has_notes, lack_of}
 use Rattle.oz_line_blocks.specs.reading.Member.{LacksIt}
 use Rattle.oz_line_blocks.proofs.reading_lemmas.Lacking.{lacks}
-use Rattle.oz_line_blocks.proofs.reading_lemmas.Told.{gave_at, given_later, given_of, none_at, said_later}
+use Rattle.oz_line_blocks.proofs.reading_lemmas.Told.{gave_at, given_later, given_of, none_at, said_given, said_later}
 use Rattle.oz_line_blocks.proofs.reading.copied.copy_locked.Goals as goal
 use Rattle.oz_line_blocks.proofs.reading.copied.copy_locked.Goals.{in-Some, in-None}
 
@@ -62,7 +62,9 @@ returns-clause-copied g c =
           let follow = subst (λ (l : List Event). AllFollow (Follows O.coherent O.opening O.bytes O.script) [] l) (sym show.other_seen) show.kept.follow in
           let place = show.length ∙ ap (λ (l : List Event). length l) (sym show.other_seen) in
           let said : has_notes given.said ≡ has_notes is.0.said =
-          ap has_notes (said_later D.told D.clock D.image D.faults id piece dns old.node node None seen mid later none_is show.other_begins) in
+          ap has_notes
+          (said_later D.told D.clock D.image D.faults id piece dns old.node node None seen mid later none_is show.other_begins
+          ∙ said_given D.told D.clock D.image D.faults id piece dns old.node node None None seen mid is.0 refl) in
           let lack : w.lack_of-lack.result ≡ lack_of dn piece.block (has_notes given.said) (length later) =
           w.lack_of-lack.ensures
           ∙ (ap (λ (t : Bool). lack_of dn piece.block t c.show-place.result) (is.1 ∙ sym said)

@@ -95,7 +95,7 @@ fn puts_at_first(alloc: Global, cell: &mut Cell) -> Result<bool, OutOfMemory> {
     let bytes = b"abc".as_slice();
     let mut notes = NoNotes {
         block: block(),
-        members: MEMBERS,
+        members: [0, 1, 2],
         bytes,
     };
     let refusal = write_at(alloc, cell, block(), bytes, &mut notes)?;

@@ -1,4 +1,5 @@
-//! A piece that is read from its block's members in one call, which no run makes: lines ask one member after another.
+//! A block that is put at one of its members in a call, and a piece that is read from all in one, which no run does: a line's block is
+//! put at all of them in one call, and its members are asked for a piece one after another.
 
 ghost use Rattle.std.specs.Prelude.{◌≡◌, ◌<◌, ◌+◌, length, IfOk};
 ghost use Rattle.oz_replicas.specs.Cells.{AreInOrder};
@@ -7,7 +8,9 @@ ghost use Rattle.oz_replicas.specs.Stays.{IsIdle};
 use crate::book::holds;
 use oz_datanode::{Datanode, NodeDisks};
 use oz_fields::{Block, Piece};
-use oz_replicas::{NoNotes, NodeCell, Nodes, cells_stay_in_order, read_piece, write_block};
+use oz_replicas::{
+    NoNotes, NodeCell, Nodes, cells_stay_in_order, read_piece, write_at, write_block,
+};
 use oz_world::{MemoryDisk, OpenGate, OutOfMemory};
 use std::alloc::Global;
 use std::sync::Wait;
@@ -84,7 +87,29 @@ fn block() -> Block
     }
 }
 
-/// The block is put at all three, with these bytes.
+/// The block is put at the first of them alone. Answers whether it is.
+fn puts_at_first(alloc: Global, cell: &mut Cell) -> Result<bool, OutOfMemory> {
+    if cell.node.id() != 0 {
+        return Ok(false);
+    }
+    let bytes = b"abc".as_slice();
+    let mut notes = NoNotes {
+        block: block(),
+        members: [0, 1, 2],
+        bytes,
+    };
+    let refusal = write_at(alloc, cell, block(), bytes, &mut notes)?;
+    Ok(refusal.is_none())
+}
+
+fn first_puts<R: Wait>(rt: &R, alloc: Global, nodes: &Three) -> Result<bool, OutOfMemory>
+    requires { nodes.now ≡ 3 }
+{
+    let mut cell = nodes.lock(rt, 0);
+    puts_at_first(alloc, &mut cell)
+}
+
+/// The block is put at all three, with the same bytes.
 fn puts<R: Wait>(rt: &R, alloc: Global, nodes: &Three) -> Result<bool, OutOfMemory>
     requires { nodes.now ≡ 3 }
 {
@@ -138,9 +163,10 @@ fn the_first_member_that_has_a_piece_gives_it(rt: HostRuntime) -> Result<(), Fai
     let alloc = rt.alloc();
     let nodes = three(alloc)?;
     holds(&rt, gives(&rt, alloc, &nodes, 3, None)?, "none has it");
-    holds(&rt, puts(&rt, alloc, &nodes)?, "all three put it");
+    holds(&rt, first_puts(&rt, alloc, &nodes)?, "one puts it");
     let abc = Some(b"abc".as_slice());
-    holds(&rt, gives(&rt, alloc, &nodes, 3, abc)?, "the first");
+    holds(&rt, gives(&rt, alloc, &nodes, 3, abc)?, "and gives it");
+    holds(&rt, puts(&rt, alloc, &nodes)?, "all three have it");
     holds(&rt, gives(&rt, alloc, &nodes, 2, None)?, "another length");
     stop(&rt, &nodes, 0);
     holds(&rt, gives(&rt, alloc, &nodes, 3, abc)?, "the second");

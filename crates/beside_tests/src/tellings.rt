@@ -141,8 +141,19 @@ fn told<R: Wait>(
 {
     seats_stay_ready::<Book>();
     let Known { line, last, said } = known;
-    let seat = &mut seats[2];
-    match tell(rt, alloc, turn, seat, 2, 1, line, last, said, &[], answer) {
+    match tell(
+        rt,
+        alloc,
+        turn,
+        &mut seats[2],
+        2,
+        1,
+        line,
+        last,
+        said,
+        &[],
+        answer,
+    ) {
         Ok(()) => Ok(()),
         Err((_answer, cause)) => Err(cause),
     }
@@ -186,8 +197,19 @@ fn told_while<R: Wait>(
 {
     seats_stay_ready::<Book>();
     let (stills, answer) = ([still], Answer::OutOfMemory);
-    let seat = &mut seats[2];
-    match tell(rt, alloc, turn, seat, 2, 1, line, None, 0, &stills, answer) {
+    match tell(
+        rt,
+        alloc,
+        turn,
+        &mut seats[2],
+        2,
+        1,
+        line,
+        None,
+        0,
+        &stills,
+        answer,
+    ) {
         Ok(()) => Ok(()),
         Err((_answer, cause)) => Err(cause),
     }

@@ -5,6 +5,9 @@ use crate::client::Client;
 use oz_at_work::Did;
 use oz_command::Command;
 
+/// A flush tells that something is taken, and that it is stable or the manager halts.
+const EVENTS_OF_A_FLUSH: u64 = 2;
+
 /// How much a worker guesses in a pass over its clients.
 #[derive(Clone, Copy, PartialEq, Eq)]
 pub(crate) enum Care {
@@ -29,6 +32,7 @@ pub(crate) struct Rest {
 }
 
 /// What a worker knows in one pass over its clients.
+#[derive(Drop)]
 pub(crate) struct Sight {
     care: Care,
     /// The length of the story behind what a client did last that waits for a flush: the shortest of these. What was
@@ -80,14 +84,14 @@ impl Sight {
         };
     }
 
-    /// Whether what was decided before this length is likely not to be flushed where the story has so many events: nothing
-    /// has come since, or somebody waits of whom something was decided before.
+    /// Whether what was decided before this length is likely not to be flushed where the story has so many events: fewer
+    /// have come since than a flush tells, or somebody waits of whom something was decided before.
     fn is_behind(&self, went_on_at: u64, length: u64) -> bool {
         let waits = match self.waits_from {
             Some(from) => from <= went_on_at,
             None => false,
         };
-        waits || went_on_at == length
+        waits || length < went_on_at.saturating_add(EVENTS_OF_A_FLUSH)
     }
 }
 

@@ -2,10 +2,10 @@
 use Rattle.std.proofs.Common.{◌≡◌, ◌≢◌, ◌↔◌, ◌⊎◌, ⊎_elim, Bool, true, false, List, refl, sym, ◌∙◌, subst}
 use Rattle.std.specs.Prelude.{if◌then◌else◌}
 use Rattle.oz_core.specs.declared.event.Event.{Event}
-use Rattle.oz_headline.specs.declared.status.Status.{Status}
-use Rattle.oz_headline.specs.declared.status.Status.TheVariants as ends
-use Rattle.oz_headline.specs.Counts.{AreToldAsMany}
-use Rattle.oz_headline.specs.NamedHalts.{StatusNamesHalts}
+use Rattle.oz_running.specs.status.Status.{Status}
+use Rattle.oz_running.specs.status.Status.TheVariants as ends
+use Rattle.oz_running.specs.Counts.{AreToldAsMany}
+use Rattle.oz_running.specs.NamedHalts.{StatusNamesHalts}
 use Rattle.oz_script.specs.declared.lines.script.Script.{Script as Lines}
 
 -- the Halts are as the status says

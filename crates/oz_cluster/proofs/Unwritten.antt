@@ -19,12 +19,12 @@ use Rattle.oz_journal.specs.Grammar.{IsJournal}
 use Rattle.oz_loaded.specs.Loads.{IsLoaded}
 use Rattle.oz_loaded.specs.Unseated.{UnseatedView}
 use Rattle.oz_namespace.specs.Namespace.{nothing}
-use Rattle.oz_nodes_loaded.specs.Loads.{AreNodesFrom}
+use Rattle.oz_running.specs.Loads.{AreNodesFrom}
 use Rattle.oz_rows.specs.RowMaps.{Rows, row_of}
 use Rattle.oz_scm.specs.Scm.{StandsFor as StandsForScm, made_for}
 use Rattle.oz_store.specs.Store.{IsStore}
-use Rattle.oz_nodes_loaded.specs.store_opening.Agreeing.{BlocksAgree}
-use Rattle.oz_nodes_loaded.specs.store_opening.Openings.{opening_bytes, opening_of}
+use Rattle.oz_running.specs.store_opening.Agreeing.{BlocksAgree}
+use Rattle.oz_running.specs.store_opening.Openings.{opening_bytes, opening_of}
 use Rattle.oz_world.specs.Disk.{Seen}
 
 -- what is said of the bytes that a bare disk tells is said of at most one byte

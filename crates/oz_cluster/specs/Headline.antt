@@ -8,19 +8,19 @@ use Rattle.oz_running.specs.declared.disk_run.disks.Disks.{Disks}
 use Rattle.oz_running.specs.disk_run.Coherent.{IsCoherentStore}
 use Rattle.oz_running.specs.disk_run.Disks.{others_of}
 use Rattle.oz_running.specs.disk_run.StoreRun.{IsStoreRun}
-use Rattle.oz_headline.specs.halts.Disks.{all_disks}
-use Rattle.oz_headline.specs.declared.status.Status.{Status}
-use Rattle.oz_headline.specs.declared.status.Status.TheVariants.{OutOfMemory}
-use Rattle.oz_headline.specs.Counts.{AreToldAsMany}
-use Rattle.oz_headline.specs.Disks.{manager_disk}
-use Rattle.oz_headline.specs.NamedHalts.{HaltsAreNamed, StatusNamesHalts}
-use Rattle.oz_headline.specs.Headline.{Headline}
-use Rattle.oz_headline.specs.Printed.{IsPrinted}
-use Rattle.oz_headline.specs.Statuses.{status_number}
+use Rattle.oz_running.specs.halts.Disks.{all_disks}
+use Rattle.oz_running.specs.status.Status.{Status}
+use Rattle.oz_running.specs.status.Status.TheVariants.{OutOfMemory}
+use Rattle.oz_running.specs.Counts.{AreToldAsMany}
+use Rattle.oz_running.specs.Disks.{manager_disk}
+use Rattle.oz_running.specs.NamedHalts.{HaltsAreNamed, StatusNamesHalts}
+use Rattle.oz_running.specs.Headline.{Headline}
+use Rattle.oz_running.specs.Printed.{IsPrinted}
+use Rattle.oz_running.specs.Statuses.{status_number}
 use Rattle.oz_script.specs.declared.lines.script.Script.{Script}
 use Rattle.oz_namespace.specs.declared.namespace.Namespace.{Namespace}
 use Rattle.oz_rows.specs.RowMaps.{row_of}
-use Rattle.oz_nodes_loaded.specs.store_opening.Openings.{opening_bytes, opening_of}
+use Rattle.oz_running.specs.store_opening.Openings.{opening_bytes, opening_of}
 use Rattle.oz_command.specs.command_line.Words.{IsRunWith}
 use Rattle.oz_world.specs.Disk.{Seen}
 

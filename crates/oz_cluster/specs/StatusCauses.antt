@@ -7,9 +7,9 @@ use Rattle.oz_loaded.specs.Loads.{IsLoaded}
 use Rattle.oz_loaded.specs.Unseated.{UnseatedView}
 use Rattle.oz_running.specs.declared.disk_run.disks.Disks.{Disks}
 use Rattle.oz_running.specs.disk_run.Refused.{IsRefusedFor}
-use Rattle.oz_headline.specs.declared.status.Status.TheVariants as ends
-use Rattle.oz_nodes_loaded.specs.AllLoad.{AllLoad}
-use Rattle.oz_nodes_loaded.specs.declared.fault.StoreFault.{StoreFault}
+use Rattle.oz_running.specs.status.Status.TheVariants as ends
+use Rattle.oz_running.specs.AllLoad.{AllLoad}
+use Rattle.oz_running.specs.fault.StoreFault.{StoreFault}
 use Rattle.oz_world.specs.Disk.{Seen}
 use Rattle.oz_cluster.specs.Disks.{ADiskRose}
 use Rattle.oz_cluster.specs.Stopped.{IsScript, status_of_store}

@@ -13,11 +13,11 @@ use Rattle.oz_loaded.specs.Unseated.{UnseatedView}
 use Rattle.oz_rows.specs.declared.key.RowKey.{RowKey}
 use Rattle.oz_rows.specs.declared.row.Row.{Row}
 use Rattle.oz_rows.specs.RowMaps.{row_of}
-use Rattle.oz_nodes_loaded.specs.declared.disk_name.DiskName.{DiskName}
-use Rattle.oz_nodes_loaded.specs.declared.disk_name.DiskName.TheVariants as disk
-use Rattle.oz_nodes_loaded.specs.declared.fault.StoreFault.{StoreFault}
-use Rattle.oz_nodes_loaded.specs.declared.fault.StoreFault.TheVariants.{Disk, Damaged, Nodes, Ids, OutOfMemory}
-use Rattle.oz_nodes_loaded.specs.Ids.{HoldsId}
+use Rattle.oz_running.specs.disk_name.DiskName.{DiskName}
+use Rattle.oz_running.specs.disk_name.DiskName.TheVariants as disk
+use Rattle.oz_running.specs.fault.StoreFault.{StoreFault}
+use Rattle.oz_running.specs.fault.StoreFault.TheVariants.{Disk, Damaged, Nodes, Ids, OutOfMemory}
+use Rattle.oz_running.specs.Ids.{HoldsId}
 use Rattle.oz_scm.specs.Scm.{StandsFor as StandsForScm, IsDamagedDisk as IsDamagedScm, IsOfNodes}
 use Rattle.oz_world.specs.Disk.{Seen}
 

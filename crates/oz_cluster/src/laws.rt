@@ -17,16 +17,14 @@ ghost use Rattle.oz_namespace.specs.Namespace.{nothing};
 ghost use Rattle.oz_rows.specs.RowMaps.{row_of};
 ghost use Rattle.oz_sound.specs.Sound.{IsSoundButRenames};
 ghost use Rattle.oz_sound.specs.StandsFor.{StandsFor};
-ghost use Rattle.oz_nodes_loaded.specs.store_opening.Openings.{opening_bytes, opening_of};
+ghost use Rattle.oz_running.specs.store_opening.Openings.{opening_bytes, opening_of};
 ghost use Rattle.oz_command.specs.command_line.Words.{IsRun};
 ghost use Rattle.oz_world.specs.Disk.{seen};
 ghost use Rattle.oz_world.specs.Faults.{Rose};
 
 use oz_command::words_of_a_run_have_no_fault;
 use oz_loaded::a_disk_loads_as_one_thing;
-use oz_nodes_loaded::{
-    all_disks_are_a_store, unwritten_disks_are_a_store, what_loads_is_not_refused,
-};
+use oz_running::{all_disks_are_a_store, unwritten_disks_are_a_store, what_loads_is_not_refused};
 use oz_store::an_empty_store_is_one;
 use oz_tables::bodies_make_one_thing;
 use oz_world::Disk;

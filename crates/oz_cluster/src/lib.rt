@@ -13,6 +13,5 @@ pub use laws::{
 };
 pub use oz_command::{Words, read_words};
 pub use oz_datanode::NodeDisks;
-pub use oz_headline::Status;
-pub use oz_running::Disks;
+pub use oz_running::{DiskName, Disks, Status};
 pub use top::{Ended, run};

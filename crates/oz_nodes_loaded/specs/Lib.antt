@@ -7,3 +7,4 @@ pub mod Steps
 pub mod store_opening
 pub use Rattle.oz_node_events.specs.Led
 pub use Rattle.oz_node_events.specs.NodeSeat
+pub use Rattle.oz_node_events.specs.full

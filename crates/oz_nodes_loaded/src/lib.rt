@@ -18,6 +18,7 @@ pub use nodes_opened::{
     a_loaded_scm_stands_for_the_opening, loaded_datanodes_stand_for_the_opening,
 };
 pub use order::load_nodes;
+pub use oz_node_events::{a_loaded_datanode_stands, its_seat_alone_tells};
 pub use store_opening::{
     all_disks_are_a_store, an_empty_store_agrees, an_opening_has_what_was_loaded,
     bytes_that_are_intact_have_their_digests, disks_have_one_opening,

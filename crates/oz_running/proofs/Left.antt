@@ -5,9 +5,9 @@ use Rattle.oz_core.specs.declared.event.Event.{Event}
 use Rattle.oz_core.specs.declared.opening.Opening.{Opening}
 use Rattle.oz_core.specs.Seats.{datanode_seat, flusher_seat, scm_seat, service_seat, stripe_seat}
 use Rattle.oz_datanode.specs.Datanode.{State as Datanode}
-use Rattle.oz_node_events.specs.NodeSeat.{SeatView}
+use Rattle.oz_headline.specs.NodeSeat.{SeatView}
 use Rattle.oz_nodes.specs.declared.nodes.TheConstants.{MOST_NODES}
-use Rattle.oz_om.specs.Seated.{AreReadyStripeSeats, ArePlaced, HasStoodIn}
+use Rattle.oz_headline.specs.Seated.{AreReadyStripeSeats, ArePlaced, HasStoodIn}
 use Rattle.oz_rows.specs.RowMaps.{Rows}
 use Rattle.oz_running.specs.Seats.{AddsReady, AreNewFrom, HasLeft, HaveLeft}
 use Rattle.oz_running.proofs.Placed.{joined_placed, one_placed, there}

@@ -14,10 +14,10 @@ use Rattle.oz_flusher.specs.flushing.Kept.{IsKept}
 use Rattle.oz_headline.specs.halts.Nodes.{AreAsTold, IsAsTold, ScmIsAsTold, seat_over}
 use Rattle.oz_script.specs.declared.lines.script.Script.{Script}
 use Rattle.oz_names.specs.declared.limits.TheConstants.{STRIPES}
-use Rattle.oz_node_events.specs.Led.{no_lines}
-use Rattle.oz_node_events.specs.NodeSeat.{IsKept as SeatIsKept, SeatView, StandsFor, events_of, is_bad}
+use Rattle.oz_headline.specs.Led.{no_lines}
+use Rattle.oz_headline.specs.NodeSeat.{IsKept as SeatIsKept, SeatView, StandsFor, events_of, is_bad}
 use Rattle.oz_nodes.specs.declared.nodes.TheConstants.{MOST_NODES}
-use Rattle.oz_om.specs.Keeps.{HasRun}
+use Rattle.oz_headline.specs.Keeps.{HasRun}
 use Rattle.oz_rows.specs.RowMaps.{Rows}
 use Rattle.oz_running.specs.Left.{IsLeft}
 use Rattle.oz_running.specs.Run.{IsQuietSeat}

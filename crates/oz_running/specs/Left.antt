@@ -8,7 +8,7 @@ use Rattle.oz_core.specs.Contents.{OpeningBytes}
 use Rattle.oz_datanode.specs.Datanode.{State as Datanode}
 use Rattle.oz_flusher.specs.flushing.Kept.{IsKept}
 use Rattle.oz_script.specs.declared.lines.script.Script.{Script}
-use Rattle.oz_node_events.specs.NodeSeat.{IsKept as SeatIsKept, StandsFor}
+use Rattle.oz_headline.specs.NodeSeat.{IsKept as SeatIsKept, StandsFor}
 use Rattle.oz_nodes.specs.declared.nodes.TheConstants.{MOST_NODES}
 use Rattle.oz_rows.specs.RowMaps.{Rows}
 use Rattle.oz_running.specs.Seats.{HaveLeft}

@@ -11,7 +11,7 @@ use Rattle.oz_headline.specs.halts.Nodes.{AreAsTold, ScmIsAsTold}
 use Rattle.oz_headline.specs.Counts.{AreToldAsMany}
 use Rattle.oz_script.specs.declared.lines.script.Script.{Script}
 use Rattle.oz_names.specs.declared.limits.TheConstants.{STRIPES}
-use Rattle.oz_om.specs.Keeps.{HasRun}
+use Rattle.oz_headline.specs.Keeps.{HasRun}
 use Rattle.oz_rows.specs.RowMaps.{Rows}
 use Rattle.oz_running.specs.declared.ran.Ran.{Ran}
 use Rattle.oz_world.specs.Disk.{Images, Seen, seen}

@@ -6,7 +6,7 @@ use crate::places::{bytes_at, disk_named, nothing, place_named, put_bytes};
 use crate::said::Said;
 use crate::stage::{Failing, Stage};
 use case_files::{Statement, values_of};
-use oz_nodes_loaded::DiskName;
+use oz_cluster::DiskName;
 use oz_world::OutOfMemory;
 use std::alloc::Global;
 

@@ -7,8 +7,8 @@ use Rattle.oz_datanode.specs.declared.disks.NodeDisks.{NodeDisks}
 use Rattle.oz_datanode.specs.Datanode.{State as Datanode}
 use Rattle.oz_running.specs.disk_run.Coherent.{BothTell}
 use Rattle.oz_running.specs.declared.disk_run.disks.Disks.{Disks}
-use Rattle.oz_nodes_loaded.specs.Disks.{LeavesNode}
-use Rattle.oz_nodes_loaded.specs.Loads.{AreNodesFrom, disks_in}
+use Rattle.oz_headline.specs.LoadedDisks.{LeavesNode}
+use Rattle.oz_headline.specs.Loads.{AreNodesFrom, disks_in}
 use Rattle.oz_replicas.specs.Stays.{IsIdle}
 use Rattle.oz_world.specs.Disk.{Seen, TellsAsBefore}
 

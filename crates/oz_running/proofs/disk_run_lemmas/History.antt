@@ -26,8 +26,8 @@ use Rattle.oz_loaded.specs.Loads.{IsLoaded}
 use Rattle.oz_loaded.specs.Unseated.{UnseatedView}
 use Rattle.oz_namespace.specs.declared.namespace.Namespace.{Namespace}
 use Rattle.oz_names.specs.declared.limits.TheConstants.{STRIPES}
-use Rattle.oz_nodes_loaded.specs.Loads.{AreNodesFrom}
-use Rattle.oz_om.specs.Keeps.{HasRun}
+use Rattle.oz_headline.specs.Loads.{AreNodesFrom}
+use Rattle.oz_headline.specs.Keeps.{HasRun}
 use Rattle.oz_headline.specs.restored.laws.Images.{front_opens, image_opens}
 use Rattle.oz_headline.specs.restored.laws.Whole.{all_stood}
 use Rattle.oz_headline.specs.restored.Opens.{StandUpTo}
@@ -38,8 +38,8 @@ use Rattle.oz_sound.specs.Sound.{IsSoundButRenames}
 use Rattle.oz_sound.specs.StandsFor.{StandsFor}
 use Rattle.oz_loaded.specs.standing.Shown.{namespace_shown}
 use Rattle.oz_store.specs.Store.{IsStore}
-use Rattle.oz_nodes_loaded.specs.store_opening.Agreeing.{BlocksAgree}
-use Rattle.oz_nodes_loaded.specs.store_opening.Openings.{opening_bytes, opening_of}
+use Rattle.oz_headline.specs.store_opening.Agreeing.{BlocksAgree}
+use Rattle.oz_headline.specs.store_opening.Openings.{opening_bytes, opening_of}
 use Rattle.oz_world.specs.Disk.{Seen, TellsAsBefore}
 use Rattle.oz_world.specs.Moments.{Elapses, Spans}
 

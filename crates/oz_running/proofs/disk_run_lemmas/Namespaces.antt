@@ -22,9 +22,9 @@ use Rattle.oz_headline.specs.halts.Nodes.{AreAsTold, ScmIsAsTold, seat_over}
 use Rattle.oz_script.specs.declared.lines.script.Script.{Script}
 use Rattle.oz_loaded.specs.Unseated.{UnseatedView}
 use Rattle.oz_namespace.specs.declared.namespace.Namespace.{Namespace}
-use Rattle.oz_node_events.specs.NodeSeat.{HasContents, IsKept, NumbersAreOld, SeatView, StandsFor}
+use Rattle.oz_headline.specs.NodeSeat.{HasContents, IsKept, NumbersAreOld, SeatView, StandsFor}
 use Rattle.oz_scm.specs.Scm.{State as ScmState}
-use Rattle.oz_nodes_loaded.specs.store_opening.Openings.{opening_of}
+use Rattle.oz_headline.specs.store_opening.Openings.{opening_of}
 use Rattle.oz_world.specs.Disk.{Images}
 
 -- Of the storage container manager's part of an opening the namespace says nothing.

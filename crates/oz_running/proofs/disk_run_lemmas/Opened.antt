@@ -13,15 +13,15 @@ use Rattle.oz_journal.specs.Grammar.{IsJournal, TellsBodies}
 use Rattle.oz_loaded.specs.Loads.{IsLoaded}
 use Rattle.oz_loaded.specs.Unseated.{UnseatedView}
 use Rattle.oz_namespace.specs.declared.namespace.Namespace.{Namespace}
-use Rattle.oz_om.specs.Keeps.{KeepsRows}
-use Rattle.oz_om.specs.Opens.{Opens}
+use Rattle.oz_headline.specs.Keeps.{KeepsRows}
+use Rattle.oz_headline.specs.Opens.{Opens}
 use Rattle.oz_rows.specs.RowMaps.{Rows, row_of}
 use Rattle.oz_sound.specs.Sound.{IsSoundButRenames}
 use Rattle.oz_sound.specs.StandsFor.{StandsFor}
 use Rattle.oz_loaded.specs.standing.Shown.{namespace_shown}
 use Rattle.oz_store.specs.Store.{IsStore}
-use Rattle.oz_nodes_loaded.specs.store_opening.Agreeing.{BlocksAgree}
-use Rattle.oz_nodes_loaded.specs.store_opening.Openings.{opened_node, opening_bytes, opening_of}
+use Rattle.oz_headline.specs.store_opening.Agreeing.{BlocksAgree}
+use Rattle.oz_headline.specs.store_opening.Openings.{opened_node, opening_bytes, opening_of}
 use Rattle.oz_world.specs.Disk.{Seen, TellsAsBefore}
 
 module _ {D : Type 0} (see : D → Seen) (bodies : List (List ℕ)) (unseated : UnseatedView) (this : IsLoaded bodies unseated) (made : Made) (nodes : List (Datanode D))

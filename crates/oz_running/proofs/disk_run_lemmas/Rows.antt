@@ -6,7 +6,7 @@ use Rattle.oz_running.specs.disk_run.Shown.{row_in, rows_shown}
 use Rattle.oz_loaded.specs.Loads.{IsLoaded}
 use Rattle.oz_loaded.specs.Unseated.{UnseatedView}
 use Rattle.oz_names.specs.declared.limits.TheConstants.{STRIPES}
-use Rattle.oz_om.specs.Seated.{ArePartsOf}
+use Rattle.oz_headline.specs.Seated.{ArePartsOf}
 use Rattle.oz_rows.specs.declared.key.RowKey.{RowKey}
 use Rattle.oz_rows.specs.declared.row.Row.{Row}
 use Rattle.oz_rows.specs.RowMaps.{row_of}

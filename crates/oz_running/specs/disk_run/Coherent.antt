@@ -6,7 +6,7 @@ use Rattle.oz_datanode.specs.declared.disks.NodeDisks.{NodeDisks}
 use Rattle.oz_rows.specs.RowMaps.{Rows}
 use Rattle.oz_sound.specs.Sound.{IsSoundButRenames}
 use Rattle.oz_sound.specs.StandsFor.{StandsFor}
-use Rattle.oz_nodes_loaded.specs.store_opening.Agreeing.{BlocksAgree}
+use Rattle.oz_headline.specs.store_opening.Agreeing.{BlocksAgree}
 use Rattle.oz_world.specs.Disk.{Seen}
 
 module _ {D : Type 0} (see : D → Seen) where

@@ -6,8 +6,8 @@ use Rattle.oz_datanode.specs.Datanode.{State as Datanode, count_of}
 use Rattle.oz_datanode.specs.declared.disks.NodeDisks.{NodeDisks}
 use Rattle.oz_running.specs.declared.disk_run.disks.Disks.{Disks}
 use Rattle.oz_headline.specs.halts.Disks.{OtherDisks, OtherNodes}
-use Rattle.oz_nodes_loaded.specs.declared.disk_name.DiskName.{DiskName}
-use Rattle.oz_nodes_loaded.specs.declared.disk_name.DiskName.TheVariants.{Scm, Meta, Slots}
+use Rattle.oz_headline.specs.disk_name.DiskName.{DiskName}
+use Rattle.oz_headline.specs.disk_name.DiskName.TheVariants.{Scm, Meta, Slots}
 use Rattle.oz_world.specs.Disk.{Seen}
 
 -- the disks of the storage container manager and of the datanodes

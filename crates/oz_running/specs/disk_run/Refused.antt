@@ -7,11 +7,11 @@ use Rattle.oz_journal.specs.declared.load_fault.LoadFault.TheVariants as load
 use Rattle.oz_journal.specs.Grammar.{IsJournal}
 use Rattle.oz_loaded.specs.Loads.{IsDamagedDisk, IsLoaded}
 use Rattle.oz_loaded.specs.Unseated.{UnseatedView}
-use Rattle.oz_nodes_loaded.specs.declared.disk_name.DiskName.TheVariants.{Manager}
-use Rattle.oz_nodes_loaded.specs.declared.fault.StoreFault.{StoreFault}
-use Rattle.oz_nodes_loaded.specs.declared.fault.StoreFault.TheVariants.{Disk, Damaged, OutOfMemory}
-use Rattle.oz_nodes_loaded.specs.Disks.{LeavesJournal, LeavesNode, LeavesScm}
-use Rattle.oz_nodes_loaded.specs.Refused.{IsSo}
+use Rattle.oz_headline.specs.disk_name.DiskName.TheVariants.{Manager}
+use Rattle.oz_headline.specs.fault.StoreFault.{StoreFault}
+use Rattle.oz_headline.specs.fault.StoreFault.TheVariants.{Disk, Damaged, OutOfMemory}
+use Rattle.oz_headline.specs.LoadedDisks.{LeavesJournal, LeavesNode, LeavesScm}
+use Rattle.oz_headline.specs.Refused.{IsSo}
 use Rattle.oz_world.specs.Disk.{Seen}
 use Rattle.oz_world.specs.Faults.{Rose}
 

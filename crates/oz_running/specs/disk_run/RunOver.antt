@@ -21,7 +21,7 @@ use Rattle.oz_loaded.specs.Unseated.{UnseatedView}
 use Rattle.oz_namespace.specs.declared.namespace.Namespace.{Namespace}
 use Rattle.oz_headline.specs.restored.Opens.{OpensUpTo, StandUpTo}
 use Rattle.oz_rows.specs.RowMaps.{row_of}
-use Rattle.oz_nodes_loaded.specs.store_opening.Openings.{opening_bytes, opening_of}
+use Rattle.oz_headline.specs.store_opening.Openings.{opening_bytes, opening_of}
 use Rattle.oz_world.specs.Disk.{Images, Seen}
 
 -- While a disk is loaded a stop leaves what it would have left before, or at most one byte in the place of at most one.

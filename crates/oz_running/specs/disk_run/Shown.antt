@@ -8,12 +8,12 @@ use Rattle.oz_running.specs.disk_run.Coherent.{IsCoherentStore}
 use Rattle.oz_fields.specs.Number.{u32_at}
 use Rattle.oz_scm.specs.grants.Made.{Made}
 use Rattle.oz_loaded.specs.Unseated.{UnseatedView}
-use Rattle.oz_nodes_loaded.specs.Loads.{disks_in}
+use Rattle.oz_headline.specs.Loads.{disks_in}
 use Rattle.oz_rows.specs.declared.key.RowKey.{RowKey}
 use Rattle.oz_rows.specs.declared.row.Row.{Row}
 use Rattle.oz_rows.specs.RowMaps.{Rows}
 use Rattle.oz_loaded.specs.standing.Shown.{namespace_shown}
-use Rattle.oz_nodes_loaded.specs.store_opening.Openings.{opening_bytes, opening_of}
+use Rattle.oz_headline.specs.store_opening.Openings.{opening_bytes, opening_of}
 use Rattle.oz_sound.specs.stripes.Stripes.{stripe_of_key}
 use Rattle.oz_world.specs.Disk.{Seen}
 

@@ -8,8 +8,8 @@ use Rattle.oz_running.specs.disk_run.Reopens.{NodeReopens, ScmReopens}
 use Rattle.oz_running.specs.disk_run.RunOver.{IsRunOver}
 use Rattle.oz_headline.specs.halts.Disks.{OtherNodes, some_halted}
 use Rattle.oz_script.specs.declared.lines.script.Script.{Script}
-use Rattle.oz_nodes_loaded.specs.Ids.{AreBelow}
-use Rattle.oz_nodes_loaded.specs.Loads.{AreNodesFrom, IsScmFrom, disks_in}
+use Rattle.oz_headline.specs.Ids.{AreBelow}
+use Rattle.oz_headline.specs.Loads.{AreNodesFrom, IsScmFrom, disks_in}
 use Rattle.oz_world.specs.Disk.{Seen}
 
 -- All disks were loaded, and no id on them is granted again. From the opening of all of them the lines ran over the nodes

@@ -6,7 +6,7 @@ use Rattle.oz_core.specs.Contents.{OpeningBytes}
 use Rattle.oz_core.specs.Manager.{durable_index, swapped_index}
 use Rattle.oz_datanode.specs.Datanode.{Runs, State as Datanode}
 use Rattle.oz_datanode.specs.declared.disks.NodeDisks.{NodeDisks}
-use Rattle.oz_node_events.specs.full.Full.{JournalStands}
+use Rattle.oz_headline.specs.full.Full.{JournalStands}
 use Rattle.oz_headline.specs.halts.Disks.{AreAsMany, OtherDisks, OtherNodes, all_disks, some_halted}
 use Rattle.oz_headline.specs.declared.status.Status.TheVariants.{Disk, Done}
 use Rattle.oz_headline.specs.Disks.{manager_disk}
@@ -16,8 +16,8 @@ use Rattle.oz_journal.specs.Grammar.{IsJournal}
 use Rattle.oz_script.specs.declared.lines.script.Script.{Script}
 use Rattle.oz_loaded.specs.Loads.{IsLoaded}
 use Rattle.oz_loaded.specs.Unseated.{UnseatedView}
-use Rattle.oz_node_events.specs.NodeSeat.{IsAsOpened}
-use Rattle.oz_nodes_loaded.specs.Loads.{AreNodesFrom, IsScmFrom}
+use Rattle.oz_headline.specs.NodeSeat.{IsAsOpened}
+use Rattle.oz_headline.specs.Loads.{AreNodesFrom, IsScmFrom}
 use Rattle.oz_replicas.specs.Stays.{IsIdle}
 use Rattle.oz_rows.specs.RowMaps.{Rows}
 use Rattle.oz_running.specs.declared.ran.Ran.{Ran}

@@ -1,7 +1,7 @@
 //! The disks of a run.
 
 use oz_datanode::NodeDisks;
-use oz_nodes_loaded::StoreFault;
+use oz_headline::StoreFault;
 
 /// The disks of a run: the manager's, the storage container manager's, and those of each datanode in the place of its number.
 #[derive(Drop)]

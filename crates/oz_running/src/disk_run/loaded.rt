@@ -8,8 +8,8 @@ ghost use Rattle.oz_running.specs.disk_run.Shown.{ShowStore, bodies_shown, openi
 ghost use Rattle.oz_running.specs.disk_run.Told.{IsLoadedOf, IsTold, WereLoaded, other_nodes};
 ghost use Rattle.oz_script.specs.lines.Numbered.{IsNumbered};
 ghost use Rattle.oz_nodes.specs.declared.nodes.TheConstants.{FEWEST_NODES, MOST_NODES};
-ghost use Rattle.oz_nodes_loaded.specs.Ids.{AreBelow};
-ghost use Rattle.oz_nodes_loaded.specs.store_opening.Openings.{opening_bytes};
+ghost use Rattle.oz_headline.specs.Ids.{AreBelow};
+ghost use Rattle.oz_headline.specs.store_opening.Openings.{opening_bytes};
 ghost use Rattle.oz_world.specs.Disk.{seen, IsStable};
 
 use crate::disk_run::told::run_told;
@@ -18,11 +18,11 @@ use oz_datanode::Datanode;
 use oz_effects::a_batch_makes_a_body;
 use oz_fields::OutOfMemory;
 use oz_flusher::{Flusher, a_journal_at_rest_stands};
-use oz_loaded::{Unseated, the_parts_are_the_whole};
-use oz_nodes_loaded::{
+use oz_headline::{
     a_loaded_scm_stands_for_the_opening, all_disks_are_a_store,
     loaded_datanodes_stand_for_the_opening,
 };
+use oz_loaded::{Unseated, the_parts_are_the_whole};
 use oz_scm::Scm;
 use oz_script::Script;
 use oz_world::{Disk, Gate};

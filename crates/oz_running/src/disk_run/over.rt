@@ -10,7 +10,7 @@ ghost use Rattle.oz_running.specs.disk_run.Told.{left_by};
 ghost use Rattle.oz_headline.specs.halts.Disks.{some_halted};
 ghost use Rattle.oz_script.specs.lines.Numbered.{IsNumbered};
 ghost use Rattle.oz_nodes.specs.declared.nodes.TheConstants.{FEWEST_NODES, MOST_NODES};
-ghost use Rattle.oz_nodes_loaded.specs.Loads.{disks_in};
+ghost use Rattle.oz_headline.specs.Loads.{disks_in};
 ghost use Rattle.oz_world.specs.Disk.{seen};
 
 use crate::disk_run::disks::{Disks, RefusedStore};
@@ -19,11 +19,11 @@ use crate::{Ran, Unstarted};
 use oz_core::Event;
 use oz_datanode::{Datanode, NodeDisks};
 use oz_effects::a_batch_makes_a_body;
-use oz_journal::LoadFault;
-use oz_loaded::{load, parts_show_their_namespace, the_parts_are_the_whole};
-use oz_nodes_loaded::{
+use oz_headline::{
     DiskName, LoadedNodes, RefusedNodes, StoreFault, all_disks_are_a_store, disks_of, load_nodes,
 };
+use oz_journal::LoadFault;
+use oz_loaded::{load, parts_show_their_namespace, the_parts_are_the_whole};
 use oz_script::Script;
 use oz_world::{Disk, Gate};
 use std::alloc::Global;

@@ -9,10 +9,10 @@ ghost use Rattle.oz_flusher.specs.Stops.{StopsHold};
 ghost use Rattle.oz_headline.specs.halts.Nodes.{AreCounted};
 ghost use Rattle.oz_journal.specs.Grammar.{IsJournal};
 ghost use Rattle.oz_script.specs.lines.Numbered.{IsNumbered};
-ghost use Rattle.oz_node_events.specs.NodeSeat.{NumbersAreOld};
+ghost use Rattle.oz_headline.specs.NodeSeat.{NumbersAreOld};
 ghost use Rattle.oz_nodes.specs.declared.nodes.TheConstants.{FEWEST_NODES, MOST_NODES};
-ghost use Rattle.oz_om.specs.Opens.{Opens};
-ghost use Rattle.oz_om.specs.Seated.{ArePartsOf};
+ghost use Rattle.oz_headline.specs.Opens.{Opens};
+ghost use Rattle.oz_headline.specs.Seated.{ArePartsOf};
 ghost use Rattle.oz_worker.specs.servers.Begun.{ScmStands};
 ghost use Rattle.oz_world.specs.Disk.{seen, TellsAsBefore};
 ghost use Rattle.oz_world.specs.Moments.{Elapses};
@@ -22,10 +22,12 @@ use oz_buffer::Opened;
 use oz_datanode::Datanode;
 use oz_fields::OutOfMemory;
 use oz_flusher::{Flusher, Mounted, the_flusher_alone_tells};
-use oz_headline::{halts_of_all_nodes_are_named, the_story_keeps_the_headline_of_all_disks};
+use oz_headline::{
+    a_loaded_datanode_stands, halts_of_all_nodes_are_named,
+    the_story_keeps_the_headline_of_all_disks,
+};
 use oz_loaded::Unseated;
 use oz_locks::Loaded;
-use oz_node_events::a_loaded_datanode_stands;
 use oz_scm::Scm;
 use oz_script::Script;
 use oz_world::{Disk, Gate};

@@ -7,8 +7,8 @@ use Rattle.oz_cluster.proofs.Endings.{names_halts, told_of}
 use Rattle.oz_cluster.proofs.Right.{OneThing}
 use Rattle.oz_cluster.proofs.Stops.{stopped_early, stopped_late}
 use Rattle.oz_running.specs.declared.disk_run.disks.Disks.{Disks}
-use Rattle.oz_headline.specs.halts.Disks.{some_halted}
-use Rattle.oz_headline.specs.Printed.{IsPrinted}
+use Rattle.oz_running.specs.halts.Disks.{some_halted}
+use Rattle.oz_running.specs.Printed.{IsPrinted}
 use Rattle.oz_command.specs.command_line.Words.{IsRunWith}
 use Rattle.oz_world.specs.Disk.{Seen, seen}
 use Rattle.oz_world.specs.Faults.{Rose}

@@ -5,7 +5,7 @@ use Rattle.oz_datanode.specs.declared.disks.NodeDisks.{NodeDisks}
 use Rattle.oz_running.specs.declared.disk_run.disks.Disks.{Disks}
 use Rattle.oz_running.specs.disk_run.Refused.{AreAtMostLoaded}
 use Rattle.oz_journal.specs.Load.{IsLoadable, IsLeftAlone}
-use Rattle.oz_nodes_loaded.specs.Disks.{LeavesJournal, LeavesNode, LeavesScm, LeavesSlots}
+use Rattle.oz_headline.specs.LoadedDisks.{LeavesJournal, LeavesNode, LeavesScm, LeavesSlots}
 use Rattle.oz_scm.specs.Scm.{StandsStill}
 use Rattle.oz_world.specs.Disk.{Seen}
 use Rattle.oz_world.specs.Moments.{Spans}

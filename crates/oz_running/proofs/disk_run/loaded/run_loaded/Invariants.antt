@@ -1,8 +1,8 @@
-use Rattle.oz_om.specs.Keeps.{KeepsRows}
+use Rattle.oz_headline.specs.Keeps.{KeepsRows}
 use Rattle.oz_running.specs.disk_run.Disks.{counts_loaded}
 use Rattle.oz_running.specs.disk_run.Shown.{ShowStore, bodies_shown, opening_shown, rows_shown}
 use Rattle.oz_running.specs.disk_run.Told.{other_nodes}
-use Rattle.oz_nodes_loaded.specs.store_opening.Openings.{opening_bytes}
+use Rattle.oz_headline.specs.store_opening.Openings.{opening_bytes}
 use Rattle.oz_world.specs.Disk.{seen}
 use Rattle.oz_running.proofs.disk_run.loaded.run_loaded.Given as goal
 

@@ -18,13 +18,13 @@ use Rattle.oz_running.proofs.disk_run_lemmas.Opened.{first_journal, node_count, 
 use Rattle.oz_running.proofs.disk_run_lemmas.Namespaces.{nodes_over, scm_over}
 use Rattle.oz_running.proofs.disk_run_lemmas.Rows.{are_stripes, rows_are}
 use Rattle.oz_headline.specs.halts.Disks.{AreAsMany}
-use Rattle.oz_nodes_loaded.specs.Disks.{LeavesJournal, LeavesNode, LeavesScm}
-use Rattle.oz_nodes_loaded.specs.Ids.{AreBelow}
-use Rattle.oz_nodes_loaded.specs.Loads.{disks_in}
-use Rattle.oz_nodes_loaded.specs.declared.fault.StoreFault.{StoreFault}
+use Rattle.oz_headline.specs.LoadedDisks.{LeavesJournal, LeavesNode, LeavesScm}
+use Rattle.oz_headline.specs.Ids.{AreBelow}
+use Rattle.oz_headline.specs.Loads.{disks_in}
+use Rattle.oz_headline.specs.fault.StoreFault.{StoreFault}
 use Rattle.oz_rows.specs.RowMaps.{row_of}
 use Rattle.oz_loaded.specs.standing.Shown.{namespace_shown}
-use Rattle.oz_nodes_loaded.specs.store_opening.Openings.{opening_bytes, opening_of}
+use Rattle.oz_headline.specs.store_opening.Openings.{opening_bytes, opening_of}
 use Rattle.oz_world.specs.Disk.{seen}
 use Rattle.oz_running.proofs.disk_run.over.run_over_disks.Goals as goal
 

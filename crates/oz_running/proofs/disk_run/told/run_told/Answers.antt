@@ -5,8 +5,8 @@ use Rattle.oz_core.specs.Seats.{flusher_seat}
 use Rattle.oz_core.specs.Stories.{mine}
 use Rattle.oz_running.specs.disk_run.Told.{left_by, other_nodes}
 use Rattle.oz_headline.specs.halts.Disks.{AreAsMany, OtherDisks}
-use Rattle.oz_node_events.specs.NodeSeat.{StandsFor}
-use Rattle.oz_nodes_loaded.specs.Loads.{disks_in}
+use Rattle.oz_headline.specs.NodeSeat.{StandsFor}
+use Rattle.oz_headline.specs.Loads.{disks_in}
 use Rattle.oz_worker.specs.servers.Begun.{new_seat}
 use Rattle.oz_running.proofs.disk_run.told.run_told.Goals as goal
 

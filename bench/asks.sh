@@ -45,7 +45,7 @@ cat >src/main.rt <<'PROGRAM'
 mod om_store;
 
 ghost use Rattle.std.specs.Prelude.{◌≡◌, true, vec_len, IfOk, OnOk};
-ghost use Rattle.oz_deciding.specs.Decided.{is_decided};
+ghost use Rattle.oz_om.specs.decider.Decided.{is_decided};
 ghost use Rattle.oz_turn.specs.Seat.{AreNewSeats};
 ghost use Rattle.oz_turn.specs.Turn.{turn_id};
 

@@ -18,7 +18,7 @@ rows=("${@:3}")
 ((${#rows[@]})) || rows=(1000 10000 100000 400000)
 more=10000
 
-below=(oz_fields oz_names oz_epochs oz_rows oz_sorted oz_tables oz_cache)
+below=(oz_world oz_fields oz_names oz_epochs oz_rows oz_sorted oz_journal oz_effects oz_tables oz_cache)
 mkdir -p "$work/crates/bench_cache/src" "$work/crates/bench_cache/proofs/main"
 for crate in "${below[@]}"; do
     grep "^$crate\b" "$top/crates.txt" >>"$work/crates.txt"

@@ -23,7 +23,7 @@ trap 'rm -rf "$work"' EXIT
 sizes=("${@:3}")
 ((${#sizes[@]})) || sizes=(1 4000)
 
-below=(oz_world oz_fields oz_container oz_dellog oz_journal oz_names oz_rows oz_chunk oz_entries oz_block oz_shelf oz_datanode)
+below=(oz_world oz_fields oz_container oz_dellog oz_journal oz_names oz_rows oz_chunk oz_entries oz_block oz_datanode)
 mkdir -p "$work/crates/bench_datanode/src"
 cp "$top/HANDLES" "$work/"
 for crate in "${below[@]}"; do

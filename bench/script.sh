@@ -18,7 +18,7 @@ trap 'rm -rf "$work"' EXIT
 sizes=("${@:3}")
 ((${#sizes[@]})) || sizes=(512 4096)
 
-below=(oz_fields oz_names oz_command oz_circles oz_lines oz_draft oz_placed oz_script)
+below=(oz_fields oz_names oz_nodes oz_command oz_script)
 mkdir -p "$work/crates/bench_script/src"
 for crate in "${below[@]}"; do
     grep "^$crate\b" "$top/crates.txt" >>"$work/crates.txt"

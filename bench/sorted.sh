@@ -21,7 +21,7 @@ trap 'rm -rf "$work"' EXIT
 sizes=("${@:3}")
 ((${#sizes[@]})) || sizes=(1024 10240 102400 409600)
 
-below=(oz_fields oz_names oz_rows oz_sorted oz_tables)
+below=(oz_world oz_fields oz_names oz_rows oz_sorted oz_journal oz_effects oz_tables)
 mkdir -p "$work/crates/bench_sorted/src"
 for crate in "${below[@]}"; do
     grep "^$crate\b" "$top/crates.txt" >>"$work/crates.txt"

@@ -32,7 +32,7 @@ impl Gate for WaitingGate {
 }
 
 /// A flusher over an empty disk in memory.
-fn flusher(alloc: Global) -> Result<Flusher<MemoryDisk>, Fail>
+pub fn flusher(alloc: Global) -> Result<Flusher<MemoryDisk>, Fail>
     ensures { IfOk result (λ flusher. flusher.stopped ≡ false) }
 {
     let disk = MemoryDisk::new(alloc, Vec::new(alloc), Vec::new(alloc), 1000)?;

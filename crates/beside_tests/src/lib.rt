@@ -8,10 +8,16 @@ mod flushes;
 #[cfg(test)]
 mod longest;
 #[cfg(test)]
+mod members;
+#[cfg(test)]
 mod om_beside;
+#[cfg(test)]
+mod om_refusals;
 #[cfg(test)]
 mod om_store;
 #[cfg(test)]
 mod stripes;
+#[cfg(test)]
+mod tellings;
 #[cfg(test)]
 mod turns;

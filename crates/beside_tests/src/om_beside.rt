@@ -1,7 +1,7 @@
 //! A request is decided while another stripe is held, and while the flusher writes.
 
 ghost use Rattle.std.specs.Prelude.{◌≡◌, true, vec_len, IfOk};
-ghost use Rattle.oz_deciding.specs.Decided.{is_decided};
+ghost use Rattle.oz_om.specs.decider.Decided.{is_decided};
 ghost use Rattle.oz_turn.specs.Seat.{AreNewSeats};
 ghost use Rattle.oz_turn.specs.Turn.{turn_id};
 
@@ -58,7 +58,8 @@ impl Gate for Meeting {
     }
 }
 
-fn request(alloc: Global, volume: &[u8]) -> Result<Request, AllocError>
+/// A request for a volume of this name.
+pub fn request(alloc: Global, volume: &[u8]) -> Result<Request, AllocError>
     ensures { IfOk result (λ request. is_decided request ≡ true) }
 {
     Ok(Request::CreateVolume {

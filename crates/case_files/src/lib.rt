@@ -16,6 +16,7 @@ mod going;
 mod judging;
 mod statement;
 mod sweep;
+mod words;
 
 pub use bytes::bytes_of;
 pub use fill::filled;
@@ -23,3 +24,4 @@ pub use going::{Counts, go_through};
 pub use judging::Judged;
 pub use statement::{Statement, joined, statements};
 pub use sweep::{Each, values_of};
+pub use words::words_in;

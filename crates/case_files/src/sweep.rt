@@ -65,7 +65,7 @@ pub(crate) fn eaches_of(
             continue;
         }
         match values_of(alloc, statement.words.get(2..).unwrap_or(&[]))? {
-            Some(values) if !values.is_empty() => {
+            Some(values) if !values.is_empty() && statement.block.is_empty() => {
                 let name = String::from_str(alloc, statement.word(1))?;
                 eaches.push(Each { name, values })?;
             }

@@ -9,7 +9,7 @@ use Rattle.oz_core.specs.Asks.{is_script, pending}
 use Rattle.oz_core.specs.Contents.{OpeningBytes}
 use Rattle.oz_core.specs.Law.{AskIsEnabled, PurgesLogged}
 use Rattle.oz_core.specs.Seats.{IsAskSeat}
-use Rattle.oz_lines.specs.declared.script.Script.{Script}
+use Rattle.oz_script.specs.declared.lines.script.Script.{Script}
 use Rattle.oz_requests.specs.declared.request.AskId.{AskId}
 use Rattle.oz_requests.specs.declared.request.Family.TheVariants.{Service}
 use Rattle.oz_requests.specs.declared.request.Request.{Request}

@@ -1,6 +1,6 @@
 -- Whether what was decided is on the manager's disk, and will be.
 use Rattle.std.specs.Prelude.{◌≡◌, ◌↔◌, ℕ, ◌<◌, ◌≤◌, Bool, true, false, List, None, Some, Result, Ok, Err}
-use Rattle.oz_buffer.specs.Courses.{index_of}
+use Rattle.oz_buffer.specs.Became.{index_of}
 use Rattle.oz_core.specs.declared.event.Event.{Event}
 use Rattle.oz_core.specs.declared.event.Node.TheVariants.{Manager}
 use Rattle.oz_core.specs.declared.opening.Opening.{Opening}

@@ -5,7 +5,7 @@ ghost use Rattle.std.specs.Prelude.{is_some, slice_index, IfOk, IfErr, OnOk, OnE
 ghost use Rattle.oz_asker.specs.Asked.{IsAskAt, IsEarly, IsLate, IsSaidOtherwise, MayAdd, MayAsk};
 ghost use Rattle.oz_asker.specs.declared.fault.AskFault.TheVariants as faults;
 ghost use Rattle.oz_buffer.specs.Buffer.{AllFollow, Follows};
-ghost use Rattle.oz_buffer.specs.Courses.{times_said};
+ghost use Rattle.oz_buffer.specs.Became.{times_said};
 ghost use Rattle.oz_core.specs.declared.event.Event.{Event as AnyEvent};
 ghost use Rattle.oz_core.specs.declared.event.EventKind.TheVariants as events;
 ghost use Rattle.oz_core.specs.Asks.{is_script, pending};

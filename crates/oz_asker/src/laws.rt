@@ -4,7 +4,7 @@ ghost use Rattle.std.specs.Prelude.{◌≡◌, ◌<◌, ◌≤◌, ℕ, [], true
 ghost use Rattle.oz_asker.specs.Asked.{IsAskAt};
 ghost use Rattle.oz_asker.specs.Decided.{IsDecidedAsAsked};
 ghost use Rattle.oz_buffer.specs.Buffer.{AllFollow, Follows};
-ghost use Rattle.oz_buffer.specs.Courses.{index_of};
+ghost use Rattle.oz_buffer.specs.Became.{index_of};
 ghost use Rattle.oz_core.specs.declared.event.Event.{Event as AnyEvent};
 ghost use Rattle.oz_core.specs.declared.event.EventKind.TheVariants.{Decide};
 ghost use Rattle.oz_core.specs.declared.opening.Opening.{Opening as AnyOpening};

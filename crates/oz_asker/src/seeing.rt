@@ -3,7 +3,7 @@
 ghost use Rattle.std.specs.Prelude.{◌≡◌, [], IsTrue, IsSome};
 ghost use Rattle.oz_asker.specs.Decided.{IsDecideAt};
 ghost use Rattle.oz_buffer.specs.Buffer.{AllFollow, Follows};
-ghost use Rattle.oz_buffer.specs.Courses.{index_of};
+ghost use Rattle.oz_buffer.specs.Became.{index_of};
 ghost use Rattle.oz_turn.specs.Seat.{IsReady, mine_of, room_of, seen_of};
 ghost use Rattle.oz_turn.specs.Told.{BeginsWith};
 ghost use Rattle.oz_turn.specs.Turn.{turn_id};

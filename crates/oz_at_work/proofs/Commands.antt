@@ -11,8 +11,8 @@ use Rattle.oz_core.specs.Due.{IsDue}
 use Rattle.oz_core.specs.Fits.{EventFits}
 use Rattle.oz_core.specs.Lines.{HasStarted}
 use Rattle.oz_core.specs.Manager.{halt_of}
-use Rattle.oz_lines.specs.declared.script.Line.{Line}
-use Rattle.oz_lines.specs.declared.script.Script.{Script}
+use Rattle.oz_script.specs.declared.lines.script.Line.{Line}
+use Rattle.oz_script.specs.declared.lines.script.Script.{Script}
 use Rattle.oz_node_admin.specs.Came.{WasDone}
 use Rattle.oz_node_admin.specs.laws.Due.{done_due, halt_stays, halted_due, no_node_due}
 use Rattle.oz_node_events.specs.declared.command.NodeCommand.{NodeCommand}
@@ -20,8 +20,8 @@ use Rattle.oz_requests.specs.declared.answer.Answer.{Answer}
 use Rattle.oz_requests.specs.declared.answer.Answer.TheVariants as answers
 use Rattle.oz_requests.specs.declared.request.AskId.{AskId}
 use Rattle.oz_steps.specs.declared.label.Label.{Label}
-use Rattle.oz_telling.specs.Done.{IsToldDone, answer_done}
-use Rattle.oz_telling.specs.laws.Told.{told_now}
+use Rattle.oz_asker.specs.telling.Done.{IsToldDone, answer_done}
+use Rattle.oz_asker.specs.telling.laws.Told.{told_now}
 use Rattle.oz_turn.specs.Told.{BeginsWith}
 use Rattle.oz_underway.specs.laws.Starting.{started_still}
 use Rattle.oz_at_work.specs.AtWork.{HasLeft, IsAtWork, IsLabelOf, IsStarted, WorkView}

@@ -13,12 +13,12 @@ use Rattle.oz_core.specs.Contents.{OpeningBytes}
 use Rattle.oz_core.specs.Due.{IsDue, ManagerHadStopped}
 use Rattle.oz_core.specs.Manager.{asked_late}
 use Rattle.oz_core.specs.Steps.{is_open_at, was_told_ok}
-use Rattle.oz_lines.specs.declared.script.Line.{Line}
-use Rattle.oz_lines.specs.declared.script.Script.{Script}
+use Rattle.oz_script.specs.declared.lines.script.Line.{Line}
+use Rattle.oz_script.specs.declared.lines.script.Script.{Script}
 use Rattle.oz_requests.specs.declared.answer.Answer.{Answer}
 use Rattle.oz_requests.specs.declared.answer.Answer.TheVariants as answers
-use Rattle.oz_telling.specs.Tells.{HadStopped, MayTell, told_event}
-use Rattle.oz_telling.specs.laws.Told.{told_now}
+use Rattle.oz_asker.specs.telling.Tells.{HadStopped, MayTell, told_event}
+use Rattle.oz_asker.specs.telling.laws.Told.{told_now}
 use Rattle.oz_turn.specs.Told.{BeginsWith}
 use Rattle.oz_underway.specs.laws.Labels.{open_as_told, open_still}
 use Rattle.oz_underway.specs.laws.Starting.{started_still}

@@ -17,12 +17,12 @@ use Rattle.oz_core.specs.Law.{IsLegal}
 use Rattle.oz_core.specs.Scm.{containers}
 use Rattle.oz_core.specs.Steps.{GrantedBlock, grant_in, grant_to, granted_to}
 use Rattle.oz_fields.specs.declared.block.Block.{Block}
-use Rattle.oz_granting.specs.Granting.{AreMade}
+use Rattle.oz_line_blocks.specs.granting.Granting.{AreMade}
 use Rattle.oz_kept.specs.laws.Deleted.{first_or_later}
 use Rattle.oz_kept.specs.laws.Reached.{in_none}
-use Rattle.oz_lines.specs.declared.script.Line.{Line}
-use Rattle.oz_lines.specs.declared.script.Script.{Script}
-use Rattle.oz_reopened.specs.laws.Named.{granted_on, told_event}
+use Rattle.oz_script.specs.declared.lines.script.Line.{Line}
+use Rattle.oz_script.specs.declared.lines.script.Script.{Script}
+use Rattle.oz_kept.specs.reopened.laws.Named.{granted_on, told_event}
 use Rattle.oz_requests.specs.declared.reply.Reply.{Reply}
 use Rattle.oz_requests.specs.declared.reply.Reply.TheVariants as replies
 use Rattle.oz_requests.specs.declared.request.AskId.{AskId}

@@ -26,18 +26,18 @@ use Rattle.oz_core.specs.Law.{IsNamed}
 use Rattle.oz_core.specs.Nodes.{is_intact}
 use Rattle.oz_core.specs.Scm.{containers, members}
 use Rattle.oz_fields.specs.declared.block.Piece.{Piece}
-use Rattle.oz_lines.specs.declared.script.Line.{Line}
-use Rattle.oz_lines.specs.declared.script.Script.{Script}
-use Rattle.oz_reading.specs.declared.lack.Doubted.{Doubted}
-use Rattle.oz_reading.specs.declared.lack.Lack.{Lack}
-use Rattle.oz_reading.specs.declared.lack.Lack.TheVariants as lacking
-use Rattle.oz_reading.specs.Lacks.{doubted_in, stills_in}
-use Rattle.oz_reading.specs.Read.{MayRead}
+use Rattle.oz_script.specs.declared.lines.script.Line.{Line}
+use Rattle.oz_script.specs.declared.lines.script.Script.{Script}
+use Rattle.oz_line_blocks.specs.declared.reading.lack.Doubted.{Doubted}
+use Rattle.oz_line_blocks.specs.declared.reading.lack.Lack.{Lack}
+use Rattle.oz_line_blocks.specs.declared.reading.lack.Lack.TheVariants as lacking
+use Rattle.oz_line_blocks.specs.reading.Lacks.{doubted_in, stills_in}
+use Rattle.oz_line_blocks.specs.reading.Read.{MayRead}
 use Rattle.oz_requests.specs.declared.answer.Answer.{Answer}
 use Rattle.oz_requests.specs.declared.answer.Answer.TheVariants as answers
 use Rattle.oz_requests.specs.declared.request.Request.{Request}
 use Rattle.oz_steps.specs.Grants.{has_fate_written}
-use Rattle.oz_telling.specs.Tells.{MayTell}
+use Rattle.oz_asker.specs.telling.Tells.{MayTell}
 use Rattle.oz_turn.specs.Told.{BeginsWith}
 use Rattle.oz_underway.specs.UnderWay.{IsUnderWay, ask_of, is_all_written}
 use Rattle.oz_underway.specs.laws.Going.{begins_itself, begins_through}

@@ -11,16 +11,16 @@ use Rattle.oz_core.specs.declared.opening.Opening.{Opening}
 use Rattle.oz_core.specs.Asks.{is_told}
 use Rattle.oz_core.specs.Contents.{OpeningBytes}
 use Rattle.oz_core.specs.Steps.{commit_step, is_opened_as, opening_line, opens_before}
-use Rattle.oz_lines.specs.declared.script.Line.{Line}
-use Rattle.oz_lines.specs.declared.script.Script.{Script}
+use Rattle.oz_script.specs.declared.lines.script.Line.{Line}
+use Rattle.oz_script.specs.declared.lines.script.Script.{Script}
 use Rattle.oz_requests.specs.declared.answer.Answer.{Answer}
 use Rattle.oz_requests.specs.declared.answer.Answer.TheVariants as answers
 use Rattle.oz_requests.specs.declared.request.AskId.{AskId}
 use Rattle.oz_steps.specs.declared.label.Label.{Label}
 use Rattle.oz_steps.specs.Lines.{IsLabel}
-use Rattle.oz_telling.specs.declared.still.Still.{Still}
-use Rattle.oz_telling.specs.Tells.{IsTold, MayTell}
-use Rattle.oz_telling.specs.laws.Told.{told_now}
+use Rattle.oz_asker.specs.declared.telling.still.Still.{Still}
+use Rattle.oz_asker.specs.telling.Tells.{IsTold, MayTell}
+use Rattle.oz_asker.specs.telling.laws.Told.{told_now}
 use Rattle.oz_turn.specs.Told.{BeginsWith}
 use Rattle.oz_underway.specs.UnderWay.{LabelStays}
 use Rattle.oz_underway.specs.laws.Going.{begins_through}

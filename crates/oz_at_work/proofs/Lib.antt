@@ -8,3 +8,4 @@ mod Refusing
 mod Putting
 mod Getting
 mod Commands
+mod servers_lemmas

@@ -3,7 +3,7 @@ use Rattle.std.proofs.Common.{◌≡◌, inl, ℕ, ◌+◌, ◌*◌, ◌<◌, �
 use Rattle.std.proofs.lemmas.Bool.{false≢true}
 use Rattle.std.proofs.lemmas.List.{length-take, take_min}
 use Rattle.oz_buffer.specs.Buffer.{AllFollow, Follows}
-use Rattle.oz_buffer.specs.Courses.{times_said}
+use Rattle.oz_buffer.specs.Became.{times_said}
 use Rattle.oz_command.specs.declared.command.Command.{Command}
 use Rattle.oz_command.specs.declared.payload.TheConstants.{PIECE_BYTES}
 use Rattle.oz_command.specs.Payload.{bytes_from, data_of, piece}
@@ -16,7 +16,7 @@ use Rattle.oz_core.specs.Contents.{OpeningBytes}
 use Rattle.oz_core.specs.Scm.{members as members_in}
 use Rattle.oz_core.specs.Seats.{IsLineSeat}
 use Rattle.oz_fields.specs.declared.block.Block.{Block}
-use Rattle.oz_lines.specs.declared.script.Script.{Script}
+use Rattle.oz_script.specs.declared.lines.script.Script.{Script}
 use Rattle.oz_nodes.specs.declared.nodes.TheConstants.{FEWEST_NODES}
 use Rattle.oz_node_events.specs.Noting.{MayNote}
 use Rattle.oz_steps.specs.Grants.{written_blocks}
@@ -24,7 +24,7 @@ use Rattle.oz_turn.specs.Told.{BeginsWith}
 use Rattle.oz_underway.specs.UnderWay.{HaveAnswered, IsPieceFor}
 use Rattle.oz_underway.specs.laws.Piece.{its_piece, members_story}
 use Rattle.oz_underway.specs.laws.Writing.{quorum_may_follow}
-use Rattle.oz_writing.specs.Written.{is_quorum}
+use Rattle.oz_line_blocks.specs.writing.Written.{is_quorum}
 use Rattle.oz_at_work.specs.AtWork.{IsAtWork, IsNextFit, IsNextWrite, WorkView, id_of}
 use Rattle.oz_at_work.specs.inner.Put.{IsPutNext}
 

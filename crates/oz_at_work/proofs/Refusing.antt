@@ -18,8 +18,8 @@ use Rattle.oz_core.specs.Grants.{IsSpent}
 use Rattle.oz_core.specs.Law.{IsLegal}
 use Rattle.oz_core.specs.Manager.{asked_late}
 use Rattle.oz_core.specs.Steps.{Target, is_code, is_done, pieces_from, pieces_needed, session_in, target, was_told_ok}
-use Rattle.oz_granting.specs.Granting.{AreMade, IsDueWhileStill, WasEmpty}
-use Rattle.oz_lines.specs.declared.script.Script.{Script}
+use Rattle.oz_line_blocks.specs.granting.Granting.{AreMade, IsDueWhileStill, WasEmpty}
+use Rattle.oz_script.specs.declared.lines.script.Script.{Script}
 use Rattle.oz_om.specs.declared.refusal.Refusal.TheVariants as refusals
 use Rattle.oz_om.specs.Decided.{IsPoolEmpty}
 use Rattle.oz_om.specs.Refusals.{AskStands}
@@ -34,7 +34,7 @@ use Rattle.oz_steps.specs.declared.label.Label.{Label}
 use Rattle.oz_steps.specs.Grants.{excluded_by, written_blocks}
 use Rattle.oz_steps.specs.Requests.{block_by, command_by, commit_by, put_by, request_by}
 use Rattle.oz_steps.specs.Single.{single_of}
-use Rattle.oz_telling.specs.declared.still.Still.{Still}
+use Rattle.oz_asker.specs.declared.telling.still.Still.{Still}
 use Rattle.oz_turn.specs.Told.{BeginsWith}
 use Rattle.oz_underway.specs.laws.Going.{begins_itself}
 use Rattle.oz_underway.specs.laws.Starting.{started_still}

@@ -7,7 +7,7 @@ use Rattle.std.specs.Prelude.{count_by, nat_le, slice_get}
 use Rattle.std.specs.List.{list_any, list_all}
 use Rattle.oz_asker.specs.Decided.{IsDecideAt}
 use Rattle.oz_buffer.specs.Buffer.{AllFollow, Follows}
-use Rattle.oz_buffer.specs.Courses.{says, times_said}
+use Rattle.oz_buffer.specs.Became.{says, times_said}
 use Rattle.oz_buffer.specs.laws.Courses.{said-push}
 use Rattle.oz_client.specs.declared.progress.Progress.{Progress}
 use Rattle.oz_client.specs.declared.step.Got.{Got}
@@ -33,11 +33,11 @@ use Rattle.oz_core.specs.Steps.{Target, commit_if, commit_step, is_code, is_of_n
 use Rattle.oz_core.specs.Stories.{has_event}
 use Rattle.oz_fields.specs.declared.block.Block.{Block}
 use Rattle.oz_fields.specs.declared.block.Piece.{Piece}
-use Rattle.oz_lines.specs.declared.script.Line.{Line}
-use Rattle.oz_lines.specs.declared.script.Script.{Script}
-use Rattle.oz_lines.specs.Numbered.{IsNumbered}
+use Rattle.oz_script.specs.declared.lines.script.Line.{Line}
+use Rattle.oz_script.specs.declared.lines.script.Script.{Script}
+use Rattle.oz_script.specs.lines.Numbered.{IsNumbered}
 use Rattle.oz_nodes.specs.Pipelines.{members_of}
-use Rattle.oz_reading.specs.Lacks.{none_doubted}
+use Rattle.oz_line_blocks.specs.reading.Lacks.{none_doubted}
 use Rattle.oz_requests.specs.declared.answer.Answer.{Answer}
 use Rattle.oz_requests.specs.declared.answer.Answer.TheVariants as answers
 use Rattle.oz_requests.specs.declared.answer.Values.{Values}
@@ -55,7 +55,7 @@ use Rattle.oz_steps.specs.Came.{granted_by}
 use Rattle.oz_steps.specs.Grants.{fate_of, has_fate_written, is_fate_written, refused_so, written_blocks}
 use Rattle.oz_steps.specs.Lines.{IsOf, commit_of_label}
 use Rattle.oz_steps.specs.Requests.{command_by, put_by, request_by}
-use Rattle.oz_telling.specs.Tells.{MayTell, told_event}
+use Rattle.oz_asker.specs.telling.Tells.{MayTell, told_event}
 use Rattle.oz_turn.specs.Told.{BeginsWith}
 use Rattle.oz_underway.specs.UnderWay.{HaveAnswered, IsSaid, IsUnderWay, times_asked}
 use Rattle.oz_underway.specs.laws.Commits.{Opens, commit_same}
@@ -65,8 +65,8 @@ use Rattle.oz_underway.specs.laws.Labels.{open_as_told, open_still}
 use Rattle.oz_underway.specs.laws.Lasting.{last_of_times, times_of_last}
 use Rattle.oz_underway.specs.laws.UnderWay.{ask_fits, begins_started, pending_is_request, reply_comes, told_fits}
 use Rattle.oz_underway.specs.laws.Writing.{given_up_way, quorum_way}
-use Rattle.oz_telling.specs.laws.Told.{told_now}
-use Rattle.oz_writing.specs.Written.{is_quorum}
+use Rattle.oz_asker.specs.telling.laws.Told.{told_now}
+use Rattle.oz_line_blocks.specs.writing.Written.{is_quorum}
 use Rattle.oz_at_work.specs.AtWork.{HasPutAlone, IsAtWork, IsLabelOf, IsNextAsk, IsNextFit, IsNextRead, IsNextWrite, IsSaidAsKnown, IsStarted, IsTelling, MayBegin, MayBeTold, WasSaid, WorkView, id_of, last_of}
 use Rattle.oz_at_work.specs.inner.Put.{WasWritten}
 use Rattle.oz_at_work.specs.inner.Replied.{IsAsking, WasReplied}

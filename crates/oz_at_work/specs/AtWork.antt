@@ -2,7 +2,7 @@
 use Rattle.std.specs.Prelude.{◌≡◌, ◌⊎◌, ℕ, ◌+◌, ◌<◌, ◌==◌, Bool, true, false, List, [], ◌∷◌, ◌++◌, None, Option, Some}
 use Rattle.std.specs.Prelude.{if◌then◌else◌, length, Contains, IsSome}
 use Rattle.std.specs.List.{list_all, list_any}
-use Rattle.oz_buffer.specs.Courses.{times_said}
+use Rattle.oz_buffer.specs.Became.{times_said}
 use Rattle.oz_client.specs.declared.progress.Progress.{Progress}
 use Rattle.oz_client.specs.declared.step.Step.{Step}
 use Rattle.oz_client.specs.declared.step.Step.TheVariants as steps
@@ -21,11 +21,11 @@ use Rattle.oz_core.specs.Lines.{HasStarted}
 use Rattle.oz_core.specs.Steps.{commit_step, is_code, is_open_at}
 use Rattle.oz_fields.specs.declared.block.Block.{Block}
 use Rattle.oz_fields.specs.declared.block.Piece.{Piece}
-use Rattle.oz_lines.specs.declared.script.Line.{Line}
-use Rattle.oz_lines.specs.declared.script.Script.{Script}
-use Rattle.oz_lines.specs.Numbered.{IsNumbered}
-use Rattle.oz_reading.specs.declared.lack.Doubted.{Doubted}
-use Rattle.oz_reading.specs.Lacks.{AreDoubted}
+use Rattle.oz_script.specs.declared.lines.script.Line.{Line}
+use Rattle.oz_script.specs.declared.lines.script.Script.{Script}
+use Rattle.oz_script.specs.lines.Numbered.{IsNumbered}
+use Rattle.oz_line_blocks.specs.declared.reading.lack.Doubted.{Doubted}
+use Rattle.oz_line_blocks.specs.reading.Lacks.{AreDoubted}
 use Rattle.oz_requests.specs.declared.answer.Answer.{Answer}
 use Rattle.oz_requests.specs.declared.request.AskId.{AskId}
 use Rattle.oz_requests.specs.declared.request.Request.{Request}
@@ -33,8 +33,8 @@ use Rattle.oz_steps.specs.declared.label.Label.{Label}
 use Rattle.oz_steps.specs.Grants.{has_fate_written}
 use Rattle.oz_steps.specs.Lines.{commit_of_label}
 use Rattle.oz_steps.specs.Requests.{request_by}
-use Rattle.oz_telling.specs.declared.still.Still.{Still}
-use Rattle.oz_telling.specs.Tells.{MayTell, told_event}
+use Rattle.oz_asker.specs.declared.telling.still.Still.{Still}
+use Rattle.oz_asker.specs.telling.Tells.{MayTell, told_event}
 use Rattle.oz_turn.specs.Told.{BeginsWith}
 use Rattle.oz_underway.specs.GoingOn.{FromHereOn}
 use Rattle.oz_underway.specs.UnderWay.{IsUnderWay, LabelStays}

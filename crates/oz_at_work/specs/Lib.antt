@@ -1,2 +1,3 @@
 pub mod AtWork
 pub mod inner
+pub mod servers

@@ -7,9 +7,9 @@ ghost use Rattle.oz_at_work.specs.inner.Replied.{cut_with};
 use crate::counted::CountedSteps;
 use crate::refused::Refused;
 use oz_client::Step;
-use oz_lines::Line;
-use oz_reading::Doubted;
+use oz_line_blocks::Doubted;
 use oz_requests::{Answer, AskId};
+use oz_script::Line;
 use oz_steps::Label;
 use std::marker::Model;
 

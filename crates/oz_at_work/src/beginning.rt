@@ -12,8 +12,8 @@ use crate::counted::CountedSteps;
 use oz_buffer::Opened;
 use oz_client::Got;
 use oz_fields::OutOfMemory;
-use oz_lines::Line;
-use oz_reading::Doubted;
+use oz_line_blocks::Doubted;
+use oz_script::Line;
 use oz_steps::Label;
 use std::alloc::Global;
 

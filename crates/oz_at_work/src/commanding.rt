@@ -10,15 +10,15 @@ ghost use Rattle.oz_turn.specs.Turn.{turn_id};
 
 use crate::at_work::LineAtWork;
 use crate::outcome::Did;
+use crate::servers::Servers;
+use oz_asker::tell_done;
 use oz_buffer::{Ledger, Opened};
 use oz_command::{AdminCommand, Command};
-use oz_lines::{Line, MOST_CLIENTS};
 use oz_locks::Loaded;
 use oz_node_admin::{AdminFault, have_done};
 use oz_node_events::NodeCommand;
 use oz_requests::Answer;
-use oz_servers::Servers;
-use oz_telling::tell_done;
+use oz_script::{Line, MOST_CLIENTS};
 use oz_turn::{Ring, Seat, Turn};
 use oz_world::Disk;
 use std::alloc::Global;

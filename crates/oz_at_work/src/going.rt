@@ -9,10 +9,10 @@ ghost use Rattle.oz_turn.specs.Turn.{turn_id};
 
 use crate::at_work::LineAtWork;
 use crate::outcome::Did;
+use crate::servers::Servers;
 use oz_buffer::{Ledger, Opened};
 use oz_client::Step;
 use oz_locks::Loaded;
-use oz_servers::Servers;
 use oz_turn::{Ring, Seat, Turn};
 use oz_world::{Disk, Gate};
 use std::alloc::Global;

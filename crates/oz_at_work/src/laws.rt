@@ -5,7 +5,7 @@ ghost use Rattle.oz_at_work.specs.AtWork.{HasLeft, IsAtWork, MayBegin, WorkView}
 ghost use Rattle.oz_command.specs.declared.command.Command.TheVariants.{KeyCommit};
 ghost use Rattle.oz_core.specs.declared.event.Event.{Event as AnyEvent};
 ghost use Rattle.oz_core.specs.Steps.{opening_line};
-ghost use Rattle.oz_lines.specs.declared.script.Line.{Line as AnyLine};
+ghost use Rattle.oz_script.specs.declared.lines.script.Line.{Line as AnyLine};
 ghost use Rattle.oz_steps.specs.declared.label.Label.{Label as AnyLabel};
 ghost use Rattle.oz_turn.specs.Told.{BeginsWith};
 ghost use Rattle.oz_underway.specs.UnderWay.{LabelStays};

@@ -1,4 +1,4 @@
-//! A line of a script that a worker works for: how far it is, and what it does next.
+//! A line of a script that a worker works for: how far it is, what it does next, and the servers that all workers share.
 #![tactic(auto)]
 
 mod asking;
@@ -15,6 +15,7 @@ mod piece;
 mod reading;
 mod refused;
 mod replying;
+mod servers;
 mod stills;
 mod telling;
 mod waiting;
@@ -23,3 +24,4 @@ mod writing;
 pub use at_work::LineAtWork;
 pub use laws::{a_label_was_left, what_is_at_work_stays};
 pub use outcome::Did;
+pub use servers::{Parts, Servers};

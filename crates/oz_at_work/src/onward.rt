@@ -5,7 +5,7 @@ ghost use Rattle.oz_at_work.specs.inner.Taken.{IsTakenUp, come_to};
 
 use crate::at_work::LineAtWork;
 use oz_client::{Got, Step};
-use oz_reading::Doubted;
+use oz_line_blocks::Doubted;
 use oz_requests::Answer;
 use std::alloc::Global;
 

@@ -4,17 +4,17 @@ ghost use Rattle.std.specs.Prelude.{◌≡◌, ◌+◌, ◌||◌, [], true, IsTr
 ghost use Rattle.oz_at_work.specs.AtWork.{HasGoneOn, IsAtWork};
 ghost use Rattle.oz_at_work.specs.inner.Replied.{IsAsking, WasReplied};
 ghost use Rattle.oz_buffer.specs.Buffer.{AllFollow, Follows};
-ghost use Rattle.oz_buffer.specs.Courses.{times_said};
+ghost use Rattle.oz_buffer.specs.Became.{times_said};
 ghost use Rattle.oz_steps.specs.Came.{granted_by};
 ghost use Rattle.oz_turn.specs.Seat.{IsReady, room_of, seen_of};
 ghost use Rattle.oz_turn.specs.Told.{BeginsWith};
 ghost use Rattle.oz_turn.specs.Turn.{turn_id};
 
 use crate::at_work::LineAtWork;
+use oz_asker::times_said;
 use oz_buffer::{Ledger, Opened};
 use oz_client::Got;
 use oz_requests::{Answer, Reply};
-use oz_telling::times_said;
 use oz_turn::{Seat, Turn};
 use std::alloc::Global;
 use std::sync::Wait;

@@ -1,10 +1,10 @@
 //! What has to stay as it is.
 
 ghost use Rattle.std.specs.Prelude.{◌≡◌, []};
-ghost use Rattle.oz_reading.specs.Lacks.{stills_in};
+ghost use Rattle.oz_line_blocks.specs.reading.Lacks.{stills_in};
 
-use oz_reading::Lack;
-use oz_telling::Still;
+use oz_asker::Still;
+use oz_line_blocks::Lack;
 use std::marker::Model;
 
 /// What has to stay as it is, at most three things.
@@ -16,7 +16,7 @@ pub struct Stills {
 
 impl Model for Stills {
     ghost use Rattle.std.specs.Prelude.{◌≤◌, List, take};
-    ghost use Rattle.oz_telling.specs.declared.still.Still.{Still};
+    ghost use Rattle.oz_asker.specs.declared.telling.still.Still.{Still};
 
     ghost Value = { List Still };
 

@@ -9,11 +9,11 @@ ghost use Rattle.oz_turn.specs.Turn.{turn_id};
 
 use crate::at_work::LineAtWork;
 use crate::outcome::Did;
+use oz_asker::{Settlement, settle_line, times_said};
 use oz_buffer::{Ledger, Opened};
 use oz_client::Step;
 use oz_om::Refusal;
 use oz_requests::Answer;
-use oz_telling::{Settlement, settle_line, times_said};
 use oz_turn::{Seat, Turn};
 use std::sync::Wait;
 

@@ -8,19 +8,19 @@ ghost use Rattle.oz_core.specs.Seats.{IsLineSeat};
 ghost use Rattle.oz_turn.specs.Seat.{IsReady, room_of, seen_of};
 ghost use Rattle.oz_turn.specs.Told.{BeginsWith};
 ghost use Rattle.oz_turn.specs.Turn.{turn_id};
-ghost use Rattle.oz_writing.specs.Written.{is_quorum};
+ghost use Rattle.oz_line_blocks.specs.writing.Written.{is_quorum};
 
 use crate::at_work::LineAtWork;
 use crate::outcome::Did;
 use crate::piece::Put;
+use crate::servers::Servers;
 use oz_buffer::{Ledger, Opened};
 use oz_client::{Got, Written};
+use oz_line_blocks::write_to_members;
 use oz_locks::Loaded;
 use oz_requests::Answer;
-use oz_servers::Servers;
 use oz_turn::{Ring, Seat, Turn};
 use oz_world::{Disk, Gate};
-use oz_writing::write_to_members;
 use std::alloc::Global;
 use std::sync::Wait;
 

@@ -2,3 +2,4 @@ pub mod Blocks
 pub mod Changes
 pub mod Frames
 pub mod Lists
+pub mod shelf

@@ -1,4 +1,5 @@
-//! The blocks of a datanode: their rows, and the states and transactions of replicas, kept in a journal.
+//! The blocks of a datanode: their rows, states and transactions in a journal, and the slots with what was written of them
+//! and not put.
 #![tactic(auto)]
 
 mod adding;
@@ -9,7 +10,9 @@ mod listing;
 mod lists;
 mod loading;
 mod planning;
+mod shelf;
 
 pub use blocks::Blocks;
 pub use fault::BlockFault;
 pub use laws::a_disk_stands_for_one_node;
+pub use shelf::{Shelf, Unwritten, Written, each_place_has_its_last_chunk};

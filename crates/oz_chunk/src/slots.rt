@@ -108,8 +108,30 @@ impl<D: Disk> Slots<D> {
         })
     }
 
-    /// Writes a chunk to a slot that is taken, with zeros behind it up to the slot's end, and answers its SHA-256, that
-    /// of the zeros left out. It isn't stable before `sync`.
+    /// Writes a chunk to a slot that is taken, with zeros behind it up to the slot's end. It isn't stable before `sync`.
+    pub fn write_bytes(&mut self, slot: u32, bytes: &[u8]) -> Result<(), Failed>
+        requires taken { is_taken self.old.taken slot ≡ true }
+        requires there { IfSome (D.told self.old.disk) (λ before. start_of slot ≤ length before) }
+        requires least { 1 ≤ length bytes.now }
+        requires most { length bytes.now ≤ SLOT_SIZE }
+        ensures writes { Writes slot (padded bytes.now)
+            (seen (D.told self.old.disk) (D.clock self.old.disk) (D.image self.old.disk) (D.faults self.old.disk))
+            (seen (D.told self.new.disk) (D.clock self.new.disk) (D.image self.new.disk) (D.faults self.new.disk))
+            result }
+        ensures others { (kept : ℕ → Bool) → kept slot ≡ false →
+            Spans (Keeps kept) (D.clock self.old.disk) (D.clock self.new.disk) (D.image self.old.disk)
+            (D.image self.new.disk) }
+        ensures taken { self.new.taken ≡ self.old.taken }
+    {
+        fill(&mut self.buffer, bytes);
+        let Ok(()) = put(&mut self.disk, slot, &self.buffer) else {
+            return Err(Failed);
+        };
+        Ok(())
+    }
+
+    /// Writes a chunk to a slot that is taken, as `write_bytes` does, and answers its SHA-256, that of the zeros left
+    /// out.
     pub fn write_chunk(&mut self, slot: u32, bytes: &[u8]) -> Result<[u8; 32], Failed>
         requires taken { is_taken self.old.taken slot ≡ true }
         requires there { IfSome (D.told self.old.disk) (λ before. start_of slot ≤ length before) }
@@ -125,8 +147,7 @@ impl<D: Disk> Slots<D> {
         ensures digest { IfOk result (λ digest. digest ≡ sha256 bytes.now) }
         ensures taken { self.new.taken ≡ self.old.taken }
     {
-        fill(&mut self.buffer, bytes);
-        let Ok(()) = put(&mut self.disk, slot, &self.buffer) else {
+        let Ok(()) = self.write_bytes(slot, bytes) else {
             return Err(Failed);
         };
         Ok(Sha256::digest(bytes))

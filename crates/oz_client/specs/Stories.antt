@@ -13,8 +13,8 @@ use Rattle.oz_core.specs.Nodes.{is_intact}
 use Rattle.oz_core.specs.Steps.{GrantedBlock, commit_step, granted_to, is_open_at, is_settled, next_step}
 use Rattle.oz_fields.specs.declared.block.Block.{Block}
 use Rattle.oz_fields.specs.declared.block.Piece.{Piece}
-use Rattle.oz_lines.specs.declared.script.Line.{Line}
-use Rattle.oz_lines.specs.declared.script.Script.{Script}
+use Rattle.oz_script.specs.declared.lines.script.Line.{Line}
+use Rattle.oz_script.specs.declared.lines.script.Script.{Script}
 use Rattle.oz_requests.specs.declared.request.AskId.{AskId}
 use Rattle.oz_requests.specs.declared.reply.Reply.TheVariants as replies
 use Rattle.oz_steps.specs.declared.label.Label.{Label}

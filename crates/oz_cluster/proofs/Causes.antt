@@ -15,27 +15,27 @@ use Rattle.oz_cluster.specs.Streams.{script_limit}
 use Rattle.oz_cluster.specs.Wrong.{IsWrong}
 use Rattle.oz_cluster.proofs.Right.{OneThing, nothing_is_wrong}
 use Rattle.oz_cluster.proofs.Rising.{disk_rose, node_rose}
-use Rattle.oz_disk_run.specs.declared.disks.Disks.{Disks}
-use Rattle.oz_disk_run.specs.Disks.{others_of}
-use Rattle.oz_disk_run.specs.Refused.{IsRefusedFor}
-use Rattle.oz_draft.specs.declared.fault.Cause.{Cause}
-use Rattle.oz_draft.specs.declared.fault.ScriptFault.TheVariants.{At}
-use Rattle.oz_halts.specs.Disks.{AreAsMany, OtherDisks, OtherNodes, all_disks}
-use Rattle.oz_halts.specs.Rising.{ItsCountRose}
-use Rattle.oz_headline.specs.declared.status.Status.{Status}
-use Rattle.oz_headline.specs.declared.status.Status.TheVariants as ends
-use Rattle.oz_headline.specs.Disks.{manager_disk}
-use Rattle.oz_headline.specs.Halts.{HaltsAreNamed, StatusNamesHalts}
-use Rattle.oz_headline.specs.Printed.{IsPrinted}
-use Rattle.oz_headline.specs.Statuses.{status_number}
-use Rattle.oz_lines.specs.declared.script.Script.{Script as Lines}
+use Rattle.oz_running.specs.declared.disk_run.disks.Disks.{Disks}
+use Rattle.oz_running.specs.disk_run.Disks.{others_of}
+use Rattle.oz_running.specs.disk_run.Refused.{IsRefusedFor}
+use Rattle.oz_script.specs.declared.draft.fault.Cause.{Cause}
+use Rattle.oz_script.specs.declared.draft.fault.ScriptFault.TheVariants.{At}
+use Rattle.oz_running.specs.halts.Disks.{AreAsMany, OtherDisks, OtherNodes, all_disks}
+use Rattle.oz_running.specs.halts.Rising.{ItsCountRose}
+use Rattle.oz_running.specs.status.Status.{Status}
+use Rattle.oz_running.specs.status.Status.TheVariants as ends
+use Rattle.oz_running.specs.Disks.{manager_disk}
+use Rattle.oz_running.specs.NamedHalts.{HaltsAreNamed, StatusNamesHalts}
+use Rattle.oz_running.specs.Printed.{IsPrinted}
+use Rattle.oz_running.specs.Statuses.{status_number}
+use Rattle.oz_script.specs.declared.lines.script.Script.{Script as Lines}
 use Rattle.oz_loaded.specs.Loads.{IsLoaded}
 use Rattle.oz_loaded.specs.Unseated.{UnseatedView}
-use Rattle.oz_nodes_loaded.specs.declared.fault.StoreFault.{StoreFault}
-use Rattle.oz_nodes_loaded.specs.declared.fault.StoreFault.TheVariants as store
+use Rattle.oz_running.specs.fault.StoreFault.{StoreFault}
+use Rattle.oz_running.specs.fault.StoreFault.TheVariants as store
 use Rattle.oz_script.specs.Parsing.{ParsesTo}
 use Rattle.oz_script.specs.laws.OneAnswer.{one_answer}
-use Rattle.oz_words.specs.Words.{IsRun, IsFirstFault}
+use Rattle.oz_command.specs.command_line.Words.{IsRun, IsFirstFault}
 
 -- The causes of each status.
 

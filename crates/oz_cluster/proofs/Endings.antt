@@ -2,11 +2,11 @@
 use Rattle.std.proofs.Common.{◌≡◌, ◌≢◌, ◌↔◌, ◌⊎◌, ⊎_elim, Bool, true, false, List, refl, sym, ◌∙◌, subst}
 use Rattle.std.specs.Prelude.{if◌then◌else◌}
 use Rattle.oz_core.specs.declared.event.Event.{Event}
-use Rattle.oz_headline.specs.declared.status.Status.{Status}
-use Rattle.oz_headline.specs.declared.status.Status.TheVariants as ends
-use Rattle.oz_headline.specs.Counts.{AreToldAsMany}
-use Rattle.oz_headline.specs.Halts.{StatusNamesHalts}
-use Rattle.oz_lines.specs.declared.script.Script.{Script as Lines}
+use Rattle.oz_running.specs.status.Status.{Status}
+use Rattle.oz_running.specs.status.Status.TheVariants as ends
+use Rattle.oz_running.specs.Counts.{AreToldAsMany}
+use Rattle.oz_running.specs.NamedHalts.{StatusNamesHalts}
+use Rattle.oz_script.specs.declared.lines.script.Script.{Script as Lines}
 
 -- the Halts are as the status says
 pub names_halts : (status : Status) (story : List Event) (said halted : Bool) → said ≡ halted → (status ≡ ends.Done → said ≡ false) → (status ≡ ends.Disk → said ≡ true)

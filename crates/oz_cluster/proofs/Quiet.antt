@@ -7,10 +7,10 @@ use Rattle.oz_cluster.specs.Stopped.{IsScript, status_of_store}
 use Rattle.oz_cluster.proofs.Causes.{no_script_and_fault}
 use Rattle.oz_core.specs.Contents.{OpeningBytes}
 use Rattle.oz_datanode.specs.declared.disks.NodeDisks.{NodeDisks}
-use Rattle.oz_disk_run.specs.declared.disks.Disks.{Disks}
-use Rattle.oz_disk_run.specs.Refused.{ManagerIsRefused, ManagerIsSo, NodesAreRefused, store_fault_of}
+use Rattle.oz_running.specs.declared.disk_run.disks.Disks.{Disks}
+use Rattle.oz_running.specs.disk_run.Refused.{ManagerIsRefused, ManagerIsSo, NodesAreRefused, store_fault_of}
 use Rattle.oz_effects.specs.Build.{Builds, BuildsFrom, no_head}
-use Rattle.oz_headline.specs.declared.status.Status.TheVariants as ends
+use Rattle.oz_running.specs.status.Status.TheVariants as ends
 use Rattle.oz_journal.specs.declared.load_fault.LoadFault.{LoadFault}
 use Rattle.oz_journal.specs.declared.load_fault.LoadFault.TheVariants as load
 use Rattle.oz_journal.specs.Grammar.{IsJournal}
@@ -18,16 +18,16 @@ use Rattle.oz_loaded.specs.Counted.{IsGreatestId}
 use Rattle.oz_loaded.specs.Loads.{IsDamagedDisk, IsLoaded}
 use Rattle.oz_loaded.specs.Unseated.{UnseatedView}
 use Rattle.oz_namespace.specs.Namespace.{nothing}
-use Rattle.oz_nodes_loaded.specs.declared.fault.StoreFault.{StoreFault}
-use Rattle.oz_nodes_loaded.specs.declared.fault.StoreFault.TheVariants as store
-use Rattle.oz_nodes_loaded.specs.AllLoad.{AllLoad, is_of_bytes}
-use Rattle.oz_nodes_loaded.specs.Refused.{IsSo}
+use Rattle.oz_running.specs.fault.StoreFault.{StoreFault}
+use Rattle.oz_running.specs.fault.StoreFault.TheVariants as store
+use Rattle.oz_running.specs.AllLoad.{AllLoad, is_of_bytes}
+use Rattle.oz_running.specs.Refused.{IsSo}
 use Rattle.oz_rows.specs.declared.entry.RowEntry.{RowEntry}
 use Rattle.oz_rows.specs.RowMaps.{row_of}
 use Rattle.oz_sound.specs.Sound.{IsSoundButRenames}
 use Rattle.oz_sound.specs.StandsFor.{StandsFor}
 use Rattle.oz_store.specs.Store.{IsStore, empty_store}
-use Rattle.oz_words.specs.Words.{IsRun, IsFirstFault}
+use Rattle.oz_command.specs.command_line.Words.{IsRun, IsFirstFault}
 use Rattle.oz_world.specs.Disk.{Seen}
 
 -- ids of the same rows

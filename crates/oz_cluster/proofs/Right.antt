@@ -6,18 +6,18 @@ use Rattle.oz_chunk.specs.Slots.{IsWithin}
 use Rattle.oz_cluster.specs.Wrong.{IsDamaged, IsOnDisk, IsWrong, MakeARowOf, MetaTells}
 use Rattle.oz_datanode.specs.declared.disks.NodeDisks.{NodeDisks}
 use Rattle.oz_datanode.specs.Datanode.{State as Datanode, IsLowestPast, node_in}
-use Rattle.oz_disk_run.specs.declared.disks.Disks.{Disks}
+use Rattle.oz_running.specs.declared.disk_run.disks.Disks.{Disks}
 use Rattle.oz_entries.specs.Node.{Node, is_used}
-use Rattle.oz_grants.specs.Made.{Made}
+use Rattle.oz_scm.specs.grants.Made.{Made}
 use Rattle.oz_journal.specs.Grammar.{IsJournal}
 use Rattle.oz_loaded.specs.Loads.{IsDamagedDisk as IsDamagedManager, IsLoaded}
 use Rattle.oz_loaded.specs.Unseated.{UnseatedView}
-use Rattle.oz_nodes_loaded.specs.declared.disk_name.DiskName.{DiskName}
-use Rattle.oz_nodes_loaded.specs.declared.disk_name.DiskName.TheVariants as disk
-use Rattle.oz_nodes_loaded.specs.declared.fault.StoreFault.{StoreFault}
-use Rattle.oz_nodes_loaded.specs.declared.fault.StoreFault.TheVariants.{Disk, Damaged, Nodes, Ids, OutOfMemory}
-use Rattle.oz_nodes_loaded.specs.Ids.{AreBelow, HoldsId}
-use Rattle.oz_nodes_loaded.specs.Loads.{AreNodesFrom, IsNodeFrom, IsScmFrom}
+use Rattle.oz_running.specs.disk_name.DiskName.{DiskName}
+use Rattle.oz_running.specs.disk_name.DiskName.TheVariants as disk
+use Rattle.oz_running.specs.fault.StoreFault.{StoreFault}
+use Rattle.oz_running.specs.fault.StoreFault.TheVariants.{Disk, Damaged, Nodes, Ids, OutOfMemory}
+use Rattle.oz_running.specs.Ids.{AreBelow, HoldsId}
+use Rattle.oz_running.specs.Loads.{AreNodesFrom, IsNodeFrom, IsScmFrom}
 use Rattle.oz_rows.specs.declared.entry.RowEntry.{RowEntry}
 use Rattle.oz_rows.specs.RowMaps.{row_of}
 use Rattle.oz_scm.specs.Scm.{State as Scm, StandsFor as StandsForScm, IsDamagedDisk as IsDamagedScm, IsOfNodes}

@@ -10,19 +10,19 @@ use Rattle.oz_core.specs.declared.event.Event.{Event}
 use Rattle.oz_core.specs.declared.event.Node.{Node}
 use Rattle.oz_core.specs.declared.event.Node.TheVariants as kind
 use Rattle.oz_datanode.specs.Datanode.{State as Datanode, meta_of, slots_of}
-use Rattle.oz_disk_run.specs.declared.disks.Disks.{Disks}
-use Rattle.oz_disk_run.specs.Disks.{disks_of_nodes, other_disks}
-use Rattle.oz_disk_run.specs.StoreRun.{IsStoreRun}
-use Rattle.oz_halts.specs.Rising.{DatanodeRose, ItsCountRose}
-use Rattle.oz_lines.specs.declared.script.Script.{Script as Lines}
-use Rattle.oz_disk_run.specs.Refused.{IsRefusedFor, ManagerIsRefused, NodesAreRefused, ManagerIsSo, store_fault_of}
+use Rattle.oz_running.specs.declared.disk_run.disks.Disks.{Disks}
+use Rattle.oz_running.specs.disk_run.Disks.{disks_of_nodes, other_disks}
+use Rattle.oz_running.specs.disk_run.StoreRun.{IsStoreRun}
+use Rattle.oz_running.specs.halts.Rising.{DatanodeRose, ItsCountRose}
+use Rattle.oz_script.specs.declared.lines.script.Script.{Script as Lines}
+use Rattle.oz_running.specs.disk_run.Refused.{IsRefusedFor, ManagerIsRefused, NodesAreRefused, ManagerIsSo, store_fault_of}
 use Rattle.oz_journal.specs.declared.load_fault.LoadFault.{LoadFault}
 use Rattle.oz_journal.specs.declared.load_fault.LoadFault.TheVariants as load
-use Rattle.oz_nodes_loaded.specs.declared.disk_name.DiskName.{DiskName}
-use Rattle.oz_nodes_loaded.specs.declared.disk_name.DiskName.TheVariants as disk
-use Rattle.oz_nodes_loaded.specs.declared.fault.StoreFault.TheVariants as store
-use Rattle.oz_nodes_loaded.specs.Loads.{AreNodesFrom, IsNodeFrom, disks_in}
-use Rattle.oz_nodes_loaded.specs.Refused.{EndsAt}
+use Rattle.oz_running.specs.disk_name.DiskName.{DiskName}
+use Rattle.oz_running.specs.disk_name.DiskName.TheVariants as disk
+use Rattle.oz_running.specs.fault.StoreFault.TheVariants as store
+use Rattle.oz_running.specs.Loads.{AreNodesFrom, IsNodeFrom, disks_in}
+use Rattle.oz_running.specs.Refused.{EndsAt}
 
 here : {X : Type 0} (P : X → Type 0) (x : X) (xs : List X) → P x → Any P (x ∷ xs)
 here P x xs p = (0, x, omega arith, refl, p)

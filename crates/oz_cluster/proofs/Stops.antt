@@ -6,12 +6,12 @@ use Rattle.oz_cluster.specs.declared.stop.Stop.{Stop}
 use Rattle.oz_cluster.specs.declared.stop.Stop.TheVariants.{Words, Read, Script, Store, OutOfMemory}
 use Rattle.oz_cluster.specs.Stopped.{status_of, text_of, IsSo, Reads, Spares, IsStopped}
 use Rattle.oz_cluster.specs.Streams.{script_limit, TakesUpTo}
-use Rattle.oz_disk_run.specs.declared.disks.Disks.{Disks}
-use Rattle.oz_disk_run.specs.Refused.{AreAtMostLoaded, IsRefusedFor}
-use Rattle.oz_disk_run.specs.laws.Untouched.{left_as_are}
-use Rattle.oz_headline.specs.declared.status.Status.{Status}
-use Rattle.oz_headline.specs.Printed.{Says}
-use Rattle.oz_nodes_loaded.specs.declared.fault.StoreFault.{StoreFault}
+use Rattle.oz_running.specs.declared.disk_run.disks.Disks.{Disks}
+use Rattle.oz_running.specs.disk_run.Refused.{AreAtMostLoaded, IsRefusedFor}
+use Rattle.oz_running.specs.disk_run.laws.Untouched.{left_as_are}
+use Rattle.oz_running.specs.status.Status.{Status}
+use Rattle.oz_running.specs.Printed.{Says}
+use Rattle.oz_running.specs.fault.StoreFault.{StoreFault}
 
 module _ {D : Type 0} (see : D → Seen) where
   spared_early : (stop : Stop) (words : List (List ℕ)) (left : Option (List ℕ)) (source_rose : Type 0) (disks : Disks D) → IsSo words left source_rose (λ fault. ⊥) stop → Spares see stop disks disks

@@ -9,22 +9,22 @@ use Rattle.oz_core.specs.declared.opening.Opening.{Opening}
 use Rattle.oz_core.specs.Contents.{OpeningBytes}
 use Rattle.oz_datanode.specs.Datanode.{State as Datanode, node_in}
 use Rattle.oz_datanode.specs.declared.disks.NodeDisks.{NodeDisks}
-use Rattle.oz_disk_run.specs.Coherent.{IsCoherentStore}
-use Rattle.oz_disk_run.specs.declared.disks.Disks.{Disks}
+use Rattle.oz_running.specs.disk_run.Coherent.{IsCoherentStore}
+use Rattle.oz_running.specs.declared.disk_run.disks.Disks.{Disks}
 use Rattle.oz_entries.specs.Build.{Makes}
 use Rattle.oz_entries.specs.Node.{Node}
-use Rattle.oz_grants.specs.Build.{Makes as MakesGrants, made_from}
-use Rattle.oz_grants.specs.Made.{Made, begun}
+use Rattle.oz_scm.specs.grants.Build.{Makes as MakesGrants, made_from}
+use Rattle.oz_scm.specs.grants.Made.{Made, begun}
 use Rattle.oz_journal.specs.Grammar.{IsJournal}
 use Rattle.oz_loaded.specs.Loads.{IsLoaded}
 use Rattle.oz_loaded.specs.Unseated.{UnseatedView}
 use Rattle.oz_namespace.specs.Namespace.{nothing}
-use Rattle.oz_nodes_loaded.specs.Loads.{AreNodesFrom}
+use Rattle.oz_running.specs.Loads.{AreNodesFrom}
 use Rattle.oz_rows.specs.RowMaps.{Rows, row_of}
 use Rattle.oz_scm.specs.Scm.{StandsFor as StandsForScm, made_for}
 use Rattle.oz_store.specs.Store.{IsStore}
-use Rattle.oz_store_opening.specs.Agreeing.{BlocksAgree}
-use Rattle.oz_store_opening.specs.Openings.{opening_bytes, opening_of}
+use Rattle.oz_running.specs.store_opening.Agreeing.{BlocksAgree}
+use Rattle.oz_running.specs.store_opening.Openings.{opening_bytes, opening_of}
 use Rattle.oz_world.specs.Disk.{Seen}
 
 -- what is said of the bytes that a bare disk tells is said of at most one byte

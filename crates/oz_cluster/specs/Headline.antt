@@ -4,24 +4,24 @@ use Rattle.oz_cluster.specs.Stopped.{IsScriptOf, IsStopped}
 use Rattle.oz_cluster.specs.Streams.{IsReadThrough}
 use Rattle.oz_core.specs.declared.event.Event.{Event}
 use Rattle.oz_core.specs.Fits.{AllAreTold}
-use Rattle.oz_disk_run.specs.declared.disks.Disks.{Disks}
-use Rattle.oz_disk_run.specs.Coherent.{IsCoherentStore}
-use Rattle.oz_disk_run.specs.Disks.{others_of}
-use Rattle.oz_disk_run.specs.StoreRun.{IsStoreRun}
-use Rattle.oz_halts.specs.Disks.{all_disks}
-use Rattle.oz_headline.specs.declared.status.Status.{Status}
-use Rattle.oz_headline.specs.declared.status.Status.TheVariants.{OutOfMemory}
-use Rattle.oz_headline.specs.Counts.{AreToldAsMany}
-use Rattle.oz_headline.specs.Disks.{manager_disk}
-use Rattle.oz_headline.specs.Halts.{HaltsAreNamed, StatusNamesHalts}
-use Rattle.oz_headline.specs.Headline.{Headline}
-use Rattle.oz_headline.specs.Printed.{IsPrinted}
-use Rattle.oz_headline.specs.Statuses.{status_number}
-use Rattle.oz_lines.specs.declared.script.Script.{Script}
+use Rattle.oz_running.specs.declared.disk_run.disks.Disks.{Disks}
+use Rattle.oz_running.specs.disk_run.Coherent.{IsCoherentStore}
+use Rattle.oz_running.specs.disk_run.Disks.{others_of}
+use Rattle.oz_running.specs.disk_run.StoreRun.{IsStoreRun}
+use Rattle.oz_running.specs.halts.Disks.{all_disks}
+use Rattle.oz_running.specs.status.Status.{Status}
+use Rattle.oz_running.specs.status.Status.TheVariants.{OutOfMemory}
+use Rattle.oz_running.specs.Counts.{AreToldAsMany}
+use Rattle.oz_running.specs.Disks.{manager_disk}
+use Rattle.oz_running.specs.NamedHalts.{HaltsAreNamed, StatusNamesHalts}
+use Rattle.oz_running.specs.Headline.{Headline}
+use Rattle.oz_running.specs.Printed.{IsPrinted}
+use Rattle.oz_running.specs.Statuses.{status_number}
+use Rattle.oz_script.specs.declared.lines.script.Script.{Script}
 use Rattle.oz_namespace.specs.declared.namespace.Namespace.{Namespace}
 use Rattle.oz_rows.specs.RowMaps.{row_of}
-use Rattle.oz_store_opening.specs.Openings.{opening_bytes, opening_of}
-use Rattle.oz_words.specs.Words.{IsRunWith}
+use Rattle.oz_running.specs.store_opening.Openings.{opening_bytes, opening_of}
+use Rattle.oz_command.specs.command_line.Words.{IsRunWith}
 use Rattle.oz_world.specs.Disk.{Seen}
 
 module _ {D : Type 0} (see : D → Seen) (words : List (List ℕ)) (left left_after : Option (List ℕ))

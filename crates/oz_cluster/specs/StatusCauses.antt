@@ -1,22 +1,22 @@
 -- Why a run ends with each status, and with which status wrong words, a wrong script and wrong disks end it.
 use Rattle.std.specs.Prelude.{◌≡◌, ◌⊎◌, ℕ, ◌≤◌, List, take, Option, Some, Err, IfSome}
-use Rattle.oz_draft.specs.declared.fault.Cause.{Cause}
-use Rattle.oz_draft.specs.declared.fault.ScriptFault.TheVariants.{At}
+use Rattle.oz_script.specs.declared.draft.fault.Cause.{Cause}
+use Rattle.oz_script.specs.declared.draft.fault.ScriptFault.TheVariants.{At}
 use Rattle.oz_journal.specs.Grammar.{IsJournal}
 use Rattle.oz_loaded.specs.Loads.{IsLoaded}
 use Rattle.oz_loaded.specs.Unseated.{UnseatedView}
-use Rattle.oz_disk_run.specs.declared.disks.Disks.{Disks}
-use Rattle.oz_disk_run.specs.Refused.{IsRefusedFor}
-use Rattle.oz_headline.specs.declared.status.Status.TheVariants as ends
-use Rattle.oz_nodes_loaded.specs.AllLoad.{AllLoad}
-use Rattle.oz_nodes_loaded.specs.declared.fault.StoreFault.{StoreFault}
+use Rattle.oz_running.specs.declared.disk_run.disks.Disks.{Disks}
+use Rattle.oz_running.specs.disk_run.Refused.{IsRefusedFor}
+use Rattle.oz_running.specs.status.Status.TheVariants as ends
+use Rattle.oz_running.specs.AllLoad.{AllLoad}
+use Rattle.oz_running.specs.fault.StoreFault.{StoreFault}
 use Rattle.oz_world.specs.Disk.{Seen}
 use Rattle.oz_cluster.specs.Disks.{ADiskRose}
 use Rattle.oz_cluster.specs.Stopped.{IsScript, status_of_store}
 use Rattle.oz_cluster.specs.Wrong.{IsWrong}
 use Rattle.oz_script.specs.Parsing.{ParsesTo}
 use Rattle.oz_cluster.specs.Streams.{script_limit}
-use Rattle.oz_words.specs.Words.{IsRun, IsFirstFault}
+use Rattle.oz_command.specs.command_line.Words.{IsRun, IsFirstFault}
 
 -- the bytes of a manager's disk load
 abbrev pub IsLoadedOf : List ℕ → Type 0

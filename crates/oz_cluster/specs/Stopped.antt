@@ -3,21 +3,21 @@ use Rattle.std.specs.Prelude.{◌≡◌, ℕ, List, [], take, Option, IfSome, Ok
 use Rattle.oz_cluster.specs.declared.stop.Stop.{Stop}
 use Rattle.oz_cluster.specs.declared.stop.Stop.TheVariants.{Words, Read, Script, Store, OutOfMemory}
 use Rattle.oz_world.specs.Disk.{Seen}
-use Rattle.oz_disk_run.specs.declared.disks.Disks.{Disks}
-use Rattle.oz_disk_run.specs.Refused.{AreAtMostLoaded, IsRefusedFor}
-use Rattle.oz_nodes_loaded.specs.declared.fault.StoreFault.{StoreFault}
-use Rattle.oz_nodes_loaded.specs.declared.fault.StoreFault.TheVariants as store
+use Rattle.oz_running.specs.declared.disk_run.disks.Disks.{Disks}
+use Rattle.oz_running.specs.disk_run.Refused.{AreAtMostLoaded, IsRefusedFor}
+use Rattle.oz_running.specs.fault.StoreFault.{StoreFault}
+use Rattle.oz_running.specs.fault.StoreFault.TheVariants as store
 use Rattle.oz_core.specs.declared.event.Event.{Event}
-use Rattle.oz_lines.specs.declared.script.Script.{Script as Lines}
-use Rattle.oz_draft.specs.declared.fault.ScriptFault.TheVariants.{At}
-use Rattle.oz_headline.specs.declared.status.Status.{Status}
-use Rattle.oz_headline.specs.declared.status.Status.TheVariants as status
-use Rattle.oz_draft.specs.Causes.{cause_text}
-use Rattle.oz_headline.specs.Printed.{Says, memory_fault}
+use Rattle.oz_script.specs.declared.lines.script.Script.{Script as Lines}
+use Rattle.oz_script.specs.declared.draft.fault.ScriptFault.TheVariants.{At}
+use Rattle.oz_running.specs.status.Status.{Status}
+use Rattle.oz_running.specs.status.Status.TheVariants as status
+use Rattle.oz_script.specs.draft.Causes.{cause_text}
+use Rattle.oz_running.specs.Printed.{Says, memory_fault}
 use Rattle.oz_cluster.specs.Texts.{words_fault, script_fault, store_text, read_fault}
 use Rattle.oz_script.specs.Parsing.{ParsesTo}
 use Rattle.oz_cluster.specs.Streams.{script_limit, TakesUpTo, IsReadThrough}
-use Rattle.oz_words.specs.Words.{IsRun, IsFirstFault}
+use Rattle.oz_command.specs.command_line.Words.{IsRun, IsFirstFault}
 
 -- the status that the program ends with
 abbrev pub status_of_store : StoreFault → Status

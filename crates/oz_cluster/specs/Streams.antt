@@ -1,7 +1,7 @@
 -- What reading a script takes.
 use Rattle.std.specs.Prelude.{◌≡◌, ℕ, ◌+◌, ◌≤◌, List, drop, Option}
 use Rattle.std.specs.Option.{option_map}
-use Rattle.oz_draft.specs.declared.drafting.TheConstants.{MOST_BYTES}
+use Rattle.oz_script.specs.declared.draft.drafting.TheConstants.{MOST_BYTES}
 
 -- one byte more than a script may have
 abbrev pub script_limit : ℕ

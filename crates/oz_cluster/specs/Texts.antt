@@ -1,10 +1,10 @@
 -- What is written in place of a report where the work didn't begin.
 use Rattle.std.specs.Prelude.{ℕ, List, ◌++◌, codes, decimal}
-use Rattle.oz_headline.specs.Printed.{memory_fault}
-use Rattle.oz_nodes_loaded.specs.declared.disk_name.DiskName.{DiskName}
-use Rattle.oz_nodes_loaded.specs.declared.disk_name.DiskName.TheVariants.{Manager, Scm, Meta, Slots}
-use Rattle.oz_nodes_loaded.specs.declared.fault.StoreFault.{StoreFault}
-use Rattle.oz_nodes_loaded.specs.declared.fault.StoreFault.TheVariants as store
+use Rattle.oz_running.specs.Printed.{memory_fault}
+use Rattle.oz_running.specs.disk_name.DiskName.{DiskName}
+use Rattle.oz_running.specs.disk_name.DiskName.TheVariants.{Manager, Scm, Meta, Slots}
+use Rattle.oz_running.specs.fault.StoreFault.{StoreFault}
+use Rattle.oz_running.specs.fault.StoreFault.TheVariants as store
 
 -- the words are wrong at this place, from 1
 abbrev pub words_fault : ℕ → List ℕ

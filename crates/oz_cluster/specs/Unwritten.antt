@@ -1,6 +1,6 @@
 -- Disks of a store to which nothing was written yet.
 use Rattle.std.specs.Prelude.{◌≤◌, length, All, IsSome, IsSomeAnd}
-use Rattle.oz_disk_run.specs.declared.disks.Disks.{Disks}
+use Rattle.oz_running.specs.declared.disk_run.disks.Disks.{Disks}
 use Rattle.oz_world.specs.Disk.{Seen}
 
 -- what is seen of a disk is at most one byte

@@ -3,9 +3,9 @@ use Rattle.std.specs.Prelude.{◌≡◌, ◌≢◌, ◌⊎◌, ℕ, ◌≤◌, L
 use Rattle.oz_block.specs.Blocks.{StandsFor as StandsForNode, IsDamagedDisk as IsDamagedMeta}
 use Rattle.oz_datanode.specs.declared.disks.NodeDisks.{NodeDisks}
 use Rattle.oz_datanode.specs.Datanode.{IsLowestPast}
-use Rattle.oz_disk_run.specs.declared.disks.Disks.{Disks}
+use Rattle.oz_running.specs.declared.disk_run.disks.Disks.{Disks}
 use Rattle.oz_entries.specs.Node.{Node}
-use Rattle.oz_grants.specs.Made.{Made}
+use Rattle.oz_scm.specs.grants.Made.{Made}
 use Rattle.oz_journal.specs.Grammar.{IsJournal}
 use Rattle.oz_loaded.specs.Loads.{IsDamagedDisk as IsDamagedManager, IsLoaded}
 use Rattle.oz_loaded.specs.Counted.{HasId}
@@ -13,11 +13,11 @@ use Rattle.oz_loaded.specs.Unseated.{UnseatedView}
 use Rattle.oz_rows.specs.declared.key.RowKey.{RowKey}
 use Rattle.oz_rows.specs.declared.row.Row.{Row}
 use Rattle.oz_rows.specs.RowMaps.{row_of}
-use Rattle.oz_nodes_loaded.specs.declared.disk_name.DiskName.{DiskName}
-use Rattle.oz_nodes_loaded.specs.declared.disk_name.DiskName.TheVariants as disk
-use Rattle.oz_nodes_loaded.specs.declared.fault.StoreFault.{StoreFault}
-use Rattle.oz_nodes_loaded.specs.declared.fault.StoreFault.TheVariants.{Disk, Damaged, Nodes, Ids, OutOfMemory}
-use Rattle.oz_nodes_loaded.specs.Ids.{HoldsId}
+use Rattle.oz_running.specs.disk_name.DiskName.{DiskName}
+use Rattle.oz_running.specs.disk_name.DiskName.TheVariants as disk
+use Rattle.oz_running.specs.fault.StoreFault.{StoreFault}
+use Rattle.oz_running.specs.fault.StoreFault.TheVariants.{Disk, Damaged, Nodes, Ids, OutOfMemory}
+use Rattle.oz_running.specs.Ids.{HoldsId}
 use Rattle.oz_scm.specs.Scm.{StandsFor as StandsForScm, IsDamagedDisk as IsDamagedScm, IsOfNodes}
 use Rattle.oz_world.specs.Disk.{Seen}
 

@@ -6,28 +6,27 @@ ghost use Rattle.oz_cluster.specs.StatusCauses.{StatusCauses, StoreLoads};
 ghost use Rattle.oz_cluster.specs.Stopped.{IsScript};
 ghost use Rattle.oz_cluster.specs.Unwritten.{AreUnwritten};
 ghost use Rattle.oz_core.specs.declared.event.Event.{Event as AnyEvent};
-ghost use Rattle.oz_disk_run.specs.Coherent.{IsCoherentStore};
-ghost use Rattle.oz_disk_run.specs.StoreRun.{IsStoreRun};
-ghost use Rattle.oz_disk_run.specs.declared.disks.Disks.{Disks};
+ghost use Rattle.oz_running.specs.disk_run.Coherent.{IsCoherentStore};
+ghost use Rattle.oz_running.specs.disk_run.StoreRun.{IsStoreRun};
+ghost use Rattle.oz_running.specs.declared.disk_run.disks.Disks.{Disks};
 ghost use Rattle.oz_journal.specs.Grammar.{IsJournal};
-ghost use Rattle.oz_lines.specs.declared.script.Script.{Script as AnyScript};
+ghost use Rattle.oz_script.specs.declared.lines.script.Script.{Script as AnyScript};
 ghost use Rattle.oz_loaded.specs.Loads.{IsLoaded};
 ghost use Rattle.oz_loaded.specs.Unseated.{UnseatedView};
 ghost use Rattle.oz_namespace.specs.Namespace.{nothing};
 ghost use Rattle.oz_rows.specs.RowMaps.{row_of};
 ghost use Rattle.oz_sound.specs.Sound.{IsSoundButRenames};
 ghost use Rattle.oz_sound.specs.StandsFor.{StandsFor};
-ghost use Rattle.oz_store_opening.specs.Openings.{opening_bytes, opening_of};
-ghost use Rattle.oz_words.specs.Words.{IsRun};
+ghost use Rattle.oz_running.specs.store_opening.Openings.{opening_bytes, opening_of};
+ghost use Rattle.oz_command.specs.command_line.Words.{IsRun};
 ghost use Rattle.oz_world.specs.Disk.{seen};
 ghost use Rattle.oz_world.specs.Faults.{Rose};
 
-use oz_build::bodies_make_one_thing;
+use oz_command::words_of_a_run_have_no_fault;
 use oz_loaded::a_disk_loads_as_one_thing;
-use oz_nodes_loaded::what_loads_is_not_refused;
+use oz_running::{all_disks_are_a_store, unwritten_disks_are_a_store, what_loads_is_not_refused};
 use oz_store::an_empty_store_is_one;
-use oz_store_opening::{all_disks_are_a_store, unwritten_disks_are_a_store};
-use oz_words::words_of_a_run_have_no_fault;
+use oz_tables::bodies_make_one_thing;
 use oz_world::Disk;
 
 /// Words and a script in their grammars, disks that load and whose ids aren't granted again, and no count of faults that

@@ -11,8 +11,7 @@ pub use laws::{
     a_run_that_nothing_disturbs_is_done, an_empty_disk_opens_as_nothing,
     unwritten_disks_are_coherent,
 };
+pub use oz_command::{Words, read_words};
 pub use oz_datanode::NodeDisks;
-pub use oz_disk_run::Disks;
-pub use oz_headline::Status;
-pub use oz_words::{Words, read_words};
+pub use oz_running::{DiskName, Disks, Status};
 pub use top::{Ended, run};

@@ -5,21 +5,18 @@ ghost use Rattle.std.specs.String.{string_bytes};
 ghost use Rattle.oz_world.specs.Faults.{Rose};
 ghost use Rattle.oz_cluster.specs.declared.stop.Stop.{Stop};
 ghost use Rattle.oz_cluster.specs.Stopped.{IsScriptOf, IsSo, Reads, status_of, status_of_store, text_of};
-ghost use Rattle.oz_headline.specs.Printed.{Says};
-ghost use Rattle.oz_lines.specs.Numbered.{IsNumbered};
+ghost use Rattle.oz_running.specs.Printed.{Says};
+ghost use Rattle.oz_script.specs.lines.Numbered.{IsNumbered};
 ghost use Rattle.oz_nodes.specs.declared.nodes.TheConstants.{FEWEST_NODES, MOST_NODES};
 ghost use Rattle.oz_cluster.specs.Streams.{script_limit, TakesUpTo, IsReadThrough};
-ghost use Rattle.oz_words.specs.Words.{IsRun, IsRunWith};
+ghost use Rattle.oz_command.specs.command_line.Words.{IsRun, IsRunWith};
 
 use crate::streams::{ReadFault, read_script, write_all};
 use crate::texts;
-use oz_draft::{Cause, ScriptFault};
+use oz_command::{Words, read_words};
 use oz_fields::OutOfMemory;
-use oz_headline::Status;
-use oz_lines::Script;
-use oz_nodes_loaded::StoreFault;
-use oz_script::parse;
-use oz_words::{Words, read_words};
+use oz_running::{Status, StoreFault};
+use oz_script::{Cause, Script, ScriptFault, parse};
 use oz_world::{Sink, Source};
 use std::alloc::Global;
 

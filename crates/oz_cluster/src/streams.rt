@@ -5,10 +5,10 @@ ghost use Rattle.std.specs.Prelude.{IfSome, IsErrOf};
 ghost use Rattle.std.specs.Option.{option_map};
 ghost use Rattle.oz_world.specs.Faults.{Rose, HasCause};
 ghost use Rattle.oz_cluster.specs.Streams.{IsReadThrough, TakesUpTo, script_limit};
-ghost use Rattle.oz_headline.specs.Printed.{HoldsPrefix};
+ghost use Rattle.oz_running.specs.Printed.{HoldsPrefix};
 
-use oz_draft::MOST_BYTES;
 use oz_fields::OutOfMemory;
+use oz_script::MOST_BYTES;
 use oz_world::{Failed, Sink, Source};
 use std::alloc::Global;
 

@@ -3,10 +3,10 @@
 ghost use Rattle.std.specs.Prelude.{◌≡◌, IfOk};
 ghost use Rattle.std.specs.String.{string_bytes};
 ghost use Rattle.oz_cluster.specs.Texts.{disk_text, read_fault, script_fault, store_text as text_of_fault, words_fault};
-ghost use Rattle.oz_headline.specs.Printed.{memory_fault};
+ghost use Rattle.oz_running.specs.Printed.{memory_fault};
 
 use oz_fields::OutOfMemory;
-use oz_nodes_loaded::{DiskName, StoreFault};
+use oz_running::{DiskName, StoreFault};
 use std::alloc::Global;
 
 /// The words are wrong at this place, counted from 1.

@@ -5,9 +5,9 @@ ghost use Rattle.std.specs.String.{string_bytes};
 ghost use Rattle.oz_cluster.specs.Headline.{RunEnds};
 ghost use Rattle.oz_cluster.specs.StatusCauses.{StatusCauses};
 ghost use Rattle.oz_cluster.specs.Streams.{TakesUpTo, script_limit};
-ghost use Rattle.oz_headline.specs.Printed.{IsPrinted};
-ghost use Rattle.oz_headline.specs.Statuses.{status_number};
-ghost use Rattle.oz_words.specs.Words.{IsRun, IsRunWith};
+ghost use Rattle.oz_running.specs.Printed.{IsPrinted};
+ghost use Rattle.oz_running.specs.Statuses.{status_number};
+ghost use Rattle.oz_command.specs.command_line.Words.{IsRun, IsRunWith};
 ghost use Rattle.oz_world.specs.Disk.{seen};
 ghost use Rattle.oz_world.specs.Faults.{Rose};
 
@@ -15,15 +15,16 @@ use crate::stop::{Begun, Stop, begin, say, say_stop};
 use crate::streams::write_all;
 use crate::texts;
 use oz_block::a_disk_stands_for_one_node;
+use oz_command::words_of_a_run_have_no_fault;
 use oz_core::Event;
-use oz_disk_run::{Disks, RefusedStore, StoreRan, run_over_disks};
-use oz_halts::a_halted_node_counted;
-use oz_headline::{Status, all_are_told_by_count};
-use oz_lines::Script;
 use oz_loaded::a_disk_loads_as_one_thing;
 use oz_report::text;
+use oz_running::{
+    Disks, RefusedStore, Status, StoreRan, a_halted_node_counted, all_are_told_by_count,
+    run_over_disks,
+};
 use oz_scm::a_disk_stands_for_one_thing;
-use oz_words::words_of_a_run_have_no_fault;
+use oz_script::Script;
 use oz_world::{Disk, Gate, Sink, Source};
 use std::alloc::Global;
 use std::sync::Wait;

@@ -1,3 +1,4 @@
 mod DigitFacts
 mod Fills
 mod Parts
+mod command_line_lemmas

@@ -3,3 +3,4 @@ pub mod Numbers
 pub mod Paths
 pub mod Payload
 pub mod Words
+pub mod command_line

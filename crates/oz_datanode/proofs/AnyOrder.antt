@@ -6,8 +6,8 @@ use Rattle.sha2.specs.Sha256.{sha256}
 use Rattle.oz_chunk.specs.Slots.{IsWithin}
 use Rattle.oz_entries.specs.Held.{any_in}
 use Rattle.oz_fields.specs.declared.block.Block.{Block}
-use Rattle.oz_shelf.specs.declared.written.Written.{Written}
-use Rattle.oz_shelf.specs.Written.{chunks_in, is_at, is_of, makes, makes_from, row_of, written_of}
+use Rattle.oz_block.specs.declared.shelf.written.Written.{Written}
+use Rattle.oz_block.specs.shelf.Written.{chunks_in, is_at, is_of, makes, makes_from, row_of, written_of}
 use Rattle.oz_datanode.specs.Pairs.{Has, HaveDigests, part_of, parts_of}
 use Rattle.oz_datanode.specs.Writing.{HasPart, intact}
 

@@ -12,9 +12,9 @@ use Rattle.oz_entries.specs.declared.row.Chunk.{Chunk}
 use Rattle.oz_entries.specs.Held.{any_in}
 use Rattle.oz_entries.specs.Node.{Node, is_held, is_used, with_row, HaveFreeSlots, or_slots, RowFits, chunk_count}
 use Rattle.oz_fields.specs.declared.block.Block.{Block}
-use Rattle.oz_shelf.specs.Shelf.{ShelfView, Rests, AreSettled, KeepsTold}
-use Rattle.oz_shelf.specs.Written.{chunks_in, is_of, written_of, written_besides}
-use Rattle.oz_shelf.specs.laws.Parting.{any_of, free_passed}
+use Rattle.oz_block.specs.shelf.Shelf.{ShelfView, Rests, AreSettled, KeepsTold}
+use Rattle.oz_block.specs.shelf.Written.{chunks_in, is_of, written_of, written_besides}
+use Rattle.oz_block.specs.shelf.laws.Parting.{any_of, free_passed}
 use Rattle.oz_world.specs.Disk.{Images, Seen, seen, TellsAsBefore}
 use Rattle.oz_datanode.specs.Datanode.{State, node_in, meta_of, slots_of}
 use Rattle.oz_datanode.specs.Pairs.{Content, Has, HaveAll, PairHolds, NodeHolds, journal_seen, slots_seen, with_content}

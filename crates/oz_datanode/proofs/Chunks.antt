@@ -10,9 +10,9 @@ use Rattle.oz_entries.specs.declared.row.Chunk.{Chunk}
 use Rattle.oz_entries.specs.Held.{any_in, belongs_to, row_has, IsSound}
 use Rattle.oz_entries.specs.Node.{Node, HaveFreeSlots, or_slot, or_slots, is_used}
 use Rattle.oz_fields.specs.declared.block.Block.{Block}
-use Rattle.oz_shelf.specs.declared.written.Written.{Written}
-use Rattle.oz_shelf.specs.Shelf.{ShelfView, Rests, HaveSame}
-use Rattle.oz_shelf.specs.Written.{chunks_in}
+use Rattle.oz_block.specs.declared.shelf.written.Written.{Written}
+use Rattle.oz_block.specs.shelf.Shelf.{ShelfView, Rests, HaveSame}
+use Rattle.oz_block.specs.shelf.Written.{chunks_in}
 use Rattle.oz_world.specs.Disk.{Seen, Stands}
 use Rattle.sha2.specs.Sha256.{sha256}
 use Rattle.oz_datanode.specs.Pairs.{Content, HaveAll, PairHolds, part_of, parts_of, HaveDigests}

@@ -9,9 +9,9 @@ use Rattle.oz_entries.specs.Node.{Node, empty_node, HaveFreeSlots, or_slots}
 use Rattle.oz_entries.specs.laws.Journals.{none_made}
 use Rattle.oz_fields.specs.declared.block.Block.{Block}
 use Rattle.oz_journal.specs.Grammar.{IsJournal, TellsBodies}
-use Rattle.oz_shelf.specs.declared.written.Written.{Written}
-use Rattle.oz_shelf.specs.Shelf.{ShelfView, Rests, HaveSame}
-use Rattle.oz_shelf.specs.Written.{chunks_in}
+use Rattle.oz_block.specs.declared.shelf.written.Written.{Written}
+use Rattle.oz_block.specs.shelf.Shelf.{ShelfView, Rests, HaveSame}
+use Rattle.oz_block.specs.shelf.Written.{chunks_in}
 use Rattle.oz_world.specs.Disk.{Seen, IsStable, TellsAsBefore}
 use Rattle.oz_datanode.specs.Pairs.{Content, HaveAll, PairHolds}
 use Rattle.oz_datanode.specs.Steps.{is_in_use}

@@ -7,8 +7,8 @@ use Rattle.oz_entries.specs.Held.{any_in}
 use Rattle.oz_entries.specs.Node.{is_used, chunk_count}
 use Rattle.oz_fields.specs.declared.block.Block.{Block}
 use Rattle.sha2.specs.Sha256.{sha256}
-use Rattle.oz_shelf.specs.Written.{chunks_in, written_of, written_besides}
-use Rattle.oz_shelf.specs.laws.Written.{makes_count, besides_written}
+use Rattle.oz_block.specs.shelf.Written.{chunks_in, written_of, written_besides}
+use Rattle.oz_block.specs.shelf.laws.Written.{makes_count, besides_written}
 use Rattle.oz_world.specs.Disk.{Images}
 use Rattle.oz_datanode.specs.Datanode.{State, Runs, DisksGoOn, node_in, slots_of}
 use Rattle.oz_datanode.specs.laws.GoingOn.{disks_same, go_on_then, rose_since}

@@ -9,9 +9,9 @@ use Rattle.oz_entries.specs.Held.{any_in, belongs_to, row_has, IsSound, is_freed
 use Rattle.oz_entries.specs.Node.{Node, HaveFreeSlots, or_slot, or_slots, is_used, is_held, is_in, unless_gone}
 use Rattle.oz_entries.specs.laws.Sound.{free_slot}
 use Rattle.oz_fields.specs.declared.block.Block.{Block}
-use Rattle.oz_shelf.specs.declared.written.Written.{Written}
-use Rattle.oz_shelf.specs.Shelf.{ShelfView, Rests, HaveSame}
-use Rattle.oz_shelf.specs.Written.{chunks_in}
+use Rattle.oz_block.specs.declared.shelf.written.Written.{Written}
+use Rattle.oz_block.specs.shelf.Shelf.{ShelfView, Rests, HaveSame}
+use Rattle.oz_block.specs.shelf.Written.{chunks_in}
 use Rattle.oz_world.specs.Disk.{Seen}
 
 or_slots_parts : (used : ℕ → Bool) (chunks : List Chunk) (slot : ℕ) → or_slots used chunks slot ≡ (used slot || any_in chunks slot)

@@ -11,7 +11,7 @@ use Rattle.oz_entries.specs.laws.Journals.{sound_made, empty_sound}
 use Rattle.oz_entries.specs.declared.row.BlockRow.{BlockRow}
 use Rattle.oz_entries.specs.declared.row.Chunk.{Chunk}
 use Rattle.oz_fields.specs.declared.block.Block.{Block}
-use Rattle.oz_shelf.specs.Shelf.{HaveSame, AreSettled, KeepsTold}
+use Rattle.oz_block.specs.shelf.Shelf.{HaveSame, AreSettled, KeepsTold}
 use Rattle.oz_world.specs.Disk.{Seen, TellsAsBefore}
 use Rattle.oz_datanode.specs.Pairs.{Content, Has, HaveAll, HaveDigests, PairHolds, part_of, parts_of}
 use Rattle.oz_datanode.specs.Steps.{is_in_use}

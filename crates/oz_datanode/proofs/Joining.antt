@@ -3,7 +3,7 @@ use Rattle.std.proofs.Common.{◌≡◌, ℕ, cond, Bool, true, false, List, Opt
 use Rattle.oz_entries.specs.Node.{is_held, is_same_block}
 use Rattle.oz_entries.specs.laws.Blocks.{same_block, itself}
 use Rattle.oz_fields.specs.declared.block.Block.{Block}
-use Rattle.oz_shelf.specs.Shelf.{ShelfView}
+use Rattle.oz_block.specs.shelf.Shelf.{ShelfView}
 use Rattle.oz_world.specs.Disk.{Images, seen}
 use Rattle.oz_datanode.specs.Datanode.{State, node_in, slots_of}
 use Rattle.oz_datanode.specs.Pairs.{Content, PairHolds, NodeHolds, journal_seen, with_content}

@@ -1,10 +1,12 @@
 pub mod AnyOrder
 pub mod Calls
 pub mod Chunks
+pub mod Copied
 pub mod Emptied
 pub mod Filling
 pub mod Gone
 pub mod Holding
+pub mod Hashing
 pub mod Joining
 pub mod Journaling
 pub mod Listing

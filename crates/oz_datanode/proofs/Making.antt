@@ -12,10 +12,10 @@ use Rattle.oz_entries.specs.Node.{has_slot, is_same_block}
 use Rattle.oz_entries.specs.declared.row.BlockRow.{BlockRow}
 use Rattle.oz_entries.specs.declared.row.Chunk.{Chunk}
 use Rattle.oz_fields.specs.declared.block.Block.{Block}
-use Rattle.oz_shelf.specs.declared.written.Written.{Written}
-use Rattle.oz_shelf.specs.Shelf.{ShelfView, IsWritten, KeepsTold}
-use Rattle.oz_shelf.specs.Written.{chunks_in, is_at, with_written, makes, makes_from, row_of, written_of}
-use Rattle.oz_shelf.specs.laws.Written.{next_written, next_count, next_makes, others_written}
+use Rattle.oz_block.specs.declared.shelf.written.Written.{Written}
+use Rattle.oz_block.specs.shelf.Shelf.{ShelfView, IsWritten, KeepsTold}
+use Rattle.oz_block.specs.shelf.Written.{chunks_in, is_at, with_written, makes, makes_from, row_of, written_of}
+use Rattle.oz_block.specs.shelf.laws.Written.{next_written, next_count, next_makes, others_written}
 use Rattle.oz_world.specs.Disk.{TellsAsBefore}
 use Rattle.oz_datanode.specs.Pairs.{Content, Has, HaveDigests, part_of, parts_of}
 use Rattle.oz_datanode.specs.Writing.{HasPart, MakeBytes, intact}

@@ -13,7 +13,7 @@ use Rattle.oz_entries.specs.Held.{is_freed}
 use Rattle.oz_entries.specs.Node.{Node, is_used, is_held, names, names_held, with_number, without}
 use Rattle.oz_entries.specs.Reading.{is_due}
 use Rattle.oz_fields.specs.declared.block.Block.{Block}
-use Rattle.oz_shelf.specs.Release.{is_one_of}
+use Rattle.oz_block.specs.shelf.Release.{is_one_of}
 use Rattle.oz_world.specs.Disk.{Seen}
 use Rattle.oz_datanode.specs.Changing.{held_count}
 use Rattle.oz_datanode.specs.Steps.{is_in_use}

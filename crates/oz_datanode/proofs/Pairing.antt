@@ -8,7 +8,7 @@ use Rattle.oz_entries.specs.laws.Blocks.{same_block}
 use Rattle.oz_entries.specs.declared.row.BlockRow.{BlockRow}
 use Rattle.oz_entries.specs.declared.row.Chunk.{Chunk}
 use Rattle.oz_fields.specs.declared.block.Block.{Block}
-use Rattle.oz_shelf.specs.Shelf.{HaveSame, AreSettled, KeepsTold}
+use Rattle.oz_block.specs.shelf.Shelf.{HaveSame, AreSettled, KeepsTold}
 use Rattle.oz_world.specs.Disk.{Seen, TellsAsBefore}
 use Rattle.oz_world.specs.Moments.{LeavesOnly}
 use Rattle.oz_datanode.specs.Pairs.{Content, Has, HaveAll, PairHolds, with_content}

@@ -4,10 +4,10 @@ use Rattle.oz_chunk.specs.Taken.{is_taken, AllTakenBelow}
 use Rattle.oz_entries.specs.Held.{any_in}
 use Rattle.oz_entries.specs.Node.{Node, is_used}
 use Rattle.oz_fields.specs.declared.block.Block.{Block}
-use Rattle.oz_shelf.specs.Shelf.{ShelfView, Rests}
-use Rattle.oz_shelf.specs.declared.written.Written.{Written}
-use Rattle.oz_shelf.specs.Written.{chunks_in, is_of, written_of}
-use Rattle.oz_shelf.specs.laws.Parting.{any_of}
+use Rattle.oz_block.specs.shelf.Shelf.{ShelfView, Rests}
+use Rattle.oz_block.specs.declared.shelf.written.Written.{Written}
+use Rattle.oz_block.specs.shelf.Written.{chunks_in, is_of, written_of}
+use Rattle.oz_block.specs.shelf.laws.Parting.{any_of}
 use Rattle.oz_world.specs.Disk.{Seen}
 use Rattle.oz_datanode.specs.Datanode.{State}
 use Rattle.oz_datanode.specs.Steps.{is_in_use, PartEnds}

@@ -8,12 +8,12 @@ use Rattle.oz_entries.specs.Held.{any_in}
 use Rattle.oz_entries.specs.Node.{Node, is_used, chunk_count}
 use Rattle.oz_entries.specs.declared.row.BlockRow.{BlockRow}
 use Rattle.oz_fields.specs.declared.block.Block.{Block}
-use Rattle.oz_shelf.specs.declared.written.Written.{Written}
-use Rattle.oz_shelf.specs.Shelf.{ShelfView, Rests}
-use Rattle.oz_shelf.specs.Written.{chunks_in, is_of, written_of, written_besides}
-use Rattle.oz_shelf.specs.laws.FreeSlots.{or_slots_split}
-use Rattle.oz_shelf.specs.laws.Parting.{any_parts}
-use Rattle.oz_shelf.specs.laws.Written.{besides_again}
+use Rattle.oz_block.specs.declared.shelf.written.Written.{Written}
+use Rattle.oz_block.specs.shelf.Shelf.{ShelfView, Rests}
+use Rattle.oz_block.specs.shelf.Written.{chunks_in, is_of, written_of, written_besides}
+use Rattle.oz_block.specs.shelf.laws.FreeSlots.{or_slots_split}
+use Rattle.oz_block.specs.shelf.laws.Parting.{any_parts}
+use Rattle.oz_block.specs.shelf.laws.Written.{besides_again}
 use Rattle.oz_world.specs.Disk.{Images, Seen}
 use Rattle.oz_world.specs.Faults.{Rose}
 use Rattle.oz_datanode.specs.Copying.{CopyGoes}

@@ -1,7 +1,7 @@
 -- What a datanode that runs tells.
 use Rattle.std.proofs.Common.{◌≡◌, ℕ, ◌+◌, ◌-◌, ◌^◌, min, Bool, true, false, cond, ◌||◌, None, Some, refl}
 use Rattle.oz_block.specs.Blocks.{State as Blocks}
-use Rattle.oz_shelf.specs.Shelf.{ShelfView}
+use Rattle.oz_block.specs.shelf.Shelf.{ShelfView}
 use Rattle.oz_datanode.specs.Datanode.{State, Runs, is_halted, count_of}
 
 parts : (a b stopped : Bool) (count : ℕ) → cond (a || b) (Some count) (cond stopped (Some 0) None) ≡ None → (a ≡ false) × (b ≡ false) × (stopped ≡ false)

@@ -9,7 +9,7 @@ use Rattle.oz_entries.specs.declared.entry.Entry.TheVariants as entries
 use Rattle.oz_entries.specs.declared.row.BlockRow.{BlockRow}
 use Rattle.oz_entries.specs.declared.row.Chunk.{Chunk}
 use Rattle.oz_fields.specs.declared.block.Block.{Block}
-use Rattle.oz_shelf.specs.Written.{chunks_in, written_besides}
+use Rattle.oz_block.specs.shelf.Written.{chunks_in, written_besides}
 use Rattle.oz_world.specs.Disk.{Images}
 use Rattle.oz_world.specs.Faults.{Rose}
 use Rattle.oz_datanode.specs.Datanode.{State as NodeState, node_in, meta_of, slots_of, is_halted, count_of, Runs}

@@ -6,7 +6,7 @@ use Rattle.oz_chunk.specs.Slots.{start_of, end_of, IsWithin}
 use Rattle.oz_entries.specs.Node.{Node, is_used}
 use Rattle.oz_datanode.specs.declared.disks.NodeDisks.{NodeDisks}
 use Rattle.oz_datanode.specs.declared.fault.NodeFault.{NodeFault}
-use Rattle.oz_shelf.specs.Shelf.{ShelfView}
+use Rattle.oz_block.specs.shelf.Shelf.{ShelfView}
 use Rattle.oz_world.specs.Disk.{TellsAsBefore}
 
 -- its number, its blocks, its slots, and whether a line stopped it

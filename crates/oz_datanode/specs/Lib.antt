@@ -1,9 +1,11 @@
 pub mod Changing
 pub mod Copying
 pub mod Datanode
+pub mod Hashed
 pub mod Pairs
 pub mod Reading
 pub mod Steps
+pub mod Unverified
 pub mod Wiping
 pub mod Writing
 pub mod laws

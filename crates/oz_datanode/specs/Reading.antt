@@ -5,7 +5,7 @@ use Rattle.oz_entries.specs.declared.row.BlockRow.{BlockRow}
 use Rattle.oz_entries.specs.declared.row.Chunk.{Chunk}
 use Rattle.oz_entries.specs.Node.{is_held}
 use Rattle.oz_fields.specs.declared.block.Block.{Block}
-use Rattle.oz_shelf.specs.Shelf.{ShelfView}
+use Rattle.oz_block.specs.shelf.Shelf.{ShelfView}
 use Rattle.oz_world.specs.Disk.{Seen, Stands}
 use Rattle.oz_world.specs.Faults.{Rose}
 use Rattle.sha2.specs.Sha256.{sha256}

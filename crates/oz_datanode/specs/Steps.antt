@@ -13,7 +13,7 @@ use Rattle.oz_entries.specs.Held.{any_in}
 use Rattle.oz_entries.specs.Node.{Node, is_used, chunk_count}
 use Rattle.oz_entries.specs.declared.row.BlockRow.{BlockRow}
 use Rattle.oz_fields.specs.declared.block.Block.{Block}
-use Rattle.oz_shelf.specs.Written.{chunks_in, written_of, written_besides}
+use Rattle.oz_block.specs.shelf.Written.{chunks_in, written_of, written_besides}
 use Rattle.oz_world.specs.Disk.{Images, Seen, IsStable}
 use Rattle.oz_datanode.specs.Datanode.{State, Runs, DisksGoOn, node_in, slots_of, is_halted, count_of}
 use Rattle.oz_datanode.specs.Pairs.{Content, NodeHolds}

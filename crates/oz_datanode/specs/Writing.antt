@@ -14,9 +14,9 @@ use Rattle.oz_entries.specs.declared.entry.Entry.TheVariants as entries
 use Rattle.oz_entries.specs.declared.row.BlockRow.{BlockRow}
 use Rattle.oz_entries.specs.declared.row.Chunk.{Chunk}
 use Rattle.oz_fields.specs.declared.block.Block.{Block}
-use Rattle.oz_shelf.specs.Shelf.{ShelfView, IsWritten, KeepsTold}
-use Rattle.oz_shelf.specs.Written.{chunks_in, is_at, makes, row_of, written_of, written_besides}
-use Rattle.oz_shelf.specs.declared.written.Written.{Written}
+use Rattle.oz_block.specs.shelf.Shelf.{ShelfView, IsWritten, KeepsTold}
+use Rattle.oz_block.specs.shelf.Written.{chunks_in, is_at, makes, row_of, written_of, written_besides}
+use Rattle.oz_block.specs.declared.shelf.written.Written.{Written}
 use Rattle.oz_world.specs.Disk.{Images}
 use Rattle.oz_world.specs.Faults.{Rose}
 use Rattle.sha2.specs.Sha256.{sha256}

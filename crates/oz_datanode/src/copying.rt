@@ -8,7 +8,7 @@ ghost use Rattle.oz_fields.specs.declared.block.TheConstants.{LONGEST_PIECE};
 ghost use Rattle.oz_rows.specs.Rows.{IsBlock};
 ghost use Rattle.oz_entries.specs.Held.{any_in};
 ghost use Rattle.oz_chunk.specs.Taken.{is_taken};
-ghost use Rattle.oz_shelf.specs.Written.{chunks_in, written_of, written_besides};
+ghost use Rattle.oz_block.specs.shelf.Written.{chunks_in, written_of, written_besides};
 ghost use Rattle.oz_datanode.specs.Copying.{CopyGoes};
 ghost use Rattle.oz_datanode.specs.Datanode.{Runs, stop_of, DisksGoOn};
 ghost use Rattle.oz_datanode.specs.Pairs.{Content, NodeHolds, journal_seen, with_content};
@@ -23,6 +23,7 @@ use oz_chunk::SLOT_SIZE;
 use oz_container::State;
 use oz_fields::Block;
 use oz_world::Disk;
+use sha2::{Digest, Sha256};
 use std::alloc::Global;
 
 impl<D: Disk> Datanode<D> {
@@ -100,17 +101,12 @@ impl<D: Disk> Datanode<D> {
             NodeHolds D.told D.clock D.image D.faults contents self.new }
         ensures goes_on { DisksGoOn D.told D.faults self.old self.new }
     {
-        self.fill(alloc, block, bytes)?;
+        self.fill(block, bytes)?;
         self.keep(alloc, block, bytes.len() as u32)
     }
 
     /// Writes the chunks of a block, one behind the other.
-    pub(crate) fn fill(
-        &mut self,
-        alloc: Global,
-        block: Block,
-        bytes: &[u8],
-    ) -> Result<(), NodeRefusal>
+    pub(crate) fn fill(&mut self, block: Block, bytes: &[u8]) -> Result<(), NodeRefusal>
         requires running { Runs D.faults self.old }
         requires at_rest { AtRest (node_in self.old) (journal_seen D.told D.clock D.image D.faults self.old) }
         requires empty { written_of block self.old.shelf.written ≡ [] }
@@ -123,14 +119,15 @@ impl<D: Disk> Datanode<D> {
         ensures goes_on { DisksGoOn D.told D.faults self.old self.new }
     {
         for place in 0..(bytes.len() + (SLOT_SIZE as usize - 1)) / SLOT_SIZE as usize {
-            self.write_part(alloc, block, place as u8, part_at(bytes, place))?;
+            let part = part_at(bytes, place);
+            self.write_part(block, place as u8, part, Sha256::digest(part))?;
         }
         Ok(())
     }
 }
 
 /// The chunk in this place of the bytes of a block.
-fn part_at(bytes: &[u8], place: usize) -> &[u8]
+pub(crate) fn part_at(bytes: &[u8], place: usize) -> &[u8]
     requires { place * SLOT_BYTES < length bytes.now }
     ensures part { result.now ≡ slice_range bytes.now (place * SLOT_BYTES)
         (place * SLOT_BYTES + min (length bytes.now - place * SLOT_BYTES) SLOT_BYTES) }

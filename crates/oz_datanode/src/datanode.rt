@@ -18,9 +18,8 @@ use crate::disks::NodeDisks;
 use crate::fault::NodeFault;
 use crate::loading::{journal_fault, slot_fault, used_slots};
 use crate::refusal::NodeRefusal;
-use oz_block::{Blocks, a_disk_stands_for_one_node};
+use oz_block::{Blocks, Shelf, a_disk_stands_for_one_node};
 use oz_container::State;
-use oz_shelf::Shelf;
 use oz_world::Disk;
 use std::alloc::Global;
 use std::marker::Model;
@@ -39,7 +38,7 @@ impl<D: Disk> Model for Datanode<D> {
     ghost use Rattle.oz_block.specs.Blocks.{node_in as node_in_blocks};
     ghost use Rattle.oz_datanode.specs.Datanode.{State as NodeState};
     ghost use Rattle.oz_datanode.specs.Steps.{is_in_use};
-    ghost use Rattle.oz_shelf.specs.Shelf.{Rests};
+    ghost use Rattle.oz_block.specs.shelf.Shelf.{Rests};
     ghost use Rattle.oz_world.specs.Disk.{seen};
 
     ghost Value = { NodeState D };

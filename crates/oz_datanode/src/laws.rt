@@ -9,8 +9,8 @@ ghost use Rattle.oz_datanode.specs.Writing.{HasPart, intact};
 ghost use Rattle.oz_entries.specs.Node.{Node};
 ghost use Rattle.oz_fields.specs.declared.block.Block.{Block};
 ghost use Rattle.oz_journal.specs.Load.{IsLeftAlone};
-ghost use Rattle.oz_shelf.specs.Written.{makes, row_of};
-ghost use Rattle.oz_shelf.specs.declared.written.Written.{Written};
+ghost use Rattle.oz_block.specs.shelf.Written.{makes, row_of};
+ghost use Rattle.oz_block.specs.declared.shelf.written.Written.{Written};
 ghost use Rattle.oz_world.specs.Faults.{Rose};
 
 use oz_block::a_disk_stands_for_one_node;

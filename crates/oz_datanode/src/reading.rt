@@ -15,10 +15,10 @@ ghost use Rattle.sha2.specs.Sha256.{sha256};
 
 use crate::datanode::Datanode;
 use crate::refusal::NodeRefusal;
+use oz_block::Shelf;
 use oz_chunk::SLOT_SIZE;
 use oz_entries::Chunk;
 use oz_fields::Block;
-use oz_shelf::Shelf;
 use oz_world::Disk;
 use sha2::{Digest, Sha256};
 use std::alloc::Global;
@@ -138,7 +138,7 @@ fn read_chunk<D: Disk>(
 }
 
 /// So many bytes from the beginning of a slot.
-fn read_slot<D: Disk>(
+pub(crate) fn read_slot<D: Disk>(
     alloc: Global,
     shelf: &mut Shelf<D>,
     slot: u32,

@@ -6,20 +6,21 @@ ghost use Rattle.oz_entries.specs.Node.{is_held, is_deleted, is_same_block};
 ghost use Rattle.oz_fields.specs.declared.block.Block.{Block as BlockName};
 ghost use Rattle.oz_fields.specs.declared.block.TheConstants.{LONGEST_PIECE};
 ghost use Rattle.oz_rows.specs.Rows.{IsBlock};
-ghost use Rattle.oz_shelf.specs.Written.{makes, row_of, written_of};
+ghost use Rattle.oz_block.specs.shelf.Written.{makes, row_of, written_of};
 ghost use Rattle.oz_datanode.specs.Datanode.{stop_of, Runs, DisksGoOn};
 ghost use Rattle.oz_datanode.specs.Pairs.{Content, Has, NodeHolds, journal_seen, with_content};
 ghost use Rattle.oz_datanode.specs.Writing.{is_open, state_for, HasPart, MakeBytes, contents_with, WriteEnds, PutEnds, Abandons};
 ghost use Rattle.oz_datanode.specs.Steps.{PartEnds, KeepEnds, AtRest};
 ghost use Rattle.oz_datanode.specs.declared.refusal.NodeRefusal.TheVariants as refusals;
+ghost use Rattle.sha2.specs.Sha256.{sha256};
 
 use crate::datanode::Datanode;
 use crate::refusal::NodeRefusal;
-use oz_block::{BlockFault, a_disk_stands_for_one_node};
+use oz_block::{BlockFault, Unwritten, a_disk_stands_for_one_node, each_place_has_its_last_chunk};
 use oz_container::State;
 use oz_fields::Block;
-use oz_shelf::{Unwritten, each_place_has_its_last_chunk};
 use oz_world::Disk;
+use sha2::{Digest, Sha256};
 use std::alloc::Global;
 
 impl<D: Disk> Datanode<D> {
@@ -59,7 +60,7 @@ impl<D: Disk> Datanode<D> {
     /// in the same place is let go.
     pub fn write(
         &mut self,
-        alloc: Global,
+        _alloc: Global,
         block: Block,
         chunk: u8,
         bytes: &[u8],
@@ -84,24 +85,57 @@ impl<D: Disk> Datanode<D> {
             → NodeHolds D.told D.clock D.image D.faults contents self.new }
         ensures goes_on { DisksGoOn D.told D.faults self.old self.new }
     {
+        self.write_digested(block, chunk, bytes, Sha256::digest(bytes))
+    }
+
+    /// Does what `write` does with a chunk whose SHA-256 the caller has made.
+    pub fn write_digested(
+        &mut self,
+        block: Block,
+        chunk: u8,
+        bytes: &[u8],
+        digest: [u8; 32],
+    ) -> Result<(), NodeRefusal>
+        requires chunk { chunk < 4 }
+        requires least { 1 ≤ length bytes.now }
+        requires most { length bytes.now ≤ SLOT_BYTES }
+        requires digest { digest ≡ sha256 bytes.now }
+        ensures ends { WriteEnds D.told D.faults block chunk bytes.now self.old self.new result }
+        ensures first { OnOk result (chunk ≡ 0 → written_of block self.old.shelf.written ≡ [] →
+            MakeBytes D.told block bytes.now self.new.shelf) }
+        ensures next { OnOk result ((front : List ℕ) → MakeBytes D.told block front self.old.shelf →
+            length front ≡ chunk * SLOT_BYTES → MakeBytes D.told block (front ++ bytes.now) self.new.shelf) }
+        ensures others { OnOk result ((other : BlockName) (made : List ℕ) → is_same_block block other ≡ false →
+            MakeBytes D.told other made self.old.shelf → MakeBytes D.told other made self.new.shelf) }
+        ensures part { OnOk result
+            (HasPart block chunk bytes.now self.new.shelf.written (D.told (slots_of self.new))) }
+        ensures parts { OnOk result ((other : BlockName) (place : ℕ) (part : List ℕ) →
+            (is_same_block block other && (chunk == place)) ≡ false →
+            HasPart other place part self.old.shelf.written (D.told (slots_of self.old)) →
+            HasPart other place part self.new.shelf.written (D.told (slots_of self.new))) }
+        ensures pairs { (contents : BlockName → Content) → NodeHolds D.told D.clock D.image D.faults contents self.old
+            → NodeHolds D.told D.clock D.image D.faults contents self.new }
+        ensures goes_on { DisksGoOn D.told D.faults self.old self.new }
+    {
         self.check_running()?;
         self.check_open(block.container)?;
-        self.write_part(alloc, block, chunk, bytes)
+        self.write_part(block, chunk, bytes, digest)
     }
 
     /// Writes a chunk where it is known that it runs.
     pub(crate) fn write_part(
         &mut self,
-        alloc: Global,
         block: Block,
         chunk: u8,
         bytes: &[u8],
+        digest: [u8; 32],
     ) -> Result<(), NodeRefusal>
         requires running { Runs D.faults self.old }
         requires at_rest { AtRest (node_in self.old) (journal_seen D.told D.clock D.image D.faults self.old) }
         requires chunk { chunk < 4 }
         requires least { 1 ≤ length bytes.now }
         requires most { length bytes.now ≤ SLOT_BYTES }
+        requires digest { digest ≡ sha256 bytes.now }
         ensures ends { PartEnds D.told D.faults block chunk bytes.now self.old self.new result }
         ensures first { OnOk result (chunk ≡ 0 → written_of block self.old.shelf.written ≡ [] →
             MakeBytes D.told block bytes.now self.new.shelf) }
@@ -121,7 +155,7 @@ impl<D: Disk> Datanode<D> {
     {
         a_disk_stands_for_one_node();
         each_place_has_its_last_chunk();
-        match self.shelf.write(alloc, block, chunk, bytes) {
+        match self.shelf.write(block, chunk, bytes, digest) {
             Ok(()) => Ok(()),
             Err(Unwritten::Full(full)) => Err(NodeRefusal::Full {
                 used: full.used,

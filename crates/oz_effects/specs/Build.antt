@@ -6,7 +6,7 @@ use Rattle.oz_rows.specs.declared.key.RowKey.{RowKey}
 use Rattle.oz_rows.specs.declared.key.RowKey.TheVariants as keys
 use Rattle.oz_rows.specs.declared.row.Row.{Row}
 use Rattle.oz_rows.specs.declared.row.Row.TheVariants as rows
-use Rattle.oz_rows.specs.declared.row.SnapshotState.TheVariants.{Live}
+use Rattle.oz_rows.specs.declared.row.SnapshotState.TheVariants.{Live, Marked}
 use Rattle.oz_rows.specs.declared.operation.Operation.{Operation}
 use Rattle.oz_rows.specs.declared.operation.Operation.TheVariants.{Put, Remove}
 use Rattle.oz_rows.specs.declared.operation.Head.{Head}
@@ -25,7 +25,20 @@ base_of (keys.Bucket volume bucket) row = Some (keys.Volume volume)
 base_of (keys.Key volume bucket key) row = Some (keys.Bucket volume bucket)
 base_of (keys.Open volume bucket key number) row = Some (keys.Bucket volume bucket)
 base_of (keys.Snapshot volume bucket number) (rows.Snapshot name previous Live) = Some (keys.Bucket volume bucket)
-base_of key row = None
+base_of (keys.Volume volume) row = None
+base_of (keys.Deleted volume bucket owner key local) row = None
+base_of (keys.SnapshotKey volume bucket snapshot key) row = None
+base_of (keys.Renamed volume bucket owner local) row = None
+base_of (keys.Stripe stripe) row = None
+base_of (keys.Snapshot volume bucket number) (rows.Snapshot name previous Marked) = None
+base_of (keys.Snapshot volume bucket number) rows.Volume = None
+base_of (keys.Snapshot volume bucket number) rows.Bucket = None
+base_of (keys.Snapshot volume bucket number) (rows.Key of_number pieces) = None
+base_of (keys.Snapshot volume bucket number) (rows.Open blocks) = None
+base_of (keys.Snapshot volume bucket number) (rows.Deleted blocks) = None
+base_of (keys.Snapshot volume bucket number) (rows.SnapshotKey of_number pieces) = None
+base_of (keys.Snapshot volume bucket number) (rows.Renamed key) = None
+base_of (keys.Snapshot volume bucket number) (rows.Stripe of_number) = None
 
 -- a row stands without the one that it needs
 pub record IsOrphan (all : List RowEntry) (key base : RowKey) : Type 0 where

@@ -42,13 +42,27 @@ abbrev pub dropped : List ℕ → List ℕ → ℕ → RowKey → List Change
 dropped volume bucket number (keys.SnapshotKey of_volume of_bucket snapshot key) =
     if is_bucket volume bucket of_volume of_bucket && snapshot == number
     then gone (keys.SnapshotKey volume bucket number key) ∷ [] else []
-dropped volume bucket number key = []
+dropped volume bucket number (keys.Volume of_volume) = []
+dropped volume bucket number (keys.Bucket of_volume of_bucket) = []
+dropped volume bucket number (keys.Key of_volume of_bucket key) = []
+dropped volume bucket number (keys.Open of_volume of_bucket key of_number) = []
+dropped volume bucket number (keys.Deleted of_volume of_bucket owner key local) = []
+dropped volume bucket number (keys.Snapshot of_volume of_bucket of_number) = []
+dropped volume bucket number (keys.Renamed of_volume of_bucket owner local) = []
+dropped volume bucket number (keys.Stripe stripe) = []
 
 -- an open row of the bucket goes
 abbrev pub closed : List ℕ → List ℕ → RowKey → List Change
 closed volume bucket (keys.Open of_volume of_bucket key number) =
     if is_bucket volume bucket of_volume of_bucket then gone (keys.Open volume bucket key number) ∷ [] else []
-closed volume bucket key = []
+closed volume bucket (keys.Volume of_volume) = []
+closed volume bucket (keys.Bucket of_volume of_bucket) = []
+closed volume bucket (keys.Key of_volume of_bucket key) = []
+closed volume bucket (keys.Deleted of_volume of_bucket owner key local) = []
+closed volume bucket (keys.Snapshot of_volume of_bucket number) = []
+closed volume bucket (keys.SnapshotKey of_volume of_bucket snapshot key) = []
+closed volume bucket (keys.Renamed of_volume of_bucket owner local) = []
+closed volume bucket (keys.Stripe stripe) = []
 
 -- a key row has the block
 abbrev pub has_block : Block → RowKey → Row → Bool

@@ -3,3 +3,4 @@ pub mod Build
 pub mod Batches
 pub mod Parts
 pub mod laws
+pub mod changes

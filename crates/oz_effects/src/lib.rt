@@ -1,8 +1,9 @@
-//! What operations change among rows, which bytes are the batches and the bodies that make changes, and the rows of a
-//! bucket or a volume in any map of rows.
+//! What operations change among rows, row by row and in any map of rows; which bytes are the batches and bodies that make
+//! changes.
 #![tactic(auto)]
 
 mod batches;
+mod changes;
 mod parts;
 
 pub use batches::{
@@ -10,4 +11,5 @@ pub use batches::{
     closed_sessions_are_a_batch, copied_keys_are_a_batch, dropped_keys_are_a_batch,
     moved_rows_are_a_batch, no_bytes_are_no_changes,
 };
+pub use changes::{closed_sessions, copied_keys, dropped_keys, moved_rows, operation_changes};
 pub use parts::{Part, RowRef, first_key, part_rows};

@@ -3,7 +3,7 @@ use Rattle.std.specs.Prelude.{false}
 use Rattle.std.proofs.Common.{◌≡◌, ℕ, List, [], ◌∷◌, ◌++◌, refl, sym, ap, ◌∙◌, append_assoc}
 use Rattle.std.proofs.lemmas.Bool.{false≢true}
 use Rattle.std.proofs.lemmas.List.{append-nil}
-use Rattle.oz_batches.specs.Body.{body_bytes}
+use Rattle.oz_journal.specs.batches.Body.{body_bytes}
 use Rattle.oz_buffer.specs.Buffer.{buffer_of}
 use Rattle.oz_core.specs.declared.event.Event.{Event}
 use Rattle.oz_core.specs.declared.event.EventKind.{EventKind}

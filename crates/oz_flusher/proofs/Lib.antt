@@ -3,4 +3,5 @@ pub mod Quieting
 pub mod Laws
 pub mod Bodies
 pub mod Stopping
-pub mod Flushing
+pub mod WholeFlush
+pub mod flushing_lemmas

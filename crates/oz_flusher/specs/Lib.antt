@@ -3,3 +3,4 @@ pub mod Taken
 pub mod Quiet
 pub mod Flushes
 pub mod Stops
+pub mod flushing

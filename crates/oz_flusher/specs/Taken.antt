@@ -1,6 +1,6 @@
 -- What a story has taken to be written.
 use Rattle.std.specs.Prelude.{ℕ, List, [], ◌∷◌, ◌++◌}
-use Rattle.oz_batches.specs.Body.{body_bytes}
+use Rattle.oz_journal.specs.batches.Body.{body_bytes}
 use Rattle.oz_buffer.specs.Buffer.{buffer_of}
 use Rattle.oz_core.specs.declared.event.Event.{Event}
 use Rattle.oz_core.specs.declared.event.EventKind.{EventKind}

@@ -5,7 +5,7 @@ use Rattle.std.proofs.lemmas.List.Elements.{filter_map-append, Contains-append_c
 use Rattle.std.specs.List.{list_any}
 use Rattle.oz_dellog.specs.declared.txn.Txn.{Txn}
 use Rattle.oz_fields.specs.declared.block.Block.{Block}
-use Rattle.oz_lines.specs.declared.script.Script.{Script}
+use Rattle.oz_script.specs.declared.lines.script.Script.{Script}
 use Rattle.oz_model.specs.Reach.{IsReached}
 use Rattle.oz_core.specs.declared.event.Event.{Event}
 use Rattle.oz_core.specs.declared.event.EventKind.{EventKind}
@@ -21,7 +21,7 @@ use Rattle.oz_core.specs.Scm.{logs, logged, names_block}
 use Rattle.oz_core.specs.Stories.{all_told}
 use Rattle.oz_kept.specs.laws.Reached.{in_none}
 use Rattle.oz_kept.specs.laws.Deleted.{first_or_later, one_passes}
-use Rattle.oz_reopened.specs.laws.Logged.{is_going, going_away}
+use Rattle.oz_kept.specs.reopened.laws.Logged.{is_going, going_away}
 use Rattle.oz_halted.specs.Further.{HasOneMore, MayBeLeftByAll, IsOfLog}
 
 pub of_filtered : {A : Type 0} (p : A → Bool) (l : List A) (x : A) → Contains (filter p l) x → Contains l x

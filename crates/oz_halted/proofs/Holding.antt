@@ -9,7 +9,7 @@ use Rattle.std.specs.List.{list_any, slice_get}
 use Rattle.std.specs.Option.{option_map, option_map_or}
 use Rattle.oz_fields.specs.declared.block.Block.{Block}
 use Rattle.oz_fields.specs.declared.block.Piece.{Piece}
-use Rattle.oz_lines.specs.declared.script.Script.{Script}
+use Rattle.oz_script.specs.declared.lines.script.Script.{Script}
 use Rattle.oz_core.specs.declared.event.Event.{Event}
 use Rattle.oz_core.specs.declared.event.EventKind.{EventKind}
 use Rattle.oz_core.specs.declared.event.EventKind.TheVariants.{Halt, Put, Copy}
@@ -27,12 +27,12 @@ use Rattle.oz_kept.specs.Held.{LinesAreApart, Having, HadAtOpening, HavingFrom, 
 use Rattle.oz_kept.specs.laws.Places.{moved_over, legal_behind, legal_rest}
 use Rattle.oz_kept.specs.laws.Deleted.{legal_to, found_at, enabled_at}
 use Rattle.oz_kept.specs.laws.Contents.{GotIt, HasIts, one_block, holder_got, at_each, fits_to, one_content}
-use Rattle.oz_reopened.specs.Left.{GivesBack}
-use Rattle.oz_reopened.specs.laws.Given.{gives_content, one_value}
-use Rattle.oz_reopened.specs.laws.Placed.{event_there, held_by_member}
-use Rattle.oz_reopened.specs.laws.Rising.{member_stays}
-use Rattle.oz_reopened.specs.laws.Whole.{fronts_fit}
-use Rattle.oz_reopened.specs.laws.Committed.{granted_lasts}
+use Rattle.oz_kept.specs.reopened.Left.{GivesBack}
+use Rattle.oz_kept.specs.reopened.laws.Given.{gives_content, one_value}
+use Rattle.oz_kept.specs.reopened.laws.Placed.{event_there, held_by_member}
+use Rattle.oz_kept.specs.reopened.laws.Rising.{member_stays}
+use Rattle.oz_kept.specs.reopened.laws.Whole.{fronts_fit}
+use Rattle.oz_kept.specs.reopened.laws.Committed.{granted_lasts}
 use Rattle.oz_halted.specs.Further.{PutsContent, HasOneMore, MayBeLeftByNode, pieces_on}
 use Rattle.oz_halted.proofs.Resting.{legal_on, fits_on, halted_by, node_rests, had_still, had_in_parts}
 

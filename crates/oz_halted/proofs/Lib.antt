@@ -6,3 +6,4 @@ pub mod Deleting
 pub mod Numbered
 pub mod Missing
 pub mod Shown
+pub mod leaving_lemmas

@@ -6,7 +6,7 @@ use Rattle.std.proofs.lemmas.List.Sums.{fold-append}
 use Rattle.std.specs.List.{list_any, cons_option, slice_get}
 use Rattle.oz_dellog.specs.declared.txn.Txn.{Txn}
 use Rattle.oz_fields.specs.declared.block.Block.{Block}
-use Rattle.oz_lines.specs.declared.script.Script.{Script}
+use Rattle.oz_script.specs.declared.lines.script.Script.{Script}
 use Rattle.oz_core.specs.declared.event.Event.{Event}
 use Rattle.oz_core.specs.declared.event.EventKind.TheVariants.{Halt, PurgeAsk}
 use Rattle.oz_core.specs.declared.event.Node.TheVariants.{Scm}
@@ -18,9 +18,9 @@ use Rattle.oz_core.specs.Scm.{Containers, containers, containers_after, next_id,
 use Rattle.oz_core.specs.Stories.{all_told, newer}
 use Rattle.oz_kept.specs.laws.Places.{legal_behind, legal_first, legal_rest}
 use Rattle.oz_kept.specs.laws.Deleted.{legal_to, one_passes}
-use Rattle.oz_reopened.specs.Left.{IsLeftByScm}
-use Rattle.oz_reopened.specs.laws.Logged.{IsGoing, is_going, left_going, txn_of}
-use Rattle.oz_reopened.specs.laws.Rising.{IsOn, stays_on, ids_rise}
+use Rattle.oz_kept.specs.reopened.Left.{IsLeftByScm}
+use Rattle.oz_kept.specs.reopened.laws.Logged.{IsGoing, is_going, left_going, txn_of}
+use Rattle.oz_kept.specs.reopened.laws.Rising.{IsOn, stays_on, ids_rise}
 use Rattle.oz_halted.specs.Further.{HasOneMore, MayBeLeftByScm}
 use Rattle.oz_halted.proofs.Resting.{legal_on, halted_by, ScmRests, scm_rests}
 

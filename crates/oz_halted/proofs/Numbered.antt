@@ -14,7 +14,7 @@ use Rattle.oz_core.specs.Scm.{logs, logged, last_txn, logged_number}
 use Rattle.oz_core.specs.Stories.{all_told, newer}
 use Rattle.oz_kept.specs.laws.Places.{moved_over, legal_first, legal_rest}
 use Rattle.oz_kept.specs.laws.Reached.{in_none, in_one}
-use Rattle.oz_reopened.specs.laws.Logged.{txn_of}
+use Rattle.oz_kept.specs.reopened.laws.Logged.{txn_of}
 use Rattle.oz_halted.specs.Missing.{LogIsNumbered}
 
 -- each number is at most the last, and of one transaction

@@ -2,7 +2,7 @@
 use Rattle.std.proofs.Common.{◌≡◌, ⊎_elim, ◌⊎◌, ℕ, true, List, [], length, Option, None, Some, IsSome, Contains, inl, inr, refl, sym, ◌∙◌, ap, subst, arith}
 use Rattle.std.specs.FinMap.{get}
 use Rattle.oz_fields.specs.declared.block.Block.{Block}
-use Rattle.oz_lines.specs.declared.script.Script.{Script}
+use Rattle.oz_script.specs.declared.lines.script.Script.{Script}
 use Rattle.oz_nodes.specs.Pipelines.{members_of}
 use Rattle.oz_core.specs.declared.event.Event.{Event}
 use Rattle.oz_core.specs.declared.opening.Container.{Container}
@@ -15,13 +15,13 @@ use Rattle.oz_core.specs.Nodes.{was_held}
 use Rattle.oz_core.specs.Scm.{containers, members}
 use Rattle.oz_kept.specs.Held.{LinesAreApart}
 use Rattle.oz_kept.specs.laws.Contents.{one_content, its_grant}
-use Rattle.oz_reopened.specs.Left.{IsLeft}
-use Rattle.oz_reopened.specs.laws.Given.{some_bytes}
-use Rattle.oz_reopened.specs.laws.Logged.{going_away, going_below}
-use Rattle.oz_reopened.specs.laws.Named.{WasGrantedIn, of_manager, of_manager_below, held_below}
-use Rattle.oz_reopened.specs.laws.Placed.{of_manager_made}
-use Rattle.oz_reopened.specs.laws.Rising.{IsOn, member_on, members_on}
-use Rattle.oz_reopened.specs.laws.Whole.{left_whole}
+use Rattle.oz_kept.specs.reopened.Left.{IsLeft}
+use Rattle.oz_kept.specs.reopened.laws.Given.{some_bytes}
+use Rattle.oz_kept.specs.reopened.laws.Logged.{going_away, going_below}
+use Rattle.oz_kept.specs.reopened.laws.Named.{WasGrantedIn, of_manager, of_manager_below, held_below}
+use Rattle.oz_kept.specs.reopened.laws.Placed.{of_manager_made}
+use Rattle.oz_kept.specs.reopened.laws.Rising.{IsOn, member_on, members_on}
+use Rattle.oz_kept.specs.reopened.laws.Whole.{left_whole}
 use Rattle.oz_halted.specs.Further.{MayBeLeftByAll}
 use Rattle.oz_halted.proofs.Holding.{IsWell, node_well}
 use Rattle.oz_halted.proofs.Managing.{ScmIsWell, scm_well}

@@ -7,7 +7,7 @@ use Rattle.std.specs.Prelude.{MatchBool}
 use Rattle.std.specs.List.{cons_option}
 use Rattle.oz_dellog.specs.declared.txn.Txn.{Txn}
 use Rattle.oz_fields.specs.declared.block.Block.{Block}
-use Rattle.oz_lines.specs.declared.script.Script.{Script}
+use Rattle.oz_script.specs.declared.lines.script.Script.{Script}
 use Rattle.oz_core.specs.declared.event.Event.{Event}
 use Rattle.oz_core.specs.declared.event.EventKind.{EventKind}
 use Rattle.oz_core.specs.declared.event.EventKind.TheVariants.{Halt, Grant, Closed, Log, Put, Copy}

@@ -30,7 +30,7 @@ use Rattle.oz_core.specs.Stories.{newer}
 use Rattle.oz_kept.specs.Held.{LinesAreApart, HavingFrom}
 use Rattle.oz_kept.specs.laws.Contents.{one_block}
 use Rattle.oz_kept.specs.laws.Reached.{in_none, in_one}
-use Rattle.oz_reopened.specs.Left.{IsLeft, IsLeftByManager, IsLeftByScm, IsLeftByNode, IsUnretired, AreAcknowledgers, lengths_of, is_txn_of, was_greatest, greatest_of}
+use Rattle.oz_kept.specs.reopened.Left.{IsLeft, IsLeftByManager, IsLeftByScm, IsLeftByNode, IsUnretired, AreAcknowledgers, lengths_of, is_txn_of, was_greatest, greatest_of}
 use Rattle.oz_halted.specs.Example.{block, txn, closed_container, containers_made, holding, opening, bytes, script, story, emptied, left}
 use Rattle.oz_halted.specs.Further.{HasOneMore, MayBeLeftByAll, MayBeLeftByNode}
 

@@ -4,7 +4,7 @@ use Rattle.std.specs.FinMap.{from_entries}
 use Rattle.oz_container.specs.declared.state.State.TheVariants.{Closed}
 use Rattle.oz_dellog.specs.declared.txn.Txn.{Txn}
 use Rattle.oz_fields.specs.declared.block.Block.{Block}
-use Rattle.oz_lines.specs.declared.script.Script.{Script}
+use Rattle.oz_script.specs.declared.lines.script.Script.{Script}
 use Rattle.oz_namespace.specs.Namespace.{nothing}
 use Rattle.oz_core.specs.declared.event.Event.{Event}
 use Rattle.oz_core.specs.declared.event.EventKind.TheVariants.{Halt, Delete}

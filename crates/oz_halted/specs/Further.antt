@@ -3,7 +3,7 @@ use Rattle.std.specs.Prelude.{◌≡◌, ◌≢◌, ◌⊎◌, ℕ, List, ◌∷
 use Rattle.std.specs.Option.{option_map}
 use Rattle.oz_dellog.specs.declared.txn.Txn.{Txn}
 use Rattle.oz_fields.specs.declared.block.Piece.{Piece}
-use Rattle.oz_lines.specs.declared.script.Script.{Script}
+use Rattle.oz_script.specs.declared.lines.script.Script.{Script}
 use Rattle.oz_model.specs.Reach.{IsReached}
 use Rattle.oz_core.specs.declared.event.Event.{Event}
 use Rattle.oz_core.specs.declared.event.EventKind.{EventKind}
@@ -18,7 +18,7 @@ use Rattle.oz_core.specs.Law.{KindIsEnabled}
 use Rattle.oz_core.specs.Manager.{halt_of}
 use Rattle.oz_core.specs.Nodes.{was_closed}
 use Rattle.oz_core.specs.Scm.{logs}
-use Rattle.oz_reopened.specs.Left.{MayBeLast, IsLeftByManager, IsLeftByScm, IsLeftByNode, was_greatest}
+use Rattle.oz_kept.specs.reopened.Left.{MayBeLast, IsLeftByManager, IsLeftByScm, IsLeftByNode, was_greatest}
 
 -- ---- one event more
 

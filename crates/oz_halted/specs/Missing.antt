@@ -1,7 +1,7 @@
 -- What may be missing on a datanode's disks of the blocks that it holds by the story.
 use Rattle.std.specs.Prelude.{◌≡◌, ◌⊎◌, ℕ, ◌≤◌, true, List, Contains}
 use Rattle.oz_fields.specs.declared.block.Block.{Block}
-use Rattle.oz_lines.specs.declared.script.Script.{Script}
+use Rattle.oz_script.specs.declared.lines.script.Script.{Script}
 use Rattle.oz_core.specs.declared.event.Event.{Event}
 use Rattle.oz_core.specs.declared.event.EventKind.TheVariants.{Wipe}
 use Rattle.oz_core.specs.declared.event.Node.TheVariants.{Datanode}
@@ -9,7 +9,7 @@ use Rattle.oz_core.specs.declared.opening.Opening.{Opening}
 use Rattle.oz_core.specs.declared.opening.Unretired.{Unretired}
 use Rattle.oz_core.specs.Contents.{OpeningBytes}
 use Rattle.oz_core.specs.Scm.{is_logged}
-use Rattle.oz_reopened.specs.Left.{NumbersAreApart}
+use Rattle.oz_kept.specs.reopened.Left.{NumbersAreApart}
 use Rattle.oz_halted.specs.Further.{HasOneMore}
 
 -- no two transactions of the log have one number, and none has one above the last

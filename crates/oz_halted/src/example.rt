@@ -6,7 +6,7 @@ ghost use Rattle.oz_core.specs.Law.{IsLegal};
 ghost use Rattle.oz_halted.specs.Example.{opening, bytes, script, story, left};
 ghost use Rattle.oz_halted.specs.Further.{MayBeLeftByAll};
 ghost use Rattle.oz_kept.specs.Held.{LinesAreApart};
-ghost use Rattle.oz_reopened.specs.Left.{IsLeft};
+ghost use Rattle.oz_kept.specs.reopened.Left.{IsLeft};
 
 /// The example meets the premises: two nodes halt, and each has one body more. The events alone leave another opening.
 pub fn two_nodes_have_one_body_more()

@@ -2,7 +2,7 @@
 
 ghost use Rattle.std.specs.Prelude.{◌≡◌, ℕ, true, false, List, Contains, take};
 ghost use Rattle.oz_fields.specs.declared.block.Block.{Block as AnyBlock};
-ghost use Rattle.oz_lines.specs.declared.script.Script.{Script as AnyScript};
+ghost use Rattle.oz_script.specs.declared.lines.script.Script.{Script as AnyScript};
 ghost use Rattle.oz_core.specs.declared.event.Event.{Event as AnyEvent};
 ghost use Rattle.oz_core.specs.declared.event.EventKind.TheVariants.{Delete};
 ghost use Rattle.oz_core.specs.declared.event.Node.TheVariants.{Datanode};
@@ -13,7 +13,7 @@ ghost use Rattle.oz_core.specs.Fits.{Fits};
 ghost use Rattle.oz_core.specs.Law.{IsLegal};
 ghost use Rattle.oz_core.specs.Nodes.{holds, was_held};
 ghost use Rattle.oz_kept.specs.Held.{LinesAreApart};
-ghost use Rattle.oz_reopened.specs.Left.{IsLeft};
+ghost use Rattle.oz_kept.specs.reopened.Left.{IsLeft};
 ghost use Rattle.oz_halted.specs.Further.{HasOneMore, IsOfLog, MayBeLeftByAll};
 ghost use Rattle.oz_halted.specs.Missing.{LogIsNumbered, MayHaveLost};
 

@@ -5,9 +5,9 @@ use Rattle.oz_core.specs.declared.event.Event.{Event}
 use Rattle.oz_core.specs.declared.opening.Opening.{Opening}
 use Rattle.oz_core.specs.Contents.{OpeningBytes}
 use Rattle.oz_core.specs.Fits.{AllAreTold, Fits, line_numbers, told_lines}
-use Rattle.oz_lines.specs.declared.script.Line.{Line}
-use Rattle.oz_lines.specs.declared.script.Script.{Script}
-use Rattle.oz_lines.specs.Numbered.{AreNumbered, IsNumbered}
+use Rattle.oz_script.specs.declared.lines.script.Line.{Line}
+use Rattle.oz_script.specs.declared.lines.script.Script.{Script}
+use Rattle.oz_script.specs.lines.Numbered.{AreNumbered, IsNumbered}
 use Rattle.oz_headline.specs.Counts.{AreToldAsMany, IsClient}
 
 nothing_in : {X : Type 0} (l : List X) → length l ≡ 0 → l ≡ []

@@ -15,8 +15,8 @@ use Rattle.oz_core.specs.Due.{IsDue, ManagerHadStopped}
 use Rattle.oz_core.specs.Fits.{EventFits, Fits, FitsFrom}
 use Rattle.oz_core.specs.Law.{IsLegal, IsEnabled, IsInTime, KindIsEnabled}
 use Rattle.oz_core.specs.Manager.{halt_of}
-use Rattle.oz_lines.specs.declared.script.Line.{Line}
-use Rattle.oz_lines.specs.declared.script.Script.{Script}
+use Rattle.oz_script.specs.declared.lines.script.Line.{Line}
+use Rattle.oz_script.specs.declared.lines.script.Script.{Script}
 use Rattle.oz_requests.specs.declared.answer.Answer.{Answer}
 use Rattle.oz_requests.specs.declared.answer.Answer.TheVariants as told
 use Rattle.oz_requests.specs.declared.request.AskId.{AskId}

@@ -3,3 +3,4 @@ pub mod Reading
 pub mod Moments
 pub mod Counting
 pub mod Story
+pub mod halts_lemmas

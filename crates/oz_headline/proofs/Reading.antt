@@ -13,8 +13,8 @@ use Rattle.oz_core.specs.declared.opening.Opening.{Opening}
 use Rattle.oz_core.specs.Contents.{IsLineOf, OpeningBytes}
 use Rattle.oz_core.specs.Due.{AdminIsDone, AreValues, IsDue, LineIsDone, counted, state_counts, values_of}
 use Rattle.oz_core.specs.Fits.{EventFits, Fits}
-use Rattle.oz_lines.specs.declared.script.Line.{Line}
-use Rattle.oz_lines.specs.declared.script.Script.{Script}
+use Rattle.oz_script.specs.declared.lines.script.Line.{Line}
+use Rattle.oz_script.specs.declared.lines.script.Script.{Script}
 use Rattle.oz_requests.specs.declared.answer.Answer.{Answer}
 use Rattle.oz_requests.specs.declared.answer.Answer.TheVariants as told
 use Rattle.oz_requests.specs.declared.answer.Values.{Values}

@@ -6,7 +6,7 @@ use Rattle.oz_core.specs.Contents.{OpeningBytes}
 use Rattle.oz_core.specs.Fits.{Fits}
 use Rattle.oz_core.specs.Law.{IsLegal}
 use Rattle.oz_core.specs.Manager.{flushed_moment}
-use Rattle.oz_lines.specs.declared.script.Script.{Script}
+use Rattle.oz_script.specs.declared.lines.script.Script.{Script}
 use Rattle.oz_world.specs.Disk.{Seen}
 use Rattle.oz_headline.specs.Disks.{manager_disk}
 use Rattle.oz_headline.specs.Headline.{Headline}

@@ -1,6 +1,6 @@
 -- What a run promises of the story that it prints, where its disks agree as it begins.
 use Rattle.std.specs.Prelude.{ℕ, List}
-use Rattle.oz_lines.specs.declared.script.Script.{Script}
+use Rattle.oz_script.specs.declared.lines.script.Script.{Script}
 use Rattle.oz_core.specs.declared.event.Event.{Event}
 use Rattle.oz_core.specs.declared.opening.Opening.{Opening}
 use Rattle.oz_core.specs.Contents.{OpeningBytes}

@@ -1,9 +1,25 @@
 pub mod Statuses
 pub mod Printed
 pub mod Disks
-pub mod Halts
+pub mod NamedHalts
 pub mod Places
 pub mod History
 pub mod Reads
 pub mod Counts
 pub mod Headline
+pub mod halts
+pub mod restored
+pub use Rattle.oz_nodes_loaded.specs.Disks as LoadedDisks
+pub use Rattle.oz_nodes_loaded.specs.Ids
+pub use Rattle.oz_nodes_loaded.specs.Led
+pub use Rattle.oz_nodes_loaded.specs.Loads
+pub use Rattle.oz_nodes_loaded.specs.NodeSeat
+pub use Rattle.oz_nodes_loaded.specs.Refused
+pub use Rattle.oz_nodes_loaded.specs.declared.disk_name
+pub use Rattle.oz_nodes_loaded.specs.declared.fault
+pub use Rattle.oz_nodes_loaded.specs.full
+pub use Rattle.oz_nodes_loaded.specs.store_opening
+pub use Rattle.oz_om.specs.Keeps
+pub use Rattle.oz_om.specs.Opens
+pub use Rattle.oz_om.specs.Seated
+pub use Rattle.oz_nodes_loaded.specs.AllLoad

@@ -2,7 +2,7 @@
 use Rattle.std.specs.Prelude.{◌≡◌, ◌⊎◌, ℕ, ◌≤◌, List, ◌++◌, codes, length, take, Option}
 use Rattle.std.specs.Option.{option_map}
 use Rattle.oz_core.specs.declared.event.Event.{Event}
-use Rattle.oz_lines.specs.declared.script.Script.{Script}
+use Rattle.oz_script.specs.declared.lines.script.Script.{Script}
 use Rattle.oz_report.specs.Report.{report_of}
 use Rattle.oz_headline.specs.declared.status.Status.{Status}
 use Rattle.oz_headline.specs.declared.status.Status.TheVariants as ends

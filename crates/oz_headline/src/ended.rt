@@ -3,15 +3,15 @@
 ghost use Rattle.std.specs.Prelude.{◌≡◌, Bool, [], ◌∷◌, List};
 ghost use Rattle.oz_buffer.specs.Buffer.{AllFollow, Follows};
 ghost use Rattle.oz_core.specs.declared.event.Event.{Event as AnyEvent};
-ghost use Rattle.oz_flushing.specs.Kept.{IsKept};
+ghost use Rattle.oz_flusher.specs.flushing.Kept.{IsKept};
 ghost use Rattle.oz_headline.specs.Disks.{manager_disk};
 ghost use Rattle.oz_headline.specs.Headline.{Headline};
 ghost use Rattle.oz_headline.specs.Reads.{NoneIsBad};
-ghost use Rattle.oz_lines.specs.Numbered.{IsNumbered};
+ghost use Rattle.oz_script.specs.lines.Numbered.{IsNumbered};
 ghost use Rattle.oz_world.specs.Disk.{seen as seen_disk};
 
 use oz_buffer::Opened;
-use oz_flushing::{Mounted, the_flusher_alone_tells};
+use oz_flusher::{Mounted, the_flusher_alone_tells};
 use oz_underway::lines_are_told_in_order;
 use oz_world::Disk;
 

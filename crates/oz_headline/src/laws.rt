@@ -10,8 +10,8 @@ ghost use Rattle.oz_core.specs.Manager.{flushed_moment};
 ghost use Rattle.oz_headline.specs.Counts.{AreToldAsMany, IsClient};
 ghost use Rattle.oz_headline.specs.History.{AllAreBy, AllAreInTurn, RepliesAreOneThreads, ToldIsStable};
 ghost use Rattle.oz_headline.specs.Reads.{ReadsAreContents};
-ghost use Rattle.oz_lines.specs.declared.script.Script.{Script as AnyScript};
-ghost use Rattle.oz_lines.specs.Numbered.{IsNumbered};
+ghost use Rattle.oz_script.specs.declared.lines.script.Script.{Script as AnyScript};
+ghost use Rattle.oz_script.specs.lines.Numbered.{IsNumbered};
 
 /// A story that is one history says the rest of the headline: each reply is one thread's at its place, each line asks
 /// in its turn, what was acknowledged is stable, a line that reads is told the contents of the blocks that it looked

@@ -5,3 +5,4 @@ pub mod Opens
 pub mod Readings
 pub mod Records
 pub mod Scans
+pub mod batches_lemmas

@@ -4,3 +4,4 @@ pub mod Grammar
 pub mod Journal
 pub mod Load
 pub mod inner
+pub mod batches

@@ -1,6 +1,8 @@
-//! Bodies one after another on a disk, each of them whole or not there, whenever the disk stops.
+//! A journal: bodies one after another on a disk, each of them whole or not there whenever the disk stops, and batches that
+//! wait to become one.
 #![tactic(auto)]
 
+mod batches;
 mod body;
 mod frame;
 mod framing;
@@ -11,6 +13,7 @@ mod open;
 mod scan;
 mod store;
 
+pub use batches::{Batches, LARGEST_BUFFER, LONGEST_BATCH, OutOfMemory};
 pub use body::Body;
 pub use frame::LONGEST_FRAME;
 pub use framing::Frame;

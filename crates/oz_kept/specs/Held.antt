@@ -3,8 +3,8 @@ use Rattle.std.specs.Prelude.{◌≡◌, ℕ, true, ◌&&◌, ◌==◌, List, []
 use Rattle.oz_command.specs.Payload.{bytes_from}
 use Rattle.oz_fields.specs.declared.block.Block.{Block}
 use Rattle.oz_requests.specs.declared.request.AskId.{AskId}
-use Rattle.oz_lines.specs.declared.script.Line.{Line}
-use Rattle.oz_lines.specs.declared.script.Script.{Script}
+use Rattle.oz_script.specs.declared.lines.script.Line.{Line}
+use Rattle.oz_script.specs.declared.lines.script.Script.{Script}
 use Rattle.oz_core.specs.declared.event.Event.{Event}
 use Rattle.oz_core.specs.declared.event.EventKind.{EventKind}
 use Rattle.oz_core.specs.declared.event.EventKind.TheVariants.{Put, Copy}

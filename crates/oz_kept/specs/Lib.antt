@@ -1,3 +1,4 @@
 pub mod Purges
 pub mod Held
 pub mod laws
+pub mod reopened

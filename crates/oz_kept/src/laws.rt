@@ -15,8 +15,8 @@ ghost use Rattle.oz_core.specs.Scm.{is_logged_at_opening};
 ghost use Rattle.oz_core.specs.Nodes.{holds};
 ghost use Rattle.oz_kept.specs.Held.{HasBytes, LinesAreApart};
 ghost use Rattle.oz_kept.specs.Purges.{IsPurgeAt, WasLetGo};
-ghost use Rattle.oz_lines.specs.Numbered.{IsNumbered};
-ghost use Rattle.oz_lines.specs.declared.script.Script.{Script as AnyScript};
+ghost use Rattle.oz_script.specs.lines.Numbered.{IsNumbered};
+ghost use Rattle.oz_script.specs.declared.lines.script.Script.{Script as AnyScript};
 
 /// A block that was used, and that nothing reaches at a place of a legal story, isn't reached at any later place.
 pub fn what_left_reach_never_returns()

@@ -5,6 +5,7 @@ ghost use Rattle.oz_core.specs.Law.{IsEnabled, KindIsEnabled};
 ghost use Rattle.oz_legal.specs.Parts.{part_of};
 ghost use Rattle.oz_legal.specs.declared.parts.Part.TheVariants as parts;
 
+use crate::manager_law::{ask_is_enabled, decide_is_enabled, purge_ask_is_enabled};
 use crate::parts::{Part, part_of};
 use oz_core::{Event, EventKind, Opening};
 use oz_fields::OutOfMemory;
@@ -13,7 +14,6 @@ use oz_law::{
     flushed_is_enabled, halt_is_enabled, log_is_enabled, retire_is_enabled, start_is_enabled,
     stop_is_enabled, swap_is_enabled, told_is_enabled, up_is_enabled, wipe_is_enabled,
 };
-use oz_manager_law::{ask_is_enabled, decide_is_enabled, purge_ask_is_enabled};
 use oz_node_law::{delete_is_enabled, put_is_enabled, refused_is_enabled, wrote_is_enabled};
 use oz_scm_law::{closed_is_enabled, grant_is_enabled};
 use std::alloc::Global;

@@ -19,7 +19,7 @@ use Rattle.oz_rows.specs.laws.Rising.{before_at, behind_at, over_same}
 use Rattle.oz_rows.specs.laws.Changes.{Spot, at, between, spot}
 use Rattle.oz_rows.specs.laws.Following.{first_least}
 use Rattle.oz_effects.specs.Parts.{own_row}
-use Rattle.oz_stripes.specs.laws.Lists.{each_found}
+use Rattle.oz_sound.specs.stripes.laws.Lists.{each_found}
 use Rattle.oz_loaded.specs.Walks.{IsFirstOfKind, StandBefore}
 
 entry_of : RowKey → Row → RowEntry

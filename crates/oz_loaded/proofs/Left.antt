@@ -16,7 +16,7 @@ use Rattle.oz_rows.specs.Rows.{RowFits}
 use Rattle.oz_rows.specs.laws.Same.{same_is_one}
 use Rattle.oz_sound.specs.Sound.{blocks_of}
 use Rattle.oz_store.specs.Store.{IsInADeletedRow}
-use Rattle.oz_stripes.specs.laws.Lists.{each_found}
+use Rattle.oz_sound.specs.stripes.laws.Lists.{each_found}
 use Rattle.std.specs.List.{AllByRecursion}
 use Rattle.oz_loaded.specs.Counted.{deleted_blocks, left_in}
 use Rattle.oz_loaded.proofs.Greatest.{is_itself, or_true}

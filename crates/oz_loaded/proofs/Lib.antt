@@ -7,3 +7,4 @@ mod Puts
 mod Sounds
 mod Stand
 mod Whole
+mod standing_lemmas

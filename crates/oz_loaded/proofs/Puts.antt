@@ -7,9 +7,9 @@ use Rattle.oz_rows.specs.RowMaps.{row_of, row_after, is_same, KeysRise}
 use Rattle.oz_rows.specs.laws.Order.{equal_from_test}
 use Rattle.oz_rows.specs.laws.Lookups.{entry_key, row_above}
 use Rattle.oz_rows.specs.laws.Rising.{over_same}
-use Rattle.oz_stripes.specs.Parts.{part_of}
-use Rattle.oz_stripes.specs.Stripes.{is_own, only}
-use Rattle.oz_stripes.specs.laws.Lists.{part_rises, row_of_part}
+use Rattle.oz_sound.specs.stripes.Parts.{part_of}
+use Rattle.oz_sound.specs.stripes.Stripes.{is_own, only}
+use Rattle.oz_sound.specs.stripes.laws.Lists.{part_rises, row_of_part}
 use Rattle.oz_loaded.specs.Walks.{puts_of}
 
 over : Option Row → Option Row → Option Row

@@ -10,7 +10,7 @@ use Rattle.oz_rows.specs.declared.row.Row.{Row}
 use Rattle.oz_rows.specs.RowMaps.{Rows}
 use Rattle.oz_sound.specs.Sound.{AreTogether, AtMost, BlocksAreSound, CountsAreSound, IsKeeper, IsNamedAnew, IsRename, IsSound, IsSoundButRenames, IsUsing, NamesAreSound, NumbersAreSound, RenamesAreSound, SnapshotHas, StandsIn, bucket_of_row}
 use Rattle.oz_sound.specs.StandsFor.{IsLive, drawn_in}
-use Rattle.oz_stripes.specs.Stripes.{is_own, only}
+use Rattle.oz_sound.specs.stripes.Stripes.{is_own, only}
 
 first_volume : Option (List ℕ × List ℕ) → List ℕ
 first_volume None = []

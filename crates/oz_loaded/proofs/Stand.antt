@@ -13,8 +13,8 @@ use Rattle.oz_rows.specs.declared.key.RowKey.TheVariants as keys
 use Rattle.oz_rows.specs.declared.row.Row.TheVariants as rows
 use Rattle.oz_rows.specs.RowMaps.{Rows}
 use Rattle.oz_sound.specs.StandsFor.{AreSnapshots, SessionStands, SnapshotsStand, StandsFor, drawn_in, pieces_in}
-use Rattle.oz_stripes.specs.Stripes.{is_own, only}
-use Rattle.oz_striped.specs.Shares.{IsOfStripe}
+use Rattle.oz_sound.specs.stripes.Stripes.{is_own, only}
+use Rattle.oz_store.specs.striped.Shares.{IsOfStripe}
 
 module _ (stripe : ℕ) (all : Rows) (namespace part : Namespace) (it : StandsFor all namespace) (of : IsOfStripe stripe namespace part) where
   kept : (key : RowKey) → is_own stripe key ≡ true → only stripe all key ≡ all key

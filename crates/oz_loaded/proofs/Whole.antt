@@ -12,7 +12,7 @@ use Rattle.oz_rows.specs.declared.row.Row.{Row}
 use Rattle.oz_rows.specs.declared.entry.RowEntry.{RowEntry}
 use Rattle.oz_rows.specs.RowMaps.{row_after, row_of}
 use Rattle.oz_rows.specs.Rows.{KeyFits, RowFits}
-use Rattle.oz_stripes.specs.Stripes.{stripe_of_key}
+use Rattle.oz_sound.specs.stripes.Stripes.{stripe_of_key}
 use Rattle.oz_loaded.specs.Parts.{AreParts}
 
 one_of_sixteen : (volume : List ℕ) → stripe_of volume < STRIPES

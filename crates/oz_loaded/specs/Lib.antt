@@ -3,3 +3,4 @@ pub mod Loads
 pub mod Parts
 pub mod Unseated
 pub mod Walks
+pub mod standing

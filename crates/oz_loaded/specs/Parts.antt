@@ -5,7 +5,7 @@ use Rattle.oz_names.specs.declared.limits.TheConstants.{STRIPES}
 use Rattle.oz_rows.specs.declared.entry.RowEntry.{RowEntry}
 use Rattle.oz_rows.specs.declared.key.RowKey.{RowKey}
 use Rattle.oz_rows.specs.RowMaps.{row_of}
-use Rattle.oz_stripes.specs.Stripes.{only}
+use Rattle.oz_sound.specs.stripes.Stripes.{only}
 
 -- of all rows those of the stripe in tables, with this last index, and nothing above them
 pub record IsPart (all : List RowEntry) (last_index stripe : ℕ) (part : CacheView) : Type 0 where

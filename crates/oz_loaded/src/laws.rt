@@ -13,12 +13,12 @@ ghost use Rattle.oz_rows.specs.RowMaps.{Rows as AnyRows, row_of};
 ghost use Rattle.oz_sound.specs.Sound.{IsSound, IsSoundButRenames};
 ghost use Rattle.oz_sound.specs.StandsFor.{StandsFor};
 ghost use Rattle.oz_store.specs.Store.{IsInADeletedRow};
-ghost use Rattle.oz_stripes.specs.Stripes.{only, stripe_of_key};
-ghost use Rattle.oz_striped.specs.Shares.{IsOfStripe};
+ghost use Rattle.oz_sound.specs.stripes.Stripes.{only, stripe_of_key};
+ghost use Rattle.oz_store.specs.striped.Shares.{IsOfStripe};
 
-use oz_build::bodies_make_one_thing;
 use oz_effects::a_batch_makes_a_body;
 use oz_journal::bytes_stand_for_one_thing;
+use oz_tables::bodies_make_one_thing;
 
 /// Bytes are loaded as one list of rows, with one last index, or are damaged at one place, and not both.
 pub fn a_disk_loads_as_one_thing()

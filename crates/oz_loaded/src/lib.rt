@@ -1,10 +1,12 @@
-//! What the manager loads from its disk: the rows, parted into sixteen stripes, and the flusher of its journal.
+//! What the manager loads from its disk: the rows in sixteen stripes, the namespace that they stand for, and the flusher of
+//! its journal.
 #![tactic(auto)]
 
 mod counting;
 mod laws;
 mod loading;
 mod parting;
+mod standing;
 mod unseated;
 mod walking;
 
@@ -14,4 +16,5 @@ pub use laws::{
 };
 pub use loading::load;
 pub use parting::part;
+pub use standing::{namespace_of, parts_show_their_namespace};
 pub use unseated::{Counted, Unseated};

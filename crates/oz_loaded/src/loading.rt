@@ -14,11 +14,9 @@ ghost use Rattle.oz_world.specs.Faults.{Rose};
 ghost use Rattle.oz_world.specs.Moments.{Elapses, Spans};
 
 use crate::unseated::Unseated;
-use oz_batches::Batches;
-use oz_build::{BuildFault, bodies_make_one_thing, build};
 use oz_flusher::Flusher;
-use oz_journal::{Body, Journal, LoadFault};
-use oz_tables::Tables;
+use oz_journal::{Batches, Body, Journal, LoadFault};
+use oz_tables::{BuildFault, Tables, bodies_make_one_thing, build};
 use oz_world::Disk;
 use std::alloc::Global;
 

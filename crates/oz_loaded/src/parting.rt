@@ -4,8 +4,8 @@ ghost use Rattle.std.specs.Prelude.{◌≡◌, IfOk};
 ghost use Rattle.oz_loaded.specs.Parts.{AreParts, IsPart};
 ghost use Rattle.oz_loaded.specs.Walks.{puts_of};
 ghost use Rattle.oz_rows.specs.RowMaps.{KeysRise, put};
-ghost use Rattle.oz_stripes.specs.Parts.{part_of};
-ghost use Rattle.oz_stripes.specs.Stripes.{is_own, stripe_of_key as stripe_of_its_key};
+ghost use Rattle.oz_sound.specs.stripes.Parts.{part_of};
+ghost use Rattle.oz_sound.specs.stripes.Stripes.{is_own, stripe_of_key as stripe_of_its_key};
 
 use crate::walking::{all_rows, first_keys};
 use oz_cache::Cached;

@@ -10,11 +10,11 @@ ghost use Rattle.oz_sound.specs.StandsFor.{StandsFor};
 
 use crate::counting::{greatest_in, left_in};
 use crate::parting::parts_of;
+use crate::standing::namespace_of;
 use crate::walking::{all_rows, first_keys};
 use oz_cache::Cached;
 use oz_fields::{Block, List, OutOfMemory, TryClone};
 use oz_namespace::Namespace;
-use oz_standing::namespace_of;
 use oz_tables::Tables;
 use std::alloc::Global;
 use std::marker::Model;

@@ -19,7 +19,7 @@ use Rattle.oz_requests.specs.declared.reply.Reply.{Reply}
 use Rattle.oz_rows.specs.declared.key.RowKey.{RowKey}
 use Rattle.oz_rows.specs.declared.operation.Change.{Change}
 use Rattle.oz_rows.specs.RowMaps.{Rows, row_of, row_after, after_changes}
-use Rattle.oz_stripes.specs.Stripes.{only}
+use Rattle.oz_sound.specs.stripes.Stripes.{only}
 use Rattle.oz_locks.specs.declared.pins.Pin.{Pin}
 use Rattle.oz_locks.specs.declared.pool.FreeBlock.{FreeBlock}
 use Rattle.oz_locks.specs.Decides.{AddsDecide, AddsPurgeAsk}

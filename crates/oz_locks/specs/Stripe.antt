@@ -4,7 +4,7 @@ use Rattle.oz_cache.specs.Cache.{CacheView, newest}
 use Rattle.oz_core.specs.declared.event.Event.{Event}
 use Rattle.oz_names.specs.declared.limits.TheConstants.{STRIPES}
 use Rattle.oz_rows.specs.RowMaps.{Rows}
-use Rattle.oz_stripes.specs.Stripes.{only}
+use Rattle.oz_sound.specs.stripes.Stripes.{only}
 use Rattle.oz_locks.specs.declared.pins.Pin.{Pin}
 use Rattle.oz_locks.specs.declared.pool.FreeBlock.{FreeBlock}
 use Rattle.oz_locks.specs.Flushes.{IsFlushed, flushed_in}

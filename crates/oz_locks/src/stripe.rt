@@ -20,7 +20,7 @@ ghost use Rattle.oz_names.specs.declared.limits.TheConstants.{STRIPES};
 ghost use Rattle.oz_rows.specs.RowMaps.{after_changes, row_of, row_after};
 ghost use Rattle.oz_rows.specs.declared.key.RowKey.{RowKey as AnyKey};
 ghost use Rattle.oz_rows.specs.declared.operation.TheConstants.{END_OF_INDEXES};
-ghost use Rattle.oz_stripes.specs.Stripes.{only};
+ghost use Rattle.oz_sound.specs.stripes.Stripes.{only};
 ghost use Rattle.oz_turn.specs.Seat.{IsReady, IsNewSeat, IsSameSeat};
 ghost use Rattle.oz_turn.specs.Seat.{turn_of, number_of, mine_of, seen_of, room_of, taken_of};
 ghost use Rattle.oz_turn.specs.Told.{own_entries, BeginsWith, KeepsOtherRooms};

@@ -2,12 +2,14 @@
 
 ghost use Rattle.std.specs.Prelude.{List, ℕ, ◌≡◌, ◌∷◌, ◌++◌, None, map, codes, vec_len, IfOk, IfSome, All, slice_get};
 ghost use Rattle.std.specs.String.{string_bytes};
-ghost use Rattle.oz_words.specs.Words.{IsRead, IsRun, IsRunWith};
+ghost use Rattle.oz_command.specs.command_line.Words.{IsRead, IsRun, IsRunWith};
 ghost use Rattle.oz_main.specs.Folder.{IsFileIn, AreNodeFilesIn};
 
 use crate::FileDisk;
 use oz_cluster::{Disks, NodeDisks};
-use oz_words::{DEFAULT_NODES, Words, read_words, words_are_one_run, words_of_a_run_have_no_fault};
+use oz_command::{
+    DEFAULT_NODES, Words, read_words, words_are_one_run, words_of_a_run_have_no_fault,
+};
 use oz_world::OutOfMemory;
 use std::alloc::Global;
 use std::fs::File;

@@ -3,7 +3,7 @@
 
 ghost use Rattle.std.specs.Prelude.{◌≡◌, ◌≤◌, ℕ, map, vec_len};
 ghost use Rattle.std.specs.String.{string_bytes};
-ghost use Rattle.oz_words.specs.Words.{IsRun, IsRunWith};
+ghost use Rattle.oz_command.specs.command_line.Words.{IsRun, IsRunWith};
 
 mod arguments;
 mod file_disk;
@@ -13,7 +13,7 @@ mod streams;
 use file_disk::FileDisk;
 use folder::{disks_for, let_go};
 use oz_cluster::{Disks, Ended, Status, run};
-use oz_words::words_of_a_run_have_no_fault;
+use oz_command::words_of_a_run_have_no_fault;
 use oz_world::{Disk, OpenGate};
 use std::alloc::Global;
 use std::io::{Stdin, Stdout};

@@ -11,7 +11,7 @@ use Rattle.oz_core.specs.Manager.{halt_of}
 use Rattle.oz_core.specs.Nodes.{is_running, stopped_or_started}
 use Rattle.oz_core.specs.Scm.{is_up}
 use Rattle.oz_core.specs.Stories.{last_told}
-use Rattle.oz_lines.specs.declared.script.Script.{Script}
+use Rattle.oz_script.specs.declared.lines.script.Script.{Script}
 use Rattle.oz_node_events.specs.NodeSeat.{IsKept, SeatView, events_of}
 use Rattle.oz_turn.specs.Told.{BeginsWith}
 use Rattle.oz_node_admin.specs.Commands.{HasBeen}

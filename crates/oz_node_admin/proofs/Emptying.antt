@@ -14,7 +14,7 @@ use Rattle.oz_core.specs.Scm.{is_up}
 use Rattle.oz_core.specs.Seats.{datanode_seat, scm_seat}
 use Rattle.oz_core.specs.Stories.{last_told}
 use Rattle.oz_datanode.specs.Datanode.{State, Runs, count_of, is_halted}
-use Rattle.oz_lines.specs.declared.script.Script.{Script}
+use Rattle.oz_script.specs.declared.lines.script.Script.{Script}
 use Rattle.oz_node_events.specs.Beside.{ShareAPlace}
 use Rattle.oz_node_events.specs.Commands.{by_node}
 use Rattle.oz_node_events.specs.NodeSeat.{IsAppended, IsKept, SeatView, StandsFor, events_of}

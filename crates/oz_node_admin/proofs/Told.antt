@@ -10,7 +10,7 @@ use Rattle.oz_core.specs.Nodes.{is_running}
 use Rattle.oz_core.specs.Scm.{is_up, up_or_down}
 use Rattle.oz_core.specs.Seats.{datanode_seat, scm_seat}
 use Rattle.oz_core.specs.Stories.{newer}
-use Rattle.oz_lines.specs.declared.script.Script.{Script}
+use Rattle.oz_script.specs.declared.lines.script.Script.{Script}
 use Rattle.oz_node_events.specs.Beside.{ShareAPlace}
 use Rattle.oz_scm.specs.Scm.{State}
 use Rattle.oz_scm_events.specs.Granted.{by_scm}

@@ -11,8 +11,8 @@ use Rattle.oz_core.specs.Scm.{is_up}
 use Rattle.oz_datanode.specs.Datanode.{State, is_halted}
 use Rattle.oz_node_events.specs.Commands.{HaltsSo, IsWipedSo, by_node}
 use Rattle.oz_node_events.specs.NodeSeat.{SeatView}
-use Rattle.oz_lines.specs.declared.script.Line.{Line}
-use Rattle.oz_lines.specs.declared.script.Script.{Script}
+use Rattle.oz_script.specs.declared.lines.script.Line.{Line}
+use Rattle.oz_script.specs.declared.lines.script.Script.{Script}
 use Rattle.oz_replicas.specs.Cells.{CellView}
 use Rattle.oz_scm_events.specs.Kept.{ScmView}
 use Rattle.oz_scm_events.specs.Tracked.{IsTracked}

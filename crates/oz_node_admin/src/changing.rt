@@ -2,7 +2,7 @@
 
 ghost use Rattle.std.specs.Prelude.{◌≡◌, ◌+◌, ◌≤◌, ◌<◌, None, not, true, false, slice_index};
 ghost use Rattle.oz_datanode.specs.Datanode.{is_halted};
-ghost use Rattle.oz_lines.specs.declared.script.TheConstants.{MOST_CLIENTS as MOST};
+ghost use Rattle.oz_script.specs.declared.lines.script.TheConstants.{MOST_CLIENTS as MOST};
 ghost use Rattle.oz_node_admin.specs.Commands.{last_after, own_after, run_done};
 ghost use Rattle.oz_node_events.specs.Led.{HasItDone};
 ghost use Rattle.oz_node_events.specs.NodeSeat.{IsKept, StandsFor};
@@ -12,10 +12,10 @@ ghost use Rattle.oz_turn.specs.Turn.{turn_id};
 
 use oz_buffer::{Ledger, Opened};
 use oz_datanode::Datanode;
-use oz_lines::Line;
 use oz_node_events::{
     NodeCommand, NodeSeat, a_line_has_it_run_or_not, it_stands_where_it_saw_more,
 };
+use oz_script::Line;
 use oz_turn::{Ring, Seat, Turn};
 use oz_world::Disk;
 use std::sync::Wait;

@@ -2,7 +2,7 @@
 
 ghost use Rattle.std.specs.Prelude.{◌≡◌, ◌+◌, ◌≤◌, ◌<◌, None, Ok, not, false, slice_index, slice_set};
 ghost use Rattle.oz_datanode.specs.Datanode.{is_halted};
-ghost use Rattle.oz_lines.specs.declared.script.TheConstants.{MOST_CLIENTS as MOST};
+ghost use Rattle.oz_script.specs.declared.lines.script.TheConstants.{MOST_CLIENTS as MOST};
 ghost use Rattle.oz_node_admin.specs.Commands.{ComesTo, HasBeen, last_after, own_after, run_done};
 ghost use Rattle.oz_node_events.specs.Led.{HasItDone};
 ghost use Rattle.oz_node_events.specs.NodeSeat.{IsKept, StandsFor};
@@ -15,11 +15,11 @@ use crate::changing::see_to;
 use crate::fault::AdminFault;
 use oz_buffer::{Ledger, Opened};
 use oz_datanode::Datanode;
-use oz_lines::Line;
 use oz_node_events::{
     NodeSeat, a_line_has_it_run_or_not, it_stands_where_it_saw_more, its_seat_alone_tells,
 };
 use oz_scm_events::{ScmCell, a_datanode_alone_tells_that_it_runs, the_scm_alone_tells};
+use oz_script::Line;
 use oz_turn::{Ring, Seat, Turn};
 use oz_world::Disk;
 use std::alloc::Global;

@@ -1,7 +1,7 @@
 //! Having something done to a datanode under its locks.
 
 ghost use Rattle.std.specs.Prelude.{◌≡◌, ◌≤◌, ◌<◌};
-ghost use Rattle.oz_lines.specs.declared.script.TheConstants.{MOST_CLIENTS as MOST};
+ghost use Rattle.oz_script.specs.declared.lines.script.TheConstants.{MOST_CLIENTS as MOST};
 ghost use Rattle.oz_node_admin.specs.Came.{CameOf};
 ghost use Rattle.oz_node_events.specs.Led.{HasItDone};
 ghost use Rattle.oz_turn.specs.Seat.{IsReady, mine_of, number_of, room_of, seen_of};
@@ -12,10 +12,10 @@ use crate::fault::AdminFault;
 use crate::running::{start_at, stop_at};
 use crate::wiped::wipe_at;
 use oz_buffer::{Ledger, Opened};
-use oz_lines::Line;
 use oz_node_events::{NodeCommand, NodeSeat};
 use oz_replicas::{NodeCell, Nodes};
 use oz_scm_events::ScmCell;
+use oz_script::Line;
 use oz_turn::{Ring, Seat, Turn};
 use oz_world::Disk;
 use std::alloc::Global;

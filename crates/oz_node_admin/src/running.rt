@@ -1,7 +1,7 @@
 //! Stopping and starting a datanode.
 
 ghost use Rattle.std.specs.Prelude.{◌≡◌, ◌≤◌, true, false};
-ghost use Rattle.oz_lines.specs.declared.script.TheConstants.{MOST_CLIENTS as MOST};
+ghost use Rattle.oz_script.specs.declared.lines.script.TheConstants.{MOST_CLIENTS as MOST};
 ghost use Rattle.oz_node_admin.specs.Commands.{ComesTo};
 ghost use Rattle.oz_node_events.specs.declared.command.NodeCommand.TheVariants.{Start, Stop};
 ghost use Rattle.oz_node_events.specs.Led.{HasItDone};
@@ -13,10 +13,10 @@ ghost use Rattle.oz_turn.specs.Turn.{turn_id};
 use crate::commanding::command;
 use crate::fault::AdminFault;
 use oz_buffer::{Ledger, Opened};
-use oz_lines::Line;
 use oz_node_events::NodeSeat;
 use oz_replicas::NodeCell;
 use oz_scm_events::ScmCell;
+use oz_script::Line;
 use oz_turn::{Ring, Seat, Turn};
 use oz_world::Disk;
 use std::alloc::Global;

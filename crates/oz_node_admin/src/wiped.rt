@@ -2,7 +2,7 @@
 
 ghost use Rattle.std.specs.Prelude.{◌≡◌, ◌+◌, ◌≤◌, ◌<◌, ◌++◌, ◌∷◌, [], None, IsSome, false, slice_index};
 ghost use Rattle.oz_datanode.specs.Datanode.{is_halted, meta_of, slots_of};
-ghost use Rattle.oz_lines.specs.declared.script.TheConstants.{MOST_CLIENTS as MOST};
+ghost use Rattle.oz_script.specs.declared.lines.script.TheConstants.{MOST_CLIENTS as MOST};
 ghost use Rattle.oz_node_admin.specs.Wipes.{Empties, HasTold, HaveTold, WipeComesTo, last_wiped, runs_now, wipe_event};
 ghost use Rattle.oz_node_events.specs.declared.command.NodeCommand.TheVariants as done;
 ghost use Rattle.oz_node_events.specs.Commands.{by_node};
@@ -17,13 +17,13 @@ use crate::fault::AdminFault;
 use oz_buffer::{Ledger, Opened};
 use oz_core::{EventKind, Node};
 use oz_datanode::Datanode;
-use oz_lines::Line;
 use oz_node_events::{
     NodeCommand, NodeSeat, a_failed_disk_halts_it, a_line_wipes_it, it_stands_where_it_saw_more,
     its_seat_alone_tells,
 };
 use oz_replicas::NodeCell;
 use oz_scm_events::{ScmCell, a_datanode_alone_tells_that_it_runs, the_scm_alone_tells};
+use oz_script::Line;
 use oz_turn::{Ring, Seat, Turn};
 use oz_world::Disk;
 use std::alloc::Global;

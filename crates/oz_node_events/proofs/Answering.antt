@@ -17,7 +17,7 @@ use Rattle.oz_core.specs.Stories.{has_event}
 use Rattle.oz_datanode.specs.Datanode.{State, count_of, is_halted}
 use Rattle.oz_fields.specs.declared.block.Block.{Block}
 use Rattle.oz_entries.specs.Node.{is_held}
-use Rattle.oz_lines.specs.declared.script.Script.{Script}
+use Rattle.oz_script.specs.declared.lines.script.Script.{Script}
 use Rattle.oz_replicas.specs.Notes.{Goes, Subject}
 use Rattle.oz_replicas.specs.Outcomes.{HasAlready}
 use Rattle.oz_replicas.specs.Reading.{IsFirstGiven, ReadsShort}

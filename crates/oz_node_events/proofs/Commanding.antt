@@ -16,7 +16,7 @@ use Rattle.oz_core.specs.Stories.{has_event, last_told, newer}
 use Rattle.oz_datanode.specs.Datanode.{State, count_of, is_halted, node_in}
 use Rattle.oz_datanode.specs.Pairs.{Content, NodeHolds}
 use Rattle.oz_fields.specs.declared.block.Block.{Block}
-use Rattle.oz_lines.specs.declared.script.Script.{Script}
+use Rattle.oz_script.specs.declared.lines.script.Script.{Script}
 use Rattle.oz_node_events.specs.Commands.{by_node, run_event}
 use Rattle.oz_world.specs.Disk.{Images}
 use Rattle.oz_node_events.specs.NodeSeat.{HasContents, IsAppended, IsKept, NumbersAreOld, SeatView, StandsFor, events_of, is_bad}

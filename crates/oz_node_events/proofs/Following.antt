@@ -24,8 +24,8 @@ use Rattle.oz_datanode.specs.Writing.{is_open}
 use Rattle.oz_entries.specs.declared.row.BlockRow.{BlockRow}
 use Rattle.oz_fields.specs.declared.block.Block.{Block}
 use Rattle.oz_fields.specs.declared.block.TheConstants.{LONGEST_PIECE}
-use Rattle.oz_full.specs.Full.{JournalStands, RowsAreHeld}
-use Rattle.oz_lines.specs.declared.script.Script.{Script}
+use Rattle.oz_node_events.specs.full.Full.{JournalStands, RowsAreHeld}
+use Rattle.oz_script.specs.declared.lines.script.Script.{Script}
 use Rattle.oz_replicas.specs.Notes.{Subject, Leads}
 use Rattle.oz_replicas.specs.Outcomes.{IsFull, IsReason}
 use Rattle.oz_replicas.specs.declared.note.Note.{Note}

@@ -14,7 +14,7 @@ use Rattle.oz_datanode.specs.Reading.{IsRead}
 use Rattle.oz_entries.specs.Node.{Node as Held, is_held}
 use Rattle.oz_entries.specs.declared.row.BlockRow.{BlockRow}
 use Rattle.oz_fields.specs.declared.block.Block.{Block}
-use Rattle.oz_lines.specs.declared.script.Script.{Script}
+use Rattle.oz_script.specs.declared.lines.script.Script.{Script}
 use Rattle.oz_replicas.specs.Notes.{Goes, Subject}
 use Rattle.oz_replicas.specs.Reading.{Gave, IsFirstGiven}
 use Rattle.oz_replicas.specs.Stays.{Stays}

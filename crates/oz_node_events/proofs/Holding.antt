@@ -20,7 +20,7 @@ use Rattle.oz_core.specs.Scm.{last_txn, logged, logged_number, logs}
 use Rattle.oz_core.specs.Stories.{all_told, last_told, newer}
 use Rattle.oz_dellog.specs.declared.txn.Txn.{Txn}
 use Rattle.oz_fields.specs.declared.block.Block.{Block}
-use Rattle.oz_lines.specs.declared.script.Script.{Script}
+use Rattle.oz_script.specs.declared.lines.script.Script.{Script}
 use Rattle.oz_node_events.specs.NodeSeat.{NumbersAreOld, events_of}
 use Rattle.oz_node_events.proofs.Telling.{is_its, its_kept, its_left, held_away}
 

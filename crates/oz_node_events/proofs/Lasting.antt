@@ -26,11 +26,11 @@ use Rattle.oz_kept.specs.Held.{LinesAreApart}
 use Rattle.oz_kept.specs.laws.Contents.{granted_still, one_block, one_content}
 use Rattle.oz_kept.specs.laws.Granted.{one_ask_id}
 use Rattle.oz_kept.specs.laws.Lines.{lines_apart}
-use Rattle.oz_lines.specs.declared.script.Line.{Line}
-use Rattle.oz_lines.specs.declared.script.Script.{Script}
-use Rattle.oz_lines.specs.Numbered.{IsNumbered}
+use Rattle.oz_script.specs.declared.lines.script.Line.{Line}
+use Rattle.oz_script.specs.declared.lines.script.Script.{Script}
+use Rattle.oz_script.specs.lines.Numbered.{IsNumbered}
 use Rattle.oz_core.specs.declared.limits.TheConstants.{SERVICE_CLIENT}
-use Rattle.oz_reopened.specs.laws.Rising.{member_stays}
+use Rattle.oz_kept.specs.reopened.laws.Rising.{member_stays}
 use Rattle.oz_replicas.specs.Notes.{Subject}
 use Rattle.oz_requests.specs.declared.request.AskId.{AskId}
 use Rattle.oz_turn.specs.Told.{BeginsWith}

@@ -26,8 +26,8 @@ use Rattle.oz_datanode.specs.laws.GoingOn.{count_rose, rose_since}
 use Rattle.oz_entries.specs.Node.{Node as Held, is_held, is_same_block, with_row}
 use Rattle.oz_entries.specs.declared.row.BlockRow.{BlockRow}
 use Rattle.oz_fields.specs.declared.block.Block.{Block}
-use Rattle.oz_full.specs.Full.{JournalStands}
-use Rattle.oz_lines.specs.declared.script.Script.{Script}
+use Rattle.oz_node_events.specs.full.Full.{JournalStands}
+use Rattle.oz_script.specs.declared.lines.script.Script.{Script}
 use Rattle.oz_replicas.specs.Notes.{Subject, Leads}
 use Rattle.oz_replicas.specs.declared.note.Note.{Note}
 use Rattle.oz_replicas.specs.declared.note.Note.TheVariants as notes

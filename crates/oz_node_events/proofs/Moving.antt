@@ -11,7 +11,7 @@ use Rattle.oz_core.specs.Nodes.{holds, is_closed, length_in, length_of, put_leng
 use Rattle.oz_core.specs.Stories.{all_told, first_in}
 use Rattle.oz_datanode.specs.Datanode.{State}
 use Rattle.oz_fields.specs.declared.block.Block.{Block}
-use Rattle.oz_lines.specs.declared.script.Script.{Script}
+use Rattle.oz_script.specs.declared.lines.script.Script.{Script}
 use Rattle.oz_turn.specs.Told.{BeginsWith}
 use Rattle.oz_world.specs.Disk.{Images}
 use Rattle.oz_node_events.specs.NodeSeat.{HasContents, IsKept, SeatView, StandsFor, events_of}

@@ -10,8 +10,8 @@ use Rattle.oz_core.specs.declared.event.Node.TheVariants.{Datanode}
 use Rattle.oz_core.specs.declared.opening.Opening.{Opening}
 use Rattle.oz_core.specs.Contents.{OpeningBytes}
 use Rattle.oz_core.specs.Stories.{has_event}
-use Rattle.oz_full.specs.Full.{JournalStands}
-use Rattle.oz_lines.specs.declared.script.Script.{Script}
+use Rattle.oz_node_events.specs.full.Full.{JournalStands}
+use Rattle.oz_script.specs.declared.lines.script.Script.{Script}
 use Rattle.oz_nodes.specs.declared.nodes.TheConstants.{MOST_NODES}
 use Rattle.oz_turn.specs.Told.{BeginsWith}
 use Rattle.oz_datanode.specs.Datanode.{State, Runs, count_of, is_halted, node_in, slots_of}

@@ -22,7 +22,7 @@ use Rattle.oz_core.specs.Stories.{has_event}
 use Rattle.oz_fields.specs.declared.block.Block.{Block}
 use Rattle.oz_kept.specs.laws.Contents.{holder_got, its_grant}
 use Rattle.oz_kept.specs.laws.Granted.{was_nowhere}
-use Rattle.oz_lines.specs.declared.script.Script.{Script}
+use Rattle.oz_script.specs.declared.lines.script.Script.{Script}
 use Rattle.oz_requests.specs.declared.request.AskId.{AskId}
 use Rattle.oz_turn.specs.Told.{BeginsWith}
 use Rattle.oz_node_events.specs.Answers.{AnswerStands, AnswersStand, HadIt, HasQuorum, copies}

@@ -6,9 +6,9 @@ use Rattle.oz_core.specs.declared.event.EventKind.{EventKind}
 use Rattle.oz_core.specs.declared.opening.Opening.{Opening}
 use Rattle.oz_core.specs.Contents.{OpeningBytes}
 use Rattle.oz_core.specs.Stories.{has_event}
-use Rattle.oz_lines.specs.declared.script.Line.{Line}
-use Rattle.oz_lines.specs.declared.script.Script.{Script}
-use Rattle.oz_lines.specs.declared.script.TheConstants.{MOST_CLIENTS}
+use Rattle.oz_script.specs.declared.lines.script.Line.{Line}
+use Rattle.oz_script.specs.declared.lines.script.Script.{Script}
+use Rattle.oz_script.specs.declared.lines.script.TheConstants.{MOST_CLIENTS}
 use Rattle.oz_turn.specs.Told.{own_entries, BeginsWith}
 use Rattle.oz_node_events.specs.declared.command.NodeCommand.{NodeCommand}
 use Rattle.oz_node_events.specs.Commands.{by_node}

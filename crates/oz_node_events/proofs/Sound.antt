@@ -13,7 +13,7 @@ use Rattle.oz_datanode.specs.Datanode.{State, count_of, is_halted, node_in, slot
 use Rattle.oz_datanode.specs.Pairs.{Has, HaveAll, HaveDigests}
 use Rattle.oz_datanode.specs.Reading.{IsFirstBad}
 use Rattle.oz_entries.specs.declared.row.Chunk.{Chunk}
-use Rattle.oz_lines.specs.declared.script.Script.{Script}
+use Rattle.oz_script.specs.declared.lines.script.Script.{Script}
 use Rattle.oz_replicas.specs.Notes.{Subject, Leads}
 use Rattle.oz_replicas.specs.Outcomes.{FindsBad}
 use Rattle.oz_replicas.specs.declared.note.Note.{Note}

@@ -17,7 +17,7 @@ use Rattle.oz_datanode.specs.Datanode.{State, count_of, is_halted}
 use Rattle.oz_datanode.specs.Writing.{intact, is_open}
 use Rattle.oz_datanode.specs.laws.GoingOn.{count_rose, rose_since}
 use Rattle.oz_entries.specs.Node.{Node as Held, is_held}
-use Rattle.oz_lines.specs.declared.script.Script.{Script}
+use Rattle.oz_script.specs.declared.lines.script.Script.{Script}
 use Rattle.oz_world.specs.Disk.{Images}
 use Rattle.oz_node_events.specs.Commands.{HaltsSo, IsWipedSo, by_node}
 use Rattle.oz_node_events.specs.NodeSeat.{IsAppended, IsKept, NumbersAreOld, SeatView, StandsFor, events_of}

@@ -8,7 +8,7 @@ use Rattle.oz_datanode.specs.Datanode.{State, DisksGoOn, count_of, is_halted, me
 use Rattle.oz_datanode.specs.Pairs.{Content, NodeHolds}
 use Rattle.oz_entries.specs.Node.{empty_node}
 use Rattle.oz_fields.specs.declared.block.Block.{Block}
-use Rattle.oz_full.specs.Full.{JournalStands}
+use Rattle.oz_node_events.specs.full.Full.{JournalStands}
 use Rattle.oz_world.specs.Disk.{Images}
 use Rattle.oz_world.specs.Faults.{Rose}
 

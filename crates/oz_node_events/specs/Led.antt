@@ -10,9 +10,9 @@ use Rattle.oz_core.specs.Due.{wipes}
 use Rattle.oz_core.specs.Fits.{starts, stops}
 use Rattle.oz_core.specs.Lines.{HasStarted}
 use Rattle.oz_core.specs.Stories.{count_events}
-use Rattle.oz_lines.specs.declared.script.Line.{Line}
-use Rattle.oz_lines.specs.declared.script.Script.{Script}
-use Rattle.oz_lines.specs.declared.script.TheConstants.{MOST_CLIENTS}
+use Rattle.oz_script.specs.declared.lines.script.Line.{Line}
+use Rattle.oz_script.specs.declared.lines.script.Script.{Script}
+use Rattle.oz_script.specs.declared.lines.script.TheConstants.{MOST_CLIENTS}
 use Rattle.oz_node_events.specs.declared.command.NodeCommand.{NodeCommand}
 use Rattle.oz_node_events.specs.declared.command.NodeCommand.TheVariants as command
 use Rattle.oz_node_events.specs.Commands.{by_node}

@@ -5,3 +5,5 @@ pub mod Beside
 pub mod Commands
 pub mod Led
 pub mod laws
+pub mod full
+pub mod filled

@@ -20,8 +20,8 @@ use Rattle.oz_datanode.specs.Writing.{intact, is_open}
 use Rattle.oz_entries.specs.Node.{is_held}
 use Rattle.oz_entries.specs.declared.row.BlockRow.{BlockRow}
 use Rattle.oz_fields.specs.declared.block.Block.{Block}
-use Rattle.oz_full.specs.Full.{JournalStands}
-use Rattle.oz_lines.specs.declared.script.Script.{Script}
+use Rattle.oz_node_events.specs.full.Full.{JournalStands}
+use Rattle.oz_script.specs.declared.lines.script.Script.{Script}
 use Rattle.oz_nodes.specs.declared.nodes.TheConstants.{MOST_NODES}
 use Rattle.oz_turn.specs.Told.{BeginsWith, own_entries}
 use Rattle.oz_world.specs.Disk.{Images}

@@ -13,7 +13,7 @@ use Rattle.oz_core.specs.Nodes.{length_of}
 use Rattle.oz_core.specs.Scm.{members}
 use Rattle.oz_core.specs.Seats.{datanode_seat}
 use Rattle.oz_fields.specs.declared.block.TheConstants.{LONGEST_PIECE}
-use Rattle.oz_lines.specs.declared.script.Script.{Script}
+use Rattle.oz_script.specs.declared.lines.script.Script.{Script}
 use Rattle.oz_replicas.specs.Notes.{Subject}
 use Rattle.oz_replicas.specs.declared.note.Note.{Note}
 use Rattle.oz_replicas.specs.declared.note.Note.TheVariants as notes

@@ -16,8 +16,8 @@ ghost use Rattle.oz_core.specs.Nodes.{is_closed, is_running, stopped_or_started}
 ghost use Rattle.oz_core.specs.Stories.{has_event, last_told};
 ghost use Rattle.oz_datanode.specs.Datanode.{Runs, State as AnyNode, count_of, is_halted};
 ghost use Rattle.oz_fields.specs.declared.block.Block.{Block as AnyBlock};
-ghost use Rattle.oz_full.specs.Full.{JournalStands};
-ghost use Rattle.oz_lines.specs.Numbered.{IsNumbered};
+ghost use Rattle.oz_node_events.specs.full.Full.{JournalStands};
+ghost use Rattle.oz_script.specs.lines.Numbered.{IsNumbered};
 ghost use Rattle.oz_node_events.specs.Answers.{AnswersStand, HadIt, HasQuorum};
 ghost use Rattle.oz_node_events.specs.Commands.{HaltsSo, IsWipedSo, by_node, run_event};
 ghost use Rattle.oz_node_events.specs.Led.{no_lines};

@@ -6,11 +6,11 @@ ghost use Rattle.oz_turn.specs.Seat.{IsReady, mine_of, number_of, room_of, seen_
 ghost use Rattle.oz_turn.specs.Turn.{turn_id};
 
 use crate::events::kind_of;
+use crate::full::{a_filled_datanode_is_full, a_journal_keeps_slots_apart};
 use crate::seat::NodeSeat;
 use oz_buffer::{Ledger, Opened};
 use oz_core::Event;
 use oz_fields::{Block, OutOfMemory};
-use oz_full::{a_filled_datanode_is_full, a_journal_keeps_slots_apart};
 use oz_replicas::{Note, Noter};
 use oz_requests::AskId;
 use oz_turn::{Ring, Seat, Told, Turn};

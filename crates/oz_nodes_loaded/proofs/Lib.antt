@@ -6,3 +6,4 @@ mod Refusing
 mod Saying
 mod Seen
 mod Standing
+pub mod nodes_opened_lemmas

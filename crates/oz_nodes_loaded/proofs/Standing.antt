@@ -5,7 +5,7 @@ use Rattle.oz_block.specs.Blocks.{StandsFor as StandsForNode, IsDamagedDisk}
 use Rattle.oz_datanode.specs.Datanode.{State as Datanode, AreDamaged, BothStandFor, node_in}
 use Rattle.oz_datanode.specs.declared.disks.NodeDisks.{NodeDisks}
 use Rattle.oz_entries.specs.Node.{Node}
-use Rattle.oz_grants.specs.Made.{Made}
+use Rattle.oz_scm.specs.grants.Made.{Made}
 use Rattle.oz_nodes_loaded.specs.declared.disk_name.DiskName.TheVariants as disk
 use Rattle.oz_scm.specs.Scm.{StandsFor, IsOfNodes, IsDamagedDisk as IsDamagedScm}
 use Rattle.oz_world.specs.Disk.{Seen}

@@ -4,7 +4,7 @@ use Rattle.std.specs.List.{AllZip}
 use Rattle.oz_datanode.specs.Datanode.{BothStandFor}
 use Rattle.oz_datanode.specs.declared.disks.NodeDisks.{NodeDisks}
 use Rattle.oz_entries.specs.Node.{Node}
-use Rattle.oz_grants.specs.Made.{Made}
+use Rattle.oz_scm.specs.grants.Made.{Made}
 use Rattle.oz_scm.specs.Scm.{StandsFor}
 use Rattle.oz_world.specs.Disk.{Seen}
 use Rattle.oz_nodes_loaded.specs.declared.fault.StoreFault.{StoreFault}

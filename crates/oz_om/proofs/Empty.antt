@@ -12,11 +12,11 @@ use Rattle.oz_core.specs.Grants.{IsExcluded}
 use Rattle.oz_core.specs.Manager.{namespace_of}
 use Rattle.oz_core.specs.Nodes.{is_block}
 use Rattle.oz_core.specs.Scm.{IsOfGrant}
-use Rattle.oz_deciding.specs.Outcomes.{WantsBlock}
+use Rattle.oz_om.specs.decider.Outcomes.{WantsBlock}
 use Rattle.oz_fields.specs.declared.block.Block.{Block}
-use Rattle.oz_granted.specs.Granted.{NoneIsFree, handed_out}
-use Rattle.oz_granted.specs.laws.Free.{none_free_spent}
-use Rattle.oz_lines.specs.declared.script.Script.{Script}
+use Rattle.oz_store.specs.granted.Granted.{NoneIsFree, handed_out}
+use Rattle.oz_store.specs.granted.laws.Free.{none_free_spent}
+use Rattle.oz_script.specs.declared.lines.script.Script.{Script}
 use Rattle.oz_locks.specs.Pool.{is_among, used_by}
 use Rattle.oz_locks.specs.Stripe.{StripeView}
 use Rattle.oz_locks.specs.declared.pool.FreeBlock.{FreeBlock}
@@ -34,8 +34,8 @@ use Rattle.oz_requests.specs.Families.{family_of}
 use Rattle.oz_requests.specs.Names.{volume_in}
 use Rattle.oz_rows.specs.RowMaps.{Rows}
 use Rattle.oz_namespace.specs.declared.namespace.Namespace.{Namespace}
-use Rattle.oz_striped.specs.Shares.{IsOfStripe}
-use Rattle.oz_striped.specs.laws.Requests.{share_answers}
+use Rattle.oz_store.specs.striped.Shares.{IsOfStripe}
+use Rattle.oz_store.specs.striped.laws.Requests.{share_answers}
 use Rattle.oz_om.specs.Decided.{IsPoolEmpty}
 use Rattle.oz_om.specs.Held.{IsHeld, IsOpenAsk, IsPickFor, IsPicked}
 use Rattle.oz_om.specs.Opens.{Opens}

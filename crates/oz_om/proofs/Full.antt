@@ -1,6 +1,6 @@
 -- Where the buffer has no room for a batch.
 use Rattle.std.proofs.Common.{◌≡◌, ℕ, ◌+◌, ◌<◌, false, List, length, refl, ◌∙◌}
-use Rattle.oz_batches.specs.declared.batches.TheConstants.{LARGEST_BUFFER}
+use Rattle.oz_journal.specs.declared.batches.batches.TheConstants.{LARGEST_BUFFER}
 use Rattle.oz_buffer.specs.Buffer.{buffer_of}
 use Rattle.oz_core.specs.declared.event.Event.{Event}
 use Rattle.oz_core.specs.declared.opening.Opening.{Opening}

@@ -8,8 +8,8 @@ use Rattle.oz_core.specs.declared.event.EventKind.TheVariants.{Grant}
 use Rattle.oz_core.specs.declared.opening.Opening.{Opening}
 use Rattle.oz_core.specs.Law.{IsLegal}
 use Rattle.oz_fields.specs.declared.block.Block.{Block}
-use Rattle.oz_granted.specs.laws.Grants.{grant_within, later_above}
-use Rattle.oz_granted.specs.laws.Listed.{listed_granted}
+use Rattle.oz_store.specs.granted.laws.Grants.{grant_within, later_above}
+use Rattle.oz_store.specs.granted.laws.Listed.{listed_granted}
 use Rattle.oz_locks.specs.Pool.{AreFresh, GrantFits}
 use Rattle.oz_locks.specs.declared.pool.FreeBlock.{FreeBlock}
 

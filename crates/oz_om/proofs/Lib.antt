@@ -14,3 +14,4 @@ pub mod Rests
 pub mod Answered
 pub mod Placed
 pub mod Undecided
+pub mod decider_lemmas

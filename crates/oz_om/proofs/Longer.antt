@@ -13,20 +13,20 @@ use Rattle.oz_core.specs.Seats.{stripe_seat}
 use Rattle.oz_core.specs.Stories.{all_told, last_told, mine}
 use Rattle.oz_decision.specs.Meets.{Stand}
 use Rattle.oz_fields.specs.declared.block.Block.{Block}
-use Rattle.oz_granted.specs.Granted.{AreOld}
+use Rattle.oz_store.specs.granted.Granted.{AreOld}
 use Rattle.oz_kept.specs.laws.Deleted.{durable_rises, legal_to}
 use Rattle.oz_kept.specs.laws.Places.{legal_behind}
-use Rattle.oz_lines.specs.declared.script.Script.{Script}
+use Rattle.oz_script.specs.declared.lines.script.Script.{Script}
 use Rattle.oz_locks.specs.Flushes.{flushed_in}
 use Rattle.oz_locks.specs.Stripe.{StripeView}
 use Rattle.oz_namespace.specs.declared.namespace.Namespace.{Namespace}
 use Rattle.oz_rows.specs.RowMaps.{Rows}
 use Rattle.oz_sound.specs.Sound.{IsSoundButRenames}
-use Rattle.oz_striped.specs.Shares.{share_of}
-use Rattle.oz_striped.specs.laws.Shares.{one_share, share_is_there}
-use Rattle.oz_striped.specs.laws.Stories.{share_of_seen}
+use Rattle.oz_store.specs.striped.Shares.{share_of}
+use Rattle.oz_store.specs.striped.laws.Shares.{one_share, share_is_there}
+use Rattle.oz_store.specs.striped.laws.Stories.{share_of_seen}
 use Rattle.oz_om.specs.Held.{IsDrafting, IsHeld}
-use Rattle.oz_stripes.specs.Stripes.{only}
+use Rattle.oz_sound.specs.stripes.Stripes.{only}
 use Rattle.oz_om.specs.Keeps.{HasStood, KeepsRows, StandAt}
 use Rattle.oz_om.proofs.Stood.{stood_more}
 use Rattle.oz_om.proofs.Legal.{legal_of}

@@ -12,7 +12,7 @@ use Rattle.oz_core.specs.Seats.{stripe_seat}
 use Rattle.oz_core.specs.Stories.{all_told, mine}
 use Rattle.oz_decision.specs.Meets.{AreInGrammar, granted_in}
 use Rattle.oz_fields.specs.declared.block.Block.{Block}
-use Rattle.oz_granted.specs.Granted.{AreOld, handed_out}
+use Rattle.oz_store.specs.granted.Granted.{AreOld, handed_out}
 use Rattle.oz_requests.specs.declared.reply.Reply.{Reply}
 use Rattle.oz_requests.specs.declared.reply.Reply.TheVariants as replies
 use Rattle.oz_requests.specs.declared.request.AskId.{AskId}
@@ -26,7 +26,7 @@ use Rattle.oz_rows.specs.RowMaps.{Rows, after_changes, is_block}
 use Rattle.oz_sound.specs.Kept.{HasHome, KeepsBlocks}
 use Rattle.oz_sound.specs.Sound.{IsHome, StandsIn, blocks_of}
 use Rattle.oz_store.specs.Store.{IsInARow}
-use Rattle.oz_stripes.specs.Stripes.{is_own, only}
+use Rattle.oz_sound.specs.stripes.Stripes.{is_own, only}
 use Rattle.oz_om.proofs.Recorded.{Spares, is_snapshot_key, spared}
 
 -- a row with blocks is that of a key, of an open key, of a deleted key or of a snapshot's key

@@ -6,12 +6,12 @@ use Rattle.oz_core.specs.declared.event.Event.{Event}
 use Rattle.oz_core.specs.declared.opening.Opening.{Opening}
 use Rattle.oz_core.specs.Contents.{OpeningBytes}
 use Rattle.oz_core.specs.Manager.{block_of_reply}
-use Rattle.oz_deciding.specs.Records.{AreRecorded}
+use Rattle.oz_om.specs.decider.Records.{AreRecorded}
 use Rattle.oz_om_session.specs.Records.{recorded_grant}
 use Rattle.oz_rows.specs.declared.operation.Change.{Change}
 use Rattle.oz_requests.specs.declared.reply.Reply.TheVariants as replies
 use Rattle.oz_fields.specs.declared.block.Block.{Block}
-use Rattle.oz_lines.specs.declared.script.Script.{Script}
+use Rattle.oz_script.specs.declared.lines.script.Script.{Script}
 use Rattle.oz_locks.specs.Stripe.{StripeView}
 use Rattle.oz_locks.specs.declared.pool.FreeBlock.{FreeBlock}
 use Rattle.oz_requests.specs.declared.reply.Reply.{Reply}

@@ -3,18 +3,18 @@ use Rattle.std.proofs.Common.{◌≡◌, ℕ, Bool, true, false, not, List, [], 
 use mathlib.Core.Bool.{false≢true}
 use Rattle.std.specs.Prelude.{map}
 use Rattle.std.specs.List.{AllByRecursion, filter, flat_map}
-use Rattle.oz_deciding.specs.declared.decider.Decider.{Decider}
-use Rattle.oz_deciding.specs.declared.decider.Decider.TheVariants.{Buckets, Reading, Changing, Opening, Granting, Committing, Nobody}
-use Rattle.oz_deciding.specs.Deciders.{decider_of}
-use Rattle.oz_deciding.specs.Records.{AreRecorded, AreRecordedBy}
+use Rattle.oz_om.specs.declared.decider.decider.Decider.{Decider}
+use Rattle.oz_om.specs.declared.decider.decider.Decider.TheVariants.{Buckets, Reading, Changing, Opening, Granting, Committing, Nobody}
+use Rattle.oz_om.specs.decider.Deciders.{decider_of}
+use Rattle.oz_om.specs.decider.Records.{AreRecorded, AreRecordedBy}
 use Rattle.oz_decision.specs.Sessions.{blocks_at}
 use Rattle.oz_decision.specs.Versions.{deleted, version_at}
 use Rattle.oz_effects.specs.Effects.{closed, freed, is_in_a_key, operation_changes}
 use Rattle.oz_fields.specs.declared.block.Block.{Block}
 use Rattle.oz_om_bucket.specs.Records.{changes_for, recorded_changes}
-use Rattle.oz_om_change.specs.Records.{moved, recorded_change, changes_of_change}
-use Rattle.oz_om_open.specs.Records.{AreExpired, changes_of_create}
-use Rattle.oz_om_open.specs.Records.{AreRecorded as AreOpened}
+use Rattle.oz_om_key.specs.om_change.Records.{moved, recorded_change, changes_of_change}
+use Rattle.oz_om_session.specs.om_open.Records.{AreExpired, changes_of_create}
+use Rattle.oz_om_session.specs.om_open.Records.{AreRecorded as AreOpened}
 use Rattle.oz_om_session.specs.Records.{changes_of_commit, changes_of_grant, changes_of_left, recorded_commit, recorded_grant, unused}
 use Rattle.oz_requests.specs.declared.reply.Reply.{Reply}
 use Rattle.oz_requests.specs.declared.reply.Reply.TheVariants as replies

@@ -3,7 +3,7 @@ use Rattle.std.proofs.Common.{◌≡◌, ℕ, List, [], ◌∷◌, ◌++◌, app
 use Rattle.oz_core.specs.declared.event.Event.{Event}
 use Rattle.oz_core.specs.declared.opening.Opening.{Opening}
 use Rattle.oz_rows.specs.RowMaps.{Rows}
-use Rattle.oz_stripes.specs.Stripes.{only}
+use Rattle.oz_sound.specs.stripes.Stripes.{only}
 use Rattle.oz_om.specs.Keeps.{HasStood, HasStoodFrom, StandAt, StepsTo}
 
 module _ (opening : Opening) (loaded : Rows) (stripe : ℕ) where

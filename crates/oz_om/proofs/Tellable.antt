@@ -12,14 +12,14 @@ use Rattle.oz_core.specs.Law.{DecideIsEnabled, GrantIsAllowed, IndexGoesOn, IsLe
 use Rattle.oz_core.specs.Scm.{IsOfGrant}
 use Rattle.oz_core.specs.Manager.{last_index, namespace_of}
 use Rattle.oz_core.specs.Seats.{stripe_seat}
-use Rattle.oz_deciding.specs.Premises.{GrantsNew}
-use Rattle.oz_deciding.specs.Records.{AreRecorded, IsBatchOfStripe}
+use Rattle.oz_om.specs.decider.Premises.{GrantsNew}
+use Rattle.oz_om.specs.decider.Records.{AreRecorded, IsBatchOfStripe}
 use Rattle.oz_decision.specs.declared.decision.Decision.{Decision}
 use Rattle.oz_decision.specs.Meets.{Meets, Stand, MayGo}
 use Rattle.oz_fields.specs.declared.block.Block.{Block}
-use Rattle.oz_granted.specs.Granted.{AreOld, IsFree, handed_out}
-use Rattle.oz_granted.specs.laws.Free.{free_allowed, free_new}
-use Rattle.oz_lines.specs.declared.script.Script.{Script}
+use Rattle.oz_store.specs.granted.Granted.{AreOld, IsFree, handed_out}
+use Rattle.oz_store.specs.granted.laws.Free.{free_allowed, free_new}
+use Rattle.oz_script.specs.declared.lines.script.Script.{Script}
 use Rattle.oz_locks.specs.Pool.{IsFirstAllowed, pool_of, used_by}
 use Rattle.oz_locks.specs.Pool.{IsFree as IsFreeIn}
 use Rattle.oz_locks.specs.Stripe.{StripeView}
@@ -43,18 +43,18 @@ use Rattle.oz_rows.specs.RowMaps.{Rows, after_changes, row_after}
 use Rattle.oz_sound.specs.Sound.{IsSoundButRenames}
 use Rattle.oz_sound.specs.StandsFor.{StandsFor}
 use Rattle.oz_store.specs.Store.{IsStore}
-use Rattle.oz_striped.specs.Shares.{HasAllStripes, IsOfStripe, share_of}
-use Rattle.oz_striped.specs.laws.Asked.{pending_is_asked}
-use Rattle.oz_striped.specs.laws.Requests.{share_answers, share_stays}
-use Rattle.oz_striped.specs.laws.Rows.{left_as_it_was, standing_has_all}
-use Rattle.oz_striped.specs.laws.Shares.{one_share, share_is_there}
-use Rattle.oz_striped.specs.laws.Stories.{share_decided, story_has_all}
+use Rattle.oz_store.specs.striped.Shares.{HasAllStripes, IsOfStripe, share_of}
+use Rattle.oz_store.specs.striped.laws.Asked.{pending_is_asked}
+use Rattle.oz_store.specs.striped.laws.Requests.{share_answers, share_stays}
+use Rattle.oz_store.specs.striped.laws.Rows.{left_as_it_was, standing_has_all}
+use Rattle.oz_store.specs.striped.laws.Shares.{one_share, share_is_there}
+use Rattle.oz_store.specs.striped.laws.Stories.{share_decided, story_has_all}
 use Rattle.oz_om.specs.Held.{IsHeld, IsMade, IsOpenAsk, IsPickFor, IsPicked, IsTellable}
 use Rattle.oz_om.specs.Keeps.{AreListed, StandAt}
 use Rattle.oz_om.specs.Opens.{Opens}
 use Rattle.oz_om.proofs.Legal.{legal_of}
 use Rattle.oz_om.proofs.Old.{contains_at, handed_with, old_after, old_whole}
-use Rattle.oz_stripes.specs.Stripes.{only}
+use Rattle.oz_sound.specs.stripes.Stripes.{only}
 use Rattle.oz_om.proofs.Recorded.{recorded_spares}
 
 -- what a pool has is free

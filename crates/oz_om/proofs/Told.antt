@@ -9,7 +9,7 @@ use Rattle.oz_core.specs.declared.opening.Opening.{Opening}
 use Rattle.oz_core.specs.Contents.{OpeningBytes}
 use Rattle.oz_core.specs.Seats.{stripe_seat}
 use Rattle.oz_core.specs.Stories.{mine}
-use Rattle.oz_lines.specs.declared.script.Script.{Script}
+use Rattle.oz_script.specs.declared.lines.script.Script.{Script}
 use Rattle.oz_locks.specs.Purges.{asked_in}
 use Rattle.oz_locks.specs.Stripe.{StripeView}
 use Rattle.oz_requests.specs.declared.reply.Reply.{Reply}

@@ -12,9 +12,9 @@ use Rattle.oz_rows.specs.declared.key.RowKey.{RowKey}
 use Rattle.oz_rows.specs.RowMaps.{KeysRise, Rows, row_after, row_of}
 use Rattle.oz_sound.specs.Sound.{IsSoundButRenames}
 use Rattle.oz_sound.specs.StandsFor.{StandsFor}
-use Rattle.oz_striped.specs.Shares.{IsOfStripe, share_of}
-use Rattle.oz_striped.specs.laws.Shares.{share_is_there}
-use Rattle.oz_stripes.specs.Stripes.{only}
+use Rattle.oz_store.specs.striped.Shares.{IsOfStripe, share_of}
+use Rattle.oz_store.specs.striped.laws.Shares.{share_is_there}
+use Rattle.oz_sound.specs.stripes.Stripes.{only}
 use Rattle.oz_tables.specs.Tables.{TableView}
 use Rattle.oz_om.specs.Keeps.{StandAt}
 use Rattle.oz_om.proofs.Old.{only_of}

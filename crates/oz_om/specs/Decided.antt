@@ -1,8 +1,8 @@
 -- What comes of a request that was asked.
 use Rattle.std.specs.Prelude.{◌≡◌, ℕ, ◌+◌, ◌<◌, ◌≤◌, List, length, Some, slice_get, take}
-use Rattle.oz_batches.specs.declared.batches.TheConstants.{LARGEST_BUFFER}
+use Rattle.oz_journal.specs.declared.batches.batches.TheConstants.{LARGEST_BUFFER}
 use Rattle.oz_buffer.specs.Buffer.{buffer_of}
-use Rattle.oz_buffer.specs.Courses.{times_said}
+use Rattle.oz_buffer.specs.Became.{times_said}
 use Rattle.oz_core.specs.declared.event.Event.{Event}
 use Rattle.oz_core.specs.declared.event.EventKind.TheVariants.{Decide}
 use Rattle.oz_core.specs.declared.opening.Opening.{Opening}

@@ -13,13 +13,13 @@ use Rattle.oz_core.specs.Grants.{IsExcluded}
 use Rattle.oz_core.specs.Law.{DecideIsEnabled}
 use Rattle.oz_core.specs.Manager.{asked_late, block_of_reply}
 use Rattle.oz_core.specs.Seats.{stripe_seat}
-use Rattle.oz_deciding.specs.Promises.{IsDecision}
-use Rattle.oz_deciding.specs.Records.{IsBatchOfStripe}
+use Rattle.oz_om.specs.decider.Promises.{IsDecision}
+use Rattle.oz_om.specs.decider.Records.{IsBatchOfStripe}
 use Rattle.oz_decision.specs.declared.decision.Decision.{Decision}
 use Rattle.oz_decision.specs.Meets.{AreInGrammar}
 use Rattle.oz_effects.specs.Batches.{IsBatchOf}
 use Rattle.oz_fields.specs.declared.block.Block.{Block}
-use Rattle.oz_lines.specs.declared.script.Script.{Script}
+use Rattle.oz_script.specs.declared.lines.script.Script.{Script}
 use Rattle.oz_locks.specs.Pins.{pins_for}
 use Rattle.oz_locks.specs.Pool.{IsFirstAllowed, pool_of}
 use Rattle.oz_locks.specs.Stripe.{StripeView}

@@ -7,17 +7,17 @@ use Rattle.oz_core.specs.declared.opening.Opening.{Opening}
 use Rattle.oz_core.specs.Manager.{namespace_of}
 use Rattle.oz_core.specs.Seats.{stripe_seat}
 use Rattle.oz_core.specs.Stories.{mine}
-use Rattle.oz_deciding.specs.Records.{IsBatchOfStripe}
+use Rattle.oz_om.specs.decider.Records.{IsBatchOfStripe}
 use Rattle.oz_decision.specs.Meets.{AreInGrammar, Stand}
-use Rattle.oz_granted.specs.Granted.{AreOld, handed_out}
+use Rattle.oz_store.specs.granted.Granted.{AreOld, handed_out}
 use Rattle.oz_locks.specs.Purges.{asked_by}
 use Rattle.oz_rows.specs.declared.entry.RowEntry.{RowEntry}
 use Rattle.oz_rows.specs.declared.operation.Change.{Change}
 use Rattle.oz_rows.specs.declared.operation.TheConstants.{END_OF_INDEXES}
 use Rattle.oz_rows.specs.RowMaps.{AreRows, Rows, after_changes}
 use Rattle.oz_sound.specs.Sound.{IsSoundButRenames}
-use Rattle.oz_striped.specs.Shares.{share_of}
-use Rattle.oz_stripes.specs.Stripes.{only}
+use Rattle.oz_store.specs.striped.Shares.{share_of}
+use Rattle.oz_sound.specs.stripes.Stripes.{only}
 use Rattle.oz_turn.specs.Told.{BeginsWith}
 
 -- The rows are sound and stand for what the namespace of the story that was seen has of the stripe. Each block in them

@@ -5,3 +5,4 @@ pub mod Held
 pub mod Refusals
 pub mod Seated
 pub mod Shown
+pub mod decider

@@ -4,7 +4,7 @@ use Rattle.oz_buffer.specs.Buffer.{AllFollow, Follows}
 use Rattle.oz_core.specs.declared.event.Event.{Event}
 use Rattle.oz_core.specs.declared.opening.Opening.{Opening}
 use Rattle.oz_core.specs.Contents.{OpeningBytes}
-use Rattle.oz_lines.specs.declared.script.Script.{Script}
+use Rattle.oz_script.specs.declared.lines.script.Script.{Script}
 use Rattle.oz_turn.specs.declared.seat.Seat.{Seat}
 use Rattle.oz_turn.specs.declared.told.Told.{Ghosts}
 use Rattle.oz_turn.specs.Ring.{TurnId}

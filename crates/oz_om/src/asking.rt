@@ -4,7 +4,7 @@ ghost use Rattle.std.specs.Prelude.{◌≡◌, ◌≢◌, ℕ, ◌<◌, List, []
 ghost use Rattle.oz_asker.specs.Asked.{IsEarly, IsLate, IsSaidOtherwise, MayAdd};
 ghost use Rattle.oz_asker.specs.Settled.{IsSettlement};
 ghost use Rattle.oz_buffer.specs.Buffer.{AllFollow, Follows};
-ghost use Rattle.oz_buffer.specs.Courses.{index_of, times_said};
+ghost use Rattle.oz_buffer.specs.Became.{index_of, times_said};
 ghost use Rattle.oz_core.specs.declared.event.Event.{Event as AnyEvent};
 ghost use Rattle.oz_core.specs.declared.event.EventKind.TheVariants as events;
 ghost use Rattle.oz_core.specs.Asks.{is_script, pending};
@@ -12,7 +12,7 @@ ghost use Rattle.oz_core.specs.Fits.{EventFits};
 ghost use Rattle.oz_core.specs.Law.{AskIsEnabled};
 ghost use Rattle.oz_core.specs.Manager.{asked_late};
 ghost use Rattle.oz_core.specs.Seats.{IsAskSeat};
-ghost use Rattle.oz_deciding.specs.Decided.{is_decided};
+ghost use Rattle.oz_om.specs.decider.Decided.{is_decided};
 ghost use Rattle.oz_om.specs.Decided.{IsDecided, IsPoolEmpty, IsTooMuch, WasAsSaid};
 ghost use Rattle.oz_om.specs.Refusals.{AskStands, IsOfStripe};
 ghost use Rattle.oz_om.specs.declared.refusal.Refusal.TheVariants as refusals;

@@ -2,7 +2,7 @@
 
 ghost use Rattle.std.specs.Prelude.{◌≡◌, ◌≢◌, true, ◌≤◌, ◌<◌, ℕ, ◌+◌, [], length, None, Err};
 ghost use Rattle.std.specs.Prelude.{IfOk, IfErr, IfSome, OnOk, slice_index};
-ghost use Rattle.oz_batches.specs.declared.batches.TheConstants.{LARGEST_BUFFER, LONGEST_BATCH};
+ghost use Rattle.oz_journal.specs.declared.batches.batches.TheConstants.{LARGEST_BUFFER, LONGEST_BATCH};
 ghost use Rattle.oz_buffer.specs.Buffer.{buffer_of};
 ghost use Rattle.oz_core.specs.Asks.{is_script};
 ghost use Rattle.oz_core.specs.Manager.{last_index};

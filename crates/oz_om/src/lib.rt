@@ -1,7 +1,8 @@
-//! The manager: requests are decided over sixteen stripes of rows, each at one place of the story.
+//! The manager: any request is decided by its crate, over sixteen stripes of rows, each at one place of the story.
 #![tactic(auto)]
 
 mod asking;
+mod decider;
 mod deciding;
 mod draft;
 mod drafting;
@@ -12,5 +13,6 @@ mod refusal;
 mod seating;
 mod telling;
 
+pub use decider::{Outcome, decide};
 pub use manager::Manager;
 pub use refusal::Refusal;

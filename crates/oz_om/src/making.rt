@@ -8,12 +8,12 @@ ghost use Rattle.oz_om.specs.Refusals.{RefusalHolds};
 ghost use Rattle.oz_om_session.specs.Picks.{IsPick};
 ghost use Rattle.oz_rows.specs.Rows.{IsBlock};
 
+use crate::decider::{Outcome, decide};
 use crate::draft::Made;
 use crate::finding::open_ask;
 use crate::refusal::Refusal;
 use oz_buffer::{Ledger, Opened};
 use oz_core::Event;
-use oz_deciding::{Outcome, decide};
 use oz_decision::Decision;
 use oz_fields::{Block, GREATEST_BLOCK_NUMBER, OutOfMemory};
 use oz_locks::{Loaded, Stripe, a_pool_has_what_is_free};

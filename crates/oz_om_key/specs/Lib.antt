@@ -1,3 +1,4 @@
 pub mod Requests
 pub mod Places
 pub mod Walking
+pub mod om_change

@@ -18,8 +18,8 @@ use Rattle.oz_sound.specs.Sound.{bucket_of_row, IsSoundButRenames}
 use Rattle.oz_sound.specs.StandsFor.{StandsFor, SnapshotsStand, pieces_in}
 use Rattle.oz_decision.specs.Meets.{Stand}
 use Rattle.oz_decision.specs.laws.Lookups.{there_are}
-use Rattle.oz_frames.specs.Buckets.{IsOutside}
-use Rattle.oz_frames.specs.laws.Becoming.{bucket_becomes}
+use Rattle.oz_sound.specs.frames.Buckets.{IsOutside}
+use Rattle.oz_sound.specs.frames.laws.Becoming.{bucket_becomes}
 use Rattle.oz_decision.specs.laws.Shown.{snapshots_again, snapshots_of_bucket, volume_there, stripes_again}
 
 -- rows of other buckets are as they were

@@ -19,12 +19,12 @@ use Rattle.oz_rows.specs.laws.Same.{same_is_one}
 use Rattle.oz_sound.specs.Sound.{StandsIn, blocks_of, IsUsing, IsSoundButRenames}
 use Rattle.oz_decision.specs.Meets.{AreInGrammar}
 use Rattle.oz_decision.specs.laws.OneRow.{it_fits, none_fits}
-use Rattle.oz_frames.specs.Parts.{parted, Has, IsParted, KeepsNumbers}
-use Rattle.oz_frames.specs.Sessions.{MayBecome}
-use Rattle.oz_frames.specs.laws.Bare.{bare_stripes}
-use Rattle.oz_frames.specs.laws.Committing.{becomes as session_becomes, keeps as session_keeps, key_stood}
-use Rattle.oz_frames.specs.laws.Moving.{at_most}
-use Rattle.oz_frames.specs.laws.Parting.{parted_moves}
+use Rattle.oz_sound.specs.frames.Parts.{parted, Has, IsParted, KeepsNumbers}
+use Rattle.oz_sound.specs.frames.Sessions.{MayBecome}
+use Rattle.oz_sound.specs.frames.laws.Bare.{bare_stripes}
+use Rattle.oz_sound.specs.frames.laws.Committing.{becomes as session_becomes, keeps as session_keeps, key_stood}
+use Rattle.oz_sound.specs.frames.laws.Moving.{at_most}
+use Rattle.oz_sound.specs.frames.laws.Parting.{parted_moves}
 use Rattle.oz_decision.specs.Versions.{deleted}
 use Rattle.oz_om_session.specs.Records.{unused}
 use Rattle.oz_decision.specs.laws.SessionRows.{deleted_fits}

@@ -21,13 +21,13 @@ use Rattle.oz_sound.specs.StandsFor.{drawn_in}
 use Rattle.oz_sound.specs.laws.BucketChanges.{replaced}
 use Rattle.oz_decision.specs.Meets.{AreInGrammar}
 use Rattle.oz_decision.specs.laws.OneRow.{fit_replaced, it_fits, none_fits}
-use Rattle.oz_frames.specs.Moves.{BlocksMove, NamesStay}
-use Rattle.oz_frames.specs.Parts.{parted}
-use Rattle.oz_frames.specs.Sessions.{MayBeDeleted}
-use Rattle.oz_frames.specs.laws.Bare.{bare_stripes}
-use Rattle.oz_frames.specs.laws.Deleting.{becomes as key_becomes, keeps as key_keeps, names_stay as key_names}
-use Rattle.oz_frames.specs.laws.Moving.{at_most, sound_moved, blocks_kept, renames_moved}
-use Rattle.oz_frames.specs.laws.Parting.{parted_moves}
+use Rattle.oz_sound.specs.frames.Moves.{BlocksMove, NamesStay}
+use Rattle.oz_sound.specs.frames.Parts.{parted}
+use Rattle.oz_sound.specs.frames.Sessions.{MayBeDeleted}
+use Rattle.oz_sound.specs.frames.laws.Bare.{bare_stripes}
+use Rattle.oz_sound.specs.frames.laws.Deleting.{becomes as key_becomes, keeps as key_keeps, names_stay as key_names}
+use Rattle.oz_sound.specs.frames.laws.Moving.{at_most, sound_moved, blocks_kept, renames_moved}
+use Rattle.oz_sound.specs.frames.laws.Parting.{parted_moves}
 use Rattle.oz_decision.specs.Versions.{version_at, deleted}
 use Rattle.oz_decision.specs.laws.SessionRows.{deleted_fits}
 use Rattle.oz_decision.specs.laws.Versions.{block_itself}

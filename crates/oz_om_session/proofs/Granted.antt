@@ -20,10 +20,10 @@ use Rattle.oz_sound.specs.Sound.{StandsIn, RenamesAreSound}
 use Rattle.oz_sound.specs.StandsFor.{StandsFor}
 use Rattle.oz_decision.specs.Drafts.{row_by_row}
 use Rattle.oz_decision.specs.Meets.{Meets}
-use Rattle.oz_frames.specs.Moves.{BlocksMove, NamesStay}
-use Rattle.oz_frames.specs.laws.Bare.{bare_stripes}
-use Rattle.oz_frames.specs.laws.Granting.{block_is_granted}
-use Rattle.oz_frames.specs.laws.Moving.{sound_moved, blocks_kept, renames_moved}
+use Rattle.oz_sound.specs.frames.Moves.{BlocksMove, NamesStay}
+use Rattle.oz_sound.specs.frames.laws.Bare.{bare_stripes}
+use Rattle.oz_sound.specs.frames.laws.Granting.{block_is_granted}
+use Rattle.oz_sound.specs.frames.laws.Moving.{sound_moved, blocks_kept, renames_moved}
 use Rattle.oz_om_session.specs.Sessions.{HasRoom}
 use Rattle.oz_decision.specs.laws.SessionRows.{OpenRow, size_with_one}
 use Rattle.oz_om_session.proofs.Becoming.{Becomes, becomes_bucket, outside}

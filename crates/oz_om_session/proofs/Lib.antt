@@ -11,3 +11,4 @@ pub mod CommitGoes
 pub mod CommitDone
 pub mod CommitRecords
 pub mod CommitMeets
+pub mod om_open_lemmas

@@ -11,11 +11,11 @@ use Rattle.oz_datanode.specs.laws.GoingOn.{disks_same, go_on_then}
 use Rattle.oz_entries.specs.Held.{any_in}
 use Rattle.oz_entries.specs.Node.{chunk_count, is_used}
 use Rattle.oz_fields.specs.declared.block.Block.{Block}
-use Rattle.oz_shelf.specs.declared.written.Written.{Written}
-use Rattle.oz_shelf.specs.laws.Parting.{any_parts}
-use Rattle.oz_shelf.specs.laws.Written.{besides_written, makes_count}
-use Rattle.oz_shelf.specs.Shelf.{ShelfView}
-use Rattle.oz_shelf.specs.Written.{chunks_in, is_of, written_of, written_besides}
+use Rattle.oz_block.specs.declared.shelf.written.Written.{Written}
+use Rattle.oz_block.specs.shelf.laws.Parting.{any_parts}
+use Rattle.oz_block.specs.shelf.laws.Written.{besides_written, makes_count}
+use Rattle.oz_block.specs.shelf.Shelf.{ShelfView}
+use Rattle.oz_block.specs.shelf.Written.{chunks_in, is_of, written_of, written_besides}
 use Rattle.oz_world.specs.Disk.{Images}
 use Rattle.oz_replicas.specs.Nodes.{AreOf, WrittenTo, FillGoes}
 use Rattle.oz_replicas.specs.Outcomes.{HasAlready}

@@ -8,8 +8,8 @@ use Rattle.oz_datanode.specs.declared.refusal.NodeRefusal.{NodeRefusal}
 use Rattle.oz_datanode.specs.declared.refusal.NodeRefusal.TheVariants as refusals
 use Rattle.oz_entries.specs.Node.{is_held}
 use Rattle.oz_fields.specs.declared.block.Block.{Block}
-use Rattle.oz_shelf.specs.declared.written.Written.{Written}
-use Rattle.oz_shelf.specs.Written.{row_of, written_besides}
+use Rattle.oz_block.specs.declared.shelf.written.Written.{Written}
+use Rattle.oz_block.specs.shelf.Written.{row_of, written_besides}
 use Rattle.oz_world.specs.Disk.{Images}
 use Rattle.oz_replicas.specs.Nodes.{AreOf, PutGoes}
 use Rattle.oz_replicas.specs.Outcomes.{HasAlready}

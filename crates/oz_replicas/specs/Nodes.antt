@@ -14,8 +14,8 @@ use Rattle.oz_replicas.specs.declared.unput.Unput.{Unput}
 use Rattle.oz_replicas.specs.declared.unput.Unput.TheVariants as unput
 use Rattle.oz_replicas.specs.declared.unread.Unread.{Unread}
 use Rattle.oz_replicas.specs.declared.unread.Unread.TheVariants as unread
-use Rattle.oz_shelf.specs.Shelf.{ShelfView}
-use Rattle.oz_shelf.specs.Written.{written_of, written_besides}
+use Rattle.oz_block.specs.shelf.Shelf.{ShelfView}
+use Rattle.oz_block.specs.shelf.Written.{written_of, written_besides}
 use Rattle.oz_world.specs.Disk.{Images}
 
 -- ---- writing

@@ -2,6 +2,8 @@
 use Rattle.std.specs.Prelude.{◌≡◌, ◌⊎◌, ℕ, ◌<◌, List, [], ◌∷◌, length, take, Option, None, Some}
 use Rattle.oz_core.specs.declared.event.PutRefusal.TheVariants as refusals
 use Rattle.oz_datanode.specs.Datanode.{State}
+use Rattle.oz_datanode.specs.Unverified.{AreAsKept, joined}
+use Rattle.oz_datanode.specs.declared.unverified.Unverified.{Unverified}
 use Rattle.oz_replicas.specs.Notes.{Subject, Goes}
 use Rattle.oz_replicas.specs.Outcomes.{Gives, HasOther, IsAbsent}
 use Rattle.oz_replicas.specs.declared.note.Note.{Note}
@@ -23,6 +25,12 @@ abbrev pub IsGiven : {D : Type 0} → (D → Option (List ℕ)) → (D → ℕ) 
 IsGiven told clock image faults subject size old new (Some bytes) said =
     (said ≡ []) × Gives told clock image faults subject.block size bytes old new
 IsGiven told clock image faults subject size old new None said = IsLost told faults subject size old new said
+
+-- What is given of chunks that were copied: their bytes, where each has the digest that is kept of it and they are so many.
+-- Where none were copied none are given.
+abbrev pub Opens : ℕ → Option (List Unverified) → Option (List ℕ) → Type 0
+Opens size None given = given ≡ None
+Opens size (Some chunks) given = (given ≡ Some (joined chunks)) × AreAsKept chunks × (length (joined chunks) ≡ size)
 
 -- The member of this number gave them under its lock, and that was noted. The noter then knows all that is kept beside it.
 pub record Gave {D K N : Type 0} (told : D → Option (List ℕ)) (clock : D → ℕ) (image : D → Images) (faults : D → ℕ)

@@ -1,7 +1,6 @@
 //! Writing the chunks of a block at a datanode, and putting it.
 
-ghost use Rattle.std.specs.Prelude.{◌≡◌, ◌≤◌, ◌<◌, ◌*◌, ◌+◌, ◌-◌, min, length, slice_range, OnOk};
-ghost use Rattle.oz_chunk.specs.declared.table.TheConstants.{SLOT_SIZE as SLOT_BYTES};
+ghost use Rattle.std.specs.Prelude.{◌≡◌, ◌≤◌, length, OnOk};
 ghost use Rattle.oz_datanode.specs.Writing.{IsOpen, MakeBytes};
 ghost use Rattle.oz_fields.specs.declared.block.TheConstants.{LONGEST_PIECE};
 ghost use Rattle.oz_replicas.specs.Nodes.{AreOf, FillGoes, PutGoes};
@@ -10,7 +9,7 @@ ghost use Rattle.oz_replicas.specs.Stays.{IsIdle};
 ghost use Rattle.oz_rows.specs.Rows.{IsBlock};
 
 use oz_chunk::SLOT_SIZE;
-use oz_datanode::{Datanode, NodeRefusal};
+use oz_datanode::{Datanode, Hashed, NodeRefusal};
 use oz_fields::Block;
 use oz_world::Disk;
 use std::alloc::Global;
@@ -20,7 +19,7 @@ pub(crate) fn fill_and_put<D: Disk>(
     alloc: Global,
     node: &mut Datanode<D>,
     block: Block,
-    bytes: &[u8],
+    bytes: &Hashed<'_>,
 ) -> Result<(), NodeRefusal>
     requires block { IsBlock block }
     requires least { 1 ≤ length bytes.now }
@@ -31,7 +30,7 @@ pub(crate) fn fill_and_put<D: Disk>(
     ensures own { AreOf block node.new.shelf }
     ensures idle { OnOk result (IsIdle node.new) }
 {
-    fill(alloc, node, block, bytes)?;
+    fill(node, block, bytes)?;
     put(alloc, node, block, bytes)
 }
 
@@ -40,7 +39,7 @@ fn put<D: Disk>(
     alloc: Global,
     node: &mut Datanode<D>,
     block: Block,
-    bytes: &[u8],
+    bytes: &Hashed<'_>,
 ) -> Result<(), NodeRefusal>
     requires block { IsBlock block }
     requires least { 1 ≤ length bytes.now }
@@ -58,10 +57,9 @@ fn put<D: Disk>(
 
 /// Writes the chunks of a block, one behind the other.
 fn fill<D: Disk>(
-    alloc: Global,
     node: &mut Datanode<D>,
     block: Block,
-    bytes: &[u8],
+    bytes: &Hashed<'_>,
 ) -> Result<(), NodeRefusal>
     requires least { 1 ≤ length bytes.now }
     requires most { length bytes.now ≤ LONGEST_PIECE }
@@ -71,19 +69,7 @@ fn fill<D: Disk>(
     ensures own { AreOf block node.new.shelf }
 {
     for place in 0..(bytes.len() + (SLOT_SIZE as usize - 1)) / SLOT_SIZE as usize {
-        node.write(alloc, block, place as u8, part_at(bytes, place))?;
+        node.write_digested(block, place as u8, bytes.part(place), bytes.digest(place))?;
     }
     Ok(())
-}
-
-/// The chunk in this place of the bytes of a block.
-fn part_at(bytes: &[u8], place: usize) -> &[u8]
-    requires { place * SLOT_BYTES < length bytes.now }
-    ensures part { result.now ≡ slice_range bytes.now (place * SLOT_BYTES)
-        (place * SLOT_BYTES + min (length bytes.now - place * SLOT_BYTES) SLOT_BYTES) }
-    ensures size { length result.now ≡ min (length bytes.now - place * SLOT_BYTES) SLOT_BYTES }
-{
-    let from = place * SLOT_SIZE as usize;
-    let size = (bytes.len() - from).min(SLOT_SIZE as usize);
-    &bytes[from..from + size]
 }

@@ -2,6 +2,7 @@
 #![tactic(auto)]
 
 mod cell;
+mod copied;
 mod filling;
 mod halting;
 mod kept;
@@ -19,6 +20,7 @@ mod whole;
 mod writing;
 
 pub use cell::NodeCell;
+pub use copied::{copy_at, verified_piece};
 pub use kept::Kept;
 pub use laws::cells_stay_in_order;
 pub use nodes::{NodeGuard, Nodes};

@@ -112,7 +112,7 @@ fn read_whole<D: Disk>(
 }
 
 /// What a refusal says of a datanode one of whose disks failed in the call or didn't.
-fn unread(refusal: NodeRefusal, halts: bool) -> Unread
+pub(crate) fn unread(refusal: NodeRefusal, halts: bool) -> Unread
     ensures { result ≡ unread_of halts refusal }
 {
     match refusal {

@@ -8,9 +8,10 @@ ghost use Rattle.oz_rows.specs.Rows.{IsBlock};
 use crate::kept::Kept;
 use crate::nodes::Nodes;
 use crate::noter::Noter;
-use crate::writing::write_at;
+use crate::writing::write_hashed_at;
 use oz_client::Written;
 use oz_core::PutRefusal;
+use oz_datanode::Hashed;
 use oz_fields::{Block, OutOfMemory};
 use oz_world::{Disk, Gate, Point};
 use std::alloc::Global;
@@ -19,8 +20,9 @@ use std::sync::Wait;
 /// The seat of datanode 0. Those of the others follow it.
 const FIRST_DATANODE_SEAT: u16 = 4;
 
-/// Writes a block at its members in their order, each under one hold of its lock, and notes what comes of it there. It passes the
-/// gate before it waits for a member's lock. Where there is no memory the members that answered have been noted.
+/// Writes a block at its members in their order, each under one hold of its lock, and notes what comes of it there. It makes the
+/// digests of the block's chunks once, before it waits for the first lock, and passes the gate before it waits for each. Where there
+/// is no memory the members that answered have been noted.
 pub fn write_block<D: Disk, K: Kept<D>, N: Noter<D, K>, G: Gate, W: Wait>(
     rt: &W,
     alloc: Global,
@@ -44,9 +46,10 @@ pub fn write_block<D: Disk, K: Kept<D>, N: Noter<D, K>, G: Gate, W: Wait>(
         members noter.old noter.new) }
     ensures subject { N.subject noter.new ≡ N.subject noter.old }
 {
-    let first = write_member(rt, alloc, nodes, members[0], block, bytes, gate, noter)?;
-    let second = write_member(rt, alloc, nodes, members[1], block, bytes, gate, noter)?;
-    let third = write_member(rt, alloc, nodes, members[2], block, bytes, gate, noter)?;
+    let hashed = Hashed::new(bytes);
+    let first = write_member(rt, alloc, nodes, members[0], block, &hashed, gate, noter)?;
+    let second = write_member(rt, alloc, nodes, members[1], block, &hashed, gate, noter)?;
+    let third = write_member(rt, alloc, nodes, members[2], block, &hashed, gate, noter)?;
     Ok(Written {
         answers: [first, second, third],
     })
@@ -59,7 +62,7 @@ fn write_member<D: Disk, K: Kept<D>, N: Noter<D, K>, G: Gate, W: Wait>(
     nodes: &Nodes<D, K>,
     dn: u8,
     block: Block,
-    bytes: &[u8],
+    bytes: &Hashed<'_>,
     gate: &G,
     noter: &mut N,
 ) -> Result<Option<PutRefusal>, OutOfMemory>
@@ -77,5 +80,5 @@ fn write_member<D: Disk, K: Kept<D>, N: Noter<D, K>, G: Gate, W: Wait>(
 {
     gate.pass(rt, Point::SlotWrite, FIRST_DATANODE_SEAT + u16::from(dn));
     let mut cell = nodes.lock(rt, dn);
-    write_at(alloc, &mut cell, block, bytes, noter)
+    write_hashed_at(alloc, &mut cell, block, bytes, noter)
 }

@@ -11,7 +11,7 @@ use crate::filling::fill_and_put;
 use crate::unput::Unput;
 use oz_container::State;
 use oz_core::PutRefusal;
-use oz_datanode::{Datanode, NodeRefusal};
+use oz_datanode::{Datanode, Hashed, NodeRefusal};
 use oz_fields::Block;
 use oz_world::Disk;
 use std::alloc::Global;
@@ -28,7 +28,7 @@ pub(crate) fn write_whole<D: Disk>(
     alloc: Global,
     node: &mut Datanode<D>,
     block: Block,
-    bytes: &[u8],
+    bytes: &Hashed<'_>,
 ) -> Result<(), Unput>
     requires block { IsBlock block }
     requires least { 1 ≤ length bytes.now }

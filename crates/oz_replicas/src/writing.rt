@@ -16,7 +16,7 @@ use crate::noter::Noter;
 use crate::unput::Unput;
 use crate::whole::{has_already, write_whole};
 use oz_core::PutRefusal;
-use oz_datanode::Datanode;
+use oz_datanode::{Datanode, Hashed};
 use oz_fields::{Block, OutOfMemory};
 use oz_world::Disk;
 use std::alloc::Global;
@@ -45,6 +45,33 @@ pub fn write_at<D: Disk, K: Kept<D>, N: Noter<D, K>>(
     ensures before { IsAtRest K.stands cell.old.node cell.old.kept }
     ensures after { IsAtRest K.stands cell.new.node cell.new.kept }
 {
+    let hashed = Hashed::new(bytes);
+    write_hashed_at(alloc, cell, block, &hashed, noter)
+}
+
+/// The same, with the digests of the block's chunks made before.
+pub(crate) fn write_hashed_at<D: Disk, K: Kept<D>, N: Noter<D, K>>(
+    alloc: Global,
+    cell: &mut NodeCell<D, K>,
+    block: Block,
+    bytes: &Hashed<'_>,
+    noter: &mut N,
+) -> Result<Option<PutRefusal>, OutOfMemory>
+    requires block { IsBlock block }
+    requires least { 1 ≤ length bytes.now }
+    requires most { length bytes.now ≤ LONGEST_PIECE }
+    requires its_block { (N.subject noter.old).block ≡ block }
+    requires its_bytes { (N.subject noter.old).bytes ≡ bytes.now }
+    requires member { Contains (N.subject noter.old).members cell.old.node.id }
+    ensures answers { IfOk result (λ answer. (notes : List AnyNote) × (N.noted noter.old notes noter.new
+        × Answers D.told D.clock D.image D.faults (N.subject noter.old) cell.old.node cell.new.node answer notes)) }
+    ensures lacks { OnErr result (N.noted noter.old [] noter.new
+        × Stays D.told D.clock D.image D.faults cell.old.node cell.new.node) }
+    ensures knows { N.knows noter.new cell.new.kept }
+    ensures subject { N.subject noter.new ≡ N.subject noter.old }
+    ensures before { IsAtRest K.stands cell.old.node cell.old.kept }
+    ensures after { IsAtRest K.stands cell.new.node cell.new.kept }
+{
     write_beside(alloc, &mut cell.node, &mut cell.kept, block, bytes, noter)
 }
 
@@ -54,7 +81,7 @@ fn write_beside<D: Disk, K: Kept<D>, N: Noter<D, K>>(
     node: &mut Datanode<D>,
     kept: &mut K,
     block: Block,
-    bytes: &[u8],
+    bytes: &Hashed<'_>,
     noter: &mut N,
 ) -> Result<Option<PutRefusal>, OutOfMemory>
     requires block { IsBlock block }

@@ -5,13 +5,13 @@ use Rattle.oz_core.specs.declared.event.Event.{Event}
 use Rattle.oz_core.specs.declared.opening.Opening.{Opening}
 use Rattle.oz_core.specs.Seats.{datanode_seat, flusher_seat, scm_seat, service_seat, stripe_seat}
 use Rattle.oz_datanode.specs.Datanode.{State as Datanode}
-use Rattle.oz_node_events.specs.NodeSeat.{SeatView}
+use Rattle.oz_headline.specs.NodeSeat.{SeatView}
 use Rattle.oz_nodes.specs.declared.nodes.TheConstants.{MOST_NODES}
-use Rattle.oz_om.specs.Seated.{AreReadyStripeSeats, ArePlaced, HasStoodIn}
+use Rattle.oz_headline.specs.Seated.{AreReadyStripeSeats, ArePlaced, HasStoodIn}
 use Rattle.oz_rows.specs.RowMaps.{Rows}
 use Rattle.oz_running.specs.Seats.{AddsReady, AreNewFrom, HasLeft, HaveLeft}
 use Rattle.oz_running.proofs.Placed.{joined_placed, one_placed, there}
-use Rattle.oz_servers.specs.Served.{AreServed, IsServed}
+use Rattle.oz_worker.specs.servers.Served.{AreServed, IsServed}
 use Rattle.oz_turn.specs.declared.seat.Seat.{Seat}
 use Rattle.oz_turn.specs.declared.told.Told.{Ghosts}
 use Rattle.oz_turn.specs.Ring.{TurnId}

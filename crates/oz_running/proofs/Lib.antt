@@ -3,3 +3,4 @@ pub mod Jobs
 pub mod Left
 pub mod Placed
 pub mod Whole
+mod disk_run_lemmas

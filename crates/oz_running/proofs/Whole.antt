@@ -10,21 +10,21 @@ use Rattle.oz_core.specs.Contents.{OpeningBytes}
 use Rattle.oz_core.specs.Seats.{datanode_seat, first_worker_seat, flusher_seat, scm_seat, stripe_seat}
 use Rattle.oz_core.specs.Stories.{has_event, mine}
 use Rattle.oz_datanode.specs.Datanode.{State as Datanode}
-use Rattle.oz_flushing.specs.Kept.{IsKept}
-use Rattle.oz_halts.specs.Nodes.{AreAsTold, IsAsTold, ScmIsAsTold, seat_over}
-use Rattle.oz_lines.specs.declared.script.Script.{Script}
+use Rattle.oz_flusher.specs.flushing.Kept.{IsKept}
+use Rattle.oz_headline.specs.halts.Nodes.{AreAsTold, IsAsTold, ScmIsAsTold, seat_over}
+use Rattle.oz_script.specs.declared.lines.script.Script.{Script}
 use Rattle.oz_names.specs.declared.limits.TheConstants.{STRIPES}
-use Rattle.oz_node_events.specs.Led.{no_lines}
-use Rattle.oz_node_events.specs.NodeSeat.{IsKept as SeatIsKept, SeatView, StandsFor, events_of, is_bad}
+use Rattle.oz_headline.specs.Led.{no_lines}
+use Rattle.oz_headline.specs.NodeSeat.{IsKept as SeatIsKept, SeatView, StandsFor, events_of, is_bad}
 use Rattle.oz_nodes.specs.declared.nodes.TheConstants.{MOST_NODES}
-use Rattle.oz_om.specs.Keeps.{HasRun}
+use Rattle.oz_headline.specs.Keeps.{HasRun}
 use Rattle.oz_rows.specs.RowMaps.{Rows}
 use Rattle.oz_running.specs.Left.{IsLeft}
 use Rattle.oz_running.specs.Run.{IsQuietSeat}
 use Rattle.oz_running.proofs.Placed.{all_at, there}
 use Rattle.oz_scm.specs.Scm.{State as Scm}
 use Rattle.oz_scm_events.specs.Kept.{IsKept as ScmIsKept}
-use Rattle.oz_servers.specs.Served.{IsServed}
+use Rattle.oz_worker.specs.servers.Served.{IsServed}
 use Rattle.oz_turn.specs.declared.seat.Seat.{Seat}
 use Rattle.oz_turn.specs.declared.told.Told.{Ghosts}
 use Rattle.oz_turn.specs.Ring.{TurnId}

@@ -1,7 +1,7 @@
 -- For private calls: the jobs of a run.
 use Rattle.std.specs.Prelude.{◌≡◌, ℕ, ◌+◌, ◌-◌, nat_lt, List, if◌then◌else◌}
 use Rattle.oz_core.specs.Seats.{first_worker_seat}
-use Rattle.oz_om.specs.Seated.{ArePlaced}
+use Rattle.oz_headline.specs.Seated.{ArePlaced}
 use Rattle.oz_worker.specs.declared.job.Job.{Job}
 use Rattle.oz_worker.specs.declared.job.Job.TheVariants.{Worker, Flusher}
 

@@ -6,15 +6,15 @@ use Rattle.oz_core.specs.declared.event.Node.TheVariants as node
 use Rattle.oz_core.specs.declared.opening.Opening.{Opening}
 use Rattle.oz_core.specs.Contents.{OpeningBytes}
 use Rattle.oz_datanode.specs.Datanode.{State as Datanode}
-use Rattle.oz_flushing.specs.Kept.{IsKept}
-use Rattle.oz_lines.specs.declared.script.Script.{Script}
-use Rattle.oz_node_events.specs.NodeSeat.{IsKept as SeatIsKept, StandsFor}
+use Rattle.oz_flusher.specs.flushing.Kept.{IsKept}
+use Rattle.oz_script.specs.declared.lines.script.Script.{Script}
+use Rattle.oz_headline.specs.NodeSeat.{IsKept as SeatIsKept, StandsFor}
 use Rattle.oz_nodes.specs.declared.nodes.TheConstants.{MOST_NODES}
 use Rattle.oz_rows.specs.RowMaps.{Rows}
 use Rattle.oz_running.specs.Seats.{HaveLeft}
 use Rattle.oz_scm.specs.Scm.{State as Scm}
 use Rattle.oz_scm_events.specs.Kept.{IsKept as ScmIsKept}
-use Rattle.oz_servers.specs.Served.{IsServed}
+use Rattle.oz_worker.specs.servers.Served.{IsServed}
 use Rattle.oz_turn.specs.declared.seat.Seat.{Seat}
 use Rattle.oz_turn.specs.declared.told.Told.{Ghosts}
 use Rattle.oz_turn.specs.Ring.{TurnId}

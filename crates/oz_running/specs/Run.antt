@@ -6,12 +6,12 @@ use Rattle.oz_core.specs.declared.opening.Opening.{Opening}
 use Rattle.oz_core.specs.Contents.{OpeningBytes}
 use Rattle.oz_core.specs.Seats.{IsDatanodeSeat, flusher_seat, scm_seat, stripe_seat}
 use Rattle.oz_core.specs.Stories.{mine}
-use Rattle.oz_flushing.specs.Kept.{IsKept}
-use Rattle.oz_halts.specs.Nodes.{AreAsTold, ScmIsAsTold}
+use Rattle.oz_flusher.specs.flushing.Kept.{IsKept}
+use Rattle.oz_headline.specs.halts.Nodes.{AreAsTold, ScmIsAsTold}
 use Rattle.oz_headline.specs.Counts.{AreToldAsMany}
-use Rattle.oz_lines.specs.declared.script.Script.{Script}
+use Rattle.oz_script.specs.declared.lines.script.Script.{Script}
 use Rattle.oz_names.specs.declared.limits.TheConstants.{STRIPES}
-use Rattle.oz_om.specs.Keeps.{HasRun}
+use Rattle.oz_headline.specs.Keeps.{HasRun}
 use Rattle.oz_rows.specs.RowMaps.{Rows}
 use Rattle.oz_running.specs.declared.ran.Ran.{Ran}
 use Rattle.oz_world.specs.Disk.{Images, Seen, seen}

@@ -4,7 +4,7 @@ use Rattle.oz_core.specs.declared.event.Event.{Event}
 use Rattle.oz_core.specs.declared.opening.Opening.{Opening}
 use Rattle.oz_core.specs.Seats.{IsDatanodeSeat, flusher_seat, scm_seat, stripe_seat}
 use Rattle.oz_names.specs.declared.limits.TheConstants.{STRIPES}
-use Rattle.oz_om.specs.Seated.{ArePlaced, HasStoodIn}
+use Rattle.oz_headline.specs.Seated.{ArePlaced, HasStoodIn}
 use Rattle.oz_rows.specs.RowMaps.{Rows}
 use Rattle.oz_running.specs.Run.{IsQuietSeat}
 use Rattle.oz_turn.specs.declared.seat.Seat.{Seat}

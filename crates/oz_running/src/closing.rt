@@ -2,7 +2,7 @@
 
 ghost use Rattle.std.specs.Prelude.{◌≡◌, ◌≤◌, vec_len};
 ghost use Rattle.oz_core.specs.Seats.{first_worker_seat};
-ghost use Rattle.oz_lines.specs.Numbered.{IsNumbered};
+ghost use Rattle.oz_script.specs.lines.Numbered.{IsNumbered};
 ghost use Rattle.oz_running.specs.Left.{IsLeft};
 ghost use Rattle.oz_running.specs.Run.{IsRun};
 ghost use Rattle.oz_turn.specs.Turn.{seats_of, turn_id};
@@ -11,10 +11,10 @@ use crate::counting::each_is_told_as_many;
 use crate::leaving::Left;
 use crate::ran::Ran;
 use oz_buffer::{Ledger, Opened};
-use oz_flushing::{Mounted, the_whole_story_is_kept};
-use oz_lines::Script;
+use oz_flusher::{Mounted, the_whole_story_is_kept};
+use oz_headline::its_seat_alone_tells;
 use oz_locks::Loaded;
-use oz_node_events::its_seat_alone_tells;
+use oz_script::Script;
 use oz_turn::{Ring, Turn, ready_seats_may_close};
 use oz_world::Disk;
 

@@ -1,12 +1,12 @@
 //! Whether all lines of a script were told.
 
 ghost use Rattle.std.specs.Prelude.{◌≡◌, ◌≤◌, ◌↔◌, true, length};
-ghost use Rattle.oz_lines.specs.declared.script.TheConstants.{MOST_CLIENTS};
-ghost use Rattle.oz_lines.specs.Numbered.{lines_of};
+ghost use Rattle.oz_script.specs.declared.lines.script.TheConstants.{MOST_CLIENTS};
+ghost use Rattle.oz_script.specs.lines.Numbered.{lines_of};
 ghost use Rattle.oz_headline.specs.Counts.{AreToldAsMany};
 
 use oz_buffer::{Ledger, Opened};
-use oz_lines::{Line, Script};
+use oz_script::{Line, Script};
 
 /// Whether each client of the script was told as many lines as it has.
 pub(crate) fn each_is_told_as_many<O: Opened>(script: &Script, ledger: &Ledger<O>) -> bool

@@ -2,7 +2,7 @@
 
 ghost use Rattle.std.specs.Prelude.{◌≡◌, ◌≤◌, ◌<◌, ◌+◌, length, IfOk};
 ghost use Rattle.oz_core.specs.Seats.{first_worker_seat};
-ghost use Rattle.oz_lines.specs.Numbered.{IsNumbered};
+ghost use Rattle.oz_script.specs.lines.Numbered.{IsNumbered};
 ghost use Rattle.oz_nodes.specs.declared.nodes.TheConstants.{FEWEST_NODES, MOST_NODES};
 ghost use Rattle.oz_running.specs.Jobs.{AreJobs, worker_at};
 ghost use Rattle.oz_running.specs.Seats.{AreNewFrom};
@@ -11,7 +11,7 @@ ghost use Rattle.oz_turn.specs.Seat.{IsReady};
 use crate::parting::FIRST_WORKER_SEAT;
 use oz_buffer::{Ledger, Opened};
 use oz_fields::OutOfMemory;
-use oz_lines::Script;
+use oz_script::Script;
 use oz_turn::{Ring, Seat};
 use oz_worker::{Job, Worker};
 use std::alloc::Global;

@@ -10,13 +10,12 @@ ghost use Rattle.oz_running.specs.Seats.{AddsReady, AreNewFrom};
 use oz_buffer::{Ledger, Opened};
 use oz_core::Event;
 use oz_datanode::Datanode;
-use oz_flushing::{Flushing, Mounted};
+use oz_flusher::{Flushing, Mounted};
 use oz_journal::Journal;
 use oz_locks::Loaded;
 use oz_scm::Scm;
-use oz_servers::{Parts, Servers};
 use oz_turn::{Ring, Seat, Told};
-use oz_worker::Job;
+use oz_worker::{Job, Parts, Servers};
 use oz_world::Disk;
 use std::sync::Wait;
 

@@ -3,7 +3,7 @@
 ghost use Rattle.std.specs.Prelude.{◌≡◌, ◌≤◌, ◌+◌, [], length, vec_capacity, vec_len, IfOk, OnOk};
 ghost use Rattle.oz_core.specs.Seats.{datanode_seat, first_worker_seat, flusher_seat, scm_seat, service_seat};
 ghost use Rattle.oz_nodes.specs.declared.nodes.TheConstants.{MOST_NODES};
-ghost use Rattle.oz_om.specs.Seated.{AreNewStripeSeats, ArePlaced};
+ghost use Rattle.oz_headline.specs.Seated.{AreNewStripeSeats, ArePlaced};
 ghost use Rattle.oz_running.specs.Seats.{AreNewFrom};
 ghost use Rattle.oz_turn.specs.Seat.{AreNewSeats, IsNewSeat};
 

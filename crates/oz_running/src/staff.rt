@@ -3,13 +3,13 @@
 ghost use Rattle.std.specs.Prelude.{◌≡◌, ◌≤◌, ◌+◌, length, vec_capacity, vec_len, IfErr, IfOk};
 ghost use Rattle.oz_core.specs.declared.event.Node.TheVariants.{Scm as ScmNode};
 ghost use Rattle.oz_core.specs.Seats.{datanode_seat, first_worker_seat, scm_seat};
-ghost use Rattle.oz_lines.specs.Numbered.{IsNumbered};
-ghost use Rattle.oz_node_events.specs.NodeSeat.{NumbersAreOld, StandsFor};
+ghost use Rattle.oz_script.specs.lines.Numbered.{IsNumbered};
+ghost use Rattle.oz_headline.specs.NodeSeat.{NumbersAreOld, StandsFor};
 ghost use Rattle.oz_nodes.specs.declared.nodes.TheConstants.{FEWEST_NODES, MOST_NODES};
-ghost use Rattle.oz_om.specs.Opens.{Opens};
-ghost use Rattle.oz_om.specs.Seated.{ArePartsOf, ArePlaced};
+ghost use Rattle.oz_headline.specs.Opens.{Opens};
+ghost use Rattle.oz_headline.specs.Seated.{ArePartsOf, ArePlaced};
 ghost use Rattle.oz_running.specs.Staff.{IsStaff};
-ghost use Rattle.oz_servers.specs.Begun.{NodesStand, ScmStands};
+ghost use Rattle.oz_worker.specs.servers.Begun.{NodesStand, ScmStands};
 ghost use Rattle.oz_turn.specs.Seat.{AreNewSeats, IsNewSeat};
 
 use crate::hiring::hired;
@@ -18,14 +18,13 @@ use oz_buffer::{Ledger, Opened};
 use oz_core::Event;
 use oz_datanode::Datanode;
 use oz_fields::OutOfMemory;
-use oz_lines::Script;
+use oz_headline::Manager;
 use oz_loaded::Unseated;
 use oz_locks::Loaded;
-use oz_om::Manager;
 use oz_scm::Scm;
-use oz_servers::Servers;
+use oz_script::Script;
 use oz_turn::{Ring, Seat, Told};
-use oz_worker::Job;
+use oz_worker::{Job, Servers};
 use oz_world::Disk;
 use std::alloc::Global;
 

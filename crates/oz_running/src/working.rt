@@ -4,11 +4,10 @@ ghost use Rattle.std.specs.Prelude.{◌≡◌};
 ghost use Rattle.oz_turn.specs.Turn.{turn_id};
 
 use oz_buffer::{Ledger, Opened};
-use oz_flushing::{Flushing, Mounted};
+use oz_flusher::{Flushing, Mounted};
 use oz_locks::Loaded;
-use oz_servers::Servers;
 use oz_turn::{Ring, Turn};
-use oz_worker::{Job, finish, work_together};
+use oz_worker::{Job, Servers, finish, work_together};
 use oz_world::{Disk, Gate};
 use std::alloc::Global;
 use std::sync::{Mutex, Wait};

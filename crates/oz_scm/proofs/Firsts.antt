@@ -1,11 +1,11 @@
 -- What loading leaves, where it adds the first entry and where it doesn't.
 use Rattle.std.proofs.Common.{◌≡◌, ◌≢◌, ◌⊎◌, inl, inr, IfSome, OnErr, ℕ, ◌≤◌, ◌&&◌, leb, Bool, true, false, List, [], ◌∷◌, ◌++◌, Option, None, Some, Result, Ok, Err, refl, sym, ap, subst, ◌∙◌, arith}
 use Rattle.std.proofs.lemmas.Bool.{cases_lt, false≢true, le-leb}
-use Rattle.oz_grants.specs.declared.entry.Entry.TheVariants.{Nodes}
-use Rattle.oz_grants.specs.Build.{Makes}
-use Rattle.oz_grants.specs.Entries.{entry_bytes}
-use Rattle.oz_grants.specs.Made.{Made, begun, is_node_count}
-use Rattle.oz_grants.specs.laws.Journals.{first_made, none_makes, none_made, one_thing}
+use Rattle.oz_scm.specs.declared.grants.entry.Entry.TheVariants.{Nodes}
+use Rattle.oz_scm.specs.grants.Build.{Makes}
+use Rattle.oz_scm.specs.grants.Entries.{entry_bytes}
+use Rattle.oz_scm.specs.grants.Made.{Made, begun, is_node_count}
+use Rattle.oz_scm.specs.grants.laws.Journals.{first_made, none_makes, none_made, one_thing}
 use Rattle.oz_journal.specs.Appends.{Appends}
 use Rattle.oz_journal.specs.Grammar.{IsJournal, TellsBodies}
 use Rattle.oz_journal.specs.Load.{IsLoadable, IsLeftAlone}

@@ -1,14 +1,14 @@
 -- What the steps of a grant come to, and what a disk stands for after it.
 use Rattle.std.proofs.Common.{◌≡◌, inl, inr, IfSome, IsErrAnd, ℕ, zero, suc, ◌+◌, ◌<◌, ◌≤◌, ◌^◌, ◌&&◌, Bool, true, false, List, [], ◌∷◌, ◌++◌, Option, None, Some, Result, Ok, Err, refl, sym, ap, subst, ◌∙◌, arith, leb, eqb, length, slice_get}
 use Rattle.std.proofs.lemmas.Bool.{false≢true, eq-eqb, le-leb, lt-ltb}
-use Rattle.oz_grants.specs.declared.container.Container.{Container}
-use Rattle.oz_grants.specs.declared.entry.Entry.TheVariants.{Granted}
-use Rattle.oz_grants.specs.declared.entry.Grant.{Grant}
-use Rattle.oz_grants.specs.Build.{Makes}
-use Rattle.oz_grants.specs.Entries.{entry_bytes}
-use Rattle.oz_grants.specs.Due.{IsChosen}
-use Rattle.oz_grants.specs.Made.{Made, MayGrant, after_grant, container_at, is_old_or_next, is_on}
-use Rattle.oz_grants.specs.laws.Journals.{grant_made}
+use Rattle.oz_scm.specs.declared.grants.container.Container.{Container}
+use Rattle.oz_scm.specs.declared.grants.entry.Entry.TheVariants.{Granted}
+use Rattle.oz_scm.specs.declared.grants.entry.Grant.{Grant}
+use Rattle.oz_scm.specs.grants.Build.{Makes}
+use Rattle.oz_scm.specs.grants.Entries.{entry_bytes}
+use Rattle.oz_scm.specs.grants.Due.{IsChosen}
+use Rattle.oz_scm.specs.grants.Made.{Made, MayGrant, after_grant, container_at, is_old_or_next, is_on}
+use Rattle.oz_scm.specs.grants.laws.Journals.{grant_made}
 use Rattle.oz_nodes.specs.Pipelines.{pipelines_of}
 use Rattle.oz_journal.specs.Appends.{Appends}
 use Rattle.oz_journal.specs.Grammar.{IsJournal, TellsBodies}
@@ -18,7 +18,7 @@ use Rattle.oz_world.specs.Disk.{Images, Seen, seen, TellsAsBefore, IsStable}
 use Rattle.oz_world.specs.Moments.{LeavesOnly}
 use Rattle.oz_scm.specs.declared.fault.GrantFault.{GrantFault}
 use Rattle.oz_scm.specs.declared.fault.GrantFault.TheVariants.{Stopped}
-use Rattle.oz_scm.specs.Grants.{Grants, IsDue, IsRefusedFor, IsBeforeOrGranted, StandsOrGranted, says_stopped, with_grant}
+use Rattle.oz_scm.specs.Granting.{Grants, IsDue, IsRefusedFor, IsBeforeOrGranted, StandsOrGranted, says_stopped, with_grant}
 use Rattle.oz_scm.specs.Scm.{State, StandsFor, Keeps}
 
 -- what is stable stands for the bodies that are told

@@ -3,3 +3,4 @@ pub mod Granting
 pub mod Handing
 pub mod Places
 pub mod Sizes
+pub mod grants_lemmas

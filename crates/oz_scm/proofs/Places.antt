@@ -1,8 +1,8 @@
 -- Where the faults of bodies stand on a disk, and what bytes stand for.
 use Rattle.std.proofs.Common.{◌≡◌, inl, inr, IfSome, Option, None, Some, ℕ, ◌+◌, ◌≤◌, ◌<◌, zero, suc, get_or, List, [], ◌∷◌, length, refl, sym, ◌∙◌, ap, subst, arith, slice_get, length-append}
 use Rattle.oz_fields.specs.Number.{u32_bytes}
-use Rattle.oz_grants.specs.Build.{FailsAt, Makes}
-use Rattle.oz_grants.specs.Made.{Made}
+use Rattle.oz_scm.specs.grants.Build.{FailsAt, Makes}
+use Rattle.oz_scm.specs.grants.Made.{Made}
 use Rattle.oz_journal.specs.declared.body.Body.{Body}
 use Rattle.oz_journal.specs.Body.{bodies_in, places_in}
 use Rattle.oz_journal.specs.Grammar.{IsDamagedAt, IsJournal, places, records, sized}

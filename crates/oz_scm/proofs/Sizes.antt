@@ -1,9 +1,9 @@
 -- How long entries are, and that a journal takes each.
 use Rattle.std.proofs.Common.{◌≡◌, ℕ, ◌+◌, ◌≤◌, List, length, refl, ◌∙◌, ap, arith}
 use Rattle.oz_fields.specs.Number.{u32_bytes, u64_bytes}
-use Rattle.oz_grants.specs.declared.entry.Entry.{Entry}
-use Rattle.oz_grants.specs.declared.entry.Entry.TheVariants.{Nodes, Granted}
-use Rattle.oz_grants.specs.Entries.{entry_bytes}
+use Rattle.oz_scm.specs.declared.grants.entry.Entry.{Entry}
+use Rattle.oz_scm.specs.declared.grants.entry.Entry.TheVariants.{Nodes, Granted}
+use Rattle.oz_scm.specs.grants.Entries.{entry_bytes}
 use Rattle.oz_journal.specs.Journal.{body_of}
 use Rattle.oz_scm.specs.Frames.{IsFrameOf}
 

@@ -1,3 +1,4 @@
 pub mod Frames
-pub mod Grants
+pub mod Granting
 pub mod Scm
+pub mod grants

@@ -1,9 +1,9 @@
 -- What is seen of the storage container manager, and what a disk stands for.
 use Rattle.std.specs.Prelude.{◌≡◌, ◌⊎◌, ℕ, ◌+◌, Bool, List, [], ◌∷◌, Option, Some, None, Result, Ok, Err, slice_get}
-use Rattle.oz_grants.specs.declared.entry.Entry.TheVariants.{Nodes}
-use Rattle.oz_grants.specs.Build.{Makes, FailsAt}
-use Rattle.oz_grants.specs.Entries.{entry_bytes}
-use Rattle.oz_grants.specs.Made.{Made, begun}
+use Rattle.oz_scm.specs.declared.grants.entry.Entry.TheVariants.{Nodes}
+use Rattle.oz_scm.specs.grants.Build.{Makes, FailsAt}
+use Rattle.oz_scm.specs.grants.Entries.{entry_bytes}
+use Rattle.oz_scm.specs.grants.Made.{Made, begun}
 use Rattle.oz_journal.specs.Grammar.{IsJournal, IsDamagedAt, places}
 use Rattle.oz_scm.specs.declared.fault.ScmFault.{ScmFault}
 

@@ -1,10 +1,10 @@
 //! The first entry of a journal that has none.
 
 ghost use Rattle.std.specs.Prelude.{◌≡◌, ◌≢◌, Some, None, false, Err, IfOk, OnOk, OnErr, IfErr};
-ghost use Rattle.oz_grants.specs.declared.entry.Entry.TheVariants.{Nodes as Names};
-ghost use Rattle.oz_grants.specs.Entries.{entry_bytes};
-ghost use Rattle.oz_grants.specs.Made.{Made};
-ghost use Rattle.oz_grants.specs.Steps.{made_in};
+ghost use Rattle.oz_scm.specs.declared.grants.entry.Entry.TheVariants.{Nodes as Names};
+ghost use Rattle.oz_scm.specs.grants.Entries.{entry_bytes};
+ghost use Rattle.oz_scm.specs.grants.Made.{Made};
+ghost use Rattle.oz_scm.specs.grants.Steps.{made_in};
 ghost use Rattle.oz_journal.specs.Appends.{Appends};
 ghost use Rattle.oz_nodes.specs.declared.nodes.TheConstants.{FEWEST_NODES, MOST_NODES};
 ghost use Rattle.oz_world.specs.Disk.{seen};
@@ -14,8 +14,8 @@ ghost use Rattle.std.specs.Prelude.{◌≤◌};
 
 use crate::adding::add;
 use crate::fault::ScmFault;
+use crate::grants::Containers;
 use crate::planning::plan_nodes;
-use oz_grants::Containers;
 use oz_journal::Journal;
 use oz_world::Disk;
 use std::alloc::Global;

@@ -1,13 +1,13 @@
 //! Which ids are granted next.
 
 ghost use Rattle.std.specs.Prelude.{◌≡◌, ◌⊎◌, ◌<◌, ◌^◌, length, false, IfOk, IfErr, OnErr};
-ghost use Rattle.oz_grants.specs.Made.{MayGrant};
+ghost use Rattle.oz_scm.specs.grants.Made.{MayGrant};
 ghost use Rattle.oz_nodes.specs.Pipelines.{IsAnyUp};
-ghost use Rattle.oz_scm.specs.Grants.{IsDue, IsRefusedFor, says_stopped};
+ghost use Rattle.oz_scm.specs.Granting.{IsDue, IsRefusedFor, says_stopped};
 ghost use Rattle.oz_scm.specs.declared.fault.GrantFault.TheVariants.{NoPipeline as IsDown, Excluded as IsExcluded};
 
 use crate::fault::GrantFault;
-use oz_grants::{Containers, GRANTED_IDS, Grant, are_ids_spent};
+use crate::grants::{Containers, GRANTED_IDS, Grant, are_ids_spent};
 use oz_nodes::Nodes;
 use oz_requests::Exclude;
 

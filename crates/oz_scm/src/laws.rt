@@ -1,10 +1,10 @@
 //! What the bytes of the storage container manager's journal stand for.
 
 ghost use Rattle.std.specs.Prelude.{◌≡◌, ◌≢◌, ℕ, List};
-ghost use Rattle.oz_grants.specs.Made.{Made};
+ghost use Rattle.oz_scm.specs.grants.Made.{Made};
 ghost use Rattle.oz_scm.specs.Scm.{StandsFor, IsOfNodes, IsDamagedDisk};
 
-use oz_grants::bodies_make_one_thing;
+use crate::grants::bodies_make_one_thing;
 use oz_journal::bytes_stand_for_one_thing;
 
 /// With one number of datanodes, bytes stand for one thing, or name another number, or are damaged at one place, and

@@ -1,16 +1,21 @@
-//! The storage container manager: which block ids are granted where, kept in a journal.
+//! The storage container manager: which block ids are granted where, kept in a journal of entries.
 #![tactic(auto)]
 
 mod adding;
 mod beginning;
 mod choosing;
 mod fault;
+mod grants;
 mod laws;
 mod loading;
 mod planning;
 mod scm;
 
 pub use fault::{GrantFault, ScmFault};
+pub use grants::{
+    BuildFault, Container, Containers, Entry, FIRST_ID, GRANTED_IDS, Grant, MOST_GRANTED,
+    an_entry_is_one_body_more, are_ids_spent, bodies_make_one_thing, build, encode_granted,
+    encode_nodes, no_id_is_granted_twice,
+};
 pub use laws::a_disk_stands_for_one_thing;
-pub use oz_grants::{Container, Grant};
 pub use scm::Scm;

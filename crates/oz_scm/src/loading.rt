@@ -1,15 +1,15 @@
 //! What the bodies of a loaded journal make.
 
 ghost use Rattle.std.specs.Prelude.{◌≡◌, ◌≢◌, ◌<◌, ◌^◌, ℕ, length, IfOk, IfErr, IfSome, Some};
-ghost use Rattle.oz_grants.specs.Build.{Makes};
-ghost use Rattle.oz_grants.specs.Made.{Made};
-ghost use Rattle.oz_grants.specs.Steps.{made_in};
+ghost use Rattle.oz_scm.specs.grants.Build.{Makes};
+ghost use Rattle.oz_scm.specs.grants.Made.{Made};
+ghost use Rattle.oz_scm.specs.grants.Steps.{made_in};
 ghost use Rattle.oz_journal.specs.Body.{bodies_in, places_in};
 ghost use Rattle.oz_journal.specs.Grammar.{places, records};
 ghost use Rattle.oz_scm.specs.Scm.{IsFaultIn};
 
 use crate::fault::ScmFault;
-use oz_grants::{BuildFault, Containers, bodies_make_one_thing, build};
+use crate::grants::{BuildFault, Containers, bodies_make_one_thing, build};
 use oz_journal::Body;
 use std::alloc::Global;
 

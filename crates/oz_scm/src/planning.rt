@@ -1,12 +1,12 @@
 //! The memory that an entry takes, before anything is written.
 
 ghost use Rattle.std.specs.Prelude.{◌≡◌, ◌+◌, ◌≤◌, length, IfOk, OnOk};
-ghost use Rattle.oz_grants.specs.declared.entry.Entry.TheVariants as entries;
+ghost use Rattle.oz_scm.specs.declared.grants.entry.Entry.TheVariants as entries;
 ghost use Rattle.oz_journal.specs.Journal.{body_of};
 ghost use Rattle.oz_scm.specs.Frames.{IsFrameOf};
 
+use crate::grants::{Containers, Grant, encode_granted, encode_nodes};
 use oz_fields::OutOfMemory;
-use oz_grants::{Containers, Grant, encode_granted, encode_nodes};
 use oz_journal::Frame;
 use std::alloc::Global;
 

@@ -4,14 +4,14 @@ ghost use Rattle.std.specs.Prelude.{◌≡◌, ◌≢◌, ◌≤◌, ◌<◌, �
 ghost use Rattle.std.specs.Prelude.{IfOk, IfErr, IfSome, OnErr, OnOk, IsSomeAnd, Err};
 ghost use Rattle.std.specs.List.{range_with_len};
 ghost use Rattle.std.specs.Option.{option_map};
-ghost use Rattle.oz_grants.specs.declared.container.Container.{Container as AnyContainer};
-ghost use Rattle.oz_grants.specs.Made.{container_at};
+ghost use Rattle.oz_scm.specs.declared.grants.container.Container.{Container as AnyContainer};
+ghost use Rattle.oz_scm.specs.grants.Made.{container_at};
 ghost use Rattle.oz_journal.specs.Grammar.{IsJournal, TellsBodies};
 ghost use Rattle.oz_journal.specs.Load.{IsLoadable};
 ghost use Rattle.oz_names.specs.declared.limits.TheConstants.{STRIPES};
 ghost use Rattle.oz_nodes.specs.declared.nodes.TheConstants.{FEWEST_NODES, MOST_NODES};
 ghost use Rattle.oz_nodes.specs.Pipelines.{members_of, is_node_up};
-ghost use Rattle.oz_scm.specs.Grants.{Grants};
+ghost use Rattle.oz_scm.specs.Granting.{Grants};
 ghost use Rattle.oz_scm.specs.Scm.{IsOfNodes, IsDamagedDisk, or_first};
 ghost use Rattle.oz_world.specs.Disk.{seen, TellsAsBefore, IsStable};
 ghost use Rattle.oz_world.specs.Faults.{Rose};
@@ -21,10 +21,10 @@ use crate::adding::{add, check};
 use crate::beginning::found_or_first;
 use crate::choosing::due;
 use crate::fault::{GrantFault, ScmFault};
+use crate::grants::{Container, Containers, Grant};
 use crate::loading::containers_of;
 use crate::planning::plan_grant;
 use oz_fields::OutOfMemory;
-use oz_grants::{Container, Containers, Grant};
 use oz_journal::{
     Journal, LoadFault, bytes_left_alone_stand_for_the_same, bytes_stand_for_one_thing,
 };

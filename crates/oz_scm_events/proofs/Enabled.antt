@@ -16,15 +16,15 @@ use Rattle.oz_core.specs.Manager.{halt_of}
 use Rattle.oz_core.specs.Nodes.{is_running}
 use Rattle.oz_core.specs.Scm.{Containers, containers, next_id, is_up, ups}
 use Rattle.oz_core.specs.Seats.{datanode_seat, scm_seat}
-use Rattle.oz_grants.specs.declared.container.Container.{Container as MadeContainer}
-use Rattle.oz_grants.specs.declared.entry.Grant.{Grant}
-use Rattle.oz_grants.specs.Due.{IsChosen}
-use Rattle.oz_lines.specs.declared.script.Script.{Script}
+use Rattle.oz_scm.specs.declared.grants.container.Container.{Container as MadeContainer}
+use Rattle.oz_scm.specs.declared.grants.entry.Grant.{Grant}
+use Rattle.oz_scm.specs.grants.Due.{IsChosen}
+use Rattle.oz_script.specs.declared.lines.script.Script.{Script}
 use Rattle.oz_nodes.specs.Pipelines.{IsUp, pipelines_of}
 use Rattle.oz_requests.specs.declared.request.Exclude.{Exclude}
 use Rattle.oz_scm.specs.declared.fault.GrantFault.{GrantFault}
 use Rattle.oz_scm.specs.declared.fault.GrantFault.TheVariants.{Stopped, NoPipeline, Excluded, IdsSpent, OutOfMemory}
-use Rattle.oz_scm.specs.Grants.{Grants, IsDue}
+use Rattle.oz_scm.specs.Granting.{Grants, IsDue}
 use Rattle.oz_scm.specs.Scm.{State}
 use Rattle.oz_scm_events.specs.Granted.{by_scm, told_of}
 use Rattle.oz_scm_events.specs.Kept.{as_told, AreContainers, IsKept}

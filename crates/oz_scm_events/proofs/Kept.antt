@@ -15,15 +15,15 @@ use Rattle.oz_core.specs.declared.opening.Opening.{Opening}
 use Rattle.oz_core.specs.Manager.{halt_count, halt_of}
 use Rattle.oz_core.specs.Scm.{containers, containers_after, id_after, next_id, is_up, up_or_down, ups}
 use Rattle.oz_core.specs.Seats.{scm_seat}
-use Rattle.oz_grants.specs.declared.container.Container.{Container as MadeContainer}
-use Rattle.oz_grants.specs.declared.entry.Grant.{Grant}
-use Rattle.oz_grants.specs.Due.{IsChosen}
-use Rattle.oz_grants.specs.Made.{Made, after_grant, container_at}
+use Rattle.oz_scm.specs.declared.grants.container.Container.{Container as MadeContainer}
+use Rattle.oz_scm.specs.declared.grants.entry.Grant.{Grant}
+use Rattle.oz_scm.specs.grants.Due.{IsChosen}
+use Rattle.oz_scm.specs.grants.Made.{Made, after_grant, container_at}
 use Rattle.oz_nodes.specs.Pipelines.{IsAnyUp, IsFree, is_node_up}
 use Rattle.oz_requests.specs.declared.request.Exclude.{Exclude}
 use Rattle.oz_scm.specs.declared.fault.GrantFault.{GrantFault}
 use Rattle.oz_scm.specs.declared.fault.GrantFault.TheVariants.{Stopped, NoPipeline, Excluded, IdsSpent, OutOfMemory}
-use Rattle.oz_scm.specs.Grants.{Grants}
+use Rattle.oz_scm.specs.Granting.{Grants}
 use Rattle.oz_scm.specs.Scm.{State}
 use Rattle.oz_scm_events.specs.Granted.{by_scm, told_of, with_told, IsRefusal}
 use Rattle.oz_scm_events.specs.Kept.{as_told, AreContainers, IsKept}

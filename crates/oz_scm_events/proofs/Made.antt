@@ -9,8 +9,8 @@ use Rattle.std.specs.Option.{option_map}
 use Rattle.std.specs.Ordering.{eq_by_cmp, nat_cmp}
 use Rattle.oz_core.specs.declared.opening.Container.{Container}
 use Rattle.oz_core.specs.Scm.{Containers, granted_in}
-use Rattle.oz_grants.specs.declared.container.Container.{Container as MadeContainer}
-use Rattle.oz_grants.specs.Made.{container_at, granted_in as made_in, with_container}
+use Rattle.oz_scm.specs.declared.grants.container.Container.{Container as MadeContainer}
+use Rattle.oz_scm.specs.grants.Made.{container_at, granted_in as made_in, with_container}
 use Rattle.oz_scm_events.specs.Kept.{as_told, AreContainers}
 
 -- ---- a list in which one place changes, or comes behind it

@@ -6,8 +6,8 @@ use Rattle.oz_core.specs.declared.event.Event.{Event}
 use Rattle.oz_core.specs.declared.opening.Container.{Container}
 use Rattle.oz_core.specs.declared.opening.Opening.{Opening}
 use Rattle.oz_core.specs.Scm.{containers, members}
-use Rattle.oz_grants.specs.declared.container.Container.{Container as MadeContainer}
-use Rattle.oz_grants.specs.Made.{Made, container_at}
+use Rattle.oz_scm.specs.declared.grants.container.Container.{Container as MadeContainer}
+use Rattle.oz_scm.specs.grants.Made.{Made, container_at}
 use Rattle.oz_nodes.specs.Pipelines.{members_of}
 use Rattle.oz_scm_events.specs.Kept.{as_told}
 

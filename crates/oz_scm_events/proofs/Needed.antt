@@ -17,7 +17,7 @@ use Rattle.oz_core.specs.Scm.{IsOfGrant, ups}
 use Rattle.oz_core.specs.Seats.{scm_seat}
 use Rattle.oz_core.specs.Stories.{all_told}
 use Rattle.oz_fields.specs.declared.block.Block.{Block}
-use Rattle.oz_lines.specs.declared.script.Script.{Script}
+use Rattle.oz_script.specs.declared.lines.script.Script.{Script}
 use Rattle.oz_nodes.specs.Pipelines.{IsAnyUp, IsFree}
 use Rattle.oz_requests.specs.declared.request.Exclude.{Exclude}
 use Rattle.oz_requests.specs.declared.request.Request.TheVariants.{AllocateBlock}

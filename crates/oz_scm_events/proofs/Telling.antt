@@ -19,7 +19,7 @@ use Rattle.oz_core.specs.Nodes.{is_running, stopped_or_started}
 use Rattle.oz_core.specs.Scm.{Containers, containers, containers_after, id_after, next_id, is_up, up_or_down, ups}
 use Rattle.oz_core.specs.Seats.{datanode_seat, scm_seat, IsNodeSeat}
 use Rattle.oz_core.specs.Stories.{last_told, newer}
-use Rattle.oz_lines.specs.declared.script.Script.{Script}
+use Rattle.oz_script.specs.declared.lines.script.Script.{Script}
 use Rattle.oz_scm_events.proofs.Own.{AreIts, IsIts, made_by_own, own}
 
 -- ---- the storage container manager

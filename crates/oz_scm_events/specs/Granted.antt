@@ -10,7 +10,7 @@ use Rattle.oz_core.specs.Manager.{halt_of}
 use Rattle.oz_core.specs.Scm.{next_id, ups}
 use Rattle.oz_core.specs.Seats.{scm_seat}
 use Rattle.oz_fields.specs.declared.block.TheConstants.{GREATEST_BLOCK_NUMBER}
-use Rattle.oz_grants.specs.declared.entry.Grant.{Grant}
+use Rattle.oz_scm.specs.declared.grants.entry.Grant.{Grant}
 use Rattle.oz_nodes.specs.Pipelines.{IsAnyUp, IsFree}
 use Rattle.oz_requests.specs.declared.request.Exclude.{Exclude}
 use Rattle.oz_scm.specs.declared.fault.GrantFault.{GrantFault}

@@ -9,8 +9,8 @@ use Rattle.oz_core.specs.declared.opening.Opening.{Opening}
 use Rattle.oz_core.specs.Manager.{halt_of}
 use Rattle.oz_core.specs.Scm.{Containers, containers, next_id, ups}
 use Rattle.oz_core.specs.Seats.{scm_seat}
-use Rattle.oz_grants.specs.declared.container.Container.{Container as MadeContainer}
-use Rattle.oz_grants.specs.Made.{container_at}
+use Rattle.oz_scm.specs.declared.grants.container.Container.{Container as MadeContainer}
+use Rattle.oz_scm.specs.grants.Made.{container_at}
 use Rattle.oz_scm.specs.Scm.{State}
 use Rattle.oz_turn.specs.Told.{own_entries}
 use Rattle.oz_world.specs.Faults.{Rose}

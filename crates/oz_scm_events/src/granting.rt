@@ -9,7 +9,7 @@ ghost use Rattle.oz_core.specs.Scm.{containers};
 ghost use Rattle.oz_core.specs.Seats.{scm_seat};
 ghost use Rattle.oz_names.specs.declared.limits.TheConstants.{STRIPES};
 ghost use Rattle.oz_scm.specs.declared.fault.GrantFault.TheVariants.{OutOfMemory as NoMemory, Stopped};
-ghost use Rattle.oz_scm.specs.Grants.{Grants};
+ghost use Rattle.oz_scm.specs.Granting.{Grants};
 ghost use Rattle.oz_scm_events.specs.Granted.{IsRefusal, own_after, told_of};
 ghost use Rattle.oz_turn.specs.Seat.{IsReady, mine_of, number_of, room_of, seen_of};
 ghost use Rattle.oz_turn.specs.Told.{own_entries, BeginsWith};

@@ -5,17 +5,17 @@ use Rattle.std.specs.List.{slice_get}
 use Rattle.std.specs.Option.{IsSomeAnd}
 use Rattle.std.proofs.lemmas.Option.{slice_get_within, slice_get-get_or, same_Some, none-some}
 use Rattle.std.proofs.lemmas.List.Quantifiers.{position-Some}
-use Rattle.oz_circles.specs.Circles.{Leads, ComesBack, IsFirstBack}
-use Rattle.oz_draft.specs.declared.fault.Cause.{Cause}
-use Rattle.oz_draft.specs.declared.fault.ScriptFault.{ScriptFault}
-use Rattle.oz_draft.specs.declared.fault.ScriptFault.TheVariants.{At, OutOfMemory}
-use Rattle.oz_draft.specs.declared.fault.Cause.TheVariants.{Circle, Later}
-use Rattle.oz_lines.specs.declared.script.Line.{Line}
-use Rattle.oz_placed.specs.declared.placed.PlacedScript.{PlacedScript}
-use Rattle.oz_lines.specs.declared.script.Script.{Script}
-use Rattle.oz_draft.specs.Drafts.{Fails}
-use Rattle.oz_placed.specs.Placed.{read_of}
-use Rattle.oz_placed.specs.Served.{is_served, later_index}
+use Rattle.oz_script.specs.circles.Circles.{Leads, ComesBack, IsFirstBack}
+use Rattle.oz_script.specs.declared.draft.fault.Cause.{Cause}
+use Rattle.oz_script.specs.declared.draft.fault.ScriptFault.{ScriptFault}
+use Rattle.oz_script.specs.declared.draft.fault.ScriptFault.TheVariants.{At, OutOfMemory}
+use Rattle.oz_script.specs.declared.draft.fault.Cause.TheVariants.{Circle, Later}
+use Rattle.oz_script.specs.declared.lines.script.Line.{Line}
+use Rattle.oz_script.specs.declared.placed.placed.PlacedScript.{PlacedScript}
+use Rattle.oz_script.specs.declared.lines.script.Script.{Script}
+use Rattle.oz_script.specs.draft.Drafts.{Fails}
+use Rattle.oz_script.specs.placed.Placed.{read_of}
+use Rattle.oz_script.specs.placed.Served.{is_served, later_index}
 use Rattle.oz_script.specs.Parsing.{IsFaultAt, Answers, AnswersRead, ParsesTo, Gives}
 use Rattle.oz_script.specs.Waiting.{Needs, WaitsFor}
 use Rattle.oz_script.proofs.Counting.{the_some}

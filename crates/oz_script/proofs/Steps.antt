@@ -6,11 +6,11 @@ use Rattle.std.specs.List.{slice_get}
 use Rattle.std.specs.Option.{IsSomeAnd, option_map, option_and_then}
 use Rattle.std.proofs.lemmas.List.{length-map}
 use Rattle.std.proofs.lemmas.Option.{slice_get_within, slice_get-map, same_Some, none-some}
-use Rattle.oz_circles.specs.declared.waits.Waits.{Waits}
-use Rattle.oz_circles.specs.Circles.{Leads, ComesBack, IsFirstBack}
-use Rattle.oz_circles.specs.Waiting.{IsOf, IsBefore, AreChained, WaitsFor as WaitsAt}
-use Rattle.oz_lines.specs.declared.script.Line.{Line}
-use Rattle.oz_lines.specs.Numbered.{AreNumbered}
+use Rattle.oz_script.specs.declared.circles.waits.Waits.{Waits}
+use Rattle.oz_script.specs.circles.Circles.{Leads, ComesBack, IsFirstBack}
+use Rattle.oz_script.specs.circles.Waiting.{IsOf, IsBefore, AreChained, WaitsFor as WaitsAt}
+use Rattle.oz_script.specs.declared.lines.script.Line.{Line}
+use Rattle.oz_script.specs.lines.Numbered.{AreNumbered}
 use Rattle.oz_script.specs.Finding.{FindsLines, waits_of}
 use Rattle.oz_script.specs.Waiting.{Needs, WaitsFor}
 use Rattle.oz_script.proofs.Counting.{the_some, at_some, numbered_at, earlier, nearest, nearest_number}

@@ -2,8 +2,8 @@
 use Rattle.std.specs.Prelude.{◌≡◌, ◌-◌, ◌==◌, ◌&&◌, ℕ, Bool, List, Option, Some}
 use Rattle.std.specs.List.{slice_get}
 use Rattle.std.specs.Option.{IsSomeAnd, option_and_then}
-use Rattle.oz_circles.specs.declared.waits.Waits.{Waits}
-use Rattle.oz_lines.specs.declared.script.Line.{Line}
+use Rattle.oz_script.specs.declared.circles.waits.Waits.{Waits}
+use Rattle.oz_script.specs.declared.lines.script.Line.{Line}
 
 -- a client and the number of a line of it
 abbrev pub is_same_name : (ℕ × ℕ) → (ℕ × ℕ) → Bool

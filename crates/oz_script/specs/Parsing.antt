@@ -1,15 +1,15 @@
 -- The script of some bytes, or its first fault.
 use Rattle.std.specs.Prelude.{◌≡◌, ℕ, List, Option, None, Some, Result, Ok, Err}
 use Rattle.std.specs.List.{slice_get}
-use Rattle.oz_circles.specs.Circles.{IsFirstBack}
-use Rattle.oz_draft.specs.declared.fault.Cause.{Cause}
-use Rattle.oz_draft.specs.declared.fault.Cause.TheVariants.{Circle, Later}
-use Rattle.oz_draft.specs.declared.fault.ScriptFault.{ScriptFault}
-use Rattle.oz_draft.specs.declared.fault.ScriptFault.TheVariants.{At, OutOfMemory}
-use Rattle.oz_placed.specs.declared.placed.PlacedScript.{PlacedScript}
-use Rattle.oz_lines.specs.declared.script.Script.{Script}
-use Rattle.oz_placed.specs.Placed.{read_of}
-use Rattle.oz_placed.specs.Served.{later_index}
+use Rattle.oz_script.specs.circles.Circles.{IsFirstBack}
+use Rattle.oz_script.specs.declared.draft.fault.Cause.{Cause}
+use Rattle.oz_script.specs.declared.draft.fault.Cause.TheVariants.{Circle, Later}
+use Rattle.oz_script.specs.declared.draft.fault.ScriptFault.{ScriptFault}
+use Rattle.oz_script.specs.declared.draft.fault.ScriptFault.TheVariants.{At, OutOfMemory}
+use Rattle.oz_script.specs.declared.placed.placed.PlacedScript.{PlacedScript}
+use Rattle.oz_script.specs.declared.lines.script.Script.{Script}
+use Rattle.oz_script.specs.placed.Placed.{read_of}
+use Rattle.oz_script.specs.placed.Served.{later_index}
 use Rattle.oz_script.specs.Waiting.{WaitsFor}
 
 -- the answer names a line with this fault, by its place in the text

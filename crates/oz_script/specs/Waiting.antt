@@ -2,7 +2,7 @@
 use Rattle.std.specs.Prelude.{◌≡◌, ◌+◌, ◌⊎◌, ℕ, List, Some}
 use Rattle.std.specs.List.{slice_get}
 use Rattle.std.specs.Option.{IsSomeAnd}
-use Rattle.oz_lines.specs.declared.script.Line.{Line}
+use Rattle.oz_script.specs.declared.lines.script.Line.{Line}
 
 -- A line needs another: the one before of its client, or the one that its `after` names.
 abbrev pub Needs : Line → Line → Type 0

@@ -1,8 +1,8 @@
 //! What is true of all scripts.
 
 ghost use Rattle.std.specs.Prelude.{◌≡◌, ℕ, List, Result};
-ghost use Rattle.oz_draft.specs.declared.fault.ScriptFault.{ScriptFault};
-ghost use Rattle.oz_lines.specs.declared.script.Script.{Script};
+ghost use Rattle.oz_script.specs.declared.draft.fault.ScriptFault.{ScriptFault};
+ghost use Rattle.oz_script.specs.declared.lines.script.Script.{Script};
 ghost use Rattle.oz_script.specs.Parsing.{ParsesTo};
 
 /// No bytes give two answers.

@@ -2,17 +2,17 @@
 
 ghost use Rattle.std.specs.Prelude.{◌≡◌, ◌<◌, ℕ, length, None, IfOk};
 ghost use Rattle.std.specs.List.{slice_index};
-ghost use Rattle.oz_circles.specs.Circles.{ComesBack};
-ghost use Rattle.oz_lines.specs.Numbered.{IsNumbered};
-ghost use Rattle.oz_placed.specs.Served.{later_index};
+ghost use Rattle.oz_script.specs.circles.Circles.{ComesBack};
+ghost use Rattle.oz_script.specs.lines.Numbered.{IsNumbered};
+ghost use Rattle.oz_script.specs.placed.Served.{later_index};
 ghost use Rattle.oz_script.specs.Parsing.{Gives, ParsesTo};
 ghost use Rattle.oz_script.specs.Waiting.{WaitsFor};
 
+use crate::draft::{Cause, ScriptFault};
+use crate::lines::Script;
+use crate::placed::{PlacedScript, later_index, read_lines};
 use crate::waiting::first_back;
-use oz_draft::{Cause, ScriptFault};
 use oz_fields::List;
-use oz_lines::Script;
-use oz_placed::{PlacedScript, later_index, read_lines};
 use std::alloc::Global;
 
 /// Reads a script. Its faults are tested in this order: too many bytes; the first line in none of the forms, too many or

@@ -2,14 +2,14 @@
 
 ghost use Rattle.std.specs.Prelude.{◌≡◌, [], map, IfOk};
 ghost use Rattle.std.specs.HashMap.{get};
-ghost use Rattle.oz_circles.specs.Circles.{IsFirstBack};
-ghost use Rattle.oz_lines.specs.Numbered.{AreNumbered};
+ghost use Rattle.oz_script.specs.circles.Circles.{IsFirstBack};
+ghost use Rattle.oz_script.specs.lines.Numbered.{AreNumbered};
 ghost use Rattle.oz_script.specs.Finding.{FindsLines, is_same_name, waits_of};
 ghost use Rattle.oz_script.specs.Waiting.{WaitsFor};
 
-use oz_circles::{Waits, first_circle};
+use crate::circles::{Waits, first_circle};
+use crate::lines::Line;
 use oz_fields::{List, OutOfMemory};
-use oz_lines::Line;
 use std::alloc::Global;
 use std::collections::HashMap;
 

@@ -20,7 +20,11 @@ blocks_of (rows.Key number pieces) = map (λ (piece : Piece). piece.block) piece
 blocks_of (rows.Open blocks) = blocks
 blocks_of (rows.Deleted blocks) = blocks
 blocks_of (rows.SnapshotKey number pieces) = map (λ (piece : Piece). piece.block) pieces
-blocks_of row = []
+blocks_of rows.Volume = []
+blocks_of rows.Bucket = []
+blocks_of (rows.Snapshot name previous state) = []
+blocks_of (rows.Renamed key) = []
+blocks_of (rows.Stripe number) = []
 
 -- the block stands in the row of this key
 pub record StandsIn (all : Rows) (block : Block) (key : RowKey) : Type 0 where
@@ -44,14 +48,25 @@ bucket_of_row (keys.Stripe stripe) = None
 abbrev pub IsKeeper : RowKey → Type 0
 IsKeeper (keys.Key volume bucket key) = Unit {0}
 IsKeeper (keys.Deleted volume bucket owner key local) = Unit {0}
-IsKeeper key = ⊥
+IsKeeper (keys.Volume volume) = ⊥
+IsKeeper (keys.Bucket volume bucket) = ⊥
+IsKeeper (keys.Open volume bucket key number) = ⊥
+IsKeeper (keys.Snapshot volume bucket number) = ⊥
+IsKeeper (keys.SnapshotKey volume bucket snapshot key) = ⊥
+IsKeeper (keys.Renamed volume bucket owner local) = ⊥
+IsKeeper (keys.Stripe stripe) = ⊥
 
 -- these rows and those of open keys: a block stands in one of them
 abbrev pub IsHome : RowKey → Type 0
 IsHome (keys.Key volume bucket key) = Unit {0}
 IsHome (keys.Open volume bucket key number) = Unit {0}
 IsHome (keys.Deleted volume bucket owner key local) = Unit {0}
-IsHome key = ⊥
+IsHome (keys.Volume volume) = ⊥
+IsHome (keys.Bucket volume bucket) = ⊥
+IsHome (keys.Snapshot volume bucket number) = ⊥
+IsHome (keys.SnapshotKey volume bucket snapshot key) = ⊥
+IsHome (keys.Renamed volume bucket owner local) = ⊥
+IsHome (keys.Stripe stripe) = ⊥
 
 -- a live snapshot has the block under this name
 pub record SnapshotHas (all : Rows) (volume bucket : List ℕ) (number : ℕ) (block : Block) (name : List ℕ) : Type 0 where

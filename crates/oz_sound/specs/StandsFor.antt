@@ -17,7 +17,14 @@ use Rattle.oz_rows.specs.RowMaps.{Rows}
 abbrev pub pieces_in : Option Row → Option (List Piece)
 pieces_in (Some (rows.Key number pieces)) = Some pieces
 pieces_in (Some (rows.SnapshotKey number pieces)) = Some pieces
-pieces_in row = None
+pieces_in (Some rows.Volume) = None
+pieces_in (Some rows.Bucket) = None
+pieces_in (Some (rows.Open blocks)) = None
+pieces_in (Some (rows.Deleted blocks)) = None
+pieces_in (Some (rows.Snapshot name previous state)) = None
+pieces_in (Some (rows.Renamed key)) = None
+pieces_in (Some (rows.Stripe number)) = None
+pieces_in None = None
 
 -- how many numbers a stripe row says were drawn, 0 where there is none
 abbrev pub drawn_in : Option Row → ℕ

@@ -1,2 +1,4 @@
 pub mod Store
 pub mod laws
+pub mod striped
+pub mod granted

@@ -5,9 +5,9 @@ use Rattle.oz_command.specs.declared.command.Command.{Command}
 use Rattle.oz_fields.specs.declared.block.Block.{Block}
 use Rattle.oz_fields.specs.declared.block.TheConstants.{LONGEST_PIECE}
 use Rattle.oz_requests.specs.declared.request.AskId.{AskId}
-use Rattle.oz_lines.specs.declared.script.Line.{Line}
-use Rattle.oz_lines.specs.declared.script.Script.{Script}
-use Rattle.oz_buffer.specs.Courses.{times_said}
+use Rattle.oz_script.specs.declared.lines.script.Line.{Line}
+use Rattle.oz_script.specs.declared.lines.script.Script.{Script}
+use Rattle.oz_buffer.specs.Became.{times_said}
 use Rattle.oz_core.specs.declared.event.Event.{Event}
 use Rattle.oz_core.specs.declared.event.EventKind.{EventKind}
 use Rattle.oz_core.specs.declared.event.EventKind.TheVariants.{Put, Refused, Wrote}

@@ -5,9 +5,9 @@ use Rattle.std.proofs.lemmas.Bool.{eqb-true, lt-ltb, le-ltb}
 use Rattle.std.proofs.lemmas.List.Elements.{Contains-append_right}
 use Rattle.std.proofs.lemmas.List.Sums.{sum_by-append, fold-append}
 use Rattle.std.proofs.lemmas.Option.{none-some, same_Some}
-use Rattle.oz_lines.specs.declared.script.Line.{Line}
-use Rattle.oz_lines.specs.declared.script.Script.{Script}
-use Rattle.oz_lines.specs.Numbered.{lines_of, AreNumbered, IsNumbered}
+use Rattle.oz_script.specs.declared.lines.script.Line.{Line}
+use Rattle.oz_script.specs.declared.lines.script.Script.{Script}
+use Rattle.oz_script.specs.lines.Numbered.{lines_of, AreNumbered, IsNumbered}
 use Rattle.oz_core.specs.Steps.{is_opened_as, opens_before, opening_line}
 use Rattle.oz_core.specs.Stories.{last_in}
 

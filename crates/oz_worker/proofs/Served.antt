@@ -18,12 +18,13 @@ use Rattle.oz_core.specs.declared.opening.Opening.{Opening}
 use Rattle.oz_core.specs.Contents.{OpeningBytes}
 use Rattle.oz_core.specs.Lines.{HasStarted}
 use Rattle.oz_core.specs.Steps.{is_opened_as, opening_line}
-use Rattle.oz_lines.specs.declared.script.Line.{Line}
-use Rattle.oz_lines.specs.declared.script.Script.{Script}
-use Rattle.oz_lines.specs.Numbered.{IsNumbered}
+use Rattle.oz_script.specs.declared.lines.script.Line.{Line}
+use Rattle.oz_script.specs.declared.lines.script.Script.{Script}
+use Rattle.oz_script.specs.lines.Numbered.{IsNumbered}
 use Rattle.oz_steps.specs.declared.label.Label.{Label}
 use Rattle.oz_underway.specs.UnderWay.{LabelStays}
 use Rattle.oz_worker.specs.declared.client.Client.{Client}
+use Rattle.oz_worker.specs.declared.resting.Rest.{Rest}
 use Rattle.oz_worker.specs.ClientLines.{lines_of_client}
 use Rattle.oz_worker.specs.Labels.{LabelMap, label_for, noted}
 use Rattle.oz_worker.specs.Served.{AreNoted, IsNoted, IsServed, next_line}
@@ -160,6 +161,16 @@ module _ (Coherent : Type 0) (opening : Opening) (bytes : OpeningBytes) (script 
     lines = it.lines;
     next = subst (λ (w : Option WorkView). IfSome w (λ work. next_line script client ≡ Some work.line)) (sym is) tt;
     works = λ coherent. subst (λ (w : Option WorkView). IfSome w (IsAtWork Coherent opening bytes script seen)) (sym is) tt;
+    labels = it.labels;
+  }
+
+  -- how it stood when it was looked at is nothing to that
+  pub with_rest : (seen : List Event) (client : Client) (rest : Rest) → IsServed Coherent opening bytes script seen client
+      → IsServed Coherent opening bytes script seen (record client { rest = rest })
+  with_rest seen client rest it = record {
+    lines = it.lines;
+    next = it.next;
+    works = it.works;
     labels = it.labels;
   }
 

@@ -6,8 +6,8 @@ use Rattle.oz_core.specs.declared.event.Event.{Event}
 use Rattle.oz_core.specs.declared.opening.Opening.{Opening}
 use Rattle.oz_core.specs.Contents.{OpeningBytes}
 use Rattle.oz_core.specs.Steps.{opening_line}
-use Rattle.oz_lines.specs.declared.script.Line.{Line}
-use Rattle.oz_lines.specs.declared.script.Script.{Script}
+use Rattle.oz_script.specs.declared.lines.script.Line.{Line}
+use Rattle.oz_script.specs.declared.lines.script.Script.{Script}
 use Rattle.oz_steps.specs.declared.label.Label.{Label}
 use Rattle.oz_worker.specs.declared.client.Client.{Client}
 use Rattle.oz_worker.specs.ClientLines.{lines_of_client}

@@ -2,18 +2,20 @@
 
 ghost use Rattle.std.specs.Prelude.{◌≡◌, ◌≤◌, ◌↔◌, List, IfOk, IsTrue, map, slice_get, vec_len};
 ghost use Rattle.oz_core.specs.declared.event.Event.{Event as AnyEvent};
-ghost use Rattle.oz_lines.specs.Numbered.{IsNumbered};
+ghost use Rattle.oz_script.specs.lines.Numbered.{IsNumbered};
 ghost use Rattle.oz_worker.specs.ClientLines.{lines_of_client};
 ghost use Rattle.oz_worker.specs.Served.{IsServed};
 
 use crate::labels::Labels;
+use crate::resting::Rest;
 use oz_at_work::LineAtWork;
 use oz_buffer::Opened;
 use oz_fields::OutOfMemory;
-use oz_lines::{Line, Script};
+use oz_script::{Line, Script};
 use std::alloc::Global;
 
-/// A client of a script: its lines in order, how many of them were told, the one that is worked for, and its labels.
+/// A client of a script: its lines in order, how many of them were told, the one that is worked for, its labels, and how
+/// it stood at its worker's last look.
 #[derive(Drop)]
 pub(crate) struct Client<'s> {
     pub(crate) number: u16,
@@ -21,6 +23,7 @@ pub(crate) struct Client<'s> {
     pub(crate) told: usize,
     pub(crate) work: Option<LineAtWork<'s>>,
     pub(crate) labels: Labels,
+    pub(crate) rest: Rest,
 }
 
 impl<'s> Client<'s> {
@@ -42,6 +45,7 @@ impl<'s> Client<'s> {
             told: 0,
             work: None,
             labels: Labels::new(alloc),
+            rest: Rest::new(),
         })
     }
 

@@ -5,11 +5,11 @@ ghost use Rattle.oz_turn.specs.Turn.{turn_id};
 
 use crate::flusher::flush_for;
 use crate::worker::{FEWEST_LOOKS, Worker};
+use oz_at_work::Servers;
 use oz_buffer::{Ledger, Opened};
 use oz_core::Event;
-use oz_flushing::{Flushing, Mounted};
+use oz_flusher::{Flushing, Mounted};
 use oz_locks::Loaded;
-use oz_servers::Servers;
 use oz_turn::{Ring, Told, Turn};
 use oz_world::{Disk, Gate};
 use std::alloc::Global;

@@ -4,9 +4,9 @@ ghost use Rattle.std.specs.Prelude.{◌≡◌, ◌≢◌, ◌+◌, ◌≤◌, �
 ghost use Rattle.oz_core.specs.declared.limits.TheConstants.{SERVICE_CLIENT};
 ghost use Rattle.oz_core.specs.Contents.{IsLineOf};
 ghost use Rattle.oz_core.specs.Steps.{is_opened_as, opening_line};
-ghost use Rattle.oz_lines.specs.declared.script.Line.{Line as AnyLine};
-ghost use Rattle.oz_lines.specs.declared.script.Script.{Script as AnyScript};
-ghost use Rattle.oz_lines.specs.Numbered.{IsNumbered};
+ghost use Rattle.oz_script.specs.declared.lines.script.Line.{Line as AnyLine};
+ghost use Rattle.oz_script.specs.declared.lines.script.Script.{Script as AnyScript};
+ghost use Rattle.oz_script.specs.lines.Numbered.{IsNumbered};
 ghost use Rattle.oz_worker.specs.ClientLines.{lines_of_client};
 
 /// Each line of a client is the script's, has the number that comes next, and is no line of the service.

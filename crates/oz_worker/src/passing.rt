@@ -1,7 +1,7 @@
 //! How a worker goes on with its clients.
 
 ghost use Rattle.std.specs.Prelude.{◌≡◌, All};
-ghost use Rattle.oz_lines.specs.Numbered.{IsNumbered};
+ghost use Rattle.oz_script.specs.lines.Numbered.{IsNumbered};
 ghost use Rattle.oz_turn.specs.Seat.{IsReady, seen_of};
 ghost use Rattle.oz_turn.specs.Told.{BeginsWith};
 ghost use Rattle.oz_turn.specs.Turn.{turn_id};
@@ -9,10 +9,10 @@ ghost use Rattle.oz_worker.specs.Served.{IsServed};
 ghost use Rattle.oz_worker.specs.Workers.{IsOfWorker};
 
 use crate::client::Client;
-use oz_at_work::{Did, what_is_at_work_stays};
+use crate::resting::{Care, Sight};
+use oz_at_work::{Did, Servers, what_is_at_work_stays};
 use oz_buffer::{Ledger, Opened};
 use oz_locks::Loaded;
-use oz_servers::Servers;
 use oz_turn::{Ring, Seat, Turn};
 use oz_world::{Disk, Gate};
 use std::alloc::Global;
@@ -30,7 +30,7 @@ pub(crate) enum Pass {
 }
 
 /// Each client's next line goes on by one thing, so that what many of them ask is flushed together. `by` is the seat's
-/// number, and `nodes` that of the datanodes.
+/// number, `nodes` that of the datanodes, and `care` says who is left out.
 pub(crate) fn each_goes_on<D: Disk, O: Opened, L: Loaded, R: Ring, W: Wait, G: Gate>(
     rt: &W,
     alloc: Global,
@@ -41,6 +41,7 @@ pub(crate) fn each_goes_on<D: Disk, O: Opened, L: Loaded, R: Ring, W: Wait, G: G
     by: u16,
     nodes: u8,
     clients: &mut [Client<'_>],
+    care: Care,
 ) -> Pass
     requires turn { turn_id turn.now ≡ R.turn }
     requires ready { IsReady R.turn by seat.old }
@@ -53,8 +54,9 @@ pub(crate) fn each_goes_on<D: Disk, O: Opened, L: Loaded, R: Ring, W: Wait, G: G
 {
     what_is_at_work_stays::<O>();
     let mut pass = Pass::Waits;
+    let mut sight = Sight::new(care);
     for client in clients.iter_mut() {
-        match client.go_on(rt, alloc, turn, servers, gate, seat, by, nodes) {
+        match client.look(rt, alloc, turn, servers, gate, seat, by, nodes, &mut sight) {
             Did::WentOn | Did::Ended => pass = Pass::WentOn,
             Did::Waits => {}
             Did::OutOfMemory => return Pass::OutOfMemory,

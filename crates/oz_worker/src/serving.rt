@@ -4,7 +4,7 @@ ghost use Rattle.std.specs.Prelude.{◌≡◌, ◌≤◌, ◌<◌, List, None, S
 ghost use Rattle.oz_at_work.specs.AtWork.{HasLeft, left_of};
 ghost use Rattle.oz_core.specs.declared.event.Event.{Event as AnyEvent};
 ghost use Rattle.oz_core.specs.Seats.{IsLineSeat};
-ghost use Rattle.oz_lines.specs.Numbered.{IsNumbered};
+ghost use Rattle.oz_script.specs.lines.Numbered.{IsNumbered};
 ghost use Rattle.oz_nodes.specs.declared.nodes.TheConstants.{FEWEST_NODES, MOST_NODES};
 ghost use Rattle.oz_turn.specs.Seat.{IsReady, seen_of};
 ghost use Rattle.oz_turn.specs.Told.{BeginsWith};
@@ -12,17 +12,56 @@ ghost use Rattle.oz_turn.specs.Turn.{turn_id};
 ghost use Rattle.oz_worker.specs.Served.{IsServed, next_line};
 
 use crate::client::Client;
-use oz_at_work::{Did, LineAtWork, a_label_was_left, what_is_at_work_stays};
+use crate::resting::Sight;
+use oz_asker::has_started;
+use oz_at_work::{Did, LineAtWork, Servers, a_label_was_left, what_is_at_work_stays};
 use oz_buffer::{Ledger, Opened};
 use oz_locks::Loaded;
-use oz_servers::Servers;
-use oz_telling::has_started;
 use oz_turn::{Ring, Seat, Turn};
 use oz_world::{Disk, Gate};
 use std::alloc::Global;
 use std::sync::Wait;
 
 impl<'s> Client<'s> {
+    /// The next line starts, or goes on by one thing, unless by a guess there is nothing to do: then the turn isn't taken.
+    pub(crate) fn look<D: Disk, O: Opened, L: Loaded, R: Ring, W: Wait, G: Gate>(
+        &mut self,
+        rt: &W,
+        alloc: Global,
+        turn: &Turn<Ledger<O>>,
+        servers: &Servers<D, Ledger<O>, O, L, R>,
+        gate: &G,
+        seat: &mut Seat<Ledger<O>>,
+        by: u16,
+        nodes: u8,
+        sight: &mut Sight,
+    ) -> Did
+        requires turn { turn_id turn.now ≡ R.turn }
+        requires ready { IsReady R.turn by seat.old }
+        requires seats { by < 64 }
+        requires of_line { IsLineSeat by }
+        requires least { FEWEST_NODES ≤ nodes }
+        requires most { nodes ≤ MOST_NODES }
+        requires numbered { IsNumbered O.script }
+        requires served { IsServed O.coherent O.opening O.bytes O.script (seen_of seat.old) self.old }
+        ensures ready { IsReady R.turn by seat.new }
+        ensures goes_on { BeginsWith (seen_of seat.new) (seen_of seat.old) }
+        ensures served { IsServed O.coherent O.opening O.bytes O.script (seen_of seat.new) self.new }
+    {
+        let length = turn.length();
+        if self.rests(length, sight) {
+            self.note_in(sight);
+            return Did::Waits;
+        }
+        let had_begun = self.work.is_some();
+        let did = self.go_on(rt, alloc, turn, servers, gate, seat, by, nodes);
+        self.rest = self.rest.behind(did, had_begun, length, turn.length());
+        if did == Did::Waits {
+            self.note_in(sight);
+        }
+        did
+    }
+
     /// The next line starts, or goes on by one thing. `by` is the seat's number, and `nodes` that of the datanodes.
     pub(crate) fn go_on<D: Disk, O: Opened, L: Loaded, R: Ring, W: Wait, G: Gate>(
         &mut self,

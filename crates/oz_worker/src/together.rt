@@ -4,11 +4,11 @@ ghost use Rattle.std.specs.Prelude.{◌≡◌};
 ghost use Rattle.oz_turn.specs.Turn.{turn_id};
 
 use crate::job::Job;
+use oz_at_work::Servers;
 use oz_buffer::{Ledger, Opened};
 use oz_core::Event;
-use oz_flushing::{Flushing, Mounted};
+use oz_flusher::{Flushing, Mounted};
 use oz_locks::Loaded;
-use oz_servers::Servers;
 use oz_turn::{Ring, Told, Turn};
 use oz_world::{Disk, Gate};
 use std::alloc::Global;

@@ -2,7 +2,7 @@
 
 ghost use Rattle.std.specs.Prelude.{◌≡◌, ◌<◌, All, List, IfOk, IfErr};
 ghost use Rattle.oz_core.specs.declared.event.Event.{Event as AnyEvent};
-ghost use Rattle.oz_lines.specs.Numbered.{IsNumbered};
+ghost use Rattle.oz_script.specs.lines.Numbered.{IsNumbered};
 ghost use Rattle.oz_turn.specs.Seat.{IsReady};
 ghost use Rattle.oz_turn.specs.Turn.{turn_id};
 ghost use Rattle.oz_worker.specs.Served.{IsServed};
@@ -10,23 +10,27 @@ ghost use Rattle.oz_worker.specs.Workers.{IsOfWorker};
 
 use crate::client::Client;
 use crate::passing::{Pass, each_goes_on};
+use crate::pausing::pause;
+use crate::resting::Care;
+use oz_at_work::Servers;
 use oz_buffer::{Ledger, Opened};
 use oz_core::Event;
 use oz_fields::OutOfMemory;
-use oz_flushing::{Flushing, Mounted, flush_if_free};
-use oz_lines::Script;
+use oz_flusher::{Flushing, Mounted, flush_if_free};
 use oz_locks::Loaded;
-use oz_servers::Servers;
+use oz_script::Script;
 use oz_turn::{Ring, Seat, Told, Turn};
 use oz_world::{Disk, Gate};
 use std::alloc::Global;
 use std::marker::{Model, PhantomData};
 use std::sync::{Mutex, Wait};
-use std::thread::yield_now;
 
 /// How often in turn who works on a thread of his own looks and finds nothing to do, before he leaves the rest to the
-/// caller.
-pub(crate) const MOST_LOOKS: u32 = 1_000_000;
+/// caller: for some four seconds.
+pub(crate) const MOST_LOOKS: u32 = 4_000;
+
+/// One look in turn among so many is at each client, whatever is guessed.
+const WHOLE: u32 = 64;
 
 /// How often a worker does on the caller's thread, where nobody else could help: once more behind a flush.
 pub(crate) const FEWEST_LOOKS: u32 = 1;
@@ -40,12 +44,14 @@ pub struct Worker<'s, T: Told<Entry = Event>, O: Opened, R: Ring> {
     /// How many datanodes there are.
     nodes: u8,
     is_out_of_memory: bool,
+    /// The length of the story at which it found nothing to flush.
+    flushed_at: Option<u64>,
     of: PhantomData<(O, R)>,
 }
 
 impl<'s, T: Told<Entry = Event>, O: Opened, R: Ring> Model for Worker<'s, T, O, R> {
     ghost use Rattle.std.specs.Prelude.{ℕ, All};
-    ghost use Rattle.oz_lines.specs.Numbered.{IsNumbered};
+    ghost use Rattle.oz_script.specs.lines.Numbered.{IsNumbered};
     ghost use Rattle.oz_turn.specs.Seat.{IsReady, seen_of};
     ghost use Rattle.oz_worker.specs.Served.{IsServed};
     ghost use Rattle.oz_worker.specs.Workers.{IsOfWorker};
@@ -105,6 +111,7 @@ impl<'s, O: Opened, R: Ring> Worker<'s, Ledger<O>, O, R> {
                 clients,
                 nodes,
                 is_out_of_memory: false,
+                flushed_at: None,
                 of: PhantomData,
             }),
             Err(error) => Err((seat, error)),
@@ -121,13 +128,15 @@ impl<'s, O: Opened, R: Ring> Worker<'s, Ledger<O>, O, R> {
             clients: _,
             nodes: _,
             is_out_of_memory: _,
+            flushed_at: _,
             of: _,
         } = self;
         seat
     }
 
-    /// Serves its clients until all their lines were told, or there is no memory, or it has found nothing to do a
-    /// million times in turn. Where nothing can go on it flushes, if nobody else does.
+    /// Serves its clients until all their lines were told, or there is no memory, or it has found nothing to do some
+    /// thousand times in turn. Where nothing can go on it flushes, if nobody else does, and pauses the longer the longer
+    /// nothing comes. It doesn't take the turn to see whether anything came.
     pub fn work<D: Disk, L: Loaded, M: Mounted, W: Wait, G: Gate>(
         &mut self,
         rt: &W,
@@ -143,7 +152,8 @@ impl<'s, O: Opened, R: Ring> Worker<'s, Ledger<O>, O, R> {
         self.serve(rt, alloc, turn, servers, flushing, gate, MOST_LOOKS);
     }
 
-    /// Serves its clients until nothing went on so often in turn, and once more. Says whether anything did.
+    /// Serves its clients until nothing went on so often in turn, and once more. Says whether anything did. The last look is at
+    /// each client.
     pub(crate) fn serve<D: Disk, L: Loaded, M: Mounted, W: Wait, G: Gate>(
         &mut self,
         rt: &W,
@@ -159,23 +169,53 @@ impl<'s, O: Opened, R: Ring> Worker<'s, Ledger<O>, O, R> {
     {
         let mut went_on = false;
         let mut looks = most_looks;
+        let mut flush = Flush::Elsewhere;
         for _ in rt.forever() {
             if self.is_over() {
                 return went_on;
             }
-            if self.go_on(rt, alloc, turn, servers, gate) {
+            if self.go_on(rt, alloc, turn, servers, gate, flush.care(looks)) {
                 went_on = true;
                 looks = most_looks;
+                flush = Flush::Elsewhere;
                 continue;
             }
             if looks == 0 {
                 return went_on;
             }
             looks -= 1;
-            let _ = flush_if_free(rt, flushing, turn, gate);
-            yield_now();
+            let before = flush;
+            flush = self.flush(rt, turn, flushing, gate);
+            if flush.asks_to_pause(before) {
+                pause(rt, most_looks.saturating_sub(looks));
+            }
         }
         unreachable!()
+    }
+
+    /// Flushes, if there may be anything to flush and nobody else does.
+    fn flush<D: Disk, M: Mounted, W: Wait, G: Gate>(
+        &mut self,
+        rt: &W,
+        turn: &Turn<Ledger<O>>,
+        flushing: &Mutex<Flushing<D, Ledger<O>, O, M, R>>,
+        gate: &G,
+    ) -> Flush
+        requires { turn_id turn.now ≡ R.turn }
+        ensures { self.new ≡ self.old }
+    {
+        let length = turn.length();
+        if self.flushed_at == Some(length) {
+            return Flush::Nothing;
+        }
+        match flush_if_free(rt, flushing, turn, gate) {
+            None => Flush::Elsewhere,
+            Some(Ok(Some(_))) => Flush::Done,
+            Some(Ok(None) | Err(_)) => {
+                self.flushed_at = Some(length);
+                Flush::Nothing
+            }
+        }
     }
 
     /// Whether there is nothing left that it could serve.
@@ -183,7 +223,7 @@ impl<'s, O: Opened, R: Ring> Worker<'s, Ledger<O>, O, R> {
         self.is_out_of_memory || self.is_done()
     }
 
-    /// Each client's next line goes on by one thing. Says whether any did.
+    /// Each client's next line goes on by one thing, if it is looked at. Says whether any did.
     fn go_on<D: Disk, L: Loaded, W: Wait, G: Gate>(
         &mut self,
         rt: &W,
@@ -191,6 +231,7 @@ impl<'s, O: Opened, R: Ring> Worker<'s, Ledger<O>, O, R> {
         turn: &Turn<Ledger<O>>,
         servers: &Servers<D, Ledger<O>, O, L, R>,
         gate: &G,
+        care: Care,
     ) -> bool
         requires { turn_id turn.now ≡ R.turn }
         ensures { self.new ≡ self.old }
@@ -206,6 +247,7 @@ impl<'s, O: Opened, R: Ring> Worker<'s, Ledger<O>, O, R> {
             by,
             nodes,
             self.clients.as_mut_slice(),
+            care,
         ) {
             Pass::WentOn => true,
             Pass::Waits => false,
@@ -213,6 +255,39 @@ impl<'s, O: Opened, R: Ring> Worker<'s, Ledger<O>, O, R> {
                 self.is_out_of_memory = true;
                 false
             }
+        }
+    }
+}
+
+/// What came of a flush.
+#[derive(Clone, Copy, PartialEq, Eq)]
+enum Flush {
+    /// Something was flushed.
+    Done,
+    /// There was nothing to flush, or the manager has halted.
+    Nothing,
+    /// Somebody else flushes, or hasn't been asked to.
+    Elsewhere,
+}
+
+impl Flush {
+    /// How the next look has to be behind this, where so many are left.
+    fn care(self, looks: u32) -> Care {
+        if looks <= FEWEST_LOOKS || looks % WHOLE == 0 {
+            return Care::Whole;
+        }
+        match self {
+            Flush::Nothing => Care::Thorough,
+            Flush::Done | Flush::Elsewhere => Care::Quick,
+        }
+    }
+
+    /// Whether there is no use in looking at once, where this came of the flush before.
+    fn asks_to_pause(self, before: Flush) -> bool {
+        match self {
+            Flush::Done => false,
+            Flush::Nothing => before == Flush::Nothing,
+            Flush::Elsewhere => true,
         }
     }
 }

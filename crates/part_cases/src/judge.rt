@@ -16,11 +16,48 @@ use node_parts::{judge_datanode, judge_journal};
 use row_parts::judge_rows;
 use std::alloc::{AllocError, Global};
 
+/// Whether a statement of a part takes a block. Those of the parts that aren't named here look themselves.
+fn takes_block(part: &str, word: &str) -> bool {
+    match part {
+        "stories" => matches!(
+            word,
+            "opening"
+                | "after"
+                | "may"
+                | "may-not"
+                | "lawful"
+                | "breaks"
+                | "prints"
+                | "no-events"
+                | "no-things"
+        ),
+        "commands" | "words" => word == "table",
+        "containers" | "logs" | "nodes" | "scm" => word == "calls",
+        "requests" => matches!(word, "ask" | "plain" | "rows" | "drawn"),
+        "scripts" => matches!(word, "script" | "is" | "text"),
+        "steps" => false,
+        _ => true,
+    }
+}
+
+/// The first statement of a case that has a block and takes none.
+fn first_odd_block<'a>(part: &str, case: &'a [Statement]) -> Option<&'a Statement> {
+    for statement in case {
+        if !statement.block.is_empty() && !takes_block(part, statement.word(0)) {
+            return Some(statement);
+        }
+    }
+    None
+}
+
 /// Judges a case: its first statement says of which part it is.
 pub fn judge(alloc: Global, case: &[Statement]) -> Result<Judged, AllocError> {
     let Some(first) = case.first() else {
         return Ok(holds(alloc));
     };
+    if let Some(odd) = first_odd_block(first.word(0), case) {
+        return unread(alloc, odd, "it takes no block");
+    }
     match first.word(0) {
         "stories" => judge_stories(alloc, case),
         "commands" => judge_commands(alloc, case),

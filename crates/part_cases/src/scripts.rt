@@ -10,11 +10,8 @@
 
 use crate::found::{Found, compared, judged, no_such, tell};
 use case_files::{Judged, Statement, bytes_of};
-use oz_draft::ScriptFault;
 use oz_freon::MOST_KEYS;
-use oz_lines::Line;
-use oz_placed::{PlacedScript, read_lines};
-use oz_script::parse;
+use oz_script::{Line, PlacedScript, ScriptFault, parse, read_lines};
 use std::alloc::{AllocError, Global};
 use story_parts::Unread;
 

@@ -5,7 +5,7 @@
 
 use crate::found::{Found, compared, judged, no_such, row_compared, tell};
 use case_files::{Judged, Statement};
-use oz_words::{Words, read_words};
+use oz_command::{Words, read_words};
 use std::alloc::{AllocError, Global};
 
 fn words_of(alloc: Global, line: &str) -> Result<Vec<String>, AllocError> {

@@ -12,12 +12,11 @@ use crate::changes::{changes_of, name_at};
 use crate::standing::say_standing;
 use crate::told::is_bare;
 use case_files::{Statement, bytes_of};
-use oz_build::{BuildFault, build};
 use oz_effects::{Part, first_key, part_rows};
 use oz_fields::{List, OutOfMemory};
 use oz_journal::Body;
 use oz_rows::Change;
-use oz_tables::Tables;
+use oz_tables::{BuildFault, Tables, build};
 use std::alloc::Global;
 
 /// Adds a line to the bodies' texts.

@@ -25,6 +25,11 @@ fn journal_of(alloc: Global, lines: &[String]) -> Result<Option<Vec<u8>>, OutOfM
     Ok(Some(journal))
 }
 
+/// Whether the bytes that the words from a place on say are the journal of the bodies in the block.
+fn has_bodies(statement: &Statement, place: usize) -> bool {
+    statement.word(place) == "bodies" && statement.words.len() == place.saturating_add(1)
+}
+
 /// The bytes that the words from a place on say: words of bytes, or `bodies`, with a block that has a body a line, for the
 /// journal of these. None where they can't be read.
 pub fn bytes_from(
@@ -32,7 +37,7 @@ pub fn bytes_from(
     statement: &Statement,
     place: usize,
 ) -> Result<Option<Vec<u8>>, OutOfMemory> {
-    if statement.word(place) == "bodies" {
+    if has_bodies(statement, place) {
         return journal_of(alloc, &statement.block);
     }
     if statement.words.len() <= place {

@@ -11,34 +11,35 @@ fn offset_at(statement: &Statement, place: usize) -> Option<usize> {
     usize::try_from(number).ok()
 }
 
-/// The first of these bytes, so many, or all where they aren't as many.
-fn front(bytes: &[u8], count: usize) -> &[u8] {
-    bytes.get(..count).unwrap_or(bytes)
-}
-
-/// These bytes with others in the place of those from an offset on.
+/// These bytes with others in the place of those from an offset on; none where the offset lies behind the last byte.
 fn overwritten(
     alloc: Global,
     before: &[u8],
     at: usize,
     others: &[u8],
-) -> Result<Vec<u8>, OutOfMemory> {
-    let mut bytes = front(before, at).to_vec(alloc)?;
+) -> Result<Option<Vec<u8>>, OutOfMemory> {
+    let Some(front) = before.get(..at) else {
+        return Ok(None);
+    };
+    let mut bytes = front.to_vec(alloc)?;
     bytes.extend_from_slice(others)?;
     let behind = at.saturating_add(others.len());
     bytes.extend_from_slice(before.get(behind..).unwrap_or(&[]))?;
-    Ok(bytes)
+    Ok(Some(bytes))
 }
 
-/// `cut LENGTH`: the first bytes.
+/// `cut LENGTH`: the first bytes, of which there are as many.
 fn cut(
     alloc: Global,
     before: &[u8],
     statement: &Statement,
 ) -> Result<Option<Vec<u8>>, OutOfMemory> {
-    match offset_at(statement, 3) {
-        Some(count) if statement.words.len() == 4 => Ok(Some(front(before, count).to_vec(alloc)?)),
-        _ => Ok(None),
+    let (Some(count), 4) = (offset_at(statement, 3), statement.words.len()) else {
+        return Ok(None);
+    };
+    match before.get(..count) {
+        Some(front) => Ok(Some(front.to_vec(alloc)?)),
+        None => Ok(None),
     }
 }
 
@@ -54,13 +55,13 @@ fn flipped(
     let bits = statement.word(4).parse::<u8>().ok();
     match (before.get(at).copied(), bits) {
         (Some(byte), Some(bits)) if statement.words.len() == 5 => {
-            Ok(Some(overwritten(alloc, before, at, &[byte ^ bits])?))
+            overwritten(alloc, before, at, &[byte ^ bits])
         }
         _ => Ok(None),
     }
 }
 
-/// `at OFFSET BYTES` or `add BYTES`: others from an offset on, or behind the last one.
+/// `at OFFSET BYTES` or `add BYTES`: others from an offset on, which isn't behind the end, or from the end on.
 fn put(
     alloc: Global,
     before: &[u8],
@@ -68,7 +69,7 @@ fn put(
     others: Option<Vec<u8>>,
 ) -> Result<Option<Vec<u8>>, OutOfMemory> {
     match (at, others) {
-        (Some(at), Some(others)) => Ok(Some(overwritten(alloc, before, at, &others)?)),
+        (Some(at), Some(others)) => overwritten(alloc, before, at, &others),
         _ => Ok(None),
     }
 }

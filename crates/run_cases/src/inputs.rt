@@ -6,7 +6,7 @@ use crate::places::{bytes_at, disk_named, nothing, place_named, put_bytes};
 use crate::said::Said;
 use crate::stage::{Failing, Stage};
 use case_files::{Statement, values_of};
-use oz_nodes_loaded::DiskName;
+use oz_cluster::DiskName;
 use oz_world::OutOfMemory;
 use std::alloc::Global;
 
@@ -107,8 +107,10 @@ fn take_disk(alloc: Global, stage: &mut Stage, statement: &Statement) -> Result<
     };
     if statement.word(2) == "image" {
         return match choice_at(statement, 3) {
-            Some(choice) => Ok(Said::if_read(take_image(alloc, stage, name, choice)?)),
-            None => Ok(Said::Unread),
+            Some(choice) if statement.words.len() == 4 => Ok(Said::if_read(take_image(
+                alloc, stage, name, choice,
+            )?)),
+            _ => Ok(Said::Unread),
         };
     }
     match changed(alloc, bytes_at(&stage.given, name), statement)? {
@@ -141,12 +143,12 @@ fn take_disks(
         choice_at(statement, 3),
         choice_at(statement, 4),
     );
-    match (statement.word(1), choices) {
-        ("empty", (None, None, None)) => {
+    match (statement.word(1), choices, statement.words.len()) {
+        ("empty", (None, None, None), 2) => {
             stage.given = nothing(alloc);
             Ok(Said::Well)
         }
-        ("images", (Some(manager), Some(scm), Some(nodes))) => {
+        ("images", (Some(manager), Some(scm), Some(nodes)), 5) => {
             take_node_images(alloc, stage, nodes)?;
             let is_read = take_image(alloc, stage, DiskName::Manager, manager)?
                 && take_image(alloc, stage, DiskName::Scm, scm)?;

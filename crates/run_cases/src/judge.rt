@@ -42,12 +42,30 @@ fn run<R: Threads + Wait + Sync + AllocGlobal>(
     }
 }
 
+/// Whether a statement has a block and isn't one of those that may.
+fn has_odd_block(statement: &Statement) -> bool {
+    let may_have = match statement.word(0) {
+        "script" | "text" | "client" | "seats" | "when" => true,
+        "script-bytes" | "disk" | "holds" | "starts" => {
+            statement
+                .words
+                .last()
+                .is_some_and(|word| word.as_str() == "bodies")
+        }
+        _ => false,
+    };
+    !may_have && !statement.block.is_empty()
+}
+
 /// What one statement comes to.
 fn step<R: Threads + Wait + Sync + AllocGlobal>(
     rt: &R,
     stage: &mut Stage,
     statement: &Statement,
 ) -> Result<Said, OutOfMemory> {
+    if has_odd_block(statement) {
+        return Ok(Said::Unread);
+    }
     if matches!(statement.word(0), "go" | "go-unjudged") {
         return run(rt, stage, statement);
     }

@@ -5,6 +5,7 @@ mod bytes;
 mod changes;
 mod gate;
 mod going;
+mod history;
 mod inputs;
 mod judge;
 mod law;

@@ -2,12 +2,11 @@
 
 ghost use Rattle.std.specs.Prelude.{◌≡◌, ◌≤◌, ℕ, length, map, IfOk};
 ghost use Rattle.std.specs.String.{string_bytes};
-ghost use Rattle.oz_words.specs.Words.{IsRead, IsRunWith};
+ghost use Rattle.oz_command.specs.command_line.Words.{IsRead, IsRunWith};
 
 use crate::going::{CaseDisk, Fused, disk_of};
-use oz_cluster::{NodeDisks, Words, read_words};
-use oz_nodes_loaded::DiskName;
-use oz_words::{words_are_one_run, words_of_a_run_have_no_fault};
+use oz_cluster::{DiskName, NodeDisks, Words, read_words};
+use oz_command::{words_are_one_run, words_of_a_run_have_no_fault};
 use oz_world::OutOfMemory;
 use std::alloc::Global;
 

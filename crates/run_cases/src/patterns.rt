@@ -1,16 +1,16 @@
-//! Lines of a report by patterns of words.
+//! Lines by patterns of words.
 
 /// Whether a line has the words of a pattern, in which `*` stands for any word, and `..` at the end for any that follow.
-pub fn fits(pattern: &[String], line: &str) -> bool {
+pub fn fits(pattern: &str, line: &str) -> bool {
     let mut words = line.split(' ');
-    for part in pattern {
-        if part.as_str() == ".." {
+    for part in pattern.split(' ') {
+        if part == ".." {
             return true;
         }
         let Some(word) = words.next() else {
             return false;
         };
-        if part.as_str() != "*" && part.as_str() != word {
+        if part != "*" && part != word {
             return false;
         }
     }
@@ -18,7 +18,7 @@ pub fn fits(pattern: &[String], line: &str) -> bool {
 }
 
 /// How many lines of a text fit a pattern.
-pub fn count(pattern: &[String], text: &str) -> u64 {
+pub fn count(pattern: &str, text: &str) -> u64 {
     let mut found = 0u64;
     for line in text.lines() {
         if fits(pattern, line) {
@@ -29,7 +29,7 @@ pub fn count(pattern: &[String], text: &str) -> u64 {
 }
 
 /// The place, from 0, of the first line of a text that fits a pattern.
-pub fn place(pattern: &[String], text: &str) -> Option<u64> {
+pub fn place(pattern: &str, text: &str) -> Option<u64> {
     let mut at = 0u64;
     for line in text.lines() {
         if fits(pattern, line) {

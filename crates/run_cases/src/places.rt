@@ -1,7 +1,6 @@
 //! The disks and streams of a run by their names.
 
-use oz_cluster::{Disks, NodeDisks};
-use oz_nodes_loaded::DiskName;
+use oz_cluster::{DiskName, Disks, NodeDisks};
 use oz_world::OutOfMemory;
 use std::alloc::Global;
 

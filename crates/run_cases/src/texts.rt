@@ -1,5 +1,6 @@
 //! Texts beside one another.
 
+use crate::patterns::fits;
 use crate::said::Said;
 use case_files::Statement;
 use oz_world::OutOfMemory;
@@ -50,6 +51,27 @@ pub fn compare_any(alloc: Global, wanted: &str, came: &str) -> Result<Said, OutO
         }
     }
     Ok(said)
+}
+
+/// Well where each line of a text fits the pattern in its place, and there is one for each. Else the first that doesn't.
+pub fn compare_fits(alloc: Global, patterns: &[String], came: &str) -> Result<Said, OutOfMemory> {
+    let mut number = 1u64;
+    let mut lines = came.lines();
+    for pattern in patterns {
+        let line = lines.next().unwrap_or("(nothing)");
+        if !fits(pattern.as_str(), line) {
+            return Ok(Said::Differs(format!(in alloc;
+                "story line {number}: wanted {pattern:?}, came {line:?}"
+            )?));
+        }
+        number = number.saturating_add(1);
+    }
+    match lines.next() {
+        None => Ok(Said::Well),
+        Some(line) => Ok(Said::Differs(format!(in alloc;
+            "story line {number}: wanted none, came {line:?}"
+        )?)),
+    }
 }
 
 /// The lines of a report that are of this client.

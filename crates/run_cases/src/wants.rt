@@ -1,11 +1,12 @@
 //! The statements that say what a run is to leave.
 
 use crate::bytes::bytes_from;
+use crate::history::{history, history_of};
 use crate::patterns::{count, place};
 use crate::places::{bytes_at, disk_named};
 use crate::said::Said;
 use crate::stage::{Left, Stage};
-use crate::texts::{answers_of, compare, compare_any, of_client, text_of};
+use crate::texts::{answers_of, compare, compare_any, compare_fits, of_client, text_of};
 use case_files::{Statement, values_of};
 use oz_core::{Event, EventKind};
 use oz_world::OutOfMemory;
@@ -27,32 +28,56 @@ fn want_status(alloc: Global, left: &Left, statement: &Statement) -> Result<Said
     Said::differs_unless(alloc, is_so, wanted.as_str(), came.as_str())
 }
 
+/// `text`, with a block: all that was written.
+fn want_text(alloc: Global, left: &Left, statement: &Statement) -> Result<Said, OutOfMemory> {
+    if statement.words.len() != 1 {
+        return Ok(Said::Unread);
+    }
+    let wanted = text_of(alloc, statement)?;
+    compare_any(alloc, wanted.as_str(), left.text.as_str())
+}
+
 /// `client NUMBER`, with a block: the lines of the report that are of this client.
 fn want_client(alloc: Global, left: &Left, statement: &Statement) -> Result<Said, OutOfMemory> {
+    if statement.words.len() != 2 || statement.number(1).is_none() {
+        return Ok(Said::Unread);
+    }
     let came = of_client(alloc, left.text.as_str(), statement.word(1))?;
     compare(alloc, text_of(alloc, statement)?.as_str(), came.as_str())
 }
 
-/// `count NUMBERS PATTERN`: so many lines of the report fit the pattern.
-fn want_count(alloc: Global, left: &Left, statement: &Statement) -> Result<Said, OutOfMemory> {
-    let Some(counts) = values_of(alloc, statement.words.get(1..2).unwrap_or(&[]))? else {
+/// `count NUMBERS PATTERN` and `noted NUMBERS PATTERN`: so many lines of a text fit the pattern.
+fn want_count(alloc: Global, text: &str, statement: &Statement) -> Result<Said, OutOfMemory> {
+    let counts = values_of(alloc, statement.words.get(1..2).unwrap_or(&[]))?;
+    let (Some(counts), true) = (counts, statement.words.len() > 2) else {
         return Ok(Said::Unread);
     };
-    let found = count(statement.words.get(2..).unwrap_or(&[]), left.text.as_str());
+    let pattern = statement.words_from(alloc, 2)?;
+    let found = count(pattern.as_str(), text);
     let came = format!(in alloc; "{found}")?;
     let is_so = counts.contains(&found);
     Said::differs_unless(alloc, is_so, statement.word(1), came.as_str())
 }
 
+/// `seats NUMBERS`, with a block of patterns: the events of these seats, one behind another.
+fn want_seats(alloc: Global, left: &Left, statement: &Statement) -> Result<Said, OutOfMemory> {
+    match values_of(alloc, statement.words.get(1..).unwrap_or(&[]))? {
+        Some(seats) if !seats.is_empty() => {
+            let came = history_of(alloc, &left.story, &seats)?;
+            compare_fits(alloc, &statement.block, came.as_str())
+        }
+        _ => Ok(Said::Unread),
+    }
+}
+
 /// `order PATTERN < PATTERN`: a line fits the second, and the first line that fits the first stands before it.
 fn want_order(alloc: Global, left: &Left, statement: &Statement) -> Result<Said, OutOfMemory> {
-    let words = &statement.words;
-    let Some(middle) = words.iter().position(|word| word.as_str() == "<") else {
+    let patterns = statement.words_from(alloc, 1)?;
+    let Some((one, other)) = patterns.as_str().split_once(" < ") else {
         return Ok(Said::Unread);
     };
-    let report = left.text.as_str();
-    let first = place(words.get(1..middle).unwrap_or(&[]), report);
-    let second = place(words.get(middle.saturating_add(1)..).unwrap_or(&[]), report);
+    let first = place(one, left.text.as_str());
+    let second = place(other, left.text.as_str());
     let is_so = first.is_some() && second.is_some() && first < second;
     Said::differs_unless(alloc, is_so, "this order", "another")
 }
@@ -128,7 +153,7 @@ fn want_bytes(alloc: Global, stage: &Stage, statement: &Statement) -> Result<Sai
         return Ok(Said::Unread);
     };
     let came = bytes_at(&stage.given, name);
-    if statement.word(2) == "as-given" {
+    if statement.word(2) == "as-given" && statement.word(0) == "holds" {
         return compare_bytes(alloc, bytes_at(&stage.was, name), came);
     }
     let Some(wanted) = bytes_from(alloc, statement, 2)? else {
@@ -173,16 +198,24 @@ fn has_decided_beside(story: &[Event]) -> bool {
 /// `beside NUMBER MOST`: something was decided beside a write, where this is the last number; the sweep ends where it was.
 /// Which thread goes first is chance.
 fn want_beside(alloc: Global, left: &Left, statement: &Statement) -> Result<Said, OutOfMemory> {
+    let (Some(number), Some(most), 3) = (
+        statement.number(1),
+        statement.number(2),
+        statement.words.len(),
+    ) else {
+        return Ok(Said::Unread);
+    };
     if has_decided_beside(&left.story) {
         return Ok(Said::Last);
     }
-    let is_so = statement.number(1) < statement.number(2);
+    let is_so = number < most;
     Said::differs_unless(alloc, is_so, "a decision beside a write", "none")
 }
 
 /// `until STATUS`: the sweep ends where the run ended so.
 fn want_last(left: &Left, statement: &Statement) -> Said {
     match statement.number(1) {
+        Some(_) if statement.words.len() != 2 => Said::Unread,
         Some(status) if status == u64::from(left.status) => Said::Last,
         Some(_) => Said::Well,
         None => Said::Unread,
@@ -196,13 +229,11 @@ pub fn want(alloc: Global, stage: &Stage, statement: &Statement) -> Result<Said,
     };
     match statement.word(0) {
         "status" => want_status(alloc, left, statement),
-        "text" => compare_any(
-            alloc,
-            text_of(alloc, statement)?.as_str(),
-            left.text.as_str(),
-        ),
+        "text" => want_text(alloc, left, statement),
         "client" => want_client(alloc, left, statement),
-        "count" => want_count(alloc, left, statement),
+        "count" => want_count(alloc, left.text.as_str(), statement),
+        "noted" => want_count(alloc, history(alloc, &left.story)?.as_str(), statement),
+        "seats" => want_seats(alloc, left, statement),
         "order" => want_order(alloc, left, statement),
         "told" => want_told(alloc, left, statement),
         "holds" | "starts" => want_bytes(alloc, stage, statement),

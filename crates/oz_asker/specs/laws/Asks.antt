@@ -11,7 +11,7 @@ use Rattle.oz_core.specs.Contents.{OpeningBytes}
 use Rattle.oz_core.specs.Law.{IsLegal, IsLegalFrom, AskIsEnabled, DecideIsEnabled}
 use Rattle.oz_kept.specs.laws.Deleted.{enabled_at, found_at, got_of_taken}
 use Rattle.oz_kept.specs.laws.Granted.{one_ask_id, pending_asked}
-use Rattle.oz_lines.specs.declared.script.Script.{Script}
+use Rattle.oz_script.specs.declared.lines.script.Script.{Script}
 use Rattle.oz_requests.specs.declared.reply.Reply.{Reply}
 use Rattle.oz_requests.specs.declared.request.AskId.{AskId}
 use Rattle.oz_requests.specs.declared.request.Request.{Request}

@@ -17,7 +17,7 @@ use Rattle.oz_kept.specs.laws.Deleted.{enabled_at, front_legal, legal_parts}
 use Rattle.oz_kept.specs.laws.Kept.{index_rises, indexes_rise, last_next}
 use Rattle.oz_requests.specs.declared.reply.Reply.{Reply}
 use Rattle.oz_requests.specs.declared.request.AskId.{AskId}
-use Rattle.oz_buffer.specs.Courses.{decided_with, index_of}
+use Rattle.oz_buffer.specs.Became.{decided_with, index_of}
 use Rattle.oz_asker.specs.Decided.{IsDecideAt}
 use Rattle.oz_asker.specs.laws.Asks.{kept_in_front, same_id}
 

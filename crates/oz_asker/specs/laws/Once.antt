@@ -16,7 +16,7 @@ use Rattle.oz_requests.specs.declared.reply.Reply.{Reply}
 use Rattle.oz_requests.specs.declared.request.AskId.{AskId}
 use Rattle.oz_requests.specs.declared.request.Request.{Request}
 use Rattle.oz_buffer.specs.Buffer.{AllFollow}
-use Rattle.oz_buffer.specs.Courses.{decided_with, index_of}
+use Rattle.oz_buffer.specs.Became.{decided_with, index_of}
 use Rattle.oz_buffer.specs.laws.Courses.{asked-push, pending-push}
 use Rattle.oz_buffer.specs.laws.Following.{follow-each, told-push}
 use Rattle.oz_asker.specs.laws.Asks.{asked_at, same_id}

@@ -7,12 +7,12 @@ use Rattle.oz_core.specs.declared.opening.Opening.{Opening}
 use Rattle.oz_core.specs.Contents.{OpeningBytes}
 use Rattle.oz_core.specs.Due.{IsDue}
 use Rattle.oz_core.specs.Manager.{halt_of}
-use Rattle.oz_lines.specs.declared.script.Line.{Line}
-use Rattle.oz_lines.specs.declared.script.Script.{Script}
-use Rattle.oz_lines.specs.declared.script.TheConstants.{MOST_CLIENTS}
+use Rattle.oz_script.specs.declared.lines.script.Line.{Line}
+use Rattle.oz_script.specs.declared.lines.script.Script.{Script}
+use Rattle.oz_script.specs.declared.lines.script.TheConstants.{MOST_CLIENTS}
 use Rattle.oz_node_events.specs.declared.command.NodeCommand.{NodeCommand}
 use Rattle.oz_node_events.specs.Led.{admin_command}
-use Rattle.oz_telling.specs.Done.{answer_done}
+use Rattle.oz_asker.specs.telling.Done.{answer_done}
 use Rattle.oz_underway.specs.GoingOn.{FromHereOn}
 
 -- the line has this done to the datanode

@@ -8,10 +8,10 @@ use Rattle.oz_core.specs.declared.event.Event.{Event}
 use Rattle.oz_core.specs.declared.opening.Opening.{Opening}
 use Rattle.oz_core.specs.Contents.{OpeningBytes}
 use Rattle.oz_fields.specs.declared.block.Block.{Block}
-use Rattle.oz_lines.specs.declared.script.Script.{Script}
+use Rattle.oz_script.specs.declared.lines.script.Script.{Script}
 use Rattle.oz_nodes.specs.declared.nodes.TheConstants.{FEWEST_NODES}
 use Rattle.oz_turn.specs.Told.{BeginsWith}
-use Rattle.oz_writing.specs.Written.{IsWritten}
+use Rattle.oz_line_blocks.specs.writing.Written.{IsWritten}
 use Rattle.oz_at_work.specs.AtWork.{IsAtWork, WorkView, id_of}
 
 -- The line writes these bytes next as this block at these members, and they begin there in its data.

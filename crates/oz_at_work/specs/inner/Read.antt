@@ -9,11 +9,11 @@ use Rattle.oz_core.specs.declared.opening.Opening.{Opening}
 use Rattle.oz_core.specs.Coherent.{IsCoherent}
 use Rattle.oz_core.specs.Contents.{HasContent, OpeningBytes}
 use Rattle.oz_fields.specs.declared.block.Piece.{Piece}
-use Rattle.oz_lines.specs.declared.script.Script.{Script}
-use Rattle.oz_reading.specs.declared.lack.Lack.{Lack}
-use Rattle.oz_reading.specs.declared.lack.Lack.TheVariants as lacking
-use Rattle.oz_reading.specs.Lacks.{IsDoubted}
-use Rattle.oz_reading.specs.Read.{NobodyHasIt}
+use Rattle.oz_script.specs.declared.lines.script.Script.{Script}
+use Rattle.oz_line_blocks.specs.declared.reading.lack.Lack.{Lack}
+use Rattle.oz_line_blocks.specs.declared.reading.lack.Lack.TheVariants as lacking
+use Rattle.oz_line_blocks.specs.reading.Lacks.{IsDoubted}
+use Rattle.oz_line_blocks.specs.reading.Read.{NobodyHasIt}
 use Rattle.oz_turn.specs.Told.{BeginsWith}
 use Rattle.oz_at_work.specs.AtWork.{IsAtWork, WorkView, id_of}
 

@@ -5,7 +5,7 @@ use Rattle.oz_client.specs.declared.step.Step.{Step}
 use Rattle.oz_client.specs.LineState.{LineState, state_after}
 use Rattle.oz_client.specs.Onward.{IsNext}
 use Rattle.oz_client.specs.Stories.{IsStepEverywhere}
-use Rattle.oz_reading.specs.Lacks.{none_doubted}
+use Rattle.oz_line_blocks.specs.reading.Lacks.{none_doubted}
 use Rattle.oz_requests.specs.declared.answer.Answer.TheVariants as answers
 use Rattle.oz_at_work.specs.AtWork.{WorkView}
 use Rattle.oz_at_work.specs.inner.Replied.{cut_with}

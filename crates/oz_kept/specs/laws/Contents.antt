@@ -10,8 +10,8 @@ use Rattle.std.specs.List.{list_any, slice_get}
 use Rattle.oz_command.specs.Payload.{bytes_from, piece}
 use Rattle.oz_dellog.specs.declared.txn.Txn.{Txn}
 use Rattle.oz_fields.specs.declared.block.Block.{Block}
-use Rattle.oz_lines.specs.declared.script.Line.{Line}
-use Rattle.oz_lines.specs.declared.script.Script.{Script}
+use Rattle.oz_script.specs.declared.lines.script.Line.{Line}
+use Rattle.oz_script.specs.declared.lines.script.Script.{Script}
 use Rattle.oz_requests.specs.declared.reply.Reply.TheVariants as replies
 use Rattle.oz_requests.specs.declared.request.AskId.{AskId}
 use Rattle.oz_requests.specs.declared.request.Request.{Request}

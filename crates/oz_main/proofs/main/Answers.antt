@@ -1,6 +1,6 @@
 use Rattle.std.proofs.Common.{map, sym, ◌∙◌, subst}
 use Rattle.std.specs.String.{string_bytes}
-use Rattle.oz_words.specs.Words.{IsRunWith}
+use Rattle.oz_command.specs.command_line.Words.{IsRunWith}
 use Rattle.oz_main.proofs.main.Goals as goal
 
 pub serve-status-requires-clause-nodes : goal.serve-status-requires-clause-nodes

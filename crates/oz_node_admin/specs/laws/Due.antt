@@ -21,8 +21,8 @@ use Rattle.oz_core.specs.Manager.{halt_count, halt_of, is_node}
 use Rattle.oz_core.specs.Nodes.{is_running}
 use Rattle.oz_core.specs.Scm.{is_up}
 use Rattle.oz_core.specs.Stories.{has_event, last_told, newer}
-use Rattle.oz_lines.specs.declared.script.Line.{Line}
-use Rattle.oz_lines.specs.declared.script.Script.{Script}
+use Rattle.oz_script.specs.declared.lines.script.Line.{Line}
+use Rattle.oz_script.specs.declared.lines.script.Script.{Script}
 use Rattle.oz_node_events.specs.declared.command.NodeCommand.{NodeCommand}
 use Rattle.oz_node_events.specs.declared.command.NodeCommand.TheVariants as command
 use Rattle.oz_node_events.specs.Commands.{by_node}

@@ -12,7 +12,7 @@ use Rattle.oz_datanode.specs.Pairs.{Content, NodeHolds}
 use Rattle.oz_entries.specs.Node.{Node, is_held}
 use Rattle.oz_fields.specs.declared.block.Block.{Block}
 use Rattle.oz_kept.specs.laws.Contents.{granted_still, unasked_again}
-use Rattle.oz_lines.specs.declared.script.Script.{Script}
+use Rattle.oz_script.specs.declared.lines.script.Script.{Script}
 use Rattle.oz_world.specs.Disk.{Images}
 use Rattle.oz_node_events.specs.NodeSeat.{HasContents}
 

@@ -10,7 +10,7 @@ use Rattle.oz_datanode.specs.Datanode.{State, count_of, is_halted, meta_of, node
 use Rattle.oz_datanode.specs.Writing.{is_open}
 use Rattle.oz_datanode.specs.laws.GoingOn.{count_never_falls, rose_until}
 use Rattle.oz_entries.specs.Node.{Node, is_held}
-use Rattle.oz_lines.specs.declared.script.Script.{Script}
+use Rattle.oz_script.specs.declared.lines.script.Script.{Script}
 use Rattle.oz_replicas.specs.Stays.{Stays}
 use Rattle.oz_world.specs.Disk.{Images}
 use Rattle.oz_node_events.specs.NodeSeat.{SeatView, StandsFor}

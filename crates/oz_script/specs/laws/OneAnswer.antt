@@ -1,14 +1,14 @@
 -- Bytes have one answer.
 use Rattle.std.proofs.Common.{◌≡◌, ◌⊎◌, ℕ, zero, suc, ◌<◌, List, Option, Some, None, Result, Ok, Err, refl, sym, ap, subst, ◌∙◌, arith, inl, inr}
 use Rattle.std.proofs.lemmas.Option.{same_Some}
-use Rattle.oz_circles.specs.Circles.{IsFirstBack}
-use Rattle.oz_draft.specs.declared.fault.Cause.{Cause}
-use Rattle.oz_draft.specs.declared.fault.ScriptFault.{ScriptFault}
-use Rattle.oz_draft.specs.declared.fault.ScriptFault.TheVariants.{At}
-use Rattle.oz_placed.specs.declared.placed.PlacedScript.{PlacedScript}
-use Rattle.oz_lines.specs.declared.script.Script.{Script}
-use Rattle.oz_placed.specs.Placed.{read_of}
-use Rattle.oz_placed.specs.Served.{later_index}
+use Rattle.oz_script.specs.circles.Circles.{IsFirstBack}
+use Rattle.oz_script.specs.declared.draft.fault.Cause.{Cause}
+use Rattle.oz_script.specs.declared.draft.fault.ScriptFault.{ScriptFault}
+use Rattle.oz_script.specs.declared.draft.fault.ScriptFault.TheVariants.{At}
+use Rattle.oz_script.specs.declared.placed.placed.PlacedScript.{PlacedScript}
+use Rattle.oz_script.specs.declared.lines.script.Script.{Script}
+use Rattle.oz_script.specs.placed.Placed.{read_of}
+use Rattle.oz_script.specs.placed.Served.{later_index}
 use Rattle.oz_script.specs.Parsing.{IsFaultAt, Answers, AnswersRead, ParsesTo}
 use Rattle.oz_script.specs.Waiting.{WaitsFor}
 

@@ -12,8 +12,8 @@ use Rattle.oz_core.specs.Due.{IsNotOpen}
 use Rattle.oz_core.specs.Steps.{Target, target, block_step, commit_step, granted_to, is_code}
 use Rattle.oz_core.specs.Steps.{next_of_put, next_step, opening_line, put_step}
 use Rattle.oz_core.specs.Steps.{session_in, single, step_of, write_step}
-use Rattle.oz_lines.specs.declared.script.Line.{Line}
-use Rattle.oz_lines.specs.declared.script.Script.{Script}
+use Rattle.oz_script.specs.declared.lines.script.Line.{Line}
+use Rattle.oz_script.specs.declared.lines.script.Script.{Script}
 use Rattle.oz_requests.specs.declared.reply.Reply.{Reply}
 use Rattle.oz_requests.specs.declared.request.Request.{Request}
 use Rattle.oz_steps.specs.declared.came.Attempt.{Attempt}

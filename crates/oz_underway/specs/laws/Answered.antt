@@ -9,7 +9,7 @@ use Rattle.std.proofs.lemmas.List.Sums.{sum_by-cons}
 use Rattle.std.specs.Prelude.{count_by}
 use Rattle.std.specs.List.{cons_option, list_any}
 use Rattle.oz_fields.specs.declared.block.Block.{Block}
-use Rattle.oz_lines.specs.declared.script.Script.{Script}
+use Rattle.oz_script.specs.declared.lines.script.Script.{Script}
 use Rattle.oz_requests.specs.declared.reply.Reply.TheVariants as replies
 use Rattle.oz_requests.specs.declared.request.AskId.{AskId}
 use Rattle.oz_core.specs.declared.event.Event.{Event}
@@ -28,11 +28,11 @@ use Rattle.oz_core.specs.Stories.{all_told, count_events, has_event}
 use Rattle.oz_steps.specs.Grants.{refused_so}
 use Rattle.oz_asker.specs.laws.Asks.{legal_of_follow, same_id}
 use Rattle.oz_buffer.specs.Buffer.{AllFollow, Follows}
-use Rattle.oz_buffer.specs.Courses.{says, times_said}
+use Rattle.oz_buffer.specs.Became.{says, times_said}
 use Rattle.oz_kept.specs.laws.Contents.{its_grant, one_block}
 use Rattle.oz_kept.specs.laws.Deleted.{enabled_at, first_or_later, found_at}
 use Rattle.oz_kept.specs.laws.Granted.{one_id}
-use Rattle.oz_reopened.specs.laws.Placed.{event_there}
+use Rattle.oz_kept.specs.reopened.laws.Placed.{event_there}
 use Rattle.oz_turn.specs.Told.{BeginsWith}
 use Rattle.oz_underway.specs.UnderWay.{HasAnswered, says_for}
 use Rattle.oz_underway.specs.laws.Asks.{its_line, of_line}

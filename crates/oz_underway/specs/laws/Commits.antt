@@ -10,9 +10,9 @@ use Rattle.oz_command.specs.declared.command.Command.{Command}
 use Rattle.oz_command.specs.declared.command.Data.{Data}
 use Rattle.oz_command.specs.declared.command.Command.TheVariants as commands
 use Rattle.oz_fields.specs.declared.block.Block.{Block}
-use Rattle.oz_lines.specs.declared.script.Line.{Line}
-use Rattle.oz_lines.specs.declared.script.Script.{Script}
-use Rattle.oz_lines.specs.Numbered.{IsNumbered}
+use Rattle.oz_script.specs.declared.lines.script.Line.{Line}
+use Rattle.oz_script.specs.declared.lines.script.Script.{Script}
+use Rattle.oz_script.specs.lines.Numbered.{IsNumbered}
 use Rattle.oz_namespace.specs.declared.namespace.Namespace.{Namespace}
 use Rattle.oz_requests.specs.declared.answer.Answer.{Answer}
 use Rattle.oz_requests.specs.declared.answer.Answer.TheVariants as told

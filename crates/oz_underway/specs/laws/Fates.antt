@@ -4,7 +4,7 @@ use Rattle.std.proofs.lemmas.Option.{none-some, same_Some}
 use Rattle.std.proofs.lemmas.List.Elements.{Contains-append_left}
 use Rattle.std.specs.Prelude.{count_by, nat_le}
 use Rattle.std.specs.List.{list_all, list_any}
-use Rattle.oz_lines.specs.declared.script.Script.{Script}
+use Rattle.oz_script.specs.declared.lines.script.Script.{Script}
 use Rattle.oz_nodes.specs.Pipelines.{members_of}
 use Rattle.oz_requests.specs.declared.reply.Reply.{Reply}
 use Rattle.oz_requests.specs.declared.reply.Reply.TheVariants as replies
@@ -24,9 +24,9 @@ use Rattle.oz_steps.specs.declared.fate.Fate.{Fate}
 use Rattle.oz_steps.specs.declared.fate.Fate.TheVariants as fates
 use Rattle.oz_steps.specs.Grants.{AreAnswers, AreGrants, IsAttempt, IsFate, IsUnsettled, fate_of, has_fate_written, is_fate_written, refused_so}
 use Rattle.oz_buffer.specs.Buffer.{AllFollow, Follows}
-use Rattle.oz_buffer.specs.Courses.{times_said}
+use Rattle.oz_buffer.specs.Became.{times_said}
 use Rattle.oz_kept.specs.laws.Deleted.{found_at}
-use Rattle.oz_reopened.specs.laws.Named.{told_event}
+use Rattle.oz_kept.specs.reopened.laws.Named.{told_event}
 use Rattle.oz_turn.specs.Told.{BeginsWith}
 use Rattle.oz_underway.specs.laws.Asks.{of_line}
 use Rattle.oz_underway.specs.laws.Blocks.{attempts_written, same_written, still_grants}

@@ -11,8 +11,8 @@ use Rattle.std.specs.Prelude.{count_by, nat_le}
 use Rattle.std.specs.List.{cons_option, filter_map, list_any, list_all, slice_get}
 use Rattle.oz_command.specs.declared.command.Command.{Command}
 use Rattle.oz_fields.specs.declared.block.Block.{Block}
-use Rattle.oz_lines.specs.declared.script.Line.{Line}
-use Rattle.oz_lines.specs.declared.script.Script.{Script}
+use Rattle.oz_script.specs.declared.lines.script.Line.{Line}
+use Rattle.oz_script.specs.declared.lines.script.Script.{Script}
 use Rattle.oz_requests.specs.declared.reply.Reply.{Reply}
 use Rattle.oz_requests.specs.declared.reply.Reply.TheVariants as replies
 use Rattle.oz_requests.specs.declared.request.AskId.{AskId}
@@ -41,12 +41,12 @@ use Rattle.oz_client.specs.Stories.{IsAt}
 use Rattle.oz_asker.specs.Decided.{IsDecideAt}
 use Rattle.oz_asker.specs.laws.Asks.{legal_of_follow, same_id}
 use Rattle.oz_buffer.specs.Buffer.{AllFollow, Follows}
-use Rattle.oz_buffer.specs.Courses.{times_said}
+use Rattle.oz_buffer.specs.Became.{times_said}
 use Rattle.oz_buffer.specs.laws.Courses.{asked-push}
 use Rattle.oz_kept.specs.laws.Contents.{one_block}
 use Rattle.oz_kept.specs.laws.Deleted.{enabled_at, found_at, split_at}
 use Rattle.oz_kept.specs.laws.Granted.{told_among}
-use Rattle.oz_reopened.specs.laws.Placed.{event_there}
+use Rattle.oz_kept.specs.reopened.laws.Placed.{event_there}
 use Rattle.oz_turn.specs.Told.{BeginsWith}
 use Rattle.oz_underway.specs.UnderWay.{IsToBeWritten, IsUnderWay, IsUnwritten, ask_of, is_all_written, says_for, times_asked}
 use Rattle.oz_underway.specs.laws.Asks.{its_line, scripted, step_of_asked, step_of_last}

@@ -4,7 +4,7 @@ use Rattle.std.proofs.lemmas.List.Elements.{Contains-push}
 use Rattle.std.proofs.lemmas.Option.{none-some, same_Some}
 use Rattle.std.specs.List.{slice_get}
 use Rattle.oz_fields.specs.declared.block.Block.{Block}
-use Rattle.oz_lines.specs.declared.script.Script.{Script}
+use Rattle.oz_script.specs.declared.lines.script.Script.{Script}
 use Rattle.oz_nodes.specs.Pipelines.{members_of, pipelines_of}
 use Rattle.oz_requests.specs.declared.reply.Reply.TheVariants as replies
 use Rattle.oz_requests.specs.declared.request.AskId.{AskId}
@@ -22,13 +22,13 @@ use Rattle.oz_core.specs.Scm.{members}
 use Rattle.oz_asker.specs.laws.Asks.{legal_of_follow}
 use Rattle.oz_buffer.specs.Buffer.{AllFollow, Follows}
 use Rattle.oz_buffer.specs.laws.Courses.{asked-push, pending-push}
-use Rattle.oz_granted.specs.Granted.{AreNumbered}
-use Rattle.oz_granted.specs.laws.Numbers.{block_fits}
+use Rattle.oz_store.specs.granted.Granted.{AreNumbered}
+use Rattle.oz_store.specs.granted.laws.Numbers.{block_fits}
 use Rattle.oz_kept.specs.laws.Deleted.{enabled_at, found_at, front_legal, split_at}
 use Rattle.oz_kept.specs.laws.Granted.{IsGrantedTo, granted_to_script, of_grant, one_ask_id}
 use Rattle.oz_kept.specs.laws.Reached.{granted_anew}
-use Rattle.oz_reopened.specs.laws.Named.{granted_on}
-use Rattle.oz_reopened.specs.laws.Rising.{members_on}
+use Rattle.oz_kept.specs.reopened.laws.Named.{granted_on}
+use Rattle.oz_kept.specs.reopened.laws.Rising.{members_on}
 use Rattle.oz_underway.specs.laws.Contents.{granted_still}
 use Rattle.oz_underway.specs.laws.Going.{follow_behind, follow_first, follow_front, kept_always}
 use Rattle.oz_underway.specs.laws.Order.{fits_from}

@@ -9,9 +9,9 @@ use Rattle.oz_command.specs.declared.command.Command.{Command}
 use Rattle.oz_command.specs.Payload.{piece}
 use Rattle.oz_fields.specs.declared.block.Block.{Block}
 use Rattle.oz_fields.specs.declared.block.Piece.{Piece}
-use Rattle.oz_lines.specs.declared.script.Line.{Line}
-use Rattle.oz_lines.specs.declared.script.Script.{Script}
-use Rattle.oz_lines.specs.Numbered.{IsNumbered}
+use Rattle.oz_script.specs.declared.lines.script.Line.{Line}
+use Rattle.oz_script.specs.declared.lines.script.Script.{Script}
+use Rattle.oz_script.specs.lines.Numbered.{IsNumbered}
 use Rattle.oz_namespace.specs.declared.namespace.Namespace.{Namespace}
 use Rattle.oz_requests.specs.declared.reply.Reply.{Reply}
 use Rattle.oz_requests.specs.declared.reply.Reply.TheVariants as replies
@@ -43,9 +43,9 @@ use Rattle.oz_kept.specs.laws.Granted.{fits_at, no_lower, was_nowhere}
 use Rattle.oz_kept.specs.laws.Kept.{all_count}
 use Rattle.oz_kept.specs.laws.Lines.{lines_apart}
 use Rattle.oz_kept.specs.laws.Reached.{in_none}
-use Rattle.oz_reopened.specs.Left.{IsLeftByManager, IsOfManager}
-use Rattle.oz_reopened.specs.laws.Named.{reached_named, told_event}
-use Rattle.oz_reopened.specs.laws.Whole.{left_whole}
+use Rattle.oz_kept.specs.reopened.Left.{IsLeftByManager, IsOfManager}
+use Rattle.oz_kept.specs.reopened.laws.Named.{reached_named, told_event}
+use Rattle.oz_kept.specs.reopened.laws.Whole.{left_whole}
 use Rattle.oz_turn.specs.Told.{BeginsWith}
 use Rattle.oz_underway.specs.Lengths.{LengthsAreOfBytes}
 use Rattle.oz_underway.specs.UnderWay.{IsUnderWay, ask_of}

@@ -21,8 +21,8 @@ use Rattle.oz_core.specs.Scm.{containers, members}
 use Rattle.oz_core.specs.Stories.{all_told}
 use Rattle.oz_kept.specs.laws.Deleted.{enabled_at, found_at, front_legal}
 use Rattle.oz_kept.specs.laws.Reached.{in_none, in_one}
-use Rattle.oz_reopened.specs.laws.Named.{granted_on, reached_named, told_event}
-use Rattle.oz_reopened.specs.laws.Rising.{IsOn, members_on, stays_on}
+use Rattle.oz_kept.specs.reopened.laws.Named.{granted_on, reached_named, told_event}
+use Rattle.oz_kept.specs.reopened.laws.Rising.{IsOn, members_on, stays_on}
 use Rattle.oz_turn.specs.Told.{BeginsWith}
 use Rattle.oz_underway.specs.laws.Replied.{replied_reached}
 

@@ -10,9 +10,9 @@ use Rattle.oz_command.specs.declared.command.Command.{Command}
 use Rattle.oz_command.specs.Payload.{piece}
 use Rattle.oz_fields.specs.declared.block.Block.{Block}
 use Rattle.oz_fields.specs.declared.block.Piece.{Piece}
-use Rattle.oz_lines.specs.declared.script.Line.{Line}
-use Rattle.oz_lines.specs.declared.script.Script.{Script}
-use Rattle.oz_lines.specs.Numbered.{IsNumbered}
+use Rattle.oz_script.specs.declared.lines.script.Line.{Line}
+use Rattle.oz_script.specs.declared.lines.script.Script.{Script}
+use Rattle.oz_script.specs.lines.Numbered.{IsNumbered}
 use Rattle.oz_nodes.specs.Pipelines.{members_of}
 use Rattle.oz_requests.specs.declared.reply.Reply.TheVariants as replies
 use Rattle.oz_requests.specs.declared.request.AskId.{AskId}
@@ -39,7 +39,7 @@ use Rattle.oz_kept.specs.laws.Contents.{its_grant, one_block, one_content}
 use Rattle.oz_kept.specs.laws.Deleted.{found_at}
 use Rattle.oz_kept.specs.laws.Granted.{fits_at, was_nowhere}
 use Rattle.oz_kept.specs.laws.Lines.{lines_apart}
-use Rattle.oz_reopened.specs.laws.Named.{told_event}
+use Rattle.oz_kept.specs.reopened.laws.Named.{told_event}
 use Rattle.oz_turn.specs.Told.{BeginsWith}
 use Rattle.oz_underway.specs.UnderWay.{IsPieceFor, IsToBeWritten, IsUnderWay, IsUnwritten, ask_of}
 use Rattle.oz_underway.specs.laws.Asks.{scripted}

@@ -8,8 +8,8 @@ use Rattle.std.specs.List.{cons_option, slice_get}
 use Rattle.std.specs.Option.{option_map_or}
 use Rattle.oz_command.specs.declared.command.Command.{Command}
 use Rattle.oz_fields.specs.declared.block.Piece.{Piece}
-use Rattle.oz_lines.specs.declared.script.Line.{Line}
-use Rattle.oz_lines.specs.declared.script.Script.{Script}
+use Rattle.oz_script.specs.declared.lines.script.Line.{Line}
+use Rattle.oz_script.specs.declared.lines.script.Script.{Script}
 use Rattle.oz_requests.specs.declared.answer.Answer.TheVariants as told
 use Rattle.oz_requests.specs.declared.reply.Reply.{Reply}
 use Rattle.oz_requests.specs.declared.reply.Reply.TheVariants as replies
@@ -34,7 +34,7 @@ use Rattle.oz_client.specs.Replies.{pieces_of_reply}
 use Rattle.oz_client.specs.Stories.{IsAt}
 use Rattle.oz_asker.specs.laws.Asks.{legal_of_follow}
 use Rattle.oz_buffer.specs.Buffer.{AllFollow, Follows}
-use Rattle.oz_reopened.specs.laws.Placed.{held_by_member}
+use Rattle.oz_kept.specs.reopened.laws.Placed.{held_by_member}
 use Rattle.oz_turn.specs.Told.{BeginsWith}
 use Rattle.oz_underway.specs.UnderWay.{IsSaid, IsUnderWay, ask_of}
 use Rattle.oz_underway.specs.laws.Asks.{asks_count, last_id, scripted, step_of_last}

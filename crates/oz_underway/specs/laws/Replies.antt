@@ -3,7 +3,7 @@ use Rattle.std.proofs.Common.{◌≡◌, ◌≢◌, ⊎_elim, ℕ, ◌+◌, ◌�
 use Rattle.std.proofs.lemmas.Bool.{false≢true}
 use Rattle.std.proofs.lemmas.Option.{none-some, same_Some}
 use Rattle.std.specs.List.{cons_option}
-use Rattle.oz_lines.specs.declared.script.Script.{Script}
+use Rattle.oz_script.specs.declared.lines.script.Script.{Script}
 use Rattle.oz_requests.specs.declared.request.AskId.{AskId}
 use Rattle.oz_requests.specs.declared.request.Request.{Request}
 use Rattle.oz_requests.specs.declared.reply.Reply.{Reply}

@@ -6,8 +6,8 @@ use Rattle.std.proofs.lemmas.List.Folds.{list_any-append}
 use Rattle.std.proofs.lemmas.List.Sums.{sum_by-append}
 use Rattle.std.specs.List.{cons_option}
 use Rattle.oz_fields.specs.declared.block.Block.{Block}
-use Rattle.oz_lines.specs.declared.script.Line.{Line}
-use Rattle.oz_lines.specs.declared.script.Script.{Script}
+use Rattle.oz_script.specs.declared.lines.script.Line.{Line}
+use Rattle.oz_script.specs.declared.lines.script.Script.{Script}
 use Rattle.oz_requests.specs.declared.request.AskId.{AskId}
 use Rattle.oz_core.specs.declared.event.Event.{Event}
 use Rattle.oz_core.specs.declared.event.EventKind.{EventKind}
@@ -24,7 +24,7 @@ use Rattle.oz_core.specs.Stories.{all_told, has_event}
 use Rattle.oz_client.specs.declared.progress.Progress.{Progress}
 use Rattle.oz_asker.specs.laws.Asks.{legal_of_follow}
 use Rattle.oz_buffer.specs.Buffer.{AllFollow, Follows}
-use Rattle.oz_buffer.specs.Courses.{says, times_said}
+use Rattle.oz_buffer.specs.Became.{says, times_said}
 use Rattle.oz_buffer.specs.laws.Courses.{said-push}
 use Rattle.oz_kept.specs.laws.Contents.{one_grant}
 use Rattle.oz_turn.specs.Told.{BeginsWith}

@@ -11,9 +11,9 @@ use Rattle.std.specs.List.{list_all, list_any}
 use Rattle.oz_command.specs.declared.command.Command.{Command}
 use Rattle.oz_fields.specs.declared.block.Block.{Block}
 use Rattle.oz_fields.specs.declared.block.Piece.{Piece}
-use Rattle.oz_lines.specs.declared.script.Line.{Line}
-use Rattle.oz_lines.specs.declared.script.Script.{Script}
-use Rattle.oz_lines.specs.Numbered.{IsNumbered}
+use Rattle.oz_script.specs.declared.lines.script.Line.{Line}
+use Rattle.oz_script.specs.declared.lines.script.Script.{Script}
+use Rattle.oz_script.specs.lines.Numbered.{IsNumbered}
 use Rattle.oz_nodes.specs.Pipelines.{members_of, pipelines_of}
 use Rattle.oz_requests.specs.declared.reply.Reply.TheVariants as replies
 use Rattle.oz_requests.specs.declared.request.AskId.{AskId}
@@ -44,11 +44,11 @@ use Rattle.oz_client.specs.LineState.{came_written, pieces_in, progress_after}
 use Rattle.oz_client.specs.Stories.{IsAt}
 use Rattle.oz_asker.specs.laws.Asks.{legal_of_follow, same_id}
 use Rattle.oz_buffer.specs.Buffer.{AllFollow, Follows}
-use Rattle.oz_buffer.specs.Courses.{times_said}
+use Rattle.oz_buffer.specs.Became.{times_said}
 use Rattle.oz_kept.specs.laws.Contents.{its_grant, one_block}
 use Rattle.oz_kept.specs.laws.Deleted.{enabled_at, first_or_later, found_at}
 use Rattle.oz_kept.specs.laws.Granted.{one_id, told_among}
-use Rattle.oz_reopened.specs.laws.Placed.{event_there}
+use Rattle.oz_kept.specs.reopened.laws.Placed.{event_there}
 use Rattle.oz_turn.specs.Told.{BeginsWith}
 use Rattle.oz_underway.specs.UnderWay.{HasAnswered, HaveAnswered, IsSaid, IsToBeWritten, IsUnderWay, ask_of, is_all_written, times_asked}
 use Rattle.oz_underway.specs.laws.Answered.{AreCounted, IsAnswerIn, are_counted, its_answer, its_id, refused_as_before, refusing_as_answered, same_block, since_then}

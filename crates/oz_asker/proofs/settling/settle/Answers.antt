@@ -1,6 +1,6 @@
 use Rattle.std.proofs.Common.{List, sym, subst}
 use Rattle.std.specs.Prelude.{IsSome}
-use Rattle.oz_buffer.specs.Courses.{index_of}
+use Rattle.oz_buffer.specs.Became.{index_of}
 use Rattle.oz_core.specs.declared.event.Event.{Event}
 use Rattle.oz_turn.specs.Seat.{seen_of}
 use Rattle.oz_asker.specs.laws.Indexes.{decided_still}

@@ -6,10 +6,10 @@ use Rattle.oz_cluster.proofs.Causes.{causes_of}
 use Rattle.oz_cluster.proofs.Endings.{names_halts, told_of}
 use Rattle.oz_cluster.proofs.Right.{OneThing}
 use Rattle.oz_cluster.proofs.Stops.{stopped_early, stopped_late}
-use Rattle.oz_disk_run.specs.declared.disks.Disks.{Disks}
-use Rattle.oz_halts.specs.Disks.{some_halted}
-use Rattle.oz_headline.specs.Printed.{IsPrinted}
-use Rattle.oz_words.specs.Words.{IsRunWith}
+use Rattle.oz_running.specs.declared.disk_run.disks.Disks.{Disks}
+use Rattle.oz_running.specs.halts.Disks.{some_halted}
+use Rattle.oz_running.specs.Printed.{IsPrinted}
+use Rattle.oz_command.specs.command_line.Words.{IsRunWith}
 use Rattle.oz_world.specs.Disk.{Seen, seen}
 use Rattle.oz_world.specs.Faults.{Rose}
 use Rattle.oz_cluster.proofs.top.run.Goals as goal

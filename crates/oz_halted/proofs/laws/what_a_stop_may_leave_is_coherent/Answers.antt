@@ -1,6 +1,6 @@
 use Rattle.std.proofs.Common.{take}
 use Rattle.oz_kept.specs.laws.Deleted.{front_legal}
-use Rattle.oz_reopened.specs.laws.Reopened.{fits_front}
+use Rattle.oz_kept.specs.reopened.laws.Reopened.{fits_front}
 use Rattle.oz_halted.proofs.Reopening.{may_reopen}
 use Rattle.oz_halted.proofs.laws.what_a_stop_may_leave_is_coherent.Goals as goal
 

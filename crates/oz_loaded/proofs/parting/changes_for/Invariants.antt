@@ -1,6 +1,6 @@
 use Rattle.std.proofs.Common.{◌≡◌, take}
-use Rattle.oz_stripes.specs.Parts.{part_of}
-use Rattle.oz_stripes.specs.Stripes.{is_own}
+use Rattle.oz_sound.specs.stripes.Parts.{part_of}
+use Rattle.oz_sound.specs.stripes.Stripes.{is_own}
 use Rattle.oz_loaded.specs.Walks.{puts_of}
 use Rattle.oz_loaded.proofs.parting.changes_for.Given as goal
 

@@ -1,5 +1,5 @@
 use Rattle.std.proofs.Common.{◌≡◌, ℕ, List, Result, Ok, Err, IfOk, ◌∙◌, rules}
-use Rattle.oz_words.specs.Words.{IsRunWith}
+use Rattle.oz_command.specs.command_line.Words.{IsRunWith}
 use Rattle.oz_main.proofs.folder.disks_named.Goals as goal
 
 -- As many as words say that are read are as many as they say.

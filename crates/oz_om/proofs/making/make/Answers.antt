@@ -1,12 +1,12 @@
 use Rattle.std.proofs.Common.{ℕ, sym, ◌∙◌, subst}
 use Rattle.oz_cache.specs.Cache.{CacheView, newest}
 use Rattle.oz_core.specs.Manager.{namespace_of}
-use Rattle.oz_deciding.specs.declared.outcome.Outcome.{Outcome}
-use Rattle.oz_deciding.specs.Outcomes.{IfDecided}
-use Rattle.oz_deciding.specs.Promises.{IsDecision}
+use Rattle.oz_om.specs.declared.decider.outcome.Outcome.{Outcome}
+use Rattle.oz_om.specs.decider.Outcomes.{IfDecided}
+use Rattle.oz_om.specs.decider.Promises.{IsDecision}
 use Rattle.oz_decision.specs.Meets.{Stand}
 use Rattle.oz_sound.specs.Sound.{IsSoundButRenames}
-use Rattle.oz_striped.specs.Shares.{share_of}
+use Rattle.oz_store.specs.striped.Shares.{share_of}
 use Rattle.oz_om.specs.Decided.{IsPoolEmpty}
 use Rattle.oz_om.specs.Held.{IsOpenAsk}
 use Rattle.oz_om.proofs.Empty.{no_block}

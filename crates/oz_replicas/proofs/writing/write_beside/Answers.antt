@@ -10,7 +10,7 @@ note-requires-clause-happened g c =
     let subject = g.N.Noter.subject c.args.noter.now in
     let goes = c.in-Ok.ensures.goes in
     let member = member_still g.D.Disk.told g.D.Disk.clock g.D.Disk.image g.D.Disk.faults subject c.id-dn.result c.args.node.now goes.0 goes.1.0.id (member_of g.D.Disk.told g.D.Disk.clock g.D.Disk.image g.D.Disk.faults subject c.id-dn.result c.args.node.now c.id-dn.ensures c.requires.member) in
-    let leads = leads_put g.D.Disk.told g.D.Disk.clock g.D.Disk.image g.D.Disk.faults subject c.id-dn.result c.args.block (length c.args.bytes.now) c.args.bytes.now goes.0 c.write_whole.new.node c.requires.its_block c.requires.its_bytes member refl (record { least = c.requires.least; most = c.requires.most }) goes.1.1 in
+    let leads = leads_put g.D.Disk.told g.D.Disk.clock g.D.Disk.image g.D.Disk.faults subject c.id-dn.result c.args.block c.len-length.result c.args.bytes.now goes.0 c.write_whole.new.node c.requires.its_block c.requires.its_bytes member c.len-length.ensures (record { least = c.requires.least; most = c.requires.most }) goes.1.1 in
     let stood = g.met.K.Kept.stays c.ready.new.kept c.args.node.now goes.0 goes.1.0 (c.ready.ensures.stands c.args.node.now c.requires.stood) in
     rw c.ready.ensures.subject (goes.0, (c.write_whole.new.node, (stood, leads)))
 
@@ -19,13 +19,14 @@ returns-in-Ok-clause-answers g c =
     let subject = g.N.Noter.subject c.args.noter.now in
     let goes = c.in-Ok.ensures.goes in
     let member = member_still g.D.Disk.told g.D.Disk.clock g.D.Disk.image g.D.Disk.faults subject c.id-dn.result c.args.node.now goes.0 goes.1.0.id (member_of g.D.Disk.told g.D.Disk.clock g.D.Disk.image g.D.Disk.faults subject c.id-dn.result c.args.node.now c.id-dn.ensures c.requires.member) in
-    let leads = leads_put g.D.Disk.told g.D.Disk.clock g.D.Disk.image g.D.Disk.faults subject c.id-dn.result c.args.block (length c.args.bytes.now) c.args.bytes.now goes.0 c.write_whole.new.node c.requires.its_block c.requires.its_bytes member refl (record { least = c.requires.least; most = c.requires.most }) goes.1.1 in
-    let whole : length c.args.bytes.now ≡ length subject.bytes = rw c.requires.its_bytes refl in
-    let note = notes.Put c.id-dn.result c.args.block (length c.args.bytes.now) in (
+    let leads = leads_put g.D.Disk.told g.D.Disk.clock g.D.Disk.image g.D.Disk.faults subject c.id-dn.result c.args.block c.len-length.result c.args.bytes.now goes.0 c.write_whole.new.node c.requires.its_block c.requires.its_bytes member c.len-length.ensures (record { least = c.requires.least; most = c.requires.most }) goes.1.1 in
+    let same : length c.args.bytes.now ≡ length subject.bytes = rw c.requires.its_bytes refl in
+    let whole : c.len-length.result ≡ length subject.bytes = c.len-length.ensures ∙ same in
+    let note = notes.Put c.id-dn.result c.args.block c.len-length.result in (
       note ∷ [],
       (
         g.met.N.Noter.joins c.args.noter.now c.ready.new.self c.note.new.self [] (note ∷ []) c.ready.ensures.noted c.note.ensures.noted,
-        put_answers g.D.Disk.told g.D.Disk.clock g.D.Disk.image g.D.Disk.faults subject c.id-dn.result c.args.block (length c.args.bytes.now) c.args.node.now goes.0 c.write_whole.new.node c.requires.its_block c.id-dn.ensures whole goes.1.0 leads,
+        put_answers g.D.Disk.told g.D.Disk.clock g.D.Disk.image g.D.Disk.faults subject c.id-dn.result c.args.block c.len-length.result c.args.node.now goes.0 c.write_whole.new.node c.requires.its_block c.id-dn.ensures whole goes.1.0 leads,
       ),
     )
 
@@ -34,7 +35,7 @@ returns-in-Ok-clause-stands g c =
     let subject = g.N.Noter.subject c.args.noter.now in
     let goes = c.in-Ok.ensures.goes in
     let member = member_still g.D.Disk.told g.D.Disk.clock g.D.Disk.image g.D.Disk.faults subject c.id-dn.result c.args.node.now goes.0 goes.1.0.id (member_of g.D.Disk.told g.D.Disk.clock g.D.Disk.image g.D.Disk.faults subject c.id-dn.result c.args.node.now c.id-dn.ensures c.requires.member) in
-    let leads = leads_put g.D.Disk.told g.D.Disk.clock g.D.Disk.image g.D.Disk.faults subject c.id-dn.result c.args.block (length c.args.bytes.now) c.args.bytes.now goes.0 c.write_whole.new.node c.requires.its_block c.requires.its_bytes member refl (record { least = c.requires.least; most = c.requires.most }) goes.1.1 in
+    let leads = leads_put g.D.Disk.told g.D.Disk.clock g.D.Disk.image g.D.Disk.faults subject c.id-dn.result c.args.block c.len-length.result c.args.bytes.now goes.0 c.write_whole.new.node c.requires.its_block c.requires.its_bytes member c.len-length.ensures (record { least = c.requires.least; most = c.requires.most }) goes.1.1 in
     let stood = g.met.K.Kept.stays c.ready.new.kept c.args.node.now goes.0 goes.1.0 (c.ready.ensures.stands c.args.node.now c.requires.stood) in
     c.note.ensures.stands goes.0 c.write_whole.new.node stood (rw c.ready.ensures.subject leads)
 

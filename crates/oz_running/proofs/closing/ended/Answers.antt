@@ -1,7 +1,7 @@
 use Rattle.std.proofs.Common.{◌≡◌, ◌≤◌, ◌<◌, ◌↔◌, true, List, length, All, sym, subst, arith}
 use Rattle.oz_core.specs.declared.event.Event.{Event}
 use Rattle.oz_core.specs.Seats.{first_worker_seat}
-use Rattle.oz_lines.specs.declared.script.Script.{Script}
+use Rattle.oz_script.specs.declared.lines.script.Script.{Script}
 use Rattle.oz_headline.specs.Counts.{AreToldAsMany}
 use Rattle.oz_running.proofs.Whole.{flusher_left, nodes_left, quiet_left, ready_left, scm_left, stripe_left}
 use Rattle.oz_turn.specs.Seat.{AreReady, mine_of, number_of, seen_of}

@@ -1,5 +1,5 @@
 use Rattle.std.proofs.Common.{◌≡◌, ◌≤◌, take}
-use Rattle.oz_lines.specs.Numbered.{lines_of}
+use Rattle.oz_script.specs.lines.Numbered.{lines_of}
 use Rattle.oz_running.proofs.counting.line_count.Given as goal
 
 -- those so far

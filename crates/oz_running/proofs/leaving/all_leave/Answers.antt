@@ -2,8 +2,8 @@ use Rattle.std.proofs.Common.{rules, List, ◌≡◌, ◌-◌, ◌++◌, ◌∷�
 use Rattle.std.proofs.lemmas.Grind.{common_steps}
 use Rattle.oz_core.specs.declared.event.Event.{Event}
 use Rattle.oz_core.specs.declared.event.Node.TheVariants as node
-use Rattle.oz_flushing.specs.Kept.{IsKept}
-use Rattle.oz_node_events.specs.NodeSeat.{IsKept as SeatIsKept, StandsFor}
+use Rattle.oz_flusher.specs.flushing.Kept.{IsKept}
+use Rattle.oz_headline.specs.NodeSeat.{IsKept as SeatIsKept, StandsFor}
 use Rattle.oz_running.specs.Jobs.{AreJobs, job_at}
 use Rattle.oz_running.specs.Left.{IsServedAt}
 use Rattle.oz_running.proofs.Left.{all_left, first_left, served_left}

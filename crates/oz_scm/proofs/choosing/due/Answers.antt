@@ -1,6 +1,6 @@
 use Rattle.std.proofs.Common.{ℕ, ◌+◌, ◌≤◌, List, subst, sym, ◌∙◌, refl}
 use Rattle.std.proofs.lemmas.Bool.{ltb-false}
-use Rattle.oz_grants.specs.Due.{IsChosen}
+use Rattle.oz_scm.specs.grants.Due.{IsChosen}
 use Rattle.oz_nodes.specs.Pipelines.{IsFirstFree}
 use Rattle.oz_scm.proofs.Granting.{due_follows}
 use Rattle.oz_scm.proofs.choosing.due.Goals as goal

@@ -1,4 +1,4 @@
-use Rattle.oz_grants.specs.declared.entry.Entry.TheVariants as entries
+use Rattle.oz_scm.specs.declared.grants.entry.Entry.TheVariants as entries
 use Rattle.oz_scm.proofs.Sizes.{is_frame}
 use Rattle.oz_scm.proofs.planning.plan_grant.Goals as goal
 

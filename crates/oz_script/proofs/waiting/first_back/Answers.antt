@@ -1,6 +1,6 @@
 use Rattle.std.proofs.Common.{◌∙◌, sym, subst}
 use Rattle.std.specs.HashMap.{get}
-use Rattle.oz_circles.specs.Waiting.{AreChained}
+use Rattle.oz_script.specs.circles.Waiting.{AreChained}
 use Rattle.oz_script.specs.Finding.{is_same_name}
 use Rattle.oz_script.proofs.Steps.{chained, first_back_ok}
 use Rattle.oz_script.proofs.waiting.first_back.Goals as goal

@@ -1,6 +1,6 @@
 use Rattle.std.proofs.Common.{◌≡◌, ◌∙◌, List, Some, length, refl, sym, ap, arith}
 use Rattle.std.proofs.lemmas.Option.{slice_get_read}
-use Rattle.oz_lines.specs.declared.script.Line.{Line}
+use Rattle.oz_script.specs.declared.lines.script.Line.{Line}
 use Rattle.std.specs.HashMap.{get}
 use Rattle.std.specs.List.{slice_get}
 use Rattle.oz_script.specs.Finding.{is_same_name}

@@ -1,5 +1,5 @@
 use Rattle.oz_asker.specs.laws.Asks.{legal_of_follow}
-use Rattle.oz_reopened.specs.laws.Placed.{held_by_member}
+use Rattle.oz_kept.specs.reopened.laws.Placed.{held_by_member}
 use Rattle.oz_underway.proofs.laws.holders_are_members.Goals as goal
 
 pub returns : goal.returns

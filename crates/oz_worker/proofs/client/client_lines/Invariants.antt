@@ -1,5 +1,5 @@
 use Rattle.std.proofs.Common.{◌≡◌, ◌==◌, map, filter, take}
-use Rattle.oz_lines.specs.declared.script.Line.{Line}
+use Rattle.oz_script.specs.declared.lines.script.Line.{Line}
 use Rattle.oz_worker.proofs.client.client_lines.Given as goal
 
 abbrev pub invariant-loop-line : goal.invariant-loop-line

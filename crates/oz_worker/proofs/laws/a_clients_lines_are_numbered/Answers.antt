@@ -1,6 +1,6 @@
 use Rattle.std.proofs.Common.{◌≤◌, [], length, arith}
 use Rattle.std.proofs.lemmas.List.Elements.{All-contains}
-use Rattle.oz_lines.specs.declared.script.Line.{Line}
+use Rattle.oz_script.specs.declared.lines.script.Line.{Line}
 use Rattle.oz_worker.proofs.Numbered.{placed}
 use Rattle.oz_worker.proofs.laws.a_clients_lines_are_numbered.Goals as goal
 

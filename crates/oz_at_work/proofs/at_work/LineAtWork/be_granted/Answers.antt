@@ -1,10 +1,10 @@
 use Rattle.std.proofs.Common.{◌≡◌, ℕ, ◌+◌, false, List, None, Some, refl, sym, ap, ◌∙◌, subst}
 use Rattle.oz_core.specs.Steps.{was_told_ok}
-use Rattle.oz_granting.specs.Granting.{IsDueWhileStill, IsKnownThen, WasEmpty}
-use Rattle.oz_granting.specs.declared.granting.Granting.TheVariants as grantings
+use Rattle.oz_line_blocks.specs.granting.Granting.{IsDueWhileStill, IsKnownThen, WasEmpty}
+use Rattle.oz_line_blocks.specs.declared.granting.granting.Granting.TheVariants as grantings
 use Rattle.oz_requests.specs.declared.answer.Answer.TheVariants as answers
 use Rattle.oz_requests.specs.declared.request.AskId.{AskId}
-use Rattle.oz_telling.specs.declared.still.Still.{Still}
+use Rattle.oz_asker.specs.declared.telling.still.Still.{Still}
 use Rattle.oz_turn.specs.Seat.{seen_of}
 use Rattle.oz_underway.specs.laws.Going.{begins_itself}
 use Rattle.oz_at_work.specs.AtWork.{IsAtWork, MayBeTold, WorkView, id_of, last_of}

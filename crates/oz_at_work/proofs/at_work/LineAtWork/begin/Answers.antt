@@ -1,5 +1,5 @@
 use Rattle.std.proofs.Common.{false, None, subst, sym}
-use Rattle.oz_reading.specs.declared.lack.Doubted.{Doubted}
+use Rattle.oz_line_blocks.specs.declared.reading.lack.Doubted.{Doubted}
 use Rattle.oz_at_work.specs.AtWork.{IsAtWork}
 use Rattle.oz_at_work.proofs.Stepping.{begin_so}
 use Rattle.oz_at_work.proofs.at_work.LineAtWork.begin.Goals as goal

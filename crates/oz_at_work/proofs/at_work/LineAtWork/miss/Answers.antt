@@ -1,6 +1,6 @@
 use Rattle.std.proofs.Common.{◌≡◌, List, length, Some, sym, ap, ◌∙◌, subst}
 use Rattle.oz_requests.specs.declared.answer.Answer.TheVariants as answers
-use Rattle.oz_telling.specs.declared.still.Still.{Still}
+use Rattle.oz_asker.specs.declared.telling.still.Still.{Still}
 use Rattle.oz_at_work.specs.AtWork.{IsAtWork, WorkView}
 use Rattle.oz_at_work.specs.inner.Read.{WasMissed}
 use Rattle.oz_at_work.proofs.Cutting.{cut_so}

@@ -1,8 +1,8 @@
 use Rattle.std.proofs.Common.{◌≡◌, ℕ, List, Contains, ap, ◌∙◌, subst, sym}
-use Rattle.oz_reading.specs.declared.lack.Lack.TheVariants as lacking
-use Rattle.oz_reading.specs.declared.reading.Reading.TheVariants as readings
-use Rattle.oz_reading.specs.Lacks.{AreDoubted, IsDoubted}
-use Rattle.oz_reading.specs.Read.{IsKnownOf, MayRead, NobodyHasIt}
+use Rattle.oz_line_blocks.specs.declared.reading.lack.Lack.TheVariants as lacking
+use Rattle.oz_line_blocks.specs.declared.reading.reading.Reading.TheVariants as readings
+use Rattle.oz_line_blocks.specs.reading.Lacks.{AreDoubted, IsDoubted}
+use Rattle.oz_line_blocks.specs.reading.Read.{IsKnownOf, MayRead, NobodyHasIt}
 use Rattle.oz_requests.specs.declared.answer.Answer.TheVariants as answers
 use Rattle.oz_requests.specs.declared.request.AskId.{AskId}
 use Rattle.oz_turn.specs.Seat.{seen_of}

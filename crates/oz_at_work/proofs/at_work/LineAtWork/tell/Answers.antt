@@ -2,7 +2,7 @@ use Rattle.std.proofs.Common.{◌≡◌, [], Option, refl, sym, ap, ◌∙◌, s
 use Rattle.oz_client.specs.declared.step.Step.{Step}
 use Rattle.oz_client.specs.declared.step.Step.TheVariants as steps
 use Rattle.oz_requests.specs.declared.request.AskId.{AskId}
-use Rattle.oz_telling.specs.Tells.{IsTold, MayTell}
+use Rattle.oz_asker.specs.telling.Tells.{IsTold, MayTell}
 use Rattle.oz_turn.specs.Seat.{mine_of, seen_of}
 use Rattle.oz_at_work.specs.AtWork.{IsAtWork, IsNextFit, IsSaidAsKnown, MayBeTold, WorkView, last_of, left_of}
 use Rattle.oz_at_work.proofs.Leaving.{has_left, told_works}

@@ -3,8 +3,8 @@ use Rattle.std.proofs.lemmas.Option.{same_Some}
 use Rattle.oz_requests.specs.declared.answer.Answer.{Answer}
 use Rattle.oz_requests.specs.declared.answer.Answer.TheVariants as answers
 use Rattle.oz_requests.specs.declared.request.AskId.{AskId}
-use Rattle.oz_telling.specs.declared.still.Still.{Still}
-use Rattle.oz_telling.specs.Tells.{IsTold, MayTell}
+use Rattle.oz_asker.specs.declared.telling.still.Still.{Still}
+use Rattle.oz_asker.specs.telling.Tells.{IsTold, MayTell}
 use Rattle.oz_turn.specs.Seat.{mine_of, seen_of}
 use Rattle.oz_underway.specs.laws.Going.{begins_through}
 use Rattle.oz_at_work.specs.declared.refused.Refused.{Refused}

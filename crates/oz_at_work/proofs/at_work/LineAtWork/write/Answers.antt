@@ -1,6 +1,6 @@
 use Rattle.std.proofs.Common.{◌≡◌, ℕ, ◌+◌, ◌≤◌, ◌<◌, List, length, sym, ap, ◌∙◌, subst}
 use Rattle.oz_buffer.specs.Buffer.{Follows}
-use Rattle.oz_buffer.specs.Courses.{times_said}
+use Rattle.oz_buffer.specs.Became.{times_said}
 use Rattle.oz_core.specs.declared.event.EventKind.TheVariants.{Wrote}
 use Rattle.oz_nodes.specs.declared.nodes.TheConstants.{FEWEST_NODES}
 use Rattle.oz_node_events.specs.Noting.{MayNote}
@@ -9,7 +9,7 @@ use Rattle.oz_requests.specs.declared.request.AskId.{AskId}
 use Rattle.oz_turn.specs.Seat.{seen_of}
 use Rattle.oz_underway.specs.UnderWay.{HaveAnswered}
 use Rattle.oz_underway.specs.laws.Going.{begins_itself}
-use Rattle.oz_writing.specs.Written.{IsWritten}
+use Rattle.oz_line_blocks.specs.writing.Written.{IsWritten}
 use Rattle.oz_at_work.specs.AtWork.{HasGoneOn, IsAtWork, WorkView, id_of}
 use Rattle.oz_at_work.specs.inner.Put.{IsPutNext, WasWritten}
 use Rattle.oz_at_work.proofs.Cutting.{cut_goes_on, cut_so}

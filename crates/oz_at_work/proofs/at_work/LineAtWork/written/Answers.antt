@@ -1,6 +1,6 @@
 use Rattle.std.proofs.Common.{◌≡◌, ℕ, ◌||◌, Bool, not, ap, subst}
 use Rattle.oz_client.specs.declared.step.Got.TheVariants as gots
-use Rattle.oz_writing.specs.Written.{is_quorum}
+use Rattle.oz_line_blocks.specs.writing.Written.{is_quorum}
 use Rattle.oz_at_work.specs.AtWork.{WorkView}
 use Rattle.oz_at_work.specs.inner.Taken.{IsTakenUp}
 use Rattle.oz_at_work.proofs.Stepping.{written_works}

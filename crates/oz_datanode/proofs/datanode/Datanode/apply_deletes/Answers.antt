@@ -4,8 +4,8 @@ use Rattle.oz_chunk.specs.Taken.{is_taken}
 use Rattle.oz_entries.specs.declared.entry.Entry.TheVariants as entries
 use Rattle.oz_entries.specs.Held.{is_freed}
 use Rattle.oz_entries.specs.Node.{Node, names, names_held, after_entry}
-use Rattle.oz_shelf.specs.Release.{is_one_of}
-use Rattle.oz_shelf.specs.Shelf.{Rests}
+use Rattle.oz_block.specs.shelf.Release.{is_one_of}
+use Rattle.oz_block.specs.shelf.Shelf.{Rests}
 use Rattle.oz_world.specs.Disk.{seen}
 use Rattle.oz_datanode.specs.Steps.{is_in_use}
 use Rattle.oz_datanode.proofs.Gone.{rests_freed, left_in_use}

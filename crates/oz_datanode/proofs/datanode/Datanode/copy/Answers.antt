@@ -4,8 +4,8 @@ use Rattle.oz_datanode.specs.Pairs.{with_content}
 use Rattle.oz_datanode.specs.Writing.{intact}
 use Rattle.oz_datanode.proofs.Calls.{IsInOrder, still_holds}
 use Rattle.oz_block.specs.Blocks.{node_in as node_in_blocks}
-use Rattle.oz_shelf.specs.Written.{written_of, written_besides}
-use Rattle.oz_shelf.specs.laws.Written.{none_left, besides_again}
+use Rattle.oz_block.specs.shelf.Written.{written_of, written_besides}
+use Rattle.oz_block.specs.shelf.laws.Written.{none_left, besides_again}
 use Rattle.oz_datanode.proofs.Joining.{cleared_holds, content_there}
 use Rattle.oz_datanode.proofs.Refusing.{refused_ends, refused_node, on_err, on_ok, freed_again}
 use Rattle.oz_datanode.proofs.datanode.Datanode.copy.Goals as goal

@@ -3,7 +3,7 @@ use Rattle.std.proofs.lemmas.Bool.{false≢true}
 use Rattle.oz_block.specs.Blocks.{node_in as node_in_blocks}
 use Rattle.oz_entries.specs.declared.entry.Entry.TheVariants as entries
 use Rattle.oz_entries.specs.Node.{Node, is_in, after_entry}
-use Rattle.oz_shelf.specs.Shelf.{Rests}
+use Rattle.oz_block.specs.shelf.Shelf.{Rests}
 use Rattle.oz_world.specs.Disk.{seen}
 use Rattle.oz_datanode.specs.Steps.{is_in_use}
 use Rattle.oz_datanode.proofs.Gone.{rests_freed, left_in_use, none_freed}

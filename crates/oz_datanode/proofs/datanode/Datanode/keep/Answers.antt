@@ -3,11 +3,11 @@ use Rattle.std.proofs.lemmas.Bool.{or_parts}
 use Rattle.std.proofs.lemmas.List.{length-map}
 use Rattle.oz_block.specs.Blocks.{node_in as node_in_blocks}
 use Rattle.oz_entries.specs.declared.row.BlockRow.{BlockRow}
-use Rattle.oz_shelf.specs.declared.written.Written.{Written}
-use Rattle.oz_shelf.specs.Shelf.{ShelfView}
-use Rattle.oz_shelf.specs.Written.{chunks_in, is_of, written_of}
-use Rattle.oz_shelf.specs.laws.Parting.{free_passed}
-use Rattle.oz_shelf.specs.laws.Written.{makes_count}
+use Rattle.oz_block.specs.declared.shelf.written.Written.{Written}
+use Rattle.oz_block.specs.shelf.Shelf.{ShelfView}
+use Rattle.oz_block.specs.shelf.Written.{chunks_in, is_of, written_of}
+use Rattle.oz_block.specs.shelf.laws.Parting.{free_passed}
+use Rattle.oz_block.specs.shelf.laws.Written.{makes_count}
 use Rattle.oz_datanode.specs.Pairs.{Has}
 use Rattle.oz_datanode.specs.Steps.{is_in_use}
 use Rattle.oz_datanode.proofs.Calls.{row_fits, still_holds, put_holds, put_rests, kept_ends}

@@ -1,7 +1,7 @@
 use Rattle.std.proofs.Common.{sym, subst}
 use Rattle.oz_entries.specs.declared.entry.Entry.TheVariants as entries
 use Rattle.oz_entries.specs.Node.{Node}
-use Rattle.oz_shelf.specs.Shelf.{Rests}
+use Rattle.oz_block.specs.shelf.Shelf.{Rests}
 use Rattle.oz_world.specs.Disk.{seen}
 use Rattle.oz_datanode.specs.Steps.{is_in_use}
 use Rattle.oz_datanode.proofs.Journaling.{journal_holds}

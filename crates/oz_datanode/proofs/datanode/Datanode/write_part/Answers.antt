@@ -1,7 +1,7 @@
 use Rattle.std.proofs.Common.{◌≡◌, ◌*◌, [], refl, ap, arith}
 use Rattle.oz_block.specs.Blocks.{node_in as node_in_blocks}
 use Rattle.oz_chunk.specs.declared.fault.SlotFull.{SlotFull}
-use Rattle.oz_shelf.specs.Shelf.{ShelfView}
+use Rattle.oz_block.specs.shelf.Shelf.{ShelfView}
 use Rattle.oz_datanode.proofs.Calls.{wrote_holds}
 use Rattle.oz_datanode.proofs.Making.{next_made, others_made, none_made, own_part, other_part}
 use Rattle.oz_datanode.proofs.Parts.{full_whose, taken_at, taken_written, with_shelf}

@@ -1,8 +1,8 @@
 use Rattle.std.proofs.Common.{rules, ◌≡◌, ◌++◌, refl, sym, ap, ◌∙◌, arith}
 use Rattle.oz_turn.specs.Seat.{mine_of, seen_of}
-use Rattle.oz_batches.specs.Body.{body_bytes}
+use Rattle.oz_journal.specs.batches.Body.{body_bytes}
 use Rattle.oz_flusher.proofs.Laws.{ours_all, flushed_enabled, halt_enabled}
-use Rattle.oz_flusher.proofs.Flushing.{appends_as, appends_of, story_is, given_is, later_than, noted_count, others, others_more, quiet_flushed, quiet_longer, quiet_of, ready_taken, stops_halted, stops_of, stops_stable}
+use Rattle.oz_flusher.proofs.WholeFlush.{appends_as, appends_of, story_is, given_is, later_than, noted_count, others, others_more, quiet_flushed, quiet_longer, quiet_of, ready_taken, stops_halted, stops_of, stops_stable}
 use Rattle.oz_flusher.specs.Taken.{bodies_of}
 use Rattle.oz_flusher.proofs.Stopping.{stops_longer}
 use Rattle.oz_flusher.proofs.flusher.Flusher.flush_once.Goals as goal

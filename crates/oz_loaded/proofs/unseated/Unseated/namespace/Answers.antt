@@ -5,7 +5,7 @@ use Rattle.oz_loaded.specs.Parts.{AreParts}
 use Rattle.oz_loaded.specs.Unseated.{UnseatedView}
 use Rattle.oz_rows.specs.declared.entry.RowEntry.{RowEntry}
 use Rattle.oz_rows.specs.RowMaps.{row_of}
-use Rattle.oz_standing.specs.Standing.{AreStripesOf}
+use Rattle.oz_loaded.specs.standing.Standing.{AreStripesOf}
 use Rattle.oz_loaded.proofs.unseated.Unseated.namespace.Goals as goal
 
 if_ok : {A E : Type 0} (r : Result A E) (P Q : A → Type 0) → IfOk r P → ((a : A) → P a → Q a) → IfOk r Q

@@ -1,6 +1,6 @@
 use Rattle.std.proofs.Common.{subst}
 use Rattle.oz_cache.specs.Cache.{newest}
-use Rattle.oz_stripes.specs.Stripes.{only}
+use Rattle.oz_sound.specs.stripes.Stripes.{only}
 use Rattle.oz_locks.specs.Rows.{AreReplayed}
 use Rattle.oz_locks.specs.Stripe.{StripeView}
 use Rattle.oz_locks.specs.Writes.{writes_of}

@@ -1,5 +1,5 @@
 use Rattle.std.proofs.Common.{◌≡◌, refl, sym, ap, ◌∙◌}
-use Rattle.oz_grants.specs.Made.{Made, after_grant}
+use Rattle.oz_scm.specs.grants.Made.{Made, after_grant}
 use Rattle.oz_scm.proofs.Granting.{refused, halted, granted, kept_after, due_adds}
 use Rattle.oz_scm.proofs.scm.Scm.grant.Goals as goal
 

@@ -1,6 +1,6 @@
 use Rattle.std.proofs.Common.{Bool, List, Ok, Err, refl, sym, ap, ◌∙◌, subst, length, true}
-use Rattle.oz_grants.specs.Build.{Makes}
-use Rattle.oz_grants.specs.Steps.{made_in}
+use Rattle.oz_scm.specs.grants.Build.{Makes}
+use Rattle.oz_scm.specs.grants.Steps.{made_in}
 use Rattle.oz_journal.specs.declared.body.Body.{Body}
 use Rattle.oz_journal.specs.Body.{bodies_in}
 use Rattle.oz_scm.specs.Scm.{IsFaultIn}

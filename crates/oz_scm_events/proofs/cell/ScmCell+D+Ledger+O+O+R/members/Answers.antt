@@ -2,8 +2,8 @@ use Rattle.std.specs.FinMap.{get}
 use Rattle.std.specs.Option.{option_map}
 use Rattle.std.proofs.Common.{◌≡◌, ap, ◌∙◌, subst}
 use Rattle.oz_core.specs.Scm.{Containers, containers}
-use Rattle.oz_grants.specs.declared.container.Container.{Container as MadeContainer}
-use Rattle.oz_grants.specs.Made.{Made, container_at}
+use Rattle.oz_scm.specs.declared.grants.container.Container.{Container as MadeContainer}
+use Rattle.oz_scm.specs.grants.Made.{Made, container_at}
 use Rattle.oz_nodes.specs.Pipelines.{members_of}
 use Rattle.oz_turn.specs.Seat.{seen_of}
 use Rattle.oz_scm_events.proofs.Members.{members_are, none_are}

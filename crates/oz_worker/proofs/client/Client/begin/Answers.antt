@@ -1,6 +1,6 @@
 use Rattle.std.proofs.Common.{Some, ◌≡◌, sym, ap, subst, ◌∙◌}
 use Rattle.std.specs.Option.{option_copied, option_map}
-use Rattle.oz_lines.specs.declared.script.Line.{Line}
+use Rattle.oz_script.specs.declared.lines.script.Line.{Line}
 use Rattle.oz_turn.specs.Seat.{seen_of}
 use Rattle.oz_worker.specs.declared.client.Client.{Client}
 use Rattle.oz_worker.specs.Served.{IsServed, next_line}

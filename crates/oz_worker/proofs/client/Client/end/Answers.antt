@@ -1,6 +1,6 @@
 use Rattle.std.proofs.Common.{ap, ◌∙◌, arith}
 use Rattle.oz_at_work.specs.AtWork.{left_of}
-use Rattle.oz_lines.specs.declared.script.Line.{Line}
+use Rattle.oz_script.specs.declared.lines.script.Line.{Line}
 use Rattle.oz_steps.specs.declared.label.Label.{Label}
 use Rattle.oz_worker.specs.Labels.{noted}
 use Rattle.std.specs.Prelude.{Option}

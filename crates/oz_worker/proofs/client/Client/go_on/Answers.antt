@@ -1,6 +1,6 @@
 use Rattle.std.proofs.Common.{Option, Some, None, IfSome, ◌≡◌, sym, ap, subst, ◌∙◌}
 use Rattle.oz_at_work.specs.AtWork.{WorkView}
-use Rattle.oz_lines.specs.declared.script.Line.{Line}
+use Rattle.oz_script.specs.declared.lines.script.Line.{Line}
 use Rattle.oz_turn.specs.Seat.{seen_of}
 use Rattle.oz_worker.specs.declared.client.Client.{Client}
 use Rattle.oz_worker.specs.Served.{IsServed, next_line}

@@ -1,6 +1,6 @@
 use Rattle.std.proofs.Common.{IfSome, ap, sym, subst, ◌∙◌}
 use Rattle.std.specs.Prelude.{slice_get}
-use Rattle.oz_lines.specs.declared.script.Script.{Script}
+use Rattle.oz_script.specs.declared.lines.script.Script.{Script}
 use Rattle.oz_worker.specs.ClientLines.{lines_of_client}
 use Rattle.oz_worker.specs.Labels.{LabelMap}
 use Rattle.oz_worker.specs.Served.{AreNoted}

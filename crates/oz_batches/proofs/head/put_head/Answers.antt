@@ -1,5 +1,0 @@
-use Rattle.oz_batches.proofs.Heads.{head_put}
-use Rattle.oz_batches.proofs.head.put_head.Goals as goal
-
-pub returns-clause-body : goal.returns-clause-body
-returns-clause-body c = head_put c.args.framed.now c.write_u64.new.buf c.args.index c.requires c.write_u64.ensures

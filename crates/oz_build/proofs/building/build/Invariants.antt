@@ -1,5 +1,0 @@
-use Rattle.oz_build.proofs.Journals.{BuiltSoFar}
-use Rattle.oz_build.proofs.building.build.Given as goal
-
-abbrev pub invariant-loop-count : goal.invariant-loop-count
-invariant-loop-count l = BuiltSoFar l.bodies l.count l.tables l.head

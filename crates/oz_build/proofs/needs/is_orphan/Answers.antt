@@ -1,4 +1,0 @@
-use Rattle.oz_build.proofs.needs.is_orphan.Goals as goal
-
-pub returns-then-branch : goal.returns-then-branch
-returns-then-branch c = λ orphan. c.in_ok-is_based.ensures c.if-branch.true orphan.0 orphan.1

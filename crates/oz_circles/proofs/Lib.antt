@@ -1,3 +1,0 @@
-mod Passing
-mod Spreading
-mod Ways

@@ -1,5 +1,0 @@
-use Rattle.oz_circles.proofs.Passing.{IsFirstSo}
-use Rattle.oz_circles.proofs.first.first_circle.Given as goal
-
-abbrev pub invariant-loop-line : goal.invariant-loop-line
-invariant-loop-line l = IsFirstSo l.lines l.line-index l.first

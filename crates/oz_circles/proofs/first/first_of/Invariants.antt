@@ -1,5 +1,0 @@
-use Rattle.oz_circles.proofs.Passing.{IsPassed}
-use Rattle.oz_circles.proofs.first.first_of.Given as goal
-
-abbrev pub invariant-loop-place : goal.invariant-loop-place
-invariant-loop-place l = IsPassed l.lines l.client l.marks.items l.place

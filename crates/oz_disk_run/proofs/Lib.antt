@@ -1,6 +1,0 @@
-mod Coming
-mod Bodies
-mod History
-mod Opened
-mod Rows
-mod Namespaces

@@ -1,4 +1,0 @@
-mod Counting
-mod DraftSteps
-mod Opened
-mod Places

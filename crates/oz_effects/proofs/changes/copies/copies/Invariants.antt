@@ -1,0 +1,8 @@
+use Rattle.std.proofs.Common.{◌≡◌, take}
+use Rattle.std.specs.List.{flat_map}
+use Rattle.oz_rows.specs.declared.entry.RowEntry.{RowEntry}
+use Rattle.oz_effects.specs.Effects.{copied}
+use Rattle.oz_effects.proofs.changes.copies.copies.Given as goal
+
+abbrev pub invariant-loop-entry : goal.invariant-loop-entry
+invariant-loop-entry l = l.changes.items ≡ flat_map (λ (entry : RowEntry). copied l.volume l.bucket l.number entry.key entry.row) (take l.entry-index l.rows)

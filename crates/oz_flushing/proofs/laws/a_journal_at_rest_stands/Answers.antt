@@ -1,5 +1,0 @@
-use Rattle.oz_flushing.proofs.Kept.{at_rest}
-use Rattle.oz_flushing.proofs.laws.a_journal_at_rest_stands.Goals as goal
-
-pub returns : goal.returns
-returns g c disk bytes bodies is stable = at_rest bytes bodies _ _ is stable

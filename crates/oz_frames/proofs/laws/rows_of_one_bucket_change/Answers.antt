@@ -1,8 +1,0 @@
-use Rattle.oz_frames.specs.laws.Apart.{sound_apart, renames_apart}
-use Rattle.oz_frames.proofs.laws.rows_of_one_bucket_change.Goals as goal
-
-pub returns-clause-sound : goal.returns-clause-sound
-returns-clause-sound c = sound_apart
-
-pub returns-clause-renames : goal.returns-clause-renames
-returns-clause-renames c = renames_apart

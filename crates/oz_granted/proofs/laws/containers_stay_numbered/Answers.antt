@@ -1,8 +1,0 @@
-use Rattle.oz_granted.specs.laws.Numbers.{grant_numbered, stay_numbered}
-use Rattle.oz_granted.proofs.laws.containers_stay_numbered.Goals as goal
-
-pub returns-clause-all : goal.returns-clause-all
-returns-clause-all c = λ opening story numbered legal. stay_numbered opening numbered story legal
-
-pub returns-clause-granted : goal.returns-clause-granted
-returns-clause-granted c = λ opening story place stripe container pipeline first count numbered legal grant. grant_numbered opening numbered story legal place stripe container pipeline first count grant

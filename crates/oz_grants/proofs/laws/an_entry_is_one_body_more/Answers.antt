@@ -1,8 +1,0 @@
-use Rattle.oz_grants.specs.laws.Journals.{first_made, grant_made}
-use Rattle.oz_grants.proofs.laws.an_entry_is_one_body_more.Goals as goal
-
-pub returns-clause-first : goal.returns-clause-first
-returns-clause-first c = first_made
-
-pub returns-clause-grant : goal.returns-clause-grant
-returns-clause-grant c = grant_made

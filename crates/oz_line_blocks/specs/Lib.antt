@@ -1,0 +1,3 @@
+pub mod granting
+pub mod writing
+pub mod reading

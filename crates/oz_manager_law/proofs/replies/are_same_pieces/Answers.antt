@@ -1,6 +1,0 @@
-use Rattle.std.proofs.lemmas.Slice.Eq.{slice_eq-Decides}
-use Rattle.oz_manager_law.proofs.Same.{piece_decides}
-use Rattle.oz_manager_law.proofs.replies.are_same_pieces.Goals as goal
-
-pub returns : goal.returns
-returns c = slice_eq-Decides piece_decides c.args.one.now c.args.other.now c.eq.result c.eq.ensures

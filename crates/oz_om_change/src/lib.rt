@@ -1,9 +1,0 @@
-//! The requests that change a key that is there, decided over rows: it goes, or it gets another name.
-#![tactic(auto)]
-
-mod deciding;
-mod deleting;
-mod keys;
-mod renaming;
-
-pub use deciding::decide_change;

@@ -1,0 +1,7 @@
+//! The requests that change a key that is there, decided over rows: it goes, or it gets another name.
+mod deciding;
+mod deleting;
+mod keys;
+mod renaming;
+
+pub use deciding::decide_change;

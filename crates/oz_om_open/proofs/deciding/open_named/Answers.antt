@@ -1,4 +1,0 @@
-use Rattle.oz_om_open.proofs.deciding.open_named.Goals as goal
-
-pub returns-in-CreateKey-clause-reply : goal.returns-in-CreateKey-clause-reply
-returns-in-CreateKey-clause-reply g c = rw c.in-CreateKey.is c.create_key.ensures.reply

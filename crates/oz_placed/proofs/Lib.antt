@@ -1,2 +1,0 @@
-mod Afters
-mod Numbers

@@ -1,0 +1,90 @@
+-- What the entries of the storage container manager make, and which of them may follow.
+use Rattle.std.specs.Prelude.{◌≡◌, ℕ, zero, suc, ◌+◌, ◌-◌, ◌==◌, nat_lt, nat_le, Bool, true, ◌&&◌, List, [], ◌∷◌, ◌++◌}
+use Rattle.std.specs.Prelude.{length, take, drop, slice_get, Option, None, Some}
+use Rattle.oz_container.specs.declared.state.State.TheVariants.{Open}
+use Rattle.oz_fields.specs.declared.block.TheConstants.{GREATEST_BLOCK_NUMBER}
+use Rattle.oz_names.specs.declared.limits.TheConstants.{STRIPES}
+use Rattle.oz_nodes.specs.declared.nodes.TheConstants.{FEWEST_NODES, MOST_NODES}
+use Rattle.oz_nodes.specs.Pipelines.{pipelines_of}
+use Rattle.oz_scm.specs.declared.grants.container.Container.{Container}
+use Rattle.oz_scm.specs.declared.grants.entry.Entry.{Entry}
+use Rattle.oz_scm.specs.declared.grants.entry.Entry.TheVariants.{Nodes, Granted}
+use Rattle.oz_scm.specs.declared.grants.entry.Grant.{Grant}
+use Rattle.oz_scm.specs.declared.grants.limits.TheConstants.{FIRST_ID, GRANTED_IDS}
+
+-- How many datanodes there are, the containers in the order of their numbers, the first of which is 1, the id of the
+-- next block that is granted, and the number of the last transaction that was logged, 0 for none.
+pub record Made : Type 0 where
+  pub nodes : ℕ
+  pub containers : List Container
+  pub next_id : ℕ
+  pub last_txn : ℕ
+
+-- what there is before any grant
+abbrev pub begun : ℕ → Made
+begun nodes = record { nodes = nodes; containers = []; next_id = FIRST_ID; last_txn = 0 }
+
+-- the container of a number
+abbrev pub container_at : List Container → ℕ → Option Container
+container_at containers zero = None
+container_at containers (suc place) = slice_get containers place
+
+-- the number of a container that is made next
+abbrev pub next_number : List Container → ℕ
+next_number containers = length containers + 1
+
+-- the container of this number, which is there or is the next, becomes this one
+abbrev pub with_container : ℕ → Container → List Container → List Container
+with_container number container containers = take (number - 1) containers ++ container ∷ drop number containers
+
+-- a container after a grant, which makes it where it isn't there
+abbrev pub granted_in : Option Container → ℕ → ℕ → Container
+granted_in None pipeline count = record { pipeline = pipeline; state = Open; granted = count }
+granted_in (Some container) pipeline count = record container { granted = container.granted + count }
+
+abbrev pub after_grant : Grant → Made → Made
+after_grant grant made = record made {
+  containers = with_container grant.container
+      (granted_in (container_at made.containers grant.container) grant.pipeline grant.count) made.containers;
+  next_id = grant.first + grant.count;
+}
+
+-- The rules of single fields: there are so many datanodes; there is such a stripe; the container is there or is the next;
+-- it is on this pipeline, or is to be; the ids begin at the next one, and there are so many.
+abbrev pub is_node_count : ℕ → Bool
+is_node_count count = nat_le FEWEST_NODES count && nat_le count MOST_NODES
+
+abbrev pub is_stripe : ℕ → Bool
+is_stripe stripe = nat_lt stripe STRIPES
+
+abbrev pub is_old_or_next : List Container → ℕ → Bool
+is_old_or_next containers number = nat_le 1 number && nat_le number (next_number containers)
+
+abbrev pub is_on : ℕ → Option Container → ℕ → Bool
+is_on nodes None pipeline = nat_lt pipeline (pipelines_of nodes)
+is_on nodes (Some container) pipeline = pipeline == container.pipeline
+
+abbrev pub is_next_id : ℕ → ℕ → Bool
+is_next_id next first = first == next && nat_le (first + GRANTED_IDS) GREATEST_BLOCK_NUMBER
+
+abbrev pub is_whole : ℕ → Bool
+is_whole count = count == GRANTED_IDS
+
+-- ids that may be granted next
+pub record MayGrant (made : Made) (grant : Grant) : Type 0 where
+  pub container_is : is_old_or_next made.containers grant.container ≡ true
+  pub pipeline_is : is_on made.nodes (container_at made.containers grant.container) grant.pipeline ≡ true
+  pub first_is : is_next_id made.next_id grant.first ≡ true
+  pub count_is : is_whole grant.count ≡ true
+
+-- what was made, if anything was, and one entry more
+abbrev pub MayFollow : Option Made → Entry → Type 0
+MayFollow None (Nodes count) = is_node_count count ≡ true
+MayFollow None (Granted stripe grant) = ⊥
+MayFollow (Some made) (Nodes count) = ⊥
+MayFollow (Some made) (Granted stripe grant) = (is_stripe stripe ≡ true) × MayGrant made grant
+
+abbrev pub after_entry : Entry → Option Made → Option Made
+after_entry (Nodes count) None = Some (begun count)
+after_entry (Granted stripe grant) (Some made) = Some (after_grant grant made)
+after_entry _ found = found

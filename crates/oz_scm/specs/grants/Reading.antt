@@ -1,0 +1,74 @@
+-- Reading an entry from left to right, over what those before it made. What is read has a value and the bytes behind it.
+-- What isn't says how many bytes are left from the first field on that passes their end or breaks its rule.
+use Rattle.std.specs.Prelude.{ℕ, suc, Bool, ◌==◌, List, [], ◌∷◌, length, Option, None, Some, Result, Ok, Err}
+use Rattle.std.specs.Prelude.{if◌then◌else◌}
+use Rattle.oz_fields.specs.Number.{u8_at, u32_at, u64_at}
+use Rattle.oz_scm.specs.declared.grants.entry.Entry.{Entry}
+use Rattle.oz_scm.specs.declared.grants.entry.Entry.TheVariants.{Nodes, Granted}
+use Rattle.oz_scm.specs.declared.grants.entry.Grant.{Grant}
+use Rattle.oz_scm.specs.grants.Made.{Made, container_at, is_node_count, is_stripe, is_old_or_next, is_on, is_next_id, is_whole}
+
+abbrev pub goes_on : {A B : Type 0} → Result (A × List ℕ) ℕ → (A → List ℕ → Result (B × List ℕ) ℕ)
+    → Result (B × List ℕ) ℕ
+goes_on (Ok found) next = next found.0 found.1
+goes_on (Err left) next = Err left
+
+-- one after the other
+infixl 10 ◌>>=◌
+abbrev pub ◌>>=◌ : {A B : Type 0} → (List ℕ → Result (A × List ℕ) ℕ) → (A → List ℕ → Result (B × List ℕ) ℕ) → List ℕ
+    → Result (B × List ℕ) ℕ
+(read >>= next) bytes = goes_on (read bytes) next
+
+-- nothing more is read
+abbrev pub done : {A : Type 0} → A → List ℕ → Result (A × List ℕ) ℕ
+done value bytes = Ok (value, bytes)
+
+abbrev pub kept : (ℕ → Bool) → ℕ → Option (ℕ × List ℕ) → Result (ℕ × List ℕ) ℕ
+kept rule left None = Err left
+kept rule left (Some found) = if rule found.0 then Ok found else Err left
+
+-- a number that is there and keeps its rule
+abbrev pub field : (List ℕ → Option (ℕ × List ℕ)) → (ℕ → Bool) → List ℕ → Result (ℕ × List ℕ) ℕ
+field read rule bytes = kept rule (length bytes) (read bytes)
+
+-- how many datanodes there are, in the first body and only there
+unfoldable pub nodes_at : Option Made → ℕ → List ℕ → Result (Entry × List ℕ) ℕ
+nodes_at (Some made) left = λ bytes. Err left
+nodes_at None left = do
+  count ← field u8_at is_node_count
+  done (Nodes count)
+
+unfoldable pub ids_at : Made → List ℕ → Result (Grant × List ℕ) ℕ
+ids_at made = do
+  container ← field u64_at (is_old_or_next made.containers)
+  pipeline ← field u8_at (is_on made.nodes (container_at made.containers container))
+  first ← field u64_at (is_next_id made.next_id)
+  count ← field u32_at is_whole
+  done (record { container = container; pipeline = pipeline; first = first; count = count })
+
+-- a grant, in no first body
+unfoldable pub granted_at : Option Made → ℕ → List ℕ → Result (Entry × List ℕ) ℕ
+granted_at None left = λ bytes. Err left
+granted_at (Some made) left = do
+  stripe ← field u8_at is_stripe
+  grant ← ids_at made
+  done (Granted stripe grant)
+
+-- what isn't served yet is damaged at its tag
+abbrev pub unserved : ℕ → List ℕ → Result (Entry × List ℕ) ℕ
+unserved left bytes = Err left
+
+-- Behind tag 3 stands a step of a container, behind 4 a deletion that is logged, behind 5 an acknowledgement, and behind
+-- 6 a transaction that is retired.
+abbrev pub entry_of_tag_at : Option Made → ℕ → ℕ → List ℕ → Result (Entry × List ℕ) ℕ
+entry_of_tag_at found left tag =
+    if tag == 1 then nodes_at found left
+    else (if tag == 2 then granted_at found left
+    else (if tag == 3 then unserved left
+    else (if tag == 4 then unserved left
+    else (if tag == 5 then unserved left
+    else (if tag == 6 then unserved left else (λ bytes. Err left))))))
+
+unfoldable pub entry_at : Option Made → List ℕ → Result (Entry × List ℕ) ℕ
+entry_at found [] = Err 0
+entry_at found (tag ∷ bytes) = entry_of_tag_at found (suc (length bytes)) tag bytes

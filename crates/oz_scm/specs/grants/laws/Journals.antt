@@ -1,0 +1,340 @@
+-- Bodies one after another: what they make, where they are damaged, and which ids they grant.
+use Rattle.std.proofs.Common.{◌≡◌, ◌⊎◌, inl, inr, ℕ, zero, suc, ◌+◌, ◌-◌, ◌<◌, ◌≤◌, ◌^◌, Bool, true, false, cond, List, [], ◌∷◌, ◌++◌, length, take, drop, get_or, slice_get, Option, None, Some, Result, Ok, Err, refl, sym, ap, subst, ◌∙◌, arith}
+use Rattle.std.proofs.lemmas.Bool.{and_parts, eqb-true, leb-true, ltb-true}
+use Rattle.std.proofs.Common.{eqb}
+use Rattle.oz_fields.specs.Field.{IsField}
+use Rattle.oz_fields.specs.Number.{u8_bytes, u32_bytes, u64_bytes, u8_at, u32_at, u64_at}
+use Rattle.oz_fields.specs.laws.Numbers.{u8_field, u32_field, u64_field}
+use Rattle.oz_journal.specs.declared.body.Body.{Body}
+use Rattle.oz_journal.specs.Body.{bodies_in}
+use Rattle.oz_scm.specs.declared.grants.entry.Entry.{Entry}
+use Rattle.oz_scm.specs.declared.grants.entry.Entry.TheVariants.{Nodes, Granted}
+use Rattle.oz_scm.specs.declared.grants.entry.Grant.{Grant}
+use Rattle.oz_scm.specs.grants.Build.{Fault, whole, body_at, behind_one, followed_by, made_from, Makes, FailsAt}
+use Rattle.oz_scm.specs.grants.Entries.{entry_bytes, grant_bytes}
+use Rattle.oz_scm.specs.grants.Fresh.{AreFresh, said_by, said_from, grants_in}
+use Rattle.oz_scm.specs.grants.Made.{Made, begun, container_at, is_node_count, is_stripe, is_old_or_next, is_on, is_next_id, is_whole, MayGrant, MayFollow, after_grant, after_entry}
+use Rattle.oz_scm.specs.grants.Reading.{goes_on, done, kept, field, nodes_at, ids_at, granted_at, unserved, entry_at}
+
+went_on : {A B : Type 0} (read : Result (A × List ℕ) ℕ) (next : A → List ℕ → Result (B × List ℕ) ℕ) (found : B × List ℕ) → goes_on read next ≡ Ok found → (x : A × List ℕ) × (read ≡ Ok x) × (next x.0 x.1 ≡ Ok found)
+went_on (Ok x) next found e = (x, refl, e)
+went_on (Err left) next found e = absurd (cc e)
+
+if_ok : (b : Bool) (left : ℕ) (found x : ℕ × List ℕ) → cond b (Ok found) (Err left) ≡ Ok x → (b ≡ true) × (found ≡ x)
+if_ok true left found x e = (refl, cc e)
+if_ok false left found x e = absurd (cc e)
+
+kept_ok : (rule : ℕ → Bool) (left : ℕ) (read : Option (ℕ × List ℕ)) (x : ℕ × List ℕ) → kept rule left read ≡ Ok x → rule x.0 ≡ true
+kept_ok rule left None x e = absurd (cc e)
+kept_ok rule left (Some found) x e =
+    let both = if_ok (rule found.0) left found x e in
+    subst (λ (y : ℕ × List ℕ). rule y.0 ≡ true) both.1 both.0
+
+first_of : {A : Type 0} (a b : A) (r s : List ℕ) → ◌≡◌ {A = Result (A × List ℕ) ℕ} (Ok (a, r)) (Ok (b, s)) → a ≡ b
+first_of {A} a b r s e =
+    let both : ◌≡◌ {A = A × List ℕ} (a, r) (b, s) = cc e in
+    ap (λ (p : A × List ℕ). p.0) both
+
+ids_follow : (made : Made) (bytes rest : List ℕ) (grant : Grant) → ids_at made bytes ≡ Ok (grant, rest) → MayGrant made grant
+unfolding ids_at
+ids_follow made bytes rest grant e =
+    let a = went_on (field u64_at (is_old_or_next made.containers) bytes) _ (grant, rest) e in
+    let b = went_on (field u8_at (is_on made.nodes (container_at made.containers a.0.0)) a.0.1) _ (grant, rest) a.2 in
+    let c = went_on (field u64_at (is_next_id made.next_id) b.0.1) _ (grant, rest) b.2 in
+    let d = went_on (field u32_at is_whole c.0.1) _ (grant, rest) c.2 in
+    subst (MayGrant made) (first_of (record { container = a.0.0; pipeline = b.0.0; first = c.0.0; count = d.0.0 }) grant d.0.1 rest d.2) (record {
+      container_is = kept_ok (is_old_or_next made.containers) (length bytes) (u64_at bytes) a.0 a.1;
+      pipeline_is = kept_ok (is_on made.nodes (container_at made.containers a.0.0)) (length a.0.1) (u8_at a.0.1) b.0 b.1;
+      first_is = kept_ok (is_next_id made.next_id) (length b.0.1) (u64_at b.0.1) c.0 c.1;
+      count_is = kept_ok is_whole (length c.0.1) (u32_at c.0.1) d.0 d.1;
+    })
+
+granted_follow : (found : Option Made) (left : ℕ) (bytes rest : List ℕ) (entry : Entry) → granted_at found left bytes ≡ Ok (entry, rest) → MayFollow found entry
+unfolding granted_at
+granted_follow None left bytes rest entry e = absurd (cc e)
+granted_follow (Some made) left bytes rest entry e =
+    let a = went_on (field u8_at is_stripe bytes) _ (entry, rest) e in
+    let b = went_on (ids_at made a.0.1) _ (entry, rest) a.2 in
+    subst (MayFollow (Some made)) (first_of (Granted a.0.0 b.0.0) entry b.0.1 rest b.2) (kept_ok is_stripe (length bytes) (u8_at bytes) a.0 a.1, ids_follow made a.0.1 b.0.1 b.0.0 b.1)
+
+nodes_follow : (found : Option Made) (left : ℕ) (bytes rest : List ℕ) (entry : Entry) → nodes_at found left bytes ≡ Ok (entry, rest) → MayFollow found entry
+unfolding nodes_at
+nodes_follow (Some made) left bytes rest entry e = absurd (cc e)
+nodes_follow None left bytes rest entry e =
+    let a = went_on (field u8_at is_node_count bytes) _ (entry, rest) e in
+    subst (MayFollow None) (first_of (Nodes a.0.0) entry a.0.1 rest a.2) (kept_ok is_node_count (length bytes) (u8_at bytes) a.0 a.1)
+
+either : (b : Bool) (one other : List ℕ → Result (Entry × List ℕ) ℕ) (bytes : List ℕ) (x : Entry × List ℕ) → cond b one other bytes ≡ Ok x → (one bytes ≡ Ok x) ⊎ (other bytes ≡ Ok x)
+either true one other bytes x e = inl e
+either false one other bytes x e = inr e
+
+no_entry : (left : ℕ) (bytes : List ℕ) (x : Entry × List ℕ) → unserved left bytes ≡ Ok x → ⊥
+no_entry left bytes x e = absurd (cc e)
+
+rest_unserved : (b3 b4 b5 b6 : Bool) (left : ℕ) (bytes : List ℕ) (x : Entry × List ℕ) → cond b3 (unserved left) (cond b4 (unserved left) (cond b5 (unserved left) (cond b6 (unserved left) (λ (bytes : List ℕ). Err left)))) bytes ≡ Ok x → ⊥
+rest_unserved true b4 b5 b6 left bytes x e = no_entry left bytes x e
+rest_unserved false true b5 b6 left bytes x e = no_entry left bytes x e
+rest_unserved false false true b6 left bytes x e = no_entry left bytes x e
+rest_unserved false false false true left bytes x e = no_entry left bytes x e
+rest_unserved false false false false left bytes x e = no_entry left bytes x e
+
+abbrev rest_at : ℕ → ℕ → List ℕ → Result (Entry × List ℕ) ℕ
+rest_at left tag = cond (eqb tag 3) (unserved left) (cond (eqb tag 4) (unserved left) (cond (eqb tag 5) (unserved left) (cond (eqb tag 6) (unserved left) (λ (bytes : List ℕ). Err left))))
+
+tag_follows : (found : Option Made) (left tag : ℕ) (bytes rest : List ℕ) (entry : Entry) → cond (eqb tag 1) (nodes_at found left) (cond (eqb tag 2) (granted_at found left) (rest_at left tag)) bytes ≡ Ok (entry, rest) → MayFollow found entry
+tag_follows found left tag bytes rest entry e = elim (either (eqb tag 1) (nodes_at found left) (cond (eqb tag 2) (granted_at found left) (rest_at left tag)) bytes (entry, rest) e) [
+  | inl nodes ↦ nodes_follow found left bytes rest entry nodes
+  | inr others ↦ elim (either (eqb tag 2) (granted_at found left) (rest_at left tag) bytes (entry, rest) others) [
+    | inl granted ↦ granted_follow found left bytes rest entry granted
+    | inr none ↦ absurd (rest_unserved (eqb tag 3) (eqb tag 4) (eqb tag 5) (eqb tag 6) left bytes (entry, rest) none)
+  ]
+]
+
+entry_follows : (found : Option Made) (bytes rest : List ℕ) (entry : Entry) → entry_at found bytes ≡ Ok (entry, rest) → MayFollow found entry
+unfolding entry_at
+entry_follows found [] rest entry e = absurd (cc e)
+entry_follows found (tag ∷ bytes) rest entry e = tag_follows found (suc (length bytes)) tag bytes rest entry e
+
+whole_ok : (size : ℕ) (read : Result (Entry × List ℕ) ℕ) (entry : Entry) → whole size read ≡ Ok entry → read ≡ Ok (entry, [])
+whole_ok size (Err left) entry e = absurd (cc e)
+whole_ok size (Ok (one, [])) entry e = let same : one ≡ entry = cc e in ap (λ (x : Entry). Ok (x, [])) same
+whole_ok size (Ok (one, byte ∷ rest)) entry e = absurd (cc e)
+
+-- an entry that was read may follow
+pub body_follows : (found : Option Made) (bytes : List ℕ) (entry : Entry) → body_at found bytes ≡ Ok entry → MayFollow found entry
+body_follows found bytes entry e = entry_follows found bytes [] entry (whole_ok (length bytes) (entry_at found bytes) entry e)
+
+-- ---- what may follow is read back
+
+field_back : (bound : ℕ) (spelling : ℕ → List ℕ) (read : List ℕ → Option (ℕ × List ℕ)) (rule : ℕ → Bool) (n : ℕ) (rest : List ℕ) → IsField (λ n. n < bound) spelling read → n < bound → rule n ≡ true → field read rule (spelling n ++ rest) ≡ Ok (n, rest)
+field_back bound spelling read rule n rest is fits keeps =
+    ap (kept rule (length (spelling n ++ rest))) (is.reads_back n rest fits) ∙ ap (λ (b : Bool). cond b (Ok (n, rest)) (Err (length (spelling n ++ rest)))) keeps
+
+ids_back : (made : Made) (grant : Grant) (rest : List ℕ) → grant.container < 2 ^ 64 → grant.pipeline < 2 ^ 8 → MayGrant made grant → ids_at made (u64_bytes grant.container ++ (u8_bytes grant.pipeline ++ (u64_bytes grant.first ++ (u32_bytes grant.count ++ rest)))) ≡ Ok (grant, rest)
+unfolding ids_at
+ids_back made grant rest one two may =
+    let most : grant.first + 64 ≤ 4611686018427387904 = leb-true _ _ (and_parts _ _ may.first_is).1 in
+    let first_fits : grant.first < 2 ^ 64 = omega (arith, most) in
+    let count_is : grant.count ≡ 64 = eqb-true _ _ may.count_is in
+    let behind_count = u32_bytes grant.count ++ rest in
+    let behind_first = u64_bytes grant.first ++ behind_count in
+    let behind_pipeline = u8_bytes grant.pipeline ++ behind_first in
+    ap (λ (read : Result (ℕ × List ℕ) ℕ). goes_on read (λ (container : ℕ) (bytes : List ℕ). goes_on (field u8_at (is_on made.nodes (container_at made.containers container)) bytes) (λ (pipeline : ℕ) (bytes : List ℕ). goes_on (field u64_at (is_next_id made.next_id) bytes) (λ (first : ℕ) (bytes : List ℕ). goes_on (field u32_at is_whole bytes) (λ (count : ℕ). done (record { container = container; pipeline = pipeline; first = first; count = count }))))))
+    (field_back (2 ^ 64) u64_bytes u64_at (is_old_or_next made.containers) grant.container behind_pipeline u64_field one may.container_is)
+    ∙ (ap (λ (read : Result (ℕ × List ℕ) ℕ). goes_on read (λ (pipeline : ℕ) (bytes : List ℕ). goes_on (field u64_at (is_next_id made.next_id) bytes) (λ (first : ℕ) (bytes : List ℕ). goes_on (field u32_at is_whole bytes) (λ (count : ℕ). done (record { container = grant.container; pipeline = pipeline; first = first; count = count })))))
+    (field_back (2 ^ 8) u8_bytes u8_at (is_on made.nodes (container_at made.containers grant.container)) grant.pipeline behind_first u8_field two may.pipeline_is)
+    ∙ (ap (λ (read : Result (ℕ × List ℕ) ℕ). goes_on read (λ (first : ℕ) (bytes : List ℕ). goes_on (field u32_at is_whole bytes) (λ (count : ℕ). done (record { container = grant.container; pipeline = grant.pipeline; first = first; count = count }))))
+    (field_back (2 ^ 64) u64_bytes u64_at (is_next_id made.next_id) grant.first behind_count u64_field first_fits may.first_is)
+    ∙ ap (λ (read : Result (ℕ × List ℕ) ℕ). goes_on read (λ (count : ℕ). done (record { container = grant.container; pipeline = grant.pipeline; first = grant.first; count = count })))
+    (field_back (2 ^ 32) u32_bytes u32_at is_whole grant.count rest u32_field (omega (arith, count_is)) may.count_is)))
+
+grant_rest : (grant : Grant) → grant_bytes grant ≡ u64_bytes grant.container ++ (u8_bytes grant.pipeline ++ (u64_bytes grant.first ++ (u32_bytes grant.count ++ [])))
+unfolding u64_bytes u32_bytes
+grant_rest grant = refl
+
+stripe_fits : (stripe : ℕ) → is_stripe stripe ≡ true → stripe < 2 ^ 8
+stripe_fits stripe of_stripe =
+    let below : stripe < 16 = ltb-true _ _ of_stripe in
+    omega (arith, below)
+
+-- a grant that may follow is read from its bytes
+pub grant_back : (made : Made) (stripe : ℕ) (grant : Grant) → grant.container < 2 ^ 64 → grant.pipeline < 2 ^ 8 → is_stripe stripe ≡ true → MayGrant made grant → body_at (Some made) (entry_bytes (Granted stripe grant)) ≡ Ok (Granted stripe grant)
+unfolding entry_at granted_at
+grant_back made stripe grant one two of_stripe may =
+    ap (whole (length (entry_bytes (Granted stripe grant)))) (
+    ap (λ (read : Result (ℕ × List ℕ) ℕ). goes_on read (λ (stripe : ℕ) (bytes : List ℕ). goes_on (ids_at made bytes) (λ (grant : Grant). done (Granted stripe grant))))
+    (field_back (2 ^ 8) u8_bytes u8_at is_stripe stripe (grant_bytes grant) u8_field (stripe_fits stripe of_stripe) of_stripe)
+    ∙ ap (λ (read : Result (Grant × List ℕ) ℕ). goes_on read (λ (grant : Grant). done (Granted stripe grant))) (ap (ids_at made) (grant_rest grant) ∙ ids_back made grant [] one two may))
+
+-- so is the first entry
+pub nodes_back : (count : ℕ) → count < 2 ^ 8 → is_node_count count ≡ true → body_at None (entry_bytes (Nodes count)) ≡ Ok (Nodes count)
+unfolding entry_at nodes_at
+nodes_back count fits many =
+    ap (whole (length (entry_bytes (Nodes count)))) (
+    ap (λ (read : Result (ℕ × List ℕ) ℕ). goes_on read (λ (count : ℕ). done (Nodes count)))
+    (field_back (2 ^ 8) u8_bytes u8_at is_node_count count [] u8_field fits many))
+
+-- ---- bodies one after another
+
+followed_ok : (read : Result Entry ℕ) (next : Entry → Result (Option Made) Fault) (x : Option Made) → followed_by read next ≡ Ok x → (entry : Entry) × (read ≡ Ok entry) × (next entry ≡ Ok x)
+followed_ok (Err at) next x e = absurd (cc e)
+followed_ok (Ok entry) next x e = (entry, refl, unbehind (next entry) x e)
+  where
+    unbehind : (made : Result (Option Made) Fault) (x : Option Made) → behind_one made ≡ Ok x → made ≡ Ok x
+    unbehind (Ok y) x e = e
+    unbehind (Err fault) x e = absurd (cc e)
+
+-- one body more
+pub makes_push : (found : Option Made) (bodies : List (List ℕ)) (between : Option Made) (bytes : List ℕ) (entry : Entry) → made_from found bodies ≡ Ok between → body_at between bytes ≡ Ok entry → made_from found (bodies ++ bytes ∷ []) ≡ Ok (after_entry entry between)
+unfolding made_from
+makes_push found [] between bytes entry makes reads =
+    let same : found ≡ between = cc makes in
+    subst (λ (f : Option Made). followed_by (body_at f bytes) (λ e. made_from (after_entry e f) []) ≡ Ok (after_entry entry between)) (sym same)
+    (ap (λ (read : Result Entry ℕ). followed_by read (λ e. made_from (after_entry e between) [])) reads)
+makes_push found (first ∷ bodies) between bytes entry makes reads =
+    let one = followed_ok (body_at found first) _ between makes in
+    ap (λ (read : Result Entry ℕ). followed_by read (λ e. made_from (after_entry e found) (bodies ++ bytes ∷ []))) one.1
+    ∙ ap behind_one (makes_push (after_entry one.0 found) bodies between bytes entry one.2 reads)
+
+-- behind so many good bodies stands one that is damaged
+fails_push : (found : Option Made) (bodies : List (List ℕ)) (between : Option Made) (bytes : List ℕ) (later : List (List ℕ)) (at : ℕ) → made_from found bodies ≡ Ok between → body_at between bytes ≡ Err at → made_from found (bodies ++ bytes ∷ later) ≡ Err (record { body = length bodies; at = at })
+unfolding made_from
+fails_push found [] between bytes later at makes reads =
+    let same : found ≡ between = cc makes in
+    subst (λ (f : Option Made). followed_by (body_at f bytes) (λ e. made_from (after_entry e f) later) ≡ Err (record { body = 0; at = at })) (sym same)
+    (ap (λ (read : Result Entry ℕ). followed_by read (λ e. made_from (after_entry e between) later)) reads)
+fails_push found (first ∷ bodies) between bytes later at makes reads =
+    let one = followed_ok (body_at found first) _ between makes in
+    ap (λ (read : Result Entry ℕ). followed_by read (λ e. made_from (after_entry e found) (bodies ++ bytes ∷ later))) one.1
+    ∙ ap behind_one (fails_push (after_entry one.0 found) bodies between bytes later at one.2 reads)
+
+pub none_made : Makes [] None
+unfolding made_from
+none_made = refl
+
+bodies_more : (bodies : List Body) (k : ℕ) (body : Body) → k < length bodies → body ≡ get_or bodies k body → bodies_in (take (suc k) bodies) ≡ bodies_in (take k bodies) ++ body.bytes ∷ []
+bodies_more [] k body lt it = absurd (omega (arith, lt))
+bodies_more (first ∷ bodies) zero body lt it = ap (λ (body : Body). body.bytes ∷ []) (sym it)
+bodies_more (first ∷ bodies) (suc k) body lt it = ap (λ (texts : List (List ℕ)). first.bytes ∷ texts) (bodies_more bodies k body (omega (arith, lt)) it)
+
+pub one_more_made : (bodies : List Body) (k : ℕ) (body : Body) (before after : Option Made) (entry : Entry) → k < length bodies → body ≡ get_or bodies k body → Makes (bodies_in (take k bodies)) before → body_at before body.bytes ≡ Ok entry → after ≡ after_entry entry before
+    → Makes (bodies_in (take (suc k) bodies)) after
+one_more_made bodies k body before after entry lt it so_far reads is =
+    subst (λ (texts : List (List ℕ)). Makes texts after) (sym (bodies_more bodies k body lt it))
+    (subst (λ (found : Option Made). Makes (bodies_in (take k bodies) ++ body.bytes ∷ []) found) (sym is)
+    (makes_push None (bodies_in (take k bodies)) before body.bytes entry so_far reads))
+
+bodies_split : (a : List Body) (body : Body) (b : List Body) → bodies_in (a ++ body ∷ b) ≡ bodies_in a ++ body.bytes ∷ bodies_in b
+bodies_split [] body b = refl
+bodies_split (first ∷ a) body b = ap (λ (texts : List (List ℕ)). first.bytes ∷ texts) (bodies_split a body b)
+
+so_many : (bodies : List Body) (k : ℕ) → k ≤ length bodies → length (bodies_in (take k bodies)) ≡ k
+so_many bodies zero le = refl
+so_many [] (suc k) le = absurd (omega (arith, le))
+so_many (first ∷ bodies) (suc k) le = let rest = so_many bodies k (omega (arith, le)) in omega (arith, rest)
+
+parts_at : (bodies : List Body) (k : ℕ) (d : Body) → k < length bodies → bodies ≡ take k bodies ++ get_or bodies k d ∷ drop (suc k) bodies
+parts_at [] k d lt = absurd (omega (arith, lt))
+parts_at (first ∷ bodies) zero d lt = refl
+parts_at (first ∷ bodies) (suc k) d lt = ap (λ (l : List Body). first ∷ l) (parts_at bodies k d (omega (arith, lt)))
+
+pub fails_here : (bodies : List Body) (k : ℕ) (body : Body) (before : Option Made) (at : ℕ) → k < length bodies → body ≡ get_or bodies k body → Makes (bodies_in (take k bodies)) before → body_at before body.bytes ≡ Err at → FailsAt (bodies_in bodies) k at
+fails_here bodies k body before at lt it so_far reads =
+    let parts = parts_at bodies k body lt ∙ ap (λ (other : Body). take k bodies ++ other ∷ drop (suc k) bodies) (sym it) in
+    subst (λ (texts : List (List ℕ)). FailsAt texts k at) (sym (ap bodies_in parts ∙ bodies_split (take k bodies) body (drop (suc k) bodies)))
+    (subst (λ (n : ℕ). FailsAt (bodies_in (take k bodies) ++ body.bytes ∷ bodies_in (drop (suc k) bodies)) n at) (so_many bodies k (omega (arith, lt)))
+    (fails_push None (bodies_in (take k bodies)) before body.bytes (bodies_in (drop (suc k) bodies)) at so_far reads))
+
+-- a fault lies within one of the bodies
+whole_err : (size : ℕ) (read : Result (Entry × List ℕ) ℕ) (at : ℕ) → whole size read ≡ Err at → at ≤ size
+whole_err size (Err left) at e = let is : size - left ≡ at = cc e in omega (arith, is)
+whole_err size (Ok (one, [])) at e = absurd (cc e)
+whole_err size (Ok (one, byte ∷ rest)) at e = let is : size - suc (length rest) ≡ at = cc e in omega (arith, is)
+
+followed_err : (read : Result Entry ℕ) (next : Entry → Result (Option Made) Fault) (fault : Fault) → followed_by read next ≡ Err fault
+    → ((read ≡ Err fault.at) × (fault.body ≡ 0)) ⊎ ((entry : Entry) × (read ≡ Ok entry) × ((before : Fault) × (next entry ≡ Err before) × (fault ≡ record { body = suc before.body; at = before.at })))
+followed_err (Err at) next fault e =
+    let is : ◌≡◌ {A = Fault} (record { body = 0; at = at }) fault = cc e in
+    inl (ap (λ (f : Fault). Err f.at) is, ap (λ (f : Fault). f.body) (sym is))
+followed_err (Ok entry) next fault e = inr (entry, refl, unbehind (next entry) fault e)
+  where
+    unbehind : (made : Result (Option Made) Fault) (fault : Fault) → behind_one made ≡ Err fault → (before : Fault) × (made ≡ Err before) × (fault ≡ record { body = suc before.body; at = before.at })
+    unbehind (Ok y) fault e = absurd (cc e)
+    unbehind (Err before) fault e = (before, refl, cc (sym e))
+
+pub fault_within : (bodies : List (List ℕ)) (found : Option Made) (fault : Fault) → made_from found bodies ≡ Err fault → (body : List ℕ) × (slice_get bodies fault.body ≡ Some body) × (fault.at ≤ length body)
+unfolding made_from
+fault_within [] found fault e = absurd (cc e)
+fault_within (bytes ∷ bodies) found fault e = elim (followed_err (body_at found bytes) _ fault e) [
+  | inl here ↦ (bytes, subst (λ (n : ℕ). slice_get (bytes ∷ bodies) n ≡ Some bytes) (sym here.1) refl, whole_err (length bytes) (entry_at found bytes) fault.at here.0)
+  | inr there ↦
+      let before = there.2.0 in
+      let is = there.2.2 in
+      let rest = fault_within bodies (after_entry there.0 found) before there.2.1 in
+      (rest.0, subst (λ (f : Fault). slice_get (bytes ∷ bodies) f.body ≡ Some rest.0) (sym is) rest.1, subst (λ (f : Fault). f.at ≤ length rest.0) (sym is) rest.2)
+]
+
+-- ---- no id is granted twice
+
+-- an entry behind what is made, where what stands behind it is fresh
+entry_fresh : (entry : Entry) (bodies : List (List ℕ)) (made later : Made) → MayFollow (Some made) entry → ((between : Made) → after_entry entry (Some made) ≡ Some between → AreFresh between.next_id (said_from (Some between) bodies) later.next_id)
+    → AreFresh made.next_id (said_by (Ok entry) (λ (entry : Entry). said_from (after_entry entry (Some made)) bodies)) later.next_id
+entry_fresh (Nodes count) bodies made later follows rest = absurd follows
+entry_fresh (Granted stripe grant) bodies made later follows rest =
+    let first : grant.first ≡ made.next_id = eqb-true _ _ (and_parts _ _ follows.1.first_is).0 in
+    (omega (arith, first), rest (after_grant grant made) refl)
+
+fresh_from : (bodies : List (List ℕ)) (made later : Made) → made_from (Some made) bodies ≡ Ok (Some later) → AreFresh made.next_id (said_from (Some made) bodies) later.next_id
+unfolding made_from said_from
+fresh_from [] made later e = let same : made ≡ later = cc e in omega (arith, ap (λ (m : Made). m.next_id) same)
+fresh_from (bytes ∷ bodies) made later e =
+    let one = followed_ok (body_at (Some made) bytes) _ (Some later) e in
+    subst (λ (read : Result Entry ℕ). AreFresh made.next_id (said_by read (λ (entry : Entry). said_from (after_entry entry (Some made)) bodies)) later.next_id) (sym one.1)
+    (entry_fresh one.0 bodies made later (body_follows (Some made) bytes one.0 one.1)
+    (λ between is. fresh_from bodies between later (subst (λ (f : Option Made). made_from f bodies ≡ Ok (Some later)) is one.2)))
+
+first_fresh : (entry : Entry) (bodies : List (List ℕ)) (made : Made) → MayFollow None entry → ((between : Made) → after_entry entry None ≡ Some between → AreFresh between.next_id (said_from (Some between) bodies) made.next_id)
+    → AreFresh 1 (said_by (Ok entry) (λ (entry : Entry). said_from (after_entry entry None) bodies)) made.next_id
+first_fresh (Nodes count) bodies made follows rest = rest (begun count) refl
+first_fresh (Granted stripe grant) bodies made follows rest = absurd follows
+
+pub fresh : (bodies : List (List ℕ)) (made : Made) → Makes bodies (Some made) → AreFresh 1 (grants_in bodies) made.next_id
+unfolding made_from said_from
+fresh [] made e = absurd (cc e)
+fresh (bytes ∷ bodies) made e =
+    let one = followed_ok (body_at None bytes) _ (Some made) e in
+    subst (λ (read : Result Entry ℕ). AreFresh 1 (said_by read (λ (entry : Entry). said_from (after_entry entry None) bodies)) made.next_id) (sym one.1)
+    (first_fresh one.0 bodies made (body_follows None bytes one.0 one.1)
+    (λ between is. fresh_from bodies between made (subst (λ (f : Option Made). made_from f bodies ≡ Ok (Some made)) is one.2)))
+
+-- ---- the laws, as calls state them
+
+pub one_thing : (bodies : List (List ℕ)) (found other : Option Made) → Makes bodies found → Makes bodies other → found ≡ other
+one_thing bodies found other one two = let both : ◌≡◌ {A = Result (Option Made) Fault} (Ok found) (Ok other) = sym one ∙ two in cc both
+
+pub not_both : (bodies : List (List ℕ)) (found : Option Made) (body at : ℕ) → Makes bodies found → FailsAt bodies body at → ⊥
+not_both bodies found body at makes fails = let both : ◌≡◌ {A = Result (Option Made) Fault} (Ok found) (Err (record { body = body; at = at })) = sym makes ∙ fails in absurd (cc both)
+
+pub one_fault : (bodies : List (List ℕ)) (body at other place : ℕ) → FailsAt bodies body at → FailsAt bodies other place → (body ≡ other) × (at ≡ place)
+one_fault bodies body at other place one two =
+    let both : ◌≡◌ {A = Result (Option Made) Fault} (Err (record { body = body; at = at })) (Err (record { body = other; at = place })) = sym one ∙ two in
+    let same : ◌≡◌ {A = Fault} (record { body = body; at = at }) (record { body = other; at = place }) = cc both in
+    (ap (λ (f : Fault). f.body) same, ap (λ (f : Fault). f.at) same)
+
+pub within : (bodies : List (List ℕ)) (body at : ℕ) → FailsAt bodies body at → (bytes : List ℕ) × (slice_get bodies body ≡ Some bytes) × (at ≤ length bytes)
+within bodies body at fails = fault_within bodies None (record { body = body; at = at }) fails
+
+pub first_made : (count : ℕ) → is_node_count count ≡ true → Makes (entry_bytes (Nodes count) ∷ []) (Some (begun count))
+first_made count many =
+    let most : count ≤ 16 = leb-true _ _ (and_parts _ _ many).1 in
+    let fits : count < 2 ^ 8 = omega (arith, most) in
+    makes_push None [] None (entry_bytes (Nodes count)) (Nodes count) none_made (nodes_back count fits many)
+
+pub grant_made : (bodies : List (List ℕ)) (made : Made) (stripe : ℕ) (grant : Grant) → Makes bodies (Some made) → is_stripe stripe ≡ true → MayGrant made grant → grant.container < 2 ^ 64 → grant.pipeline < 2 ^ 8
+    → Makes (bodies ++ entry_bytes (Granted stripe grant) ∷ []) (Some (after_grant grant made))
+grant_made bodies made stripe grant makes of_stripe may one two = makes_push None bodies (Some made) (entry_bytes (Granted stripe grant)) (Granted stripe grant) makes (grant_back made stripe grant one two of_stripe may)
+
+-- ---- what was made stays
+
+still_made : (bodies : List (List ℕ)) (made : Made) → made_from (Some made) bodies ≡ Ok None → ⊥
+unfolding made_from
+still_made [] made e = absurd (cc e)
+still_made (bytes ∷ bodies) made e =
+    let one = followed_ok (body_at (Some made) bytes) (λ (entry : Entry). made_from (after_entry entry (Some made)) bodies) None e in
+    of_entry one.0 (λ between is. still_made bodies between (subst (λ (f : Option Made). made_from f bodies ≡ Ok None) is one.2)) (body_follows (Some made) bytes one.0 one.1)
+  where
+    of_entry : (entry : Entry) → ((between : Made) → after_entry entry (Some made) ≡ Some between → ⊥) → MayFollow (Some made) entry → ⊥
+    of_entry (Nodes count) rest follows = follows
+    of_entry (Granted stripe grant) rest follows = rest (after_grant grant made) refl
+
+-- only no body makes nothing
+pub none_makes : (bodies : List (List ℕ)) → Makes bodies None → bodies ≡ []
+unfolding made_from
+none_makes [] e = refl
+none_makes (bytes ∷ bodies) e =
+    let one = followed_ok (body_at None bytes) (λ (entry : Entry). made_from (after_entry entry None) bodies) None e in
+    absurd (of_entry one.0 (λ between is. still_made bodies between (subst (λ (f : Option Made). made_from f bodies ≡ Ok None) is one.2)) (body_follows None bytes one.0 one.1))
+  where
+    of_entry : (entry : Entry) → ((between : Made) → after_entry entry None ≡ Some between → ⊥) → MayFollow None entry → ⊥
+    of_entry (Nodes count) rest follows = rest (begun count) refl
+    of_entry (Granted stripe grant) rest follows = follows

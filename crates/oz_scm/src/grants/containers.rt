@@ -1,0 +1,253 @@
+//! The containers that were made, in memory, and the next ids.
+
+ghost use Rattle.std.specs.Prelude.{◌≡◌, ◌⊎◌, ◌↔◌, ◌<◌, ◌≤◌, ◌+◌, ℕ, [], length, IsTrue, OnOk, IfOk, IfSome, IfNone};
+ghost use Rattle.std.specs.Prelude.{filter, nat_eq, nat_lt, not, map};
+ghost use Rattle.std.specs.List.{range_with_len};
+ghost use Rattle.oz_container.specs.declared.state.State.TheVariants.{Open};
+ghost use Rattle.oz_nodes.specs.Pipelines.{pipelines_of};
+ghost use Rattle.oz_scm.specs.declared.grants.limits.TheConstants.{GRANTED_IDS as ids, MOST_GRANTED as most};
+ghost use Rattle.oz_fields.specs.declared.block.TheConstants.{GREATEST_BLOCK_NUMBER as greatest};
+ghost use Rattle.oz_scm.specs.grants.Due.{MayTake, IsChosen, HasRoom};
+ghost use Rattle.oz_scm.specs.grants.Made.{begun, container_at, next_number, after_grant, with_container, granted_in};
+ghost use Rattle.oz_scm.specs.grants.Made.{MayGrant, is_old_or_next};
+ghost use Rattle.oz_scm.specs.grants.Steps.{IsLowestOf, IsLowered, IsSound};
+ghost use Rattle.oz_nodes.specs.declared.nodes.TheConstants.{FEWEST_NODES as fewest, MOST_NODES as most_nodes};
+
+use crate::grants::container::Container;
+use crate::grants::entry::Grant;
+use crate::grants::limits::{FIRST_ID, GRANTED_IDS, MOST_GRANTED};
+use oz_container::State;
+use oz_fields::{GREATEST_BLOCK_NUMBER, OutOfMemory};
+use oz_nodes::FEWEST_NODES;
+use std::alloc::Global;
+use std::marker::Model;
+
+/// What grants made. Beside the containers it lists those with room for a grant, so that choosing one looks at no others.
+#[derive(Drop)]
+pub struct Containers {
+    node_count: u8,
+    list: Vec<Container>,
+    next: u64,
+    roomy: Vec<u64>,
+}
+
+impl Model for Containers {
+    ghost use Rattle.std.specs.Prelude.{◌-◌, min, vec_len, vec_capacity};
+    ghost use Rattle.oz_scm.specs.grants.Steps.{View, IsSound, IsListed};
+
+    ghost Value = { View };
+
+    ghost view = { λ c. record {
+      made = record { nodes = c.node_count; containers = c.list.items; next_id = c.next; last_txn = 0 };
+      spare = min (vec_capacity c.list - vec_len c.list) (vec_capacity c.roomy - vec_len c.roomy);
+    } };
+
+    ghost invariant = { λ c. IsSound
+        (record { nodes = c.node_count; containers = c.list.items; next_id = c.next; last_txn = 0 })
+        × IsListed c.list.items c.roomy.items };
+}
+
+impl Containers {
+    /// No container yet, which takes no memory.
+    pub fn new(alloc: Global, nodes: u8) -> Containers
+        requires least { fewest ≤ nodes }
+        requires most { nodes ≤ most_nodes }
+        ensures { result.made ≡ begun nodes }
+    {
+        Containers {
+            node_count: nodes,
+            list: Vec::new(alloc),
+            next: FIRST_ID,
+            roomy: Vec::new(alloc),
+        }
+    }
+
+    /// How many datanodes there are.
+    pub fn nodes(&self) -> u8
+        ensures count { result ≡ self.now.made.nodes }
+        ensures least { fewest ≤ result }
+        ensures most { result ≤ most_nodes }
+    {
+        self.node_count
+    }
+
+    /// How many pipelines the datanodes make.
+    pub fn pipelines(&self) -> u8
+        ensures { result ≡ pipelines_of self.now.made.nodes }
+    {
+        if self.node_count == FEWEST_NODES {
+            1
+        } else {
+            self.node_count
+        }
+    }
+
+    /// The id of the next block that is granted.
+    pub fn next_id(&self) -> u64
+        ensures { result ≡ self.now.made.next_id }
+    {
+        self.next
+    }
+
+    /// The number of the next container that is made.
+    pub fn next_number(&self) -> u64
+        ensures { result ≡ next_number self.now.made.containers }
+    {
+        self.list.len() as u64 + 1
+    }
+
+    /// The container of a number, None where it wasn't made.
+    pub fn get(&self, number: u64) -> Option<Container>
+        ensures found { result ≡ container_at self.now.made.containers number }
+        ensures pipeline { IfSome result (λ container. container.pipeline < pipelines_of self.now.made.nodes) }
+    {
+        if number == 0 {
+            return None;
+        }
+        self.list.get(number as usize - 1).copied()
+    }
+
+    /// The containers with their numbers, in their order.
+    pub fn all(&self, alloc: Global) -> Result<Vec<(u64, Container)>, OutOfMemory>
+        ensures numbers { IfOk result (λ all.
+            map (λ (one : ℕ × Container). one.0) all.items ≡ range_with_len 1 (length self.now.made.containers)) }
+        ensures containers { IfOk result (λ all.
+            map (λ (one : ℕ × Container). one.1) all.items ≡ self.now.made.containers) }
+    {
+        let mut all = Vec::with_capacity(alloc, self.list.len())?;
+        for (place, container) in self.list.iter().enumerate() {
+            all.push((place as u64 + 1, *container))?;
+        }
+        Ok(all)
+    }
+
+    /// The container in which ids are granted on a pipeline.
+    pub fn choose(&self, pipeline: u8, excluded: &[u64]) -> u64
+        ensures { IsChosen self.now.made.containers pipeline excluded.now result }
+    {
+        match self.lowest(pipeline, excluded) {
+            Some(number) => number,
+            None => self.next_number(),
+        }
+    }
+
+    /// The lowest container that may take a grant.
+    fn lowest(&self, pipeline: u8, excluded: &[u64]) -> Option<u64>
+        ensures found { IfSome result (λ number. MayTake self.now.made.containers pipeline excluded.now number
+            × ((lower : ℕ) → lower < number → ¬ MayTake self.now.made.containers pipeline excluded.now lower)) }
+        ensures none { IfNone result ((any : ℕ) → ¬ MayTake self.now.made.containers pipeline excluded.now any) }
+    {
+        self.lowest_of(&self.roomy, pipeline, excluded)
+    }
+
+    fn lowest_of(&self, numbers: &[u64], pipeline: u8, excluded: &[u64]) -> Option<u64>
+        ensures { IsLowestOf (MayTake self.now.made.containers pipeline excluded.now) numbers.now result }
+    {
+        let mut lowest = None;
+        for (place, number) in numbers.iter().enumerate() {
+            lowest = self.lower(lowest, *number, pipeline, excluded);
+        }
+        lowest
+    }
+
+    /// The lowest so far and one more.
+    fn lower(&self, lowest: Option<u64>, number: u64, pipeline: u8, excluded: &[u64]) -> Option<u64>
+        ensures { IsLowered (MayTake self.now.made.containers pipeline excluded.now) lowest number result }
+    {
+        if !self.may_take(number, pipeline, excluded) {
+            return lowest;
+        }
+        match lowest {
+            Some(lowest) if lowest < number => Some(lowest),
+            _ => Some(number),
+        }
+    }
+
+    fn may_take(&self, number: u64, pipeline: u8, excluded: &[u64]) -> bool
+        ensures { IsTrue result ↔ MayTake self.now.made.containers pipeline excluded.now number }
+    {
+        let Some(container) = self.get(number) else {
+            return false;
+        };
+        if container.pipeline != pipeline {
+            return false;
+        }
+        if !has_room(container) {
+            return false;
+        }
+        !excluded.contains(&number)
+    }
+
+    /// Makes room for one container more. It stands for the same.
+    pub fn reserve(&mut self, _alloc: Global) -> Result<(), OutOfMemory>
+        ensures room { OnOk result (1 ≤ self.new.spare) }
+        ensures same { self.new.made ≡ self.old.made }
+    {
+        self.list.reserve(1)?;
+        self.roomy.reserve(1)
+    }
+
+    /// Grants ids, without taking memory.
+    pub fn grant(&mut self, grant: &Grant)
+        requires room { 1 ≤ self.old.spare }
+        requires next { MayGrant self.old.made grant.now }
+        ensures { self.new.made ≡ after_grant grant.now self.old.made }
+    {
+        let old = self.get(grant.container);
+        let container = granted(old, grant);
+        self.next = grant.first + grant.count as u64;
+        match old {
+            Some(_) => {
+                self.list[grant.container as usize - 1] = container;
+                if !has_room(container) {
+                    forget(&mut self.roomy, grant.container);
+                }
+            }
+            None => {
+                self.list.push(container).unwrap();
+                self.roomy.push(grant.container).unwrap();
+            }
+        }
+    }
+}
+
+/// A container after a grant, which makes it where it isn't there.
+fn granted(container: Option<Container>, grant: &Grant) -> Container
+    requires { IfSome container (λ container. container.granted < greatest) }
+    ensures { result ≡ granted_in container grant.now.pipeline grant.now.count }
+{
+    match container {
+        Some(container) => Container {
+            granted: container.granted + grant.count as u64,
+            ..container
+        },
+        None => Container {
+            pipeline: grant.pipeline,
+            state: State::Open,
+            granted: grant.count as u64,
+        },
+    }
+}
+
+fn has_room(container: Container) -> bool
+    ensures { IsTrue result ↔ ((container.state ≡ Open) × (container.granted ≤ most)) }
+{
+    match container.state {
+        State::Open => container.granted <= MOST_GRANTED,
+        State::Closing | State::QuasiClosed | State::Closed | State::Deleting | State::Deleted =>
+            false,
+    }
+}
+
+fn forget(numbers: &mut Vec<u64>, number: u64)
+    ensures { numbers.new.items ≡ filter (λ other. not (nat_eq other number)) numbers.old.items }
+{
+    numbers.retain(|other| *other != number);
+}
+
+/// Whether no more ids can be granted from this one on.
+pub fn are_ids_spent(next: u64) -> bool
+    ensures { result ≡ nat_lt greatest (next + ids) }
+{
+    next > GREATEST_BLOCK_NUMBER - GRANTED_IDS as u64
+}

@@ -1,0 +1,169 @@
+//! An entry, read over what those before it made. Each call gives what it read and the bytes behind it.
+
+ghost use Rattle.std.specs.Prelude.{◌≡◌, ◌+◌, length};
+ghost use Rattle.oz_fields.specs.Number.{u8_at, u32_at, u64_at};
+ghost use Rattle.oz_scm.specs.grants.Made.{container_at, is_node_count as node_count_rule, is_stripe, is_old_or_next};
+ghost use Rattle.oz_scm.specs.grants.Made.{is_on, is_next_id, is_whole};
+ghost use Rattle.oz_scm.specs.grants.Reading.{field, nodes_at, ids_at, granted_at, entry_at};
+ghost use Rattle.oz_scm.specs.grants.Steps.{ReadsAs, made_in};
+
+use crate::grants::container::Container;
+use crate::grants::containers::{Containers, are_ids_spent};
+use crate::grants::entry::{Entry, Grant};
+use crate::grants::fault::BadField;
+use crate::grants::limits::GRANTED_IDS;
+use oz_fields::Reader;
+use oz_names::STRIPES;
+use oz_nodes::{FEWEST_NODES, MOST_NODES};
+
+/// The entry that the front of the bytes spells, and the bytes behind it.
+#[tactic(auto, unfolding(crate::specs::grants::Reading::entry_at))]
+pub(crate) fn entry_of<'b>(
+    found: &Option<Containers>,
+    bytes: &'b [u8],
+) -> Result<(Entry, &'b [u8]), BadField>
+    ensures { ReadsAs (λ x. (x.0, x.1.now)) result (entry_at (made_in found.now) bytes.now) }
+{
+    let [tag, rest @ ..] = bytes else {
+        return Err(BadField { left: 0 });
+    };
+    match *tag {
+        1 => nodes_of(found, rest),
+        2 => granted_of(found, rest),
+        _ => Err(BadField { left: bytes.len() }),
+    }
+}
+
+/// How many datanodes there are, behind the tag.
+#[tactic(auto, unfolding(crate::specs::grants::Reading::nodes_at))]
+fn nodes_of<'b>(found: &Option<Containers>, bytes: &'b [u8]) -> Result<(Entry, &'b [u8]), BadField>
+    ensures { ReadsAs (λ x. (x.0, x.1.now)) result (nodes_at (made_in found.now) (length bytes.now + 1) bytes.now) }
+{
+    if found.is_some() {
+        return Err(BadField {
+            left: bytes.len() + 1,
+        });
+    }
+    let (count, rest) = node_count_of(bytes)?;
+    Ok((Entry::Nodes { count }, rest))
+}
+
+fn node_count_of(bytes: &[u8]) -> Result<(u8, &[u8]), BadField>
+    ensures { ReadsAs (λ x. (x.0, x.1.now)) result (field u8_at node_count_rule bytes.now) }
+{
+    let mut reader = Reader::new(bytes);
+    match reader.u8() {
+        Some(count) if count >= FEWEST_NODES && count as usize <= MOST_NODES => {
+            Ok((count, &bytes[reader.at()..]))
+        }
+        _ => Err(BadField { left: bytes.len() }),
+    }
+}
+
+/// A grant, behind the tag.
+#[tactic(auto, unfolding(crate::specs::grants::Reading::granted_at))]
+fn granted_of<'b>(
+    found: &Option<Containers>,
+    bytes: &'b [u8],
+) -> Result<(Entry, &'b [u8]), BadField>
+    ensures { ReadsAs (λ x. (x.0, x.1.now)) result (granted_at (made_in found.now) (length bytes.now + 1) bytes.now) }
+{
+    let Some(containers) = found else {
+        return Err(BadField {
+            left: bytes.len() + 1,
+        });
+    };
+    let (stripe, rest) = stripe_of(bytes)?;
+    let (grant, rest) = ids_of(containers, rest)?;
+    Ok((Entry::Granted { stripe, grant }, rest))
+}
+
+fn stripe_of(bytes: &[u8]) -> Result<(u8, &[u8]), BadField>
+    ensures { ReadsAs (λ x. (x.0, x.1.now)) result (field u8_at is_stripe bytes.now) }
+{
+    let mut reader = Reader::new(bytes);
+    match reader.u8() {
+        Some(stripe) if stripe < STRIPES => Ok((stripe, &bytes[reader.at()..])),
+        _ => Err(BadField { left: bytes.len() }),
+    }
+}
+
+#[tactic(auto, unfolding(crate::specs::grants::Reading::ids_at))]
+fn ids_of<'b>(containers: &Containers, bytes: &'b [u8]) -> Result<(Grant, &'b [u8]), BadField>
+    ensures { ReadsAs (λ x. (x.0, x.1.now)) result (ids_at containers.now.made bytes.now) }
+{
+    let (container, rest) = number_of(containers, bytes)?;
+    let (pipeline, rest) = pipeline_of(containers, container, rest)?;
+    let (first, rest) = first_of(containers, rest)?;
+    let (count, rest) = count_of(rest)?;
+    Ok((
+        Grant {
+            container,
+            pipeline,
+            first,
+            count,
+        },
+        rest,
+    ))
+}
+
+/// The number of a container that is there, or of the next.
+fn number_of<'b>(containers: &Containers, bytes: &'b [u8]) -> Result<(u64, &'b [u8]), BadField>
+    ensures { ReadsAs (λ x. (x.0, x.1.now)) result (field u64_at (is_old_or_next containers.now.made.containers) bytes.now) }
+{
+    let mut reader = Reader::new(bytes);
+    match reader.u64() {
+        Some(number) if number >= 1 && number <= containers.next_number() => {
+            Ok((number, &bytes[reader.at()..]))
+        }
+        _ => Err(BadField { left: bytes.len() }),
+    }
+}
+
+fn pipeline_of<'b>(
+    containers: &Containers,
+    number: u64,
+    bytes: &'b [u8],
+) -> Result<(u8, &'b [u8]), BadField>
+    ensures { ReadsAs (λ x. (x.0, x.1.now)) result
+        (field u8_at (is_on containers.now.made.nodes (container_at containers.now.made.containers number)) bytes.now) }
+{
+    let mut reader = Reader::new(bytes);
+    match reader.u8() {
+        Some(pipeline) if is_pipeline_of(containers, containers.get(number), pipeline) => {
+            Ok((pipeline, &bytes[reader.at()..]))
+        }
+        _ => Err(BadField { left: bytes.len() }),
+    }
+}
+
+fn is_pipeline_of(containers: &Containers, container: Option<Container>, pipeline: u8) -> bool
+    ensures { result ≡ is_on containers.now.made.nodes container pipeline }
+{
+    match container {
+        Some(container) => pipeline == container.pipeline,
+        None => pipeline < containers.pipelines(),
+    }
+}
+
+fn first_of<'b>(containers: &Containers, bytes: &'b [u8]) -> Result<(u64, &'b [u8]), BadField>
+    ensures { ReadsAs (λ x. (x.0, x.1.now)) result (field u64_at (is_next_id containers.now.made.next_id) bytes.now) }
+{
+    let mut reader = Reader::new(bytes);
+    match reader.u64() {
+        Some(first) if first == containers.next_id() && !are_ids_spent(first) => {
+            Ok((first, &bytes[reader.at()..]))
+        }
+        _ => Err(BadField { left: bytes.len() }),
+    }
+}
+
+fn count_of(bytes: &[u8]) -> Result<(u32, &[u8]), BadField>
+    ensures { ReadsAs (λ x. (x.0, x.1.now)) result (field u32_at is_whole bytes.now) }
+{
+    let mut reader = Reader::new(bytes);
+    match reader.u32() {
+        Some(count) if count == GRANTED_IDS => Ok((count, &bytes[reader.at()..])),
+        _ => Err(BadField { left: bytes.len() }),
+    }
+}

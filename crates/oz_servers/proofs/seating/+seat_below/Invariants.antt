@@ -1,5 +1,0 @@
-use Rattle.oz_servers.proofs.seating.+seat_below.Given as goal
-
--- one fewer each time
-abbrev pub decreases-seat_below : goal.decreases-seat_below
-decreases-seat_below g l = l.count

@@ -1,9 +1,0 @@
-//! The servers of a run, which all workers share, and what they are made of.
-#![tactic(auto)]
-
-mod lists;
-mod parting;
-mod seating;
-mod servers;
-
-pub use servers::{Parts, Servers};

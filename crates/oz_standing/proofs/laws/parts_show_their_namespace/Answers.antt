@@ -1,5 +1,0 @@
-use Rattle.oz_standing.proofs.Shown.{shows}
-use Rattle.oz_standing.proofs.laws.parts_show_their_namespace.Goals as goal
-
-pub returns : goal.returns
-returns c = λ all parts namespace are stands. shows all parts are namespace stands

@@ -1,5 +1,0 @@
-use Rattle.oz_standing.proofs.Walking.{Walked}
-use Rattle.oz_standing.proofs.volumes.put_from.Given as goal
-
-abbrev pub invariant-loop : goal.invariant-loop
-invariant-loop l = Walked l.tables.rows l.fn.made l.made l.last

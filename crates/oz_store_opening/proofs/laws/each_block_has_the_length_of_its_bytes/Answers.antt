@@ -1,9 +1,0 @@
-use Rattle.oz_world.specs.Disk.{seen}
-use Rattle.oz_store_opening.specs.laws.Lengths.{lengths_of_bytes}
-use Rattle.oz_store_opening.proofs.laws.each_block_has_the_length_of_its_bytes.Goals as goal
-
-pub returns : goal.returns
-returns g c all unseated namespace made disks nodes block dn count content tell are agree gives is =
-    lengths_of_bytes (λ (d : g.row.D.Denot). seen (g.D.Disk.told d) (g.D.Disk.clock d) (g.D.Disk.image d) (g.D.Disk.faults d))
-    (λ bytes one stands. c.blocks_have_slots_of_their_own.ensures.made stands.0 one stands.2)
-    all unseated namespace made disks nodes tell are agree block dn count content gives is

@@ -1,5 +1,0 @@
-use Rattle.oz_striped.specs.laws.Stories.{share_of_seen}
-use Rattle.oz_striped.proofs.events.a_share_stays_where_others_decide.Goals as goal
-
-pub returns : goal.returns
-returns c = λ stripe opening story seen more part legal parts own of. share_of_seen stripe opening story seen more part legal parts own of

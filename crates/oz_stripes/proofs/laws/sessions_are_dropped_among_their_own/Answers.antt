@@ -1,5 +1,0 @@
-use Rattle.oz_stripes.specs.laws.Changes.{sessions_drop_alike}
-use Rattle.oz_stripes.proofs.laws.sessions_are_dropped_among_their_own.Goals as goal
-
-pub returns : goal.returns
-returns c = λ part all volume bucket rise has apart. sessions_drop_alike part volume bucket has all rise apart

@@ -1,3 +1,0 @@
-mod Exact
-mod OptionsLemmas
-mod WordsLemmas

@@ -1,8 +1,0 @@
-use Rattle.oz_words.proofs.Exact.{one_run}
-use Rattle.oz_words.proofs.laws.words_are_one_run.Goals as goal
-
-pub returns-clause-nodes : goal.returns-clause-nodes
-returns-clause-nodes c words nodes workers others more run other = (one_run words nodes workers others more run other).0
-
-pub returns-clause-workers : goal.returns-clause-workers
-returns-clause-workers c words nodes workers others more run other = (one_run words nodes workers others more run other).1

@@ -1,5 +1,0 @@
-use Rattle.oz_words.proofs.Exact.{run_has_no_fault}
-use Rattle.oz_words.proofs.laws.words_of_a_run_have_no_fault.Goals as goal
-
-pub returns : goal.returns
-returns c = run_has_no_fault

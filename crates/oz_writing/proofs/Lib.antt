@@ -1,2 +1,0 @@
-mod Seated
-mod Standing

@@ -1,7 +1,0 @@
-//! Tests of telling, over one thread.
-#![tactic(auto)]
-
-#[cfg(test)]
-mod lines;
-#[cfg(test)]
-mod store;

@@ -55,12 +55,12 @@ fault_and_script None text line cause is wrong script = absurd (cc is)
 fault_and_script (Some other) text line cause is wrong script = absurd (cc (one_answer (take script_limit other) (Err (At line cause)) (Ok script.0) wrong script.1))
 
 -- what was loaded of a disk that tells its bytes
-loads_of : (told : Option (List ℕ)) (bodies : List (List ℕ)) (unseated : UnseatedView) → IsLoaded bodies unseated → IfSome told (λ bytes. IsJournal bytes bodies) → IfSome told IsLoadedOf
+pub loads_of : (told : Option (List ℕ)) (bodies : List (List ℕ)) (unseated : UnseatedView) → IsLoaded bodies unseated → IfSome told (λ bytes. IsJournal bytes bodies) → IfSome told IsLoadedOf
 loads_of None bodies unseated loaded journal = tt
 loads_of (Some bytes) bodies unseated loaded journal = (bodies, journal, (unseated, loaded))
 
 -- where the status is Disk a node has halted
-halted_one : (status : Status) (story : List Event) → status ≡ ends.Disk → StatusNamesHalts status story → (node : Node) × (halt_of node story ≢ None)
+pub halted_one : (status : Status) (story : List Event) → status ≡ ends.Disk → StatusNamesHalts status story → (node : Node) × (halt_of node story ≢ None)
 halted_one status story is halts = subst (λ (s : Status). StatusNamesHalts s story) is halts
 
 module _ (one : OneThing) (run_has_no_fault : (words : List (List ℕ)) (place : ℕ) → IsRun words → IsFirstFault words place → ⊥) where

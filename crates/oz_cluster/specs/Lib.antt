@@ -6,3 +6,4 @@ pub mod Wrong
 pub mod Headline
 pub mod StatusCauses
 pub mod Unwritten
+pub mod files

@@ -1,4 +1,4 @@
--- What reading a script takes.
+-- What reading a text takes.
 use Rattle.std.specs.Prelude.{◌≡◌, ℕ, ◌+◌, ◌≤◌, List, drop, Option}
 use Rattle.std.specs.Option.{option_map}
 use Rattle.oz_script.specs.declared.draft.drafting.TheConstants.{MOST_BYTES}
@@ -13,6 +13,10 @@ pub record TakesUpTo (most : ℕ) (before after : Option (List ℕ)) : Type 0 wh
   pub within : count ≤ most
   pub rest : after ≡ option_map (drop count) before
 
--- what was left was read to its end, or to the limit
+-- what was left was read to its end, or so many bytes of it
+abbrev pub IsReadUpTo : ℕ → Option (List ℕ) → Option (List ℕ) → Type 0
+IsReadUpTo limit before after = after ≡ option_map (drop limit) before
+
+-- the same of a script
 abbrev pub IsReadThrough : Option (List ℕ) → Option (List ℕ) → Type 0
-IsReadThrough before after = after ≡ option_map (drop script_limit) before
+IsReadThrough before after = IsReadUpTo script_limit before after

@@ -1,4 +1,4 @@
--- What is written in place of a report where the work didn't begin.
+-- What is written where the work didn't begin: in place of a report, or of what a transfer does.
 use Rattle.std.specs.Prelude.{ℕ, List, ◌++◌, codes, decimal}
 use Rattle.oz_running.specs.Printed.{memory_fault}
 use Rattle.oz_running.specs.disk_name.DiskName.{DiskName}
@@ -33,3 +33,7 @@ store_text store.OutOfMemory = memory_fault
 -- the script couldn't be read
 abbrev pub read_fault : List ℕ
 read_fault = codes "read fault\n"
+
+-- the bytes of a put are more than it takes
+abbrev pub too_long : List ℕ
+too_long = codes "longer than 1048576 bytes\n"

@@ -11,14 +11,17 @@ ghost use Rattle.oz_nodes.specs.declared.nodes.TheConstants.{FEWEST_NODES, MOST_
 ghost use Rattle.oz_cluster.specs.Streams.{script_limit, TakesUpTo, IsReadThrough};
 ghost use Rattle.oz_command.specs.command_line.Words.{IsRun, IsRunWith};
 
-use crate::streams::{ReadFault, read_script, write_all};
+use crate::streams::{ReadFault, read_up_to, write_all};
 use crate::texts;
 use oz_command::{Words, read_words};
 use oz_fields::OutOfMemory;
 use oz_running::{Status, StoreFault};
-use oz_script::{Cause, Script, ScriptFault, parse};
+use oz_script::{Cause, MOST_BYTES, Script, ScriptFault, parse};
 use oz_world::{Sink, Source};
 use std::alloc::Global;
+
+/// One byte more than a script may have.
+const SCRIPT_LIMIT: usize = MOST_BYTES + 1;
 
 /// What stops a run before its work.
 #[derive(Clone, Copy, Debug, PartialEq, Eq)]
@@ -128,7 +131,7 @@ pub fn begin<S: Source>(alloc: Global, words: &[String], source: &mut S) -> Resu
         Ok(Words::Run { nodes, workers, .. }) => (nodes, workers),
         Err(place) => return Err(Stop::Words { place }),
     };
-    let text = match read_script(alloc, source) {
+    let text = match read_up_to(alloc, source, SCRIPT_LIMIT) {
         Ok(text) => text,
         Err(ReadFault::Failed) => return Err(Stop::Read),
         Err(ReadFault::OutOfMemory) => return Err(Stop::OutOfMemory),

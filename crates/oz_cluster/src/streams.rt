@@ -1,24 +1,20 @@
-//! Reading the script, and writing the report.
+//! Reading a text to its end, and writing one.
 
 ghost use Rattle.std.specs.Prelude.{◌≡◌, ◌≤◌, ◌<◌, ◌+◌, ◌↔◌, ◌++◌, [], ℕ, List, length, take, drop, OnOk, OnErr, IfOk};
 ghost use Rattle.std.specs.Prelude.{IfSome, IsErrOf};
 ghost use Rattle.std.specs.Option.{option_map};
 ghost use Rattle.oz_world.specs.Faults.{Rose, HasCause};
-ghost use Rattle.oz_cluster.specs.Streams.{IsReadThrough, TakesUpTo, script_limit};
+ghost use Rattle.oz_cluster.specs.Streams.{IsReadUpTo, TakesUpTo};
 ghost use Rattle.oz_running.specs.Printed.{HoldsPrefix};
 
 use oz_fields::OutOfMemory;
-use oz_script::MOST_BYTES;
 use oz_world::{Failed, Sink, Source};
 use std::alloc::Global;
-
-/// One byte more than a script may have.
-const SCRIPT_LIMIT: usize = MOST_BYTES + 1;
 
 /// How much is read at once.
 const PIECE: usize = 65_536;
 
-/// Why a script wasn't read.
+/// Why a text wasn't read.
 #[derive(Clone, Copy, Debug, PartialEq, Eq)]
 pub enum ReadFault {
     Failed,
@@ -58,24 +54,24 @@ fn read_more<S: Source>(
     Ok(count)
 }
 
-/// Reads a source to its end, or as far as a script may go and one byte more, through a room.
+/// Reads a source to its end, or so many bytes of it, through a room.
 fn read_through<S: Source>(
     alloc: Global,
     source: &mut S,
+    limit: usize,
     room: &mut [u8],
 ) -> Result<Vec<u8>, ReadFault>
     requires { 0 < length room.old }
-    ensures bytes { IfOk result (λ text.
-        IfSome (S.left source.old) (λ rest. text.items ≡ take script_limit rest)) }
-    ensures size { IfOk result (λ text. length text.items ≤ script_limit) }
-    ensures through { IfOk result (λ _. IsReadThrough (S.left source.old) (S.left source.new)) }
-    ensures taken { TakesUpTo script_limit (S.left source.old) (S.left source.new) }
+    ensures bytes { IfOk result (λ text. IfSome (S.left source.old) (λ rest. text.items ≡ take limit rest)) }
+    ensures size { IfOk result (λ text. length text.items ≤ limit) }
+    ensures through { IfOk result (λ _. IsReadUpTo limit (S.left source.old) (S.left source.new)) }
+    ensures taken { TakesUpTo limit (S.left source.old) (S.left source.new) }
     ensures cause { IsErrOf result ReadFault.Failed → Rose (S.faults source.old) (S.faults source.new) }
     ensures never_falls { S.faults source.old ≤ S.faults source.new }
 {
     let mut text = Vec::new(alloc);
-    while text.len() < SCRIPT_LIMIT {
-        let size = room.len().min(SCRIPT_LIMIT - text.len());
+    while text.len() < limit {
+        let size = room.len().min(limit - text.len());
         let count = match read_more(source, &mut room[..size], &mut text) {
             Ok(count) => count,
             Err(fault) => return Err(fault),
@@ -87,20 +83,23 @@ fn read_through<S: Source>(
     Ok(text)
 }
 
-/// Reads a source to its end, or as far as a script may go and one byte more.
-pub fn read_script<S: Source>(alloc: Global, source: &mut S) -> Result<Vec<u8>, ReadFault>
-    ensures bytes { IfOk result (λ text.
-        IfSome (S.left source.old) (λ rest. text.items ≡ take script_limit rest)) }
-    ensures size { IfOk result (λ text. length text.items ≤ script_limit) }
-    ensures through { IfOk result (λ _. IsReadThrough (S.left source.old) (S.left source.new)) }
-    ensures taken { TakesUpTo script_limit (S.left source.old) (S.left source.new) }
+/// Reads a source to its end, or so many bytes of it.
+pub fn read_up_to<S: Source>(
+    alloc: Global,
+    source: &mut S,
+    limit: usize,
+) -> Result<Vec<u8>, ReadFault>
+    ensures bytes { IfOk result (λ text. IfSome (S.left source.old) (λ rest. text.items ≡ take limit rest)) }
+    ensures size { IfOk result (λ text. length text.items ≤ limit) }
+    ensures through { IfOk result (λ _. IsReadUpTo limit (S.left source.old) (S.left source.new)) }
+    ensures taken { TakesUpTo limit (S.left source.old) (S.left source.new) }
     ensures cause { IsErrOf result ReadFault.Failed → Rose (S.faults source.old) (S.faults source.new) }
     ensures never_falls { S.faults source.old ≤ S.faults source.new }
 {
     let Ok(mut room) = zeros(alloc, PIECE) else {
         return Err(ReadFault::OutOfMemory);
     };
-    read_through(alloc, source, &mut room)
+    read_through(alloc, source, limit, &mut room)
 }
 
 /// Writes all the bytes.

@@ -1,8 +1,8 @@
-//! The texts that a run writes where its work didn't begin, or no memory is found.
+//! The texts of a run or a transfer whose work didn't begin, or that finds no memory.
 
 ghost use Rattle.std.specs.Prelude.{◌≡◌, IfOk};
 ghost use Rattle.std.specs.String.{string_bytes};
-ghost use Rattle.oz_cluster.specs.Texts.{disk_text, read_fault, script_fault, store_text as text_of_fault, words_fault};
+ghost use Rattle.oz_cluster.specs.Texts.{disk_text, read_fault, script_fault, too_long, store_text as text_of_fault, words_fault};
 ghost use Rattle.oz_running.specs.Printed.{memory_fault};
 
 use oz_fields::OutOfMemory;
@@ -62,6 +62,13 @@ pub fn read_fault_text() -> &'static str
     ensures { result.now ≡ read_fault }
 {
     "read fault\n"
+}
+
+/// The bytes of a put are more than it takes.
+pub fn too_long_text() -> &'static str
+    ensures { result.now ≡ too_long }
+{
+    "longer than 1048576 bytes\n"
 }
 
 /// No memory was found before the work, or for the report.

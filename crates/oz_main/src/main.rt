@@ -5,22 +5,19 @@ ghost use Rattle.std.specs.Prelude.{◌≡◌, ◌≤◌, ℕ, map, vec_len};
 ghost use Rattle.std.specs.String.{string_bytes};
 ghost use Rattle.oz_command.specs.command_line.Words.{IsRun, IsRunWith};
 
-mod arguments;
-mod file_disk;
 mod folder;
-mod streams;
 
-use file_disk::FileDisk;
-use folder::{disks_for, let_go};
-use oz_cluster::{Disks, Ended, Status, run};
+use folder::disks_for;
 use oz_command::words_of_a_run_have_no_fault;
+use oz_host::{
+    Disks, Ended, Status, StdinSource, WriterSink, let_go, run, take_closed_streams, words_given,
+};
 use oz_world::{Disk, OpenGate};
 use std::alloc::Global;
 use std::io::{Stdin, Stdout};
 use std::process::ExitCode;
 use std::sync::Wait;
 use std::thread::Threads;
-use streams::{StdinSource, StdoutSink, take_closed_streams};
 
 const HELP: &str = "usage: ozone run DIR [--nodes N] [--workers N]
 Runs the script on standard input over the disks in the folder DIR, and prints the report.
@@ -49,7 +46,7 @@ fn serve<D: Disk + Drop + Send, R: Threads + Wait + Sync>(
 {
     words_of_a_run_have_no_fault();
     let mut source = StdinSource::new(stdin);
-    let mut out = StdoutSink::new(stdout);
+    let mut out = WriterSink::new(stdout);
     let Ended {
         status,
         story: _,
@@ -67,15 +64,15 @@ fn no_memory() -> u8
 
 /// Answers the two words that stand alone, and runs all others over the disks in the folder that they name.
 fn main(rt: HostRuntime) -> ExitCode {
-    let Ok(words) = arguments::words(&rt, rt.alloc()) else {
+    let Ok(words) = words_given(&rt, rt.alloc()) else {
         return ExitCode::from(no_memory());
     };
     match &words[..] {
         [word] if word.as_str() == "--help" => {
-            return ExitCode::from(StdoutSink::new(rt.stdout()).tell(HELP));
+            return ExitCode::from(WriterSink::new(rt.stdout()).tell(HELP));
         }
         [word] if word.as_str() == "--version" => {
-            return ExitCode::from(StdoutSink::new(rt.stdout()).tell(VERSION));
+            return ExitCode::from(WriterSink::new(rt.stdout()).tell(VERSION));
         }
         _ => {}
     }

@@ -1,6 +1,5 @@
 use Rattle.std.proofs.Common.{◌+◌, ◌∙◌, ◌≡◌, ap, sym, subst, arith, length, length-take, drop, take, IfSome, ℕ}
 use Rattle.std.specs.Option.{option_map}
-use Rattle.oz_cluster.specs.Streams.{script_limit}
 use Rattle.oz_cluster.proofs.Reading.{read_left, read_prefix, read_end, read_to_end}
 use Rattle.oz_cluster.proofs.streams.read_through.Goals as goal
 
@@ -26,18 +25,18 @@ loop-text-preserved g c =
 
 pub returns-then-count-eq0-clause-bytes : goal.returns-then-count-eq0-clause-bytes
 returns-then-count-eq0-clause-bytes g c =
-    read_end _ _ c.loop-text.text.items c.read_more.new.text.items c.in-Ok.count script_limit c.loop-text.invariant.left c.loop-text.invariant.bytes c.in-Ok.ensures.bytes c.in-Ok.ensures.end c.if-count-eq0.true c.loop-text.invariant.size
+    read_end _ _ c.loop-text.text.items c.read_more.new.text.items c.in-Ok.count c.args.limit c.loop-text.invariant.left c.loop-text.invariant.bytes c.in-Ok.ensures.bytes c.in-Ok.ensures.end c.if-count-eq0.true c.loop-text.invariant.size
 
 pub returns-clause-bytes : goal.returns-clause-bytes
 returns-clause-bytes g c =
-    let full : length c.loop-text.text.items ≡ script_limit = omega (arith, c.loop-text-test.false, c.len.ensures, c.loop-text.text.ok.0, c.loop-text.invariant.size) in
+    let full : length c.loop-text.text.items ≡ c.args.limit = omega (arith, c.loop-text-test.false, c.len.ensures, c.loop-text.text.ok.0, c.loop-text.invariant.size) in
     subst (λ (n : ℕ). IfSome (g.S.Source.left c.args.source.now) (λ rest. c.loop-text.text.items ≡ take n rest)) full c.loop-text.invariant.bytes
 
 pub returns-then-count-eq0-clause-through : goal.returns-then-count-eq0-clause-through
 returns-then-count-eq0-clause-through g c =
-    read_to_end _ _ _ (length c.loop-text.text.items) c.in-Ok.count script_limit c.loop-text.invariant.left c.in-Ok.ensures.end c.if-count-eq0.true c.in-Ok.ensures.left c.loop-text.invariant.size
+    read_to_end _ _ _ (length c.loop-text.text.items) c.in-Ok.count c.args.limit c.loop-text.invariant.left c.in-Ok.ensures.end c.if-count-eq0.true c.in-Ok.ensures.left c.loop-text.invariant.size
 
 pub returns-clause-through : goal.returns-clause-through
 returns-clause-through g c =
-    let full : length c.loop-text.text.items ≡ script_limit = omega (arith, c.loop-text-test.false, c.len.ensures, c.loop-text.text.ok.0, c.loop-text.invariant.size) in
+    let full : length c.loop-text.text.items ≡ c.args.limit = omega (arith, c.loop-text-test.false, c.len.ensures, c.loop-text.text.ok.0, c.loop-text.invariant.size) in
     c.loop-text.invariant.left ∙ ap (λ (n : ℕ). option_map (drop n) (g.S.Source.left c.args.source.now)) full

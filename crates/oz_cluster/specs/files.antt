@@ -1,0 +1,13 @@
+pub mod Words
+pub mod Asked
+pub mod Reading
+pub mod Telling
+pub mod Outcomes
+pub mod Streams
+pub mod Given
+pub mod Stopped
+pub mod Endings
+pub mod Finding
+pub mod Answers
+pub mod Transfers
+pub mod Causes

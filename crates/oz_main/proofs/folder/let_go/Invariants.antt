@@ -1,4 +1,0 @@
-use Rattle.oz_main.proofs.folder.let_go.Given as goal
-
-abbrev pub decreases-loop-nodes : goal.decreases-loop-nodes
-decreases-loop-nodes g l = l.nodes.len

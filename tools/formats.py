@@ -549,10 +549,10 @@ class Datanode:
         return {"entry": "transaction", "container": container, "transaction": transaction, "blocks": blocks}
 
     def drop(self, fields):
-        container = fields.long("a container")
+        is_empty = lambda value: all(container != value for container, _ in self.blocks)
+        container = fields.number(8, "a container of which no block is held", is_empty)
         fields.end()
         self.states[container] = DELETED
-        self.take_away([it for it in self.blocks if it[0] == container])
         return {"entry": "drop", "container": container}
 
     def take_away(self, blocks):

@@ -177,9 +177,9 @@ impl<D: Disk> Blocks<D> {
         Ok(slots)
     }
 
-    /// Drops a replica: it is deleted, and its blocks are gone. Whoever calls this has seen that it holds none, since
-    /// the slots of such blocks aren't handed back.
+    /// Drops a replica, which holds no block: it is deleted.
     pub fn drop_container(&mut self, alloc: Global, container: u64) -> Result<(), BlockFault>
+        requires { MayFollow (node_in self.old) (entries.Drop container) }
         ensures { Changes (entries.Drop container) self.old self.new
             (seen (D.told self.old.disk) (D.clock self.old.disk) (D.image self.old.disk) (D.faults self.old.disk))
             (seen (D.told self.new.disk) (D.clock self.new.disk) (D.image self.new.disk) (D.faults self.new.disk))

@@ -87,6 +87,7 @@ pub(crate) fn plan_drop(
     held: &mut Held,
     container: u64,
 ) -> Result<Vec<u8>, OutOfMemory>
+    requires { MayFollow (node_of held.old) (entries.Drop container) }
     ensures same { node_of held.new ≡ node_of held.old }
     ensures room { OnOk result (IsNamed held.new container) }
     ensures frame { IfOk result (λ frame. IsFrameOf (entries.Drop container) frame.items) }

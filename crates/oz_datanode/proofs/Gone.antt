@@ -1,12 +1,12 @@
 -- What is left in use once blocks are gone.
-use Rattle.std.proofs.Common.{◌≡◌, ℕ, ◌<◌, eqb, Bool, true, false, cond, ◌||◌, ◌&&◌, List, [], ◌∷◌, Option, None, Some, is_some, IfSome, refl, sym, ap, subst, ◌∙◌, eqb-true, eq-eqb}
+use Rattle.std.proofs.Common.{◌≡◌, ℕ, ◌<◌, eqb, Bool, true, false, cond, ◌||◌, ◌&&◌, List, [], ◌∷◌, Option, None, Some, is_some, IfSome, refl, sym, ap, subst, ◌∙◌}
 use Rattle.std.proofs.lemmas.Bool.{false≢true}
 use Rattle.oz_chunk.specs.Slots.{IsWithin}
 use Rattle.oz_chunk.specs.Taken.{is_taken}
-use Rattle.oz_entries.specs.declared.row.BlockRow.{BlockRow}
 use Rattle.oz_entries.specs.declared.row.Chunk.{Chunk}
-use Rattle.oz_entries.specs.Held.{any_in, belongs_to, row_has, IsSound, is_freed}
+use Rattle.oz_entries.specs.Held.{any_in, IsSound, is_freed}
 use Rattle.oz_entries.specs.Node.{Node, HaveFreeSlots, or_slot, or_slots, is_used, is_held, is_in, unless_gone}
+use Rattle.oz_entries.specs.laws.Drops.{is_theirs, nobody}
 use Rattle.oz_entries.specs.laws.Sound.{free_slot}
 use Rattle.oz_fields.specs.declared.block.Block.{Block}
 use Rattle.oz_block.specs.declared.shelf.written.Written.{Written}
@@ -82,24 +82,8 @@ left_in_use is_gone (Some block) small = by (is_gone block)
 
 -- no slot is that of a block of a replica that holds none
 pub none_freed : (container : ℕ) (node : Node) → IsSound node → ((slot : ℕ) → is_used node slot ≡ true → slot < 16384) → ((local : ℕ) → is_held node (record { container = container; local = local }) ≡ false) → (slot : ℕ) → is_freed (is_in container) (node.users slot) ≡ false
-none_freed container node sound small none slot = by (node.users slot) refl
+none_freed container node sound small none slot = same (node.users slot) ∙ nobody container node sound none slot
   where
-    not_there : (block : Block) (row : Option BlockRow) → row ≡ node.rows block → container ≡ block.container → is_some row ≡ false
-    not_there block row is same = ap is_some is ∙ (ap (λ (c : ℕ). is_held node (record { container = c; local = block.local })) (sym same) ∙ none block.local)
-
-    nothing : (row : Option BlockRow) → is_some row ≡ false → row_has row slot ≡ false
-    nothing None is = refl
-    nothing (Some row) is = absurd (false≢true (sym is))
-
-    owns : (block : Block) → belongs_to (Some block) block ≡ true
-    owns block = ap (λ (b : Bool). b && eqb block.local block.local) (eq-eqb block.container block.container refl) ∙ eq-eqb block.local block.local refl
-
-    by : (user : Option Block) → user ≡ node.users slot → is_freed (is_in container) user ≡ false
-    by None is = refl
-    by (Some block) is = apart (eqb container block.container) refl
-      where
-        apart : (b : Bool) → b ≡ eqb container block.container → b ≡ false
-        apart false e = refl
-        apart true e =
-            let has : row_has (node.rows block) slot ≡ true = sym (sound slot block) ∙ (ap (λ (u : Option Block). belongs_to u block) (sym is) ∙ owns block) in
-            sym has ∙ nothing (node.rows block) (not_there block (node.rows block) refl (eqb-true container block.container (sym e)))
+    same : (user : Option Block) → is_freed (is_in container) user ≡ is_theirs container user
+    same None = refl
+    same (Some block) = refl

@@ -1,4 +1,5 @@
 pub mod HeldEdits
+pub mod Looking
 pub mod Loop
 pub mod MapEdits
 pub mod SlotLists

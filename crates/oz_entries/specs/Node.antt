@@ -1,7 +1,8 @@
 -- What a datanode holds, what an entry makes of it, and which entries may follow.
-use Rattle.std.specs.Prelude.{◌≡◌, ℕ, ◌+◌, ◌-◌, ◌/◌, ◌^◌, ◌<◌, ◌≤◌, ◌==◌, nat_lt, max, Bool, true, false, ◌&&◌, ◌||◌}
+use Rattle.std.specs.Prelude.{◌≡◌, ℕ, zero, suc, ◌+◌, ◌-◌, ◌/◌, ◌^◌, ◌<◌, ◌≤◌, ◌==◌, nat_lt, max, Bool, true, false, ◌&&◌, ◌||◌}
 use Rattle.std.specs.Prelude.{List, [], ◌∷◌, length, Option, None, Some, is_some, if◌then◌else◌}
 use Rattle.std.specs.List.{list_any, AllByRecursion}
+use Rattle.std.specs.Option.{option_map_or}
 use Rattle.oz_chunk.specs.declared.table.TheConstants.{SLOTS, SLOT_SIZE}
 use Rattle.oz_container.specs.declared.state.State.{State}
 use Rattle.oz_container.specs.declared.state.State.TheVariants as states
@@ -67,6 +68,16 @@ names_held node txn = list_any (λ local. is_held node (record { container = txn
 
 abbrev pub is_in : ℕ → Block → Bool
 is_in container block = container == block.container
+
+-- a block of the container uses one of the slots below this one
+unfoldable pub uses_below : (ℕ → Option Block) → ℕ → ℕ → Bool
+uses_below users container zero = false
+uses_below users container (suc slot) =
+    option_map_or (is_in container) (users slot) false || uses_below users container slot
+
+-- a block of the container uses a slot
+abbrev pub uses_a_slot : Node → ℕ → Bool
+uses_a_slot node container = uses_below node.users container SLOTS
 
 -- what is left of what stands for a block, where some blocks go
 abbrev pub unless_gone : (Block → Bool) → Option Block → Option Block
@@ -142,7 +153,8 @@ pub record RowFits (used : ℕ → Bool) (row : BlockRow) : Type 0 where
 
 -- A put: the block isn't held, the replica isn't deleted, and no other block uses a slot of the row. A transaction: it
 -- has a number and as many blocks as one may have, and its number is above the greatest of its container, or it names a
--- block that is held. The states of replicas may follow each other in any way, and each replica may be dropped.
+-- block that is held. The states of replicas may follow each other in any way. A drop: no block of the replica uses a
+-- slot, so none is held.
 abbrev pub MayFollow : Node → Entry → Type 0
 MayFollow node (Put block row) =
     IsBlock block × (is_deleted (node.states block.container) ≡ false) × (is_held node block ≡ false)
@@ -152,4 +164,4 @@ MayFollow node (Apply txn) =
     (txn.container < 2 ^ 64) × (1 ≤ txn.number) × (txn.number < 2 ^ 64)
     × (1 ≤ length txn.locals) × (length txn.locals ≤ MOST_LOCALS) × AllByRecursion (λ local. local < 2 ^ 64) txn.locals
     × ((nat_lt (node.greatest txn.container) txn.number || names_held node txn) ≡ true)
-MayFollow node (Drop container) = container < 2 ^ 64
+MayFollow node (Drop container) = (container < 2 ^ 64) × (uses_a_slot node container ≡ false)

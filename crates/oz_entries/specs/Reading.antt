@@ -14,7 +14,7 @@ use Rattle.oz_entries.specs.declared.row.Chunk.{Chunk}
 use Rattle.oz_entries.specs.declared.row.BlockRow.{BlockRow}
 use Rattle.oz_entries.specs.declared.entry.Entry.{Entry}
 use Rattle.oz_entries.specs.declared.entry.Entry.TheVariants.{Put, SetState, Apply, Drop}
-use Rattle.oz_entries.specs.Node.{Node, is_deleted, is_held, is_used, names_held, chunk_count, or_slots}
+use Rattle.oz_entries.specs.Node.{Node, is_deleted, is_held, is_used, uses_a_slot, names_held, chunk_count, or_slots}
 
 -- 32 bytes
 unfoldable pub digest_at : List ℕ → Option (List ℕ × List ℕ)
@@ -121,9 +121,13 @@ apply_at node = do
   txn ← due_at node container
   done (Apply txn)
 
-unfoldable pub dropped_at : List ℕ → Result (Entry × List ℕ) ℕ
-dropped_at = do
-  container ← owner_at
+-- a container no block of which uses a slot
+unfoldable pub emptied_at : Node → List ℕ → Result (ℕ × List ℕ) ℕ
+emptied_at node bytes = field u64_at (λ n. not (uses_a_slot node n)) bytes
+
+unfoldable pub dropped_at : Node → List ℕ → Result (Entry × List ℕ) ℕ
+dropped_at node = do
+  container ← emptied_at node
   done (Drop container)
 
 -- the fields of an entry, nothing where there is no such entry
@@ -132,7 +136,7 @@ entry_of_tag_at node left tag =
     if tag == 1 then put_at node
     else (if tag == 2 then set_state_at
     else (if tag == 3 then apply_at node
-    else (if tag == 4 then dropped_at else (λ bytes. Err left))))
+    else (if tag == 4 then dropped_at node else (λ bytes. Err left))))
 
 unfoldable pub entry_at : Node → List ℕ → Result (Entry × List ℕ) ℕ
 entry_at node [] = Err 0

@@ -5,7 +5,7 @@ ghost use Rattle.std.specs.Prelude.{None, option_copied, IfOk, OnOk, if◌then�
 ghost use Rattle.std.specs.List.Sorted.{IsStrictlyIncreasing};
 ghost use Rattle.oz_chunk.specs.declared.table.TheConstants.{SLOTS as SLOT_COUNT};
 ghost use Rattle.oz_entries.specs.Node.{empty_node, is_held, is_used, is_same_block, is_in, without, with_row};
-ghost use Rattle.oz_entries.specs.Node.{with_state, with_number, names_some, HaveFreeSlots};
+ghost use Rattle.oz_entries.specs.Node.{uses_a_slot, with_state, with_number, names_some, HaveFreeSlots};
 ghost use Rattle.oz_entries.specs.Held.{node_of, AreSame, IsSound, IsNamed, HasRoom, is_freed};
 
 use crate::maps::{
@@ -13,7 +13,9 @@ use crate::maps::{
 };
 use crate::replica::Replica;
 use crate::row::BlockRow;
-use crate::users::{no_users, release_all, release_container, release_row, slots_of, take_slots};
+use crate::users::{
+    no_users, release_all, release_container, release_row, slots_of, take_slots, uses_one,
+};
 use oz_container::State;
 use oz_fields::{Block, OutOfMemory};
 use std::alloc::Global;
@@ -89,6 +91,13 @@ impl Held {
             Some(user) => user.is_some(),
             None => false,
         }
+    }
+
+    /// Whether a block of the container uses a slot.
+    pub(crate) fn uses_a_slot(&self, container: u64) -> bool
+        ensures { result ≡ uses_a_slot (node_of self.now) container }
+    {
+        uses_one(&self.users, container)
     }
 
     /// The rows in the order of their blocks, None where there is only room for one.

@@ -1,12 +1,13 @@
 //! What holds of all entries.
 
-ghost use Rattle.std.specs.Prelude.{◌≡◌, ◌≤◌, ◌++◌, ◌∷◌, [], ℕ, List, Ok, Some, length, slice_get};
+ghost use Rattle.std.specs.Prelude.{◌≡◌, ◌↔◌, ◌≤◌, ◌<◌, ◌^◌, false, ◌++◌, ◌∷◌, [], ℕ, List, Ok, Some, length, slice_get};
 ghost use Rattle.oz_fields.specs.Field.{AreBytes};
 ghost use Rattle.oz_entries.specs.declared.entry.Entry.{Entry as AnyEntry};
+ghost use Rattle.oz_entries.specs.declared.entry.Entry.TheVariants as entries;
 ghost use Rattle.oz_entries.specs.Build.{Makes, FailsAt};
 ghost use Rattle.oz_entries.specs.Held.{IsSound};
 ghost use Rattle.oz_entries.specs.Entries.{entry_bytes};
-ghost use Rattle.oz_entries.specs.Node.{Node, MayFollow, after_entry};
+ghost use Rattle.oz_entries.specs.Node.{Node, MayFollow, after_entry, is_held};
 ghost use Rattle.oz_entries.specs.Reading.{entry_at};
 
 /// An entry that may follow is read, whatever stands behind it; and what is read is an entry that may follow, in its
@@ -40,4 +41,11 @@ pub fn an_entry_is_one_body_more()
 /// A slot is in use where a block that is held has it in its row, and belongs to that block alone.
 pub fn each_slot_belongs_to_one_block()
     ensures { (bodies : List (List ℕ)) (node : Node) → Makes bodies node → IsSound node }
+{}
+
+/// A replica may be dropped where none of its blocks is held, and nowhere else.
+pub fn what_is_dropped_holds_nothing()
+    ensures { (bodies : List (List ℕ)) (node : Node) (container : ℕ) → Makes bodies node → container < 2 ^ 64 →
+        MayFollow node (entries.Drop container)
+        ↔ ((local : ℕ) → is_held node (record { container = container; local = local }) ≡ false) }
 {}

@@ -20,7 +20,7 @@ pub use fault::BuildFault;
 pub use held::Held;
 pub use laws::{
     an_entry_has_one_spelling, an_entry_is_one_body_more, bodies_make_one_node,
-    each_slot_belongs_to_one_block,
+    each_slot_belongs_to_one_block, what_is_dropped_holds_nothing,
 };
 pub use replica::Replica;
 pub use row::{BlockRow, Chunk};

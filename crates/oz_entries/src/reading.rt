@@ -5,10 +5,11 @@ ghost use Rattle.oz_rows.specs.Reading.{ReadGives, field, owner_at, number_at, l
 ghost use Rattle.std.specs.List.{list_any};
 ghost use Rattle.oz_fields.specs.Number.{u16_at};
 ghost use Rattle.oz_entries.specs.Held.{node_of, any_in};
-ghost use Rattle.oz_entries.specs.Node.{is_used, is_held, is_deleted, or_slots};
+ghost use Rattle.oz_entries.specs.Node.{is_used, is_held, is_deleted, uses_a_slot, or_slots};
 ghost use Rattle.oz_entries.specs.Reading.{digest_at, slot_at, chunk_at, each_at, next_chunk_at, count_at, row_at};
 ghost use Rattle.oz_entries.specs.Reading.{container_at, local_at, new_block_at, put_at, state_at, set_state_at};
-ghost use Rattle.oz_entries.specs.Reading.{locals_at, numbered_at, is_due, due_at, apply_at, dropped_at, entry_at};
+ghost use Rattle.oz_entries.specs.Reading.{locals_at, numbered_at, is_due, due_at, apply_at, emptied_at, dropped_at};
+ghost use Rattle.oz_entries.specs.Reading.{entry_at};
 
 use crate::entry::Entry;
 use crate::held::Held;
@@ -36,7 +37,7 @@ pub(crate) fn entry_of<'b>(
         1 => put_of(alloc, held, rest),
         2 => set_state_of(rest),
         3 => apply_of(alloc, held, rest),
-        4 => drop_of(rest),
+        4 => drop_of(held, rest),
         _ => Err(ReadFault::Left(bytes.len())),
     }
 }
@@ -366,9 +367,23 @@ fn so_many_locals(alloc: Global, count: u16, bytes: &[u8]) -> Result<(Vec<u64>, 
 }
 
 #[tactic(auto, unfolding(crate::specs::Reading::dropped_at))]
-fn drop_of(bytes: &[u8]) -> Result<(Entry, &[u8]), ReadFault>
-    ensures { ReadGives (λ x. (x.0, x.1.now)) result (dropped_at bytes.now) }
+fn drop_of<'b>(held: &Held, bytes: &'b [u8]) -> Result<(Entry, &'b [u8]), ReadFault>
+    ensures { ReadGives (λ x. (x.0, x.1.now)) result (dropped_at (node_of held.now) bytes.now) }
 {
-    let (container, rest) = u64_of(bytes)?;
+    let (container, rest) = emptied_of(held, bytes)?;
     Ok((Entry::Drop { container }, rest))
+}
+
+/// A container no block of which uses a slot.
+#[tactic(auto, unfolding(crate::specs::Reading::emptied_at))]
+fn emptied_of<'b>(held: &Held, bytes: &'b [u8]) -> Result<(u64, &'b [u8]), ReadFault>
+    ensures { ReadGives (λ x. (x.0, x.1.now)) result (emptied_at (node_of held.now) bytes.now) }
+{
+    let mut reader = Reader::new(bytes);
+    match reader.u64() {
+        Some(container) if !held.uses_a_slot(container) => {
+            Ok((container, &bytes[reader.at()..]))
+        }
+        _ => Err(ReadFault::Left(bytes.len())),
+    }
 }

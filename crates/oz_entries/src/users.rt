@@ -3,9 +3,10 @@
 ghost use Rattle.std.specs.Prelude.{◌≡◌, ◌↔◌, ◌<◌, ◌≤◌, ◌==◌, ◌++◌, ◌∷◌, [], ℕ, None, Some, false, length, IfOk, OnOk};
 ghost use Rattle.std.specs.Prelude.{IsTrue, Contains, if◌then◌else◌};
 ghost use Rattle.std.specs.List.{list_any};
+ghost use Rattle.std.specs.Option.{option_map_or};
 ghost use Rattle.std.specs.List.Sorted.{IsStrictlyIncreasing};
 ghost use Rattle.oz_entries.specs.Held.{user_of, any_in, row_has, is_freed as is_user_freed};
-ghost use Rattle.oz_entries.specs.Node.{unless_gone, is_in, names_some};
+ghost use Rattle.oz_entries.specs.Node.{unless_gone, is_in, names_some, uses_below};
 
 use crate::row::{BlockRow, Chunk};
 use oz_chunk::SLOTS;
@@ -141,6 +142,27 @@ fn kept_user(user: Option<Block>, container: u64) -> Option<Block>
     match user {
         Some(block) if block.container == container => None,
         _ => user,
+    }
+}
+
+/// Whether a block of the container uses one of the slots.
+pub(crate) fn uses_one(users: &[Option<Block>], container: u64) -> bool
+    ensures { result ≡ uses_below (user_of users.now) container (length users.now) }
+{
+    for slot in 0..users.len() {
+        if is_of(user_at(users, slot), container) {
+            return true;
+        }
+    }
+    false
+}
+
+fn is_of(user: Option<Block>, container: u64) -> bool
+    ensures { result ≡ option_map_or (is_in container) user false }
+{
+    match user {
+        Some(block) => container == block.container,
+        None => false,
     }
 }
 

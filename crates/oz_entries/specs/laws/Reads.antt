@@ -21,8 +21,8 @@ use Rattle.oz_entries.specs.declared.row.BlockRow.{BlockRow}
 use Rattle.oz_entries.specs.declared.entry.Entry.{Entry}
 use Rattle.oz_entries.specs.declared.entry.Entry.TheVariants.{Put, SetState, Apply, Drop}
 use Rattle.oz_entries.specs.Entries.{entry_bytes, row_bytes, chunk_bytes, chunks_bytes, locals_bytes, state_number}
-use Rattle.oz_entries.specs.Node.{Node, is_deleted, is_held, is_used, or_slot, or_slots, HaveFreeSlots, RowFits, MayFollow, chunk_count}
-use Rattle.oz_entries.specs.Reading.{digest_at, slot_at, chunk_at, each_at, next_chunk_at, count_at, row_at, container_at, local_at, new_block_at, put_at, state_of, state_at, set_state_at, locals_at, numbered_at, checked, is_due, due_at, apply_at, dropped_at, entry_of_tag_at, entry_at}
+use Rattle.oz_entries.specs.Node.{Node, is_deleted, is_held, is_used, uses_a_slot, or_slot, or_slots, HaveFreeSlots, RowFits, MayFollow, chunk_count}
+use Rattle.oz_entries.specs.Reading.{digest_at, slot_at, chunk_at, each_at, next_chunk_at, count_at, row_at, container_at, local_at, new_block_at, put_at, state_of, state_at, set_state_at, locals_at, numbered_at, checked, is_due, due_at, apply_at, emptied_at, dropped_at, entry_of_tag_at, entry_at}
 
 opposite : (b : Bool) → not b ≡ true → b ≡ false
 opposite true e = absurd (false≢true e)
@@ -336,17 +336,27 @@ unfolding apply_at
 apply_backs node txn fits = backs_as (simp (append_assoc, append-nil))
     (backs_then _ txn.container owner_reads fits.0 (backs_then _ txn (due_reads node txn.container) ((refl, (fits.1, fits.2), (fits.3, fits.4, fits.5)), fits.6) backs_done))
 
-drop_finds : (node : Node) → Finds (MayFollow node) entry_bytes (4 ∷ []) dropped_at
-unfolding dropped_at
-drop_finds node = finds_then owner_reads (λ container container-fits. finds_done container-fits refl)
+abbrev EmptiedFits : Node → ℕ → Type 0
+EmptiedFits node n = (n < 2 ^ 64) × (uses_a_slot node n ≡ false)
 
-drop_backs : (container : ℕ) → container < 2 ^ 64 → Backs dropped_at (u64_bytes container) (Drop container)
+emptied_reads : (node : Node) → IsRead (EmptiedFits node) u64_bytes (emptied_at node)
+unfolding emptied_at
+emptied_reads node = fits_as (λ n. (n < 2 ^ 64) × (not (uses_a_slot node n) ≡ true)) (EmptiedFits node) u64_bytes (emptied_at node)
+    (λ n fits. (fits.0, opposite (uses_a_slot node n) fits.1))
+    (λ n is. (is.0, negated (uses_a_slot node n) is.1))
+    (field_reads (λ n. n < 2 ^ 64) u64_bytes u64_at (λ n. not (uses_a_slot node n)) u64_field)
+
+drop_finds : (node : Node) → Finds (MayFollow node) entry_bytes (4 ∷ []) (dropped_at node)
 unfolding dropped_at
-drop_backs container fits = backs_as (append-nil (u64_bytes container)) (backs_then _ container owner_reads fits backs_done)
+drop_finds node = finds_then (emptied_reads node) (λ container container-fits. finds_done container-fits refl)
+
+drop_backs : (node : Node) (container : ℕ) → MayFollow node (Drop container) → Backs (dropped_at node) (u64_bytes container) (Drop container)
+unfolding dropped_at
+drop_backs node container fits = backs_as (append-nil (u64_bytes container)) (backs_then _ container (emptied_reads node) fits backs_done)
 
 entry_of_tag_finds : (node : Node) (left tag : ℕ) → Finds (MayFollow node) entry_bytes (tag ∷ []) (entry_of_tag_at node left tag)
 entry_of_tag_finds node left tag =
-    finds_either (eqb tag 1) (λ is. subst (λ (k : ℕ). Finds (MayFollow node) entry_bytes (k ∷ []) (put_at node)) (sym (eqb-true tag 1 is)) (put_finds node)) (λ _. finds_either (eqb tag 2) (λ is. subst (λ (k : ℕ). Finds (MayFollow node) entry_bytes (k ∷ []) set_state_at) (sym (eqb-true tag 2 is)) (set_state_finds node)) (λ _. finds_either (eqb tag 3) (λ is. subst (λ (k : ℕ). Finds (MayFollow node) entry_bytes (k ∷ []) (apply_at node)) (sym (eqb-true tag 3 is)) (apply_finds node)) (λ _. finds_either (eqb tag 4) (λ is. subst (λ (k : ℕ). Finds (MayFollow node) entry_bytes (k ∷ []) dropped_at) (sym (eqb-true tag 4 is)) (drop_finds node)) (λ _. finds_none))))
+    finds_either (eqb tag 1) (λ is. subst (λ (k : ℕ). Finds (MayFollow node) entry_bytes (k ∷ []) (put_at node)) (sym (eqb-true tag 1 is)) (put_finds node)) (λ _. finds_either (eqb tag 2) (λ is. subst (λ (k : ℕ). Finds (MayFollow node) entry_bytes (k ∷ []) set_state_at) (sym (eqb-true tag 2 is)) (set_state_finds node)) (λ _. finds_either (eqb tag 3) (λ is. subst (λ (k : ℕ). Finds (MayFollow node) entry_bytes (k ∷ []) (apply_at node)) (sym (eqb-true tag 3 is)) (apply_finds node)) (λ _. finds_either (eqb tag 4) (λ is. subst (λ (k : ℕ). Finds (MayFollow node) entry_bytes (k ∷ []) (dropped_at node)) (sym (eqb-true tag 4 is)) (drop_finds node)) (λ _. finds_none))))
 
 entry_found : (node : Node) (bytes : List ℕ) (entry : Entry) (rest : List ℕ) → AreBytes bytes → entry_at node bytes ≡ Ok (entry, rest) → MayFollow node entry × (bytes ≡ entry_bytes entry ++ rest)
 unfolding entry_at
@@ -358,7 +368,7 @@ unfolding entry_at
 entry_back node (Put block row) rest fits = (put_backs node block row fits).back rest
 entry_back node (SetState container state) rest fits = (set_state_backs container state fits).back rest
 entry_back node (Apply txn) rest fits = (apply_backs node txn fits).back rest
-entry_back node (Drop container) rest fits = (drop_backs container fits).back rest
+entry_back node (Drop container) rest fits = (drop_backs node container fits).back rest
 
 -- an entry over what was held before it
 pub entry_reads : (node : Node) → IsRead (MayFollow node) entry_bytes (entry_at node)

@@ -3,6 +3,7 @@ use Rattle.std.proofs.lemmas.Bool.{false≢true}
 use Rattle.oz_block.specs.Blocks.{node_in as node_in_blocks}
 use Rattle.oz_entries.specs.declared.entry.Entry.TheVariants as entries
 use Rattle.oz_entries.specs.Node.{Node, is_in, after_entry}
+use Rattle.oz_entries.specs.laws.Drops.{unheld_drops}
 use Rattle.oz_block.specs.shelf.Shelf.{Rests}
 use Rattle.oz_world.specs.Disk.{seen}
 use Rattle.oz_datanode.specs.Steps.{is_in_use}
@@ -10,6 +11,11 @@ use Rattle.oz_datanode.proofs.Gone.{rests_freed, left_in_use, none_freed}
 use Rattle.oz_datanode.proofs.Journaling.{journal_holds, fewer_rows}
 use Rattle.oz_datanode.proofs.RunningParts.{is_running}
 use Rattle.oz_datanode.proofs.datanode.Datanode.drop_container.Goals as goal
+
+pub drop_container-requires : goal.drop_container-requires
+drop_container-requires g c =
+    let none = rw (← c.self.view_is) at c.requires in
+    unheld_drops c.args.container (node_in_blocks c.self.inside.blocks) c.uses_slots_of_rows.ensures.sound c.ranges.container.fits none
 
 pub invariant_of-self : goal.invariant_of-self
 invariant_of-self g c = λ going.

@@ -30,6 +30,7 @@ use Rattle.oz_client.specs.declared.step.Step.TheVariants as steps
 use Rattle.oz_client.specs.declared.kinds.ReplyKind.{ReplyKind}
 use Rattle.oz_client.specs.LineState.{awaited_by, is_reading, is_reply_fit, is_start, is_writing, nothing_yet, pieces_in, progress_after}
 use Rattle.oz_client.specs.Onward.{IsNext, IsOnward, IsReading}
+use Rattle.oz_client.specs.laws.Reading.{read_is_there}
 use Rattle.oz_client.specs.Replies.{has_few_pieces, is_of_kind, is_on_pipeline, kind_for, may_reply, pieces_of_reply}
 use Rattle.oz_client.specs.inner.Ready.{GoesOn, GoesOnBehind, IsReady, IsStepped, MayWrite, Waits, code_in, stepped_by}
 use Rattle.oz_client.proofs.Asked.{by-command, grants-more, has-values}
@@ -168,7 +169,7 @@ ready-read command progress piece bytes ready reading = record {
   within = ready.within;
   writing = λ granted e. absurd (none-some granted (sym reading.idle.unwritten ∙ e));
   values = ready.values;
-  read = omega (arith, length-append progress.read (bytes ∷ []), slice_get_within (pieces_in progress.came.replies) (length progress.read) piece reading.next);
+  read = omega (arith, length-append progress.read (bytes ∷ []), slice_get_within (pieces_in progress.came.replies) (length progress.read) piece (read_is_there command (pieces_in progress.came.replies) (length progress.read) piece reading.next));
   few = ready.few;
   unread = inr (record { unwritten = reading.idle.unwritten; no_step = reading.idle.no_step });
 }

@@ -11,7 +11,7 @@ use Rattle.oz_core.specs.declared.event.Event.{Event}
 use Rattle.oz_core.specs.declared.opening.Opening.{Opening}
 use Rattle.oz_core.specs.Asks.{replies_to}
 use Rattle.oz_core.specs.Contents.{OpeningBytes, written_for}
-use Rattle.oz_core.specs.Due.{AreContents, AreValues, IsDone, IsDue, IsNotOpen, LineIsDone, last_reply}
+use Rattle.oz_core.specs.Due.{AreContents, AreValues, IsDone, IsDue, IsNotOpen, LineIsDone, last_reply, reads_piece}
 use Rattle.oz_core.specs.Steps.{GrantedBlock, Target, commit_if, commit_step, granted_to, pieces_from, pieces_needed, session_in, target, target_of}
 use Rattle.oz_core.specs.Stories.{last_in}
 use Rattle.oz_fields.specs.declared.block.Block.{Block}
@@ -39,6 +39,7 @@ use Rattle.oz_client.specs.LineState.{label_in, label_of, pieces_in, progress_af
 use Rattle.oz_client.specs.Replies.{pieces_of_reply}
 use Rattle.oz_client.specs.Onward.{AreValuesBy, IsNext, IsOnward, IsOver, IsReading, IsToldOf, IsUnopened, IsUnread, IsWriting}
 use Rattle.oz_client.specs.Stories.{IsAt, IsBeingWritten, IsLeftEverywhere, IsStepEverywhere, IsStepIn, NoneIsIntact}
+use Rattle.oz_client.specs.laws.Reading.{read_is_there}
 use Rattle.oz_client.proofs.Lists.{last-of-more}
 
 found : {X : Type 0} (l : List X) (k : ℕ) (x : X) → slice_get l k ≡ Some x → Contains l x
@@ -84,7 +85,9 @@ of-reply (Some _) k piece e = absurd cc
 looked-up : (progress : Progress) (command : Command) (piece : Piece) → IsReading command progress piece
     → (pieces : List Piece) × (last_in progress.came.replies ≡ Some (replies.Pieces pieces))
     × (slice_get pieces (length progress.read) ≡ Some piece)
-looked-up progress command piece next = of-reply (last_in progress.came.replies) (length progress.read) piece next.next
+looked-up progress command piece next =
+    of-reply (last_in progress.came.replies) (length progress.read) piece
+    (read_is_there command (pieces_in progress.came.replies) (length progress.read) piece next.next)
 
 last-so : (o : Opening) (sc : Script) (st : List Event) (l : Line) (command : Command) (progress : Progress) (r : Reply)
     → IsOf o sc st l command progress.label progress.came → last_in progress.came.replies ≡ Some r
@@ -112,7 +115,9 @@ unread-so o b sc st l command progress step is next none =
       pieces = there.0;
       looked_up = last-so o sc st l command progress (replies.Pieces there.0) is there.1;
       piece = next.piece;
-      its = there.2;
+      its = ap (λ (c : Command). reads_piece c there.0 (length progress.read)) is.does
+          ∙ (ap (λ (ps : List Piece). reads_piece command ps (length progress.read))
+          (ap (λ (o : Option Reply). option_map_or pieces_of_reply o []) (sym there.1)) ∙ next.its.next);
       block_is = refl;
       none = intact.none;
     } in

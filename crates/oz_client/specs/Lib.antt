@@ -3,3 +3,4 @@ pub mod Replies
 pub mod Onward
 pub mod Stories
 pub mod inner
+pub mod laws

@@ -1,11 +1,11 @@
 -- The next step of a line, by what came back to it.
-use Rattle.std.specs.Prelude.{◌≡◌, ℕ, ◌*◌, List, length, slice_get, Option, None, Some, false}
+use Rattle.std.specs.Prelude.{◌≡◌, ℕ, ◌*◌, List, length, Option, None, Some, false}
 use Rattle.std.specs.List.{flat_map}
 use Rattle.oz_command.specs.declared.command.Command.{Command}
 use Rattle.oz_command.specs.declared.command.Command.TheVariants as commands
 use Rattle.oz_command.specs.declared.payload.TheConstants.{PIECE_BYTES}
 use Rattle.oz_command.specs.Payload.{data_length, piece}
-use Rattle.oz_core.specs.Due.{values_of}
+use Rattle.oz_core.specs.Due.{reads_piece, values_of}
 use Rattle.oz_core.specs.Steps.{is_code, pieces_needed}
 use Rattle.oz_core.specs.Stories.{last_in}
 use Rattle.oz_fields.specs.declared.block.Block.{Block}
@@ -46,7 +46,7 @@ pub record IsIdle (command : Command) (progress : Progress) : Type 0 where
 -- the next piece that is to be read
 pub record IsReading (command : Command) (progress : Progress) (piece : Piece) : Type 0 where
   pub idle : IsIdle command progress
-  pub next : slice_get (pieces_in progress.came.replies) (length progress.read) ≡ Some piece
+  pub next : reads_piece command (pieces_in progress.came.replies) (length progress.read) ≡ Some piece
 
 -- ---- what a line is told
 

@@ -22,7 +22,7 @@ use Rattle.oz_core.specs.declared.opening.Opening.{Opening}
 use Rattle.oz_core.specs.Asks.{ask_id, is_of_line, is_own, last_ask, replies_to, reply_to}
 use Rattle.oz_core.specs.Coherent.{BlocksAreCoherent}
 use Rattle.oz_core.specs.Contents.{OpeningBytes}
-use Rattle.oz_core.specs.Due.{IsDue}
+use Rattle.oz_core.specs.Due.{IsDue, reads_piece}
 use Rattle.oz_core.specs.Law.{DecideIsEnabled, IsNamed}
 use Rattle.oz_core.specs.Nodes.{doubts, holds, is_intact}
 use Rattle.oz_core.specs.Scm.{members}
@@ -30,6 +30,7 @@ use Rattle.oz_core.specs.Stories.{all_told, has_event, last_in}
 use Rattle.oz_client.specs.declared.progress.Progress.{Progress}
 use Rattle.oz_client.specs.LineState.{pieces_in}
 use Rattle.oz_client.specs.Onward.{IsReading}
+use Rattle.oz_client.specs.laws.Reading.{read_is_there}
 use Rattle.oz_client.specs.Replies.{pieces_of_reply}
 use Rattle.oz_client.specs.Stories.{IsAt}
 use Rattle.oz_asker.specs.laws.Asks.{legal_of_follow}
@@ -205,7 +206,8 @@ module _ (Coherent : Type 0) (opening : Opening) (bytes : OpeningBytes) (script 
   its_reply =
       let all_since = follow_before (Follows Coherent opening bytes script) story way.since story_since all in
       let at : IsAt opening bytes script way.since line command progress = way.has way.since (begins_itself way.since) all_since way.asked_so way.said_so in
-      let next = among_replied progress.came.replies (length progress.read) piece reading.next in
+      let next = among_replied progress.came.replies (length progress.read) piece
+      (read_is_there command (pieces_in progress.came.replies) (length progress.read) piece reading.next) in
       let last : last_in (replies_to line.client line.number way.since) ≡ Some (replies.Pieces next.pieces) = ap last_in at.of_line.replies ∙ next.last in
       let it = last_decided Coherent opening bytes script line.client line.number way.since way.of_client coherent all_since (replies.Pieces next.pieces) last at.decided in
       let of : IsDecidedSo opening way.since (ask_of line asked) (replies.Pieces next.pieces) =
@@ -245,14 +247,17 @@ module _ (Coherent : Type 0) (opening : Opening) (bytes : OpeningBytes) (script 
   none_intact whole last still none =
       let so = sym (step_of_last Coherent opening bytes script line.client line.number way.of_client story coherent all (ask_of line asked) last) in
       let at : IsAt opening bytes script story line command progress = way.has story story_since all so still in
-      let next = among_replied progress.came.replies (length progress.read) piece reading.next in
+      let next = among_replied progress.came.replies (length progress.read) piece
+      (read_is_there command (pieces_in progress.came.replies) (length progress.read) piece reading.next) in
       record {
         id = ask_of line asked;
         last = last;
         pieces = next.pieces;
         looked_up = ap last_in at.of_line.replies ∙ next.last;
         piece = piece;
-        its = next.its;
+        its = ap (λ (c : Command). reads_piece c next.pieces (length progress.read)) at.of_line.does
+            ∙ (ap (λ (ps : List Piece). reads_piece command ps (length progress.read))
+            (ap (λ (o : Option Reply). option_map_or pieces_of_reply o []) (sym next.last)) ∙ reading.next);
         block_is = refl;
         none = λ dn known. by dn (holds opening story dn piece.block) refl;
       }

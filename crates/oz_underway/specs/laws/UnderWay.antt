@@ -37,6 +37,7 @@ use Rattle.oz_client.specs.declared.step.Got.TheVariants as gots
 use Rattle.oz_client.specs.declared.step.Step.TheVariants as steps
 use Rattle.oz_client.specs.LineState.{nothing_yet, pieces_in, progress_after}
 use Rattle.oz_client.specs.Onward.{IsReading}
+use Rattle.oz_client.specs.laws.Reading.{read_is_there}
 use Rattle.oz_client.specs.Stories.{HasIt, IsAt, IsStepEverywhere}
 use Rattle.oz_asker.specs.Decided.{IsDecideAt}
 use Rattle.oz_buffer.specs.Buffer.{AllFollow, Follows}
@@ -372,7 +373,8 @@ module _ (Coherent : Type 0) (opening : Opening) (bytes : OpeningBytes) (script 
             record {
               of_line = at.of_line;
               decided = at.decided;
-              read = contents_more opening bytes script story (pieces_in progress.came.replies) progress.read piece content reading.next at.read
+              read = contents_more opening bytes script story (pieces_in progress.came.replies) progress.read piece content
+                  (read_is_there command (pieces_in progress.came.replies) (length progress.read) piece reading.next) at.read
                   (content_still Coherent opening bytes script numbered story later piece.block content coherent follow goes has);
             };
       }

@@ -1,10 +1,10 @@
 -- Seats that give nothing between two places of a story.
 use Rattle.std.specs.Prelude.{◌==◌, All, Contains, drop}
-use Rattle.std.proofs.Common.{◌≡◌, ◌≢◌, ⊎_elim, ◌≤◌, ℕ, Bool, true, false, List, [], ◌∷◌, ◌++◌, length, take, cond, refl, sym, ap, ◌∙◌, subst, arith, append-nil, length-append, eq-eqb}
+use Rattle.std.proofs.Common.{◌≡◌, ◌≢◌, ⊎_elim, ◌≤◌, ℕ, Bool, true, false, List, [], ◌∷◌, ◌++◌, length, take, cond, refl, sym, ap, ◌∙◌, subst, arith, append-nil, append_assoc, length-append, eq-eqb}
 use Rattle.std.proofs.lemmas.Bool.{eqb-true, false≢true}
 use Rattle.std.proofs.lemmas.List.{take-append-drop, take-append-le}
 use Rattle.std.proofs.Math.Seq.{take-append_seam}
-use Rattle.std.proofs.lemmas.List.Elements.{All-head, All-tail, Contains-append_cases, Contains-append_left, Contains-append_right, filter-append}
+use Rattle.std.proofs.lemmas.List.Elements.{All-head, All-tail, Contains-append_cases, Contains-append_left, Contains-append_right, Contains-push, filter-append}
 use Rattle.oz_core.specs.declared.event.Event.{Event}
 use Rattle.oz_turn.specs.Told.{BeginsWith, own_entries}
 use Rattle.oz_asker.specs.declared.telling.still.Still.TheVariants as rests
@@ -87,6 +87,22 @@ module _ (seat : ℕ) where
           later
           (Contains-append_cases (first ∷ []) (own story) event (subst (λ (t : Bool). Contains (cond t (first ∷ own story) (own story)) event) is there))
       by false is later = later (subst (λ (t : Bool). Contains (cond t (first ∷ own story) (own story)) event) is there)
+
+  -- what it gave last, and hadn't given by the end of a front, stands behind each place of the front
+  pub given_since : (story front : List Event) (place : ℕ) (event : Event) → BeginsWith story front → place ≤ length front
+      → own story ≡ own front ++ event ∷ [] → Contains (drop place story) event
+  given_since story front place event begins within more =
+      let early : take place story ≡ take place front = take_begins story front place begins within in
+      let whole : own story ≡ own (take place front) ++ own (drop place story) =
+      ap own (sym (take-append-drop place story))
+      ∙ (own-append (take place story) (drop place story) ∙ ap (λ (l : List Event). own l ++ own (drop place story)) early) in
+      let first : own front ≡ own (take place front) ++ own (drop place front) =
+      ap own (sym (take-append-drop place front)) ∙ own-append (take place front) (drop place front) in
+      let behind : own (drop place story) ≡ own (drop place front) ++ event ∷ [] =
+      same_rest (own (take place front)) (own (drop place story)) (own (drop place front) ++ event ∷ [])
+      (sym whole ∙ (more ∙ (ap (λ (l : List Event). l ++ event ∷ []) first ∙ append_assoc (own (take place front)) (own (drop place front)) (event ∷ [])))) in
+      own_contained (drop place story) event
+      (subst (λ (l : List Event). Contains l event) (sym behind) (Contains-push (own (drop place front)) event))
 
 pub longer : (story seen : List Event) → BeginsWith story seen → length seen ≤ length story
 longer story seen begins = omega (arith, ap length begins.1, length-append seen begins.0)

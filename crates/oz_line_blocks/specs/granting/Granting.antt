@@ -1,5 +1,5 @@
 -- What stands where a stripe is to be granted blocks for a line, and what is known where it isn't.
-use Rattle.std.specs.Prelude.{◌≡◌, ◌≢◌, ℕ, ◌≤◌, false, List, [], ◌∷◌, length, Some, Contains, IsSome}
+use Rattle.std.specs.Prelude.{◌≡◌, ◌≢◌, ℕ, ◌≤◌, false, List, [], ◌∷◌, length, drop, Some, Contains, IsSome}
 use Rattle.std.specs.FinMap.{get}
 use Rattle.oz_command.specs.declared.command.AdminCommand.TheVariants.{Drain}
 use Rattle.oz_command.specs.declared.command.Command.TheVariants.{Admin}
@@ -68,9 +68,17 @@ module _ (Coherent : Type 0) (opening : Opening) (bytes : OpeningBytes) (script 
       → FromHereOn Coherent opening bytes script seen (λ story. last_ask id.client id.line story ≡ Some id
       → AllStandStill story stills → IsDue opening bytes script story line answer)
 
-  -- What is known then: of what was granted, that a Grant to the stripe stands in the story.
+  -- A Grant to the stripe stands in the story, and where the disks agree it came behind the place.
+  pub record WasGrantedSince (place stripe : ℕ) : Type 0 where
+    pub container : ℕ
+    pub pipeline : ℕ
+    pub first : ℕ
+    pub count : ℕ
+    pub stands : Contains seen (by_scm (Grant stripe container pipeline first count))
+    pub since : Coherent → Contains (drop place seen) (by_scm (Grant stripe container pipeline first count))
+
+  -- What is known then: of what was granted, that it came since the stripe had none.
   abbrev pub IsKnownThen : ℕ → AskId → ℕ → Granting → Type 0
-  IsKnownThen place id stripe Granted =
-      (container pipeline first count : ℕ) × Contains seen (by_scm (Grant stripe container pipeline first count))
+  IsKnownThen place id stripe Granted = WasGrantedSince place stripe
   IsKnownThen place id stripe Moved = StandsStill seen (rests.Seat scm_seat place) → ⊥
   IsKnownThen place id stripe (Refused answer stills) = Coherent → IsDueWhileStill id answer stills

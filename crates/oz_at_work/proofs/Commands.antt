@@ -49,6 +49,7 @@ module _ (Coherent : Type 0) (opening : Opening) (bytes : OpeningBytes) (script 
     begun = at_work.begun;
     does = at_work.does;
     nodes = at_work.nodes;
+    opened = at_work.opened;
     said = at_work.said;
     next = record {
       fits = λ story begins all said as_said may.

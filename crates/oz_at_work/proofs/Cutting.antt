@@ -1,5 +1,5 @@
 -- A line that is told something else than its steps say.
-use Rattle.std.proofs.Common.{◌≡◌, ◌≢◌, inl, inr, ℕ, true, false, List, [], ◌∷◌, ◌++◌, None, Some, refl, sym, ap, ◌∙◌, subst, cond, ◌==◌, Bool, is_some}
+use Rattle.std.proofs.Common.{◌≡◌, ◌≢◌, inl, inr, ℕ, true, false, List, [], ◌∷◌, ◌++◌, length, None, Some, refl, sym, ap, ◌∙◌, subst, cond, ◌==◌, Bool, is_some}
 use Rattle.std.proofs.lemmas.Bool.{eqb-true, false≢true}
 use Rattle.oz_asker.specs.laws.Halts.{late_means_halted}
 use Rattle.oz_buffer.specs.Buffer.{AllFollow, Follows}
@@ -85,12 +85,13 @@ module _ (Coherent : Type 0) (opening : Opening) (bytes : OpeningBytes) (script 
 
   -- whatever comes next, a line may be told such an answer
   pub cut_fits : (seen : List Event) (work : WorkView) (asked : ℕ) (answer : Answer) → Coherent → IsOfEnd asked answer → IsStarted script seen work.line
-      → work.state.command ≡ work.line.command → work.state.progress.nodes ≡ work.nodes → WasSaid seen work.line work.said
+      → work.state.command ≡ work.line.command → work.state.progress.nodes ≡ work.nodes → work.nodes ≡ length opening.nodes → WasSaid seen work.line work.said
       → IsAtWork Coherent opening bytes script seen (cut_with work asked answer)
-  cut_fits seen work asked answer coherent of_end begun does nodes said = record {
+  cut_fits seen work asked answer coherent of_end begun does nodes opened said = record {
     begun = begun;
     does = does;
     nodes = nodes;
+    opened = opened;
     said = said;
     next = end_fits seen work.line asked _ answer coherent begun of_end;
     refusal = tt;
@@ -101,5 +102,5 @@ module _ (Coherent : Type 0) (opening : Opening) (bytes : OpeningBytes) (script 
       → IsAtWork Coherent opening bytes script seen work → IsAtWork Coherent opening bytes script later new
   cut_so later seen work new asked answer coherent begins of_end is at_work =
       subst (IsAtWork Coherent opening bytes script later) (sym is)
-      (cut_fits later work asked answer coherent of_end (begun_still script later seen work.line begins at_work.begun) at_work.does at_work.nodes
+      (cut_fits later work asked answer coherent of_end (begun_still script later seen work.line begins at_work.begun) at_work.does at_work.nodes at_work.opened
       (said_was later seen work.line work.said begins at_work.said))

@@ -151,10 +151,10 @@ module _ (Coherent : Type 0) (opening : Opening) (bytes : OpeningBytes) (script 
       let alone : HasPutAlone (progress_after work.state.progress (gots.Read (Some read))) false =
       record { no_code = fit.followed.alone.no_code; put = λ none. fit.followed.alone.put was.its.kept } in
       ⊎_elim
-      (λ stepped. stepped_works Coherent opening bytes script seen work new (gots.Read (Some read)) work.asked work.said false coherent tt begun was.at_work.does was.at_work.nodes said
+      (λ stepped. stepped_works Coherent opening bytes script seen work new (gots.Read (Some read)) work.asked work.said false coherent tt begun was.at_work.does was.at_work.nodes was.at_work.opened said
       alone.put way (λ step next tells. fit.reads.idle.unwritten) (λ step next other. alone)
       (λ step next before. unread_before work.line.command work.state.progress was.piece read step fit.reads next before) stepped)
-      (λ stopped. stopped_works Coherent opening bytes script seen work new work.asked coherent begun was.at_work.does was.at_work.nodes said stopped)
+      (λ stopped. stopped_works Coherent opening bytes script seen work new work.asked coherent begun was.at_work.does was.at_work.nodes was.at_work.opened said stopped)
       taken
 
 -- ---- nobody has it

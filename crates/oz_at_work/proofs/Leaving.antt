@@ -92,6 +92,7 @@ module _ (Coherent : Type 0) (opening : Opening) (bytes : OpeningBytes) (script 
     begun = begun_still script after seen work.line goes at_work.begun;
     does = at_work.does;
     nodes = at_work.nodes;
+    opened = at_work.opened;
     said = said_was after seen work.line work.said goes at_work.said;
     next = record {
       fits = λ story begins all said as_said may. absurd (untold_no_more story _ said _ begins may);

@@ -153,6 +153,7 @@ module _ (Coherent : Type 0) (opening : Opening) (bytes : OpeningBytes) (script 
     begun = begun_still script later seen work.line begins at_work.begun;
     does = at_work.does;
     nodes = at_work.nodes;
+    opened = at_work.opened;
     said = said_now later work.line said now;
     next = said_fit work said work.next none (next_still work work.next at_work.next);
     refusal = refusal_still work.line work.refused at_work.refusal;
@@ -163,6 +164,7 @@ module _ (Coherent : Type 0) (opening : Opening) (bytes : OpeningBytes) (script 
     begun = begun_still script later seen work.line begins at_work.begun;
     does = at_work.does;
     nodes = at_work.nodes;
+    opened = at_work.opened;
     said = said_was later seen work.line work.said begins at_work.said;
     next = next_still work work.next at_work.next;
     refusal = refusal_still work.line work.refused at_work.refusal;
@@ -206,6 +208,7 @@ module _ (Coherent : Type 0) (opening : Opening) (bytes : OpeningBytes) (script 
     begun = at_work.begun;
     does = at_work.does;
     nodes = at_work.nodes;
+    opened = at_work.opened;
     said = at_work.said;
     next = refused_fit work refused work.next at_work.next;
     refusal = fits;
@@ -227,6 +230,7 @@ module _ (Coherent : Type 0) (opening : Opening) (bytes : OpeningBytes) (script 
     begun = at_work.begun;
     does = at_work.does;
     nodes = at_work.nodes;
+    opened = at_work.opened;
     said = at_work.said;
     next = doubted_fit work doubted piece work.next is are at_work.next;
     refusal = at_work.refusal;

@@ -345,18 +345,19 @@ module _ (Coherent : Type 0) (opening : Opening) (bytes : OpeningBytes) (script 
 
   -- ---- a line begins
 
-  begin_works : (seen : List Event) (line : Line) (nodes : ℕ) (label : Option Label) (step : Step) → Coherent → MayBegin Coherent opening bytes script seen line label
+  begin_works : (seen : List Event) (line : Line) (nodes : ℕ) (label : Option Label) (step : Step) → nodes ≡ length opening.nodes → Coherent → MayBegin Coherent opening bytes script seen line label
       → AllFollow Follow [] seen
       → IsNext line.command (nothing_yet nodes label) gots.Start step → IsStepEverywhere line.command (nothing_yet nodes label) gots.Start step
       → IsAtWork Coherent opening bytes script seen
       (record { line = line; state = state_after (state_before line.command nodes label) gots.Start step; nodes = nodes; asked = 0; said = 0; next = step; is_cut = false; gave_up = false; doubted = none_doubted; refused = None })
-  begin_works seen line nodes label step coherent may all next everywhere =
+  begin_works seen line nodes label step opened coherent may all next everywhere =
       let way = begins_started Coherent opening bytes script may.begun.numbered seen line 0 line.command nodes label coherent may.begun.there all may.begun.started refl
       (may.labelled seen (begins_itself seen) all) in
       record {
         begun = may.begun;
         does = refl;
         nodes = refl;
+        opened = opened;
         said = record { before = []; goes_on = (seen, refl); so_often = refl };
         next = next_fits seen line 0 0 false (nothing_yet nodes label) gots.Start coherent may.begun tt (λ none. refl) way nodes
             (state_after (state_before line.command nodes label) gots.Start step) step refl refl (λ tells. refl)
@@ -364,19 +365,19 @@ module _ (Coherent : Type 0) (opening : Opening) (bytes : OpeningBytes) (script 
         refusal = tt;
       }
 
-  pub begin_so : (seen : List Event) (line : Line) (nodes : ℕ) (label : Option Label) (before after : LineState) (step : Step) → Coherent
+  pub begin_so : (seen : List Event) (line : Line) (nodes : ℕ) (label : Option Label) (before after : LineState) (step : Step) → nodes ≡ length opening.nodes → Coherent
       → MayBegin Coherent opening bytes script seen line label → AllFollow Follow [] seen
       → before ≡ state_before line.command nodes label → after ≡ state_after before gots.Start step
       → IsNext before.command after.progress gots.Start step → IsStepEverywhere before.command after.progress gots.Start step
       → IsAtWork Coherent opening bytes script seen
       (record { line = line; state = after; nodes = nodes; asked = 0; said = 0; next = step; is_cut = false; gave_up = false; doubted = none_doubted; refused = None })
-  begin_so seen line nodes label before after step coherent may all is_before is_after next everywhere =
+  begin_so seen line nodes label before after step opened coherent may all is_before is_after next everywhere =
       let first : after ≡ state_after (state_before line.command nodes label) gots.Start step = is_after ∙ ap (λ (s : LineState). state_after s gots.Start step) is_before in
       let command : before.command ≡ line.command = ap (λ (s : LineState). s.command) is_before in
       let progress : after.progress ≡ nothing_yet nodes label = ap (λ (s : LineState). s.progress) first in
       subst (λ (s : LineState). IsAtWork Coherent opening bytes script seen
       (record { line = line; state = s; nodes = nodes; asked = 0; said = 0; next = step; is_cut = false; gave_up = false; doubted = none_doubted; refused = None })) (sym first)
-      (begin_works seen line nodes label step coherent may all
+      (begin_works seen line nodes label step opened coherent may all
       (subst (λ (p : Progress). IsNext line.command p gots.Start step) progress (subst (λ (c : Command). IsNext c after.progress gots.Start step) command next))
       (subst (λ (p : Progress). IsStepEverywhere line.command p gots.Start step) progress
       (subst (λ (c : Command). IsStepEverywhere c after.progress gots.Start step) command everywhere)))
@@ -385,14 +386,14 @@ module _ (Coherent : Type 0) (opening : Opening) (bytes : OpeningBytes) (script 
 
   -- of a line whose progress with what came back is under way
   pub stepped_works : (seen : List Event) (before after : WorkView) (got : Got) (asked said : ℕ) (gave_up : Bool) → Coherent → IsPlain got → IsStarted script seen before.line
-      → before.state.command ≡ before.line.command → before.state.progress.nodes ≡ before.nodes → WasSaid seen before.line said
+      → before.state.command ≡ before.line.command → before.state.progress.nodes ≡ before.nodes → before.nodes ≡ length opening.nodes → WasSaid seen before.line said
       → (gave_up ≡ false → list_all has_fate_written (progress_after before.state.progress got).came.attempts ≡ true)
       → IsUnderWay Coherent opening bytes script seen before.line asked said before.line.command (progress_after before.state.progress got)
       → ((step : Step) → IsNext before.line.command (progress_after before.state.progress got) got step → IsTelling step → (progress_after before.state.progress got).came.writing ≡ None)
       → ((step : Step) → IsNext before.line.command (progress_after before.state.progress got) got step → IsNoCode step → HasPutAlone (progress_after before.state.progress got) gave_up)
       → ((step : Step) → IsNext before.line.command (progress_after before.state.progress got) got step → IsBeforeReading step → (progress_after before.state.progress got).read ≡ [])
       → HasStepped before got asked said gave_up after → IsAtWork Coherent opening bytes script seen after
-  stepped_works seen before after got asked said gave_up coherent plain begun does nodes was put way idle alone unread stepped =
+  stepped_works seen before after got asked said gave_up coherent plain begun does nodes opened was put way idle alone unread stepped =
       let line = before.line in
       let progress : Progress = progress_after before.state.progress got in
       let state : LineState = state_after before.state got stepped.step in
@@ -405,6 +406,7 @@ module _ (Coherent : Type 0) (opening : Opening) (bytes : OpeningBytes) (script 
         begun = begun;
         does = does;
         nodes = nodes_stay before.state.progress got ∙ nodes;
+        opened = opened;
         said = was;
         next = next_fits seen line asked said gave_up progress got coherent begun plain put way before.nodes state stepped.step refl
             (ap (λ (c : Command). left_by c progress.came stepped.step) does) (idle stepped.step next) (alone stepped.step next) (unread stepped.step next) next so;
@@ -412,10 +414,10 @@ module _ (Coherent : Type 0) (opening : Opening) (bytes : OpeningBytes) (script 
       })
 
   pub stopped_works : (seen : List Event) (before after : WorkView) (asked : ℕ) → Coherent → IsStarted script seen before.line → before.state.command ≡ before.line.command
-      → before.state.progress.nodes ≡ before.nodes → WasSaid seen before.line before.said → HasStopped before asked after → IsAtWork Coherent opening bytes script seen after
-  stopped_works seen before after asked coherent begun does nodes was stopped =
+      → before.state.progress.nodes ≡ before.nodes → before.nodes ≡ length opening.nodes → WasSaid seen before.line before.said → HasStopped before asked after → IsAtWork Coherent opening bytes script seen after
+  stopped_works seen before after asked coherent begun does nodes opened was stopped =
       subst (IsAtWork Coherent opening bytes script seen) (sym stopped.is)
-      (cut_fits Coherent opening bytes script seen (record before { state = stopped.state }) asked answers.OutOfMemory coherent tt begun (stopped.command ∙ does) (stopped.nodes ∙ nodes) was)
+      (cut_fits Coherent opening bytes script seen (record before { state = stopped.state }) asked answers.OutOfMemory coherent tt begun (stopped.command ∙ does) (stopped.nodes ∙ nodes) opened was)
 
   -- ---- a reply comes
 
@@ -480,7 +482,7 @@ module _ (Coherent : Type 0) (opening : Opening) (bytes : OpeningBytes) (script 
         let begun = begun_still script later was.before work.line behind was.at_work.begun in
         let said = said_was later was.before work.line work.said behind was.at_work.said in
         ⊎_elim
-        (λ stepped. stepped_works later work new (gots.Reply reply) (work.asked + 1) work.said work.gave_up coherent tt begun was.at_work.does was.at_work.nodes said
+        (λ stepped. stepped_works later work new (gots.Reply reply) (work.asked + 1) work.said work.gave_up coherent tt begun was.at_work.does was.at_work.nodes was.at_work.opened said
         fit.1.followed.alone.put reply_way
         (λ step next tells. told_idle work.line.command (progress_after work.state.progress (gots.Reply reply)) reply step refl
         (asks_open work.line.command work.state.progress.label work.state.progress.came fit.0 fit.1.its) next tells)
@@ -488,7 +490,7 @@ module _ (Coherent : Type 0) (opening : Opening) (bytes : OpeningBytes) (script 
         (not_code work.line.command (progress_after work.state.progress (gots.Reply reply)) reply step next other))
         (λ step next before. fit.1.unread)
         stepped)
-        (λ stopped. stopped_works later work new (work.asked + 1) coherent begun was.at_work.does was.at_work.nodes said stopped)
+        (λ stopped. stopped_works later work new (work.asked + 1) coherent begun was.at_work.does was.at_work.nodes was.at_work.opened said stopped)
         taken
 
   -- ---- a block was written
@@ -542,8 +544,8 @@ module _ (Coherent : Type 0) (opening : Opening) (bytes : OpeningBytes) (script 
         let alone = alone_written work.state.progress work.gave_up to_write written writes.writes.its writes.followed.alone in
         ⊎_elim
         (λ stepped. stepped_works seen work new (gots.Written written) work.asked said (work.gave_up || not (is_quorum written.answers)) coherent tt begun
-        was.at_work.does was.at_work.nodes (said_now seen work.line said was.are.still.as_said) alone.put written_way
+        was.at_work.does was.at_work.nodes was.at_work.opened (said_now seen work.line said was.are.still.as_said) alone.put written_way
         (λ step next tells. none_written work.state.progress.came to_write written.answers writes.writes.its) (λ step next other. alone) (λ step next before. writes.unread) stepped)
-        (λ stopped. stopped_works seen work new work.asked coherent begun was.at_work.does was.at_work.nodes
+        (λ stopped. stopped_works seen work new work.asked coherent begun was.at_work.does was.at_work.nodes was.at_work.opened
         (said_was seen was.before work.line work.said was.goes_on was.at_work.said) stopped)
         taken

@@ -184,6 +184,7 @@ module _ (Coherent : Type 0) (opening : Opening) (bytes : OpeningBytes) (script 
     pub begun : IsStarted script seen work.line
     pub does : work.state.command ≡ work.line.command
     pub nodes : work.state.progress.nodes ≡ work.nodes
+    pub opened : work.nodes ≡ length opening.nodes
     pub said : WasSaid seen work.line work.said
     pub next : IsNextFit work work.next
     pub refusal : IsRefusalFit work.line work.refused

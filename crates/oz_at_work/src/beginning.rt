@@ -1,6 +1,6 @@
 //! How a line begins.
 
-ghost use Rattle.std.specs.Prelude.{◌≡◌, ◌≤◌, [], IfOk, List};
+ghost use Rattle.std.specs.Prelude.{◌≡◌, ◌≤◌, [], IfOk, List, length};
 ghost use Rattle.std.specs.Option.{option_map};
 ghost use Rattle.oz_at_work.specs.AtWork.{IsAtWork, MayBegin};
 ghost use Rattle.oz_buffer.specs.Buffer.{AllFollow, Follows};
@@ -28,6 +28,7 @@ impl<'s> LineAtWork<'s> {
     ) -> Result<LineAtWork<'s>, OutOfMemory>
         requires least { FEWEST_NODES ≤ nodes }
         requires most { nodes ≤ MOST_NODES }
+        requires opened { nodes ≡ length O.opening.nodes }
         ensures line { IfOk result (λ work. work.line ≡ line.now) }
         ensures works { O.coherent → (seen : List AnyEvent) →
             AllFollow (Follows O.coherent O.opening O.bytes O.script) [] seen →

@@ -1,6 +1,6 @@
 //! What a line puts at the members of a block.
 
-ghost use Rattle.std.specs.Prelude.{◌≡◌, ◌≤◌, ◌<◌, All, length, IfSome, IsTrue};
+ghost use Rattle.std.specs.Prelude.{◌≡◌, ◌≤◌, ◌<◌, ◌↔◌, All, length, IfSome, IsTrue};
 ghost use Rattle.oz_at_work.specs.inner.Put.{IsPutNext};
 ghost use Rattle.oz_command.specs.Payload.{bytes_from};
 ghost use Rattle.oz_fields.specs.declared.block.TheConstants.{LONGEST_PIECE};
@@ -77,7 +77,7 @@ impl<'s> LineAtWork<'s> {
 
 /// Whether these are numbers of datanodes, where there are so many.
 pub(crate) fn are_below(members: [u8; 3], nodes: u8) -> bool
-    ensures { IsTrue result → All (λ dn. dn < nodes) members }
+    ensures { IsTrue result ↔ All (λ dn. dn < nodes) members }
 {
     members.iter().all(|dn| *dn < nodes)
 }

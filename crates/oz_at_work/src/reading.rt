@@ -1,11 +1,14 @@
 //! How a line reads its next piece.
 
-ghost use Rattle.std.specs.Prelude.{◌≡◌, ◌≢◌, ◌<◌, [], All, List, IfSome, IsSome, map};
+ghost use Rattle.std.specs.Prelude.{◌≡◌, ◌≢◌, ◌⊎◌, ◌<◌, [], true, All, List, None, IfSome, IsSome, map};
+ghost use Rattle.std.specs.FinMap.{get};
 ghost use Rattle.oz_at_work.specs.AtWork.{HasGoneOn, IsAtWork};
 ghost use Rattle.oz_at_work.specs.inner.Read.{IsReadNext, WasMissed, WasRead};
 ghost use Rattle.oz_buffer.specs.Buffer.{AllFollow, Follows};
 ghost use Rattle.oz_core.specs.declared.event.Event.{Event as AnyEvent};
-ghost use Rattle.oz_core.specs.Scm.{members};
+ghost use Rattle.oz_client.specs.declared.step.Step.TheVariants.{Read};
+ghost use Rattle.oz_core.specs.Scm.{containers, members};
+ghost use Rattle.oz_fields.specs.declared.block.Piece.{Piece as AnyPiece};
 ghost use Rattle.oz_line_blocks.specs.reading.Lacks.{doubted_in};
 ghost use Rattle.oz_turn.specs.Seat.{IsReady, mine_of, room_of, seen_of};
 ghost use Rattle.oz_turn.specs.Told.{BeginsWith};
@@ -80,7 +83,8 @@ impl<'s> LineAtWork<'s> {
     /// The piece that it reads next. There is none where it doesn't read next, nor where a block was given up, as a line that
     /// reads has none.
     fn piece(&self) -> Option<Piece>
-        ensures { IfSome result (IsReadNext self.now) }
+        ensures its { IfSome result (IsReadNext self.now) }
+        ensures none { result ≡ None → (piece : AnyPiece) → self.now.next ≡ Read piece → self.now.gave_up ≡ true }
     {
         match &self.next {
             Step::Read { piece } if !self.gave_up => Some(*piece),
@@ -151,6 +155,8 @@ fn members_of<D: Disk, O: Opened, L: Loaded, R: Ring, W: Wait>(
     ensures follow { AllFollow (Follows O.coherent O.opening O.bytes O.script) [] (seen_of seat.new) }
     ensures known { IfSome result (λ dns. All (λ dn. dn < servers.now.nodes) dns) }
     ensures are { O.coherent → IfSome result (λ dns. members O.opening (seen_of seat.new) container ≡ dns) }
+    ensures none { O.coherent → result ≡ None → (get (containers O.opening (seen_of seat.new)) container ≡ None)
+        ⊎ (All (λ dn. dn < servers.now.nodes) (members O.opening (seen_of seat.new) container) → ⊥) }
 {
     let mut guard = servers.scm.lock(rt);
     let cell = &mut *guard;

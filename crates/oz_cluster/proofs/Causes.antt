@@ -211,6 +211,6 @@ module _ (one : OneThing) (run_has_no_fault : (words : List (List ℕ)) (place :
       ending.0 story held_before held_after ending.1 run.printed
       (λ is.
       let it = halted_one ending.0 story is run.ended in
-      node_rose see before after run.script run.any_halted story run.all_told store it.0
+      node_rose see before after run.script run.any_halted story run.is_done store it.0
       (rises before.manager after.manager over.faults over.first store.stopped (others_of before) store.nodes store.left story it.0 over.many run.halted it.1)))
       ending.2

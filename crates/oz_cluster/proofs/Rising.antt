@@ -133,7 +133,7 @@ module _ {D : Type 0} (see : D → Seen) where
     disk_rose name refused = ⊎_elim (by_manager name) (by_nodes name) refused
 
     -- a disk of a node whose count rose in the work counted a fault
-    module _ (script : Lines) (any_halted : Bool) (story : List Event) (all_told : Bool) (run : IsStoreRun see script before after any_halted story all_told) where
+    module _ (script : Lines) (any_halted : Bool) (story : List Event) (is_done : Bool) (run : IsStoreRun see script before after any_halted story is_done) where
       datanode_rose : (dn : ℕ) → DatanodeRose (λ (d : D). (see d).faults) dn run.nodes.datanodes run.left.datanodes → ADiskRose see before after
       datanode_rose dn its =
           let own = disks_in its.after in

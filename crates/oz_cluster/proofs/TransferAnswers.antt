@@ -19,11 +19,14 @@ use Rattle.oz_core.specs.Contents.{HasContent, IsLineOf, IsPieceOfLine, OpeningB
 use Rattle.oz_core.specs.Due.{IsDone, IsDue}
 use Rattle.oz_core.specs.Fits.{EventFits, Fits, FitsFrom, ToldFits, WroteFits}
 use Rattle.oz_core.specs.Law.{IsLegal}
+use Rattle.oz_core.specs.Steps.{target}
 use Rattle.oz_core.specs.Stories.{last_in}
 use Rattle.oz_fields.specs.declared.block.Block.{Block}
-use Rattle.oz_kept.specs.laws.Contents.{its_grant}
+use Rattle.oz_kept.specs.Held.{LinesAreApart}
+use Rattle.oz_kept.specs.laws.Contents.{fits_to, its_grant}
 use Rattle.oz_kept.specs.laws.Deleted.{legal_to}
 use Rattle.oz_kept.specs.laws.Granted.{was_nowhere}
+use Rattle.oz_running.specs.Puts.{HasNamed}
 use Rattle.oz_requests.specs.declared.answer.Answer.{Answer}
 use Rattle.oz_requests.specs.declared.answer.Answer.TheVariants as told
 use Rattle.oz_requests.specs.declared.answer.Values.{Values}
@@ -129,7 +132,19 @@ only_line : (line other : Line) → Contains (line ∷ []) other → other ≡ l
 only_line line other (zero, within, is) = sym is
 only_line line other (suc k, within, is) = absurd (omega (arith, within))
 
-module _ (opening : Opening) (bytes : OpeningBytes) (path : KeyPath) (given : List ℕ) (story : List Event) (fresh : IdsAreFresh opening) where
+-- what is done by a put of these bytes has its key named
+abbrev PutsAreNamed : Opening → OpeningBytes → KeyPath → List ℕ → Type 0
+PutsAreNamed opening bytes path given =
+    (before : List Event) (it : Values) → IsLegal opening before → FitsFrom opening bytes (script_for Put path given) [] before
+    → IsDone opening bytes (script_for Put path given) before (line_for Put path given) it
+    → HasNamed opening before (line_for Put path given) (target path.volume path.bucket path.key)
+
+pub lines_are_apart : (way : Way) (path : KeyPath) (given : List ℕ) → LinesAreApart (script_for way path given)
+lines_are_apart way path given one other first second client number =
+    only_line (line_for way path given) one first ∙ sym (only_line (line_for way path given) other second)
+
+module _ (opening : Opening) (bytes : OpeningBytes) (path : KeyPath) (given : List ℕ) (story : List Event) (fresh : IdsAreFresh opening)
+    (put_named : PutsAreNamed opening bytes path given) where
   module _ (way : Way) (legal : IsLegal opening story) (fits : FitsFrom opening bytes (script_for way path given) [] story) where
     abbrev AScript : Script
     AScript = script_for way path given
@@ -166,7 +181,13 @@ module _ (opening : Opening) (bytes : OpeningBytes) (path : KeyPath) (given : Li
   means_put : IsLegal opening story → FitsFrom opening bytes (script_for Put path given) [] story → (before behind : List Event) → story ≡ before ++ behind → (answer : Answer)
       → IsDue opening bytes (script_for Put path given) before (line_for Put path given) answer → Means opening bytes path given Put before answer
   means_put legal fits before behind parts (told.Ok it) due =
-      record { all = due.values; done = due; contents = written_has Put legal fits before behind parts }
+      record {
+        all = due.values;
+        done = due;
+        contents = written_has Put legal fits before behind parts;
+        named = put_named before it (legal_to opening [] before behind (subst (IsLegal opening) parts legal))
+            (fits_to opening bytes (script_for Put path given) [] before behind (subst (FitsFrom opening bytes (script_for Put path given) []) parts fits)) due;
+      }
   means_put legal fits before behind parts (told.Code code) due = due
   means_put legal fits before behind parts told.NoPipeline due = due
   means_put legal fits before behind parts told.NoQuorum due = due

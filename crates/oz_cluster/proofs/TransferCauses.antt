@@ -228,6 +228,6 @@ module _ (one : OneThing) where
       ended_causes see words before after source out number worked (length run.given) _ story run.any_halted errors run.way its ending.0 ending.1 run.ends
       (λ is.
       let it = named_disk run.any_halted story is run.named in
-      node_rose see before after _ run.any_halted story run.all_told store it.0
+      node_rose see before after _ run.any_halted story run.is_done store it.0
       (rises before.manager after.manager over.faults over.first store.stopped (others_of before) store.nodes store.left story it.0 over.many run.halted it.1)))
       ending.2

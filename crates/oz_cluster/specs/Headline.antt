@@ -4,13 +4,14 @@ use Rattle.oz_cluster.specs.Stopped.{IsScriptOf, IsStopped}
 use Rattle.oz_cluster.specs.Streams.{IsReadThrough}
 use Rattle.oz_core.specs.declared.event.Event.{Event}
 use Rattle.oz_core.specs.Fits.{AllAreTold}
+use Rattle.oz_core.specs.Manager.{durable_index, last_index}
 use Rattle.oz_running.specs.declared.disk_run.disks.Disks.{Disks}
 use Rattle.oz_running.specs.disk_run.Coherent.{IsCoherentStore}
 use Rattle.oz_running.specs.disk_run.Disks.{others_of}
 use Rattle.oz_running.specs.disk_run.StoreRun.{IsStoreRun}
 use Rattle.oz_running.specs.halts.Disks.{all_disks}
 use Rattle.oz_running.specs.status.Status.{Status}
-use Rattle.oz_running.specs.status.Status.TheVariants.{OutOfMemory}
+use Rattle.oz_running.specs.status.Status.TheVariants.{Done, OutOfMemory}
 use Rattle.oz_running.specs.Counts.{AreToldAsMany}
 use Rattle.oz_running.specs.Disks.{manager_disk}
 use Rattle.oz_running.specs.NamedHalts.{HaltsAreNamed, StatusNamesHalts}
@@ -28,7 +29,7 @@ module _ {D : Type 0} (see : D → Seen) (words : List (List ℕ)) (left left_af
     (before after : Disks D) (held_before held_after : Option (List ℕ)) (sink_rose : Type 0) (story : List Event) where
   -- A run of a script over disks, all of which it loads and then writes to. What it wrote is the report of its story, in
   -- which each line is told unless memory ran out. Where all disks are a coherent store over a namespace, the story is one
-  -- history from their opening.
+  -- history from their opening, and where all went well each decision in it is stable.
   pub record IsOneRun (status : Status) : Type 0 where
     pub script : Script
     pub workers : ℕ
@@ -36,9 +37,9 @@ module _ {D : Type 0} (see : D → Seen) (words : List (List ℕ)) (left left_af
     pub parsed : IsScriptOf left script
     pub read : IsReadThrough left left_after
     pub any_halted : Bool
-    pub all_told : Bool
+    pub is_done : Bool
     -- what was loaded, and what became of it
-    pub store : IsStoreRun see script before after any_halted story all_told
+    pub store : IsStoreRun see script before after any_halted story is_done
     pub printed : IsPrinted status script story held_before held_after sink_rose
     pub ended : StatusNamesHalts status story
     pub told : status ≢ OutOfMemory → AreToldAsMany script story
@@ -53,6 +54,7 @@ module _ {D : Type 0} (see : D → Seen) (words : List (List ℕ)) (left left_af
         (manager_disk store.over.faults store.over.first store.stopped (see before.manager) (see after.manager))
         (others_of before) store.nodes store.left) story
         × (status ≢ OutOfMemory → AllAreTold script story)
+        × (status ≡ Done → durable_index opening story ≡ last_index opening story)
 
   -- A run was stopped before its work, and says why; or it worked, and its story is one history.
   abbrev pub RunEnds : Type 0 → ℕ → Type 0

@@ -58,8 +58,8 @@ pub fn an_empty_disk_opens_as_nothing()
 /// so what is taken for granted of the disks of a run can be met, and the story of a run over such disks is one history.
 pub fn unwritten_disks_are_coherent<D: Disk>()
     ensures { (script : AnyScript) (before after : Disks D) (any_halted : Bool) (story : List AnyEvent)
-        (all_told : Bool) → let see = (λ (d : D). seen (D.told d) (D.clock d) (D.image d) (D.faults d)) in
-        AreUnwritten see before → (store : IsStoreRun see script before after any_halted story all_told) →
+        (is_done : Bool) → let see = (λ (d : D). seen (D.told d) (D.clock d) (D.image d) (D.faults d)) in
+        AreUnwritten see before → (store : IsStoreRun see script before after any_halted story is_done) →
         IsCoherentStore see before.nodes.items (row_of store.over.loaded.all)
         (opening_of store.over.unseated nothing store.nodes.scm.made store.nodes.datanodes)
         (opening_bytes see store.nodes.datanodes) }

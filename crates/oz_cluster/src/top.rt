@@ -44,21 +44,21 @@ fn finish<K: Sink>(
     out: &mut K,
     script: &Script,
     story: &[Event],
-    all_told: bool,
+    is_done: bool,
     any_halted: bool,
 ) -> Status
     ensures printed { IsPrinted result script.now story.now (K.held out.old) (K.held out.new)
         (Rose (K.faults out.old) (K.faults out.new)) }
     ensures done { result ≡ Status.Done → any_halted ≡ false }
     ensures disk { result ≡ Status.Disk → any_halted ≡ true }
-    ensures told { (result ≡ Status.OutOfMemory) ⊎ (all_told ≡ true) }
+    ensures worked_off { (result ≡ Status.OutOfMemory) ⊎ (is_done ≡ true) }
     ensures never_falls { K.faults out.old ≤ K.faults out.new }
 {
     let Ok(report) = text(alloc, script.lines.items().len() as u64, story) else {
         say(out, texts::out_of_memory_text().as_bytes());
         return Status::OutOfMemory;
     };
-    if !all_told {
+    if !is_done {
         say(out, &report);
         return Status::OutOfMemory;
     }
@@ -137,10 +137,10 @@ pub fn run<W: Threads + Wait + Sync, S: Source, K: Sink, D: Disk + Send, G: Gate
     let StoreRan {
         story,
         any_halted,
-        all_told,
+        is_done,
         disks,
     } = ran;
-    let status = finish(alloc, out, &script, &story, all_told, any_halted);
+    let status = finish(alloc, out, &script, &story, is_done, any_halted);
     Ended {
         status: status.number(),
         story,

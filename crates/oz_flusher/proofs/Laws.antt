@@ -48,10 +48,11 @@ halts_only (Halt Scm count) not = refl
 halts_only (Halt (Datanode dn) count) not = refl
 halts_only kind not = refl
 
--- A decision goes on to a higher index where it has a batch, and never to a lower one.
+-- A decision goes on to a higher index where it has a batch, stays where it has none, and never goes to a lower one.
 pub record GoesOn (last index : ℕ) (batch : List ℕ) : Type 0 where
   pub no_lower : last ≤ index
   pub higher : batch ≢ [] → last < index
+  pub stays : batch ≡ [] → index ≡ last
 
 no_lower_index : (opening : Opening) (story : List Event) (request : _) (reply : _) (index : ℕ) → IndexGoesOn opening story request reply index → index < last_index opening story → ⊥
 no_lower_index opening story request reply index on less =
@@ -71,16 +72,22 @@ decide_goes_on opening story seat index id reply batch may =
         | inl more ↦ more
         | inr most ↦ absurd (some (may.recorded.1 (omega (arith, most, no_lower))))
       ];
+      stays = may.recorded.0;
     }
 
--- The last index that was taken isn't above the last that was decided, and below it where something is left to take.
+-- The last index that was taken isn't above the last that was decided, and below it exactly where something is left to take.
 pub record IsAhead (last swapped : ℕ) (buffer : List ℕ) : Type 0 where
   pub no_higher : swapped ≤ last
   pub lower : buffer ≢ [] → swapped < last
+  pub level : buffer ≡ [] → swapped ≡ last
 
 both_empty : (buffer batch : List ℕ) → (buffer ++ batch ≢ []) → (buffer ≢ []) ⊎ (batch ≢ [])
 both_empty [] batch some = inr some
 both_empty (byte ∷ buffer) batch some = inl (λ none. some (absurd (cc none)))
+
+none_of_both : (buffer batch : List ℕ) → buffer ++ batch ≡ [] → (buffer ≡ []) × (batch ≡ [])
+none_of_both [] batch none = (refl, none)
+none_of_both (byte ∷ buffer) batch none = absurd cc
 
 ahead_kind : (opening : Opening) (story : List Event) (seat : ℕ) (kind : EventKind) → KindIsEnabled opening story seat kind
     → IsAhead (last_index opening story) (swapped_index opening story) (buffer_of story)
@@ -93,8 +100,13 @@ ahead_kind opening story seat (Decide id index reply batch) may ahead =
           (λ (was : buffer_of story ≢ []). (let below = ahead.lower was in omega (arith, below, on.no_lower)))
           (λ (has : batch ≢ []). (let above = on.higher has in omega (arith, above, ahead.no_higher)))
           (both_empty (buffer_of story) batch some);
+      level = λ none.
+          let parts = none_of_both (buffer_of story) batch none in
+          let was = ahead.level parts.0 in
+          let stays = on.stays parts.1 in
+          omega (arith, was, stays);
     }
-ahead_kind opening story seat (Swap index) may ahead = record { no_higher = omega (arith, may.all_decided); lower = λ some. absurd (some refl) }
+ahead_kind opening story seat (Swap index) may ahead = record { no_higher = omega (arith, may.all_decided); lower = λ some. absurd (some refl); level = λ none. may.all_decided }
 ahead_kind opening story seat kind may ahead = ahead
 
 module _ (Coherent : Type 0) (opening : Opening) (bytes : OpeningBytes) (script : Script) (coherent : Coherent) (story : List Event) (all : AllFollow (Follows Coherent opening bytes script) [] story) where
@@ -125,7 +137,7 @@ module _ (Coherent : Type 0) (opening : Opening) (bytes : OpeningBytes) (script 
       subst (λ (l : List ℕ). IsAhead (last_index opening (front ++ event ∷ [])) (swapped_index opening (front ++ event ∷ [])) l) three
       (subst (λ (n : ℕ). IsAhead (last_index opening (front ++ event ∷ [])) n (buffer_after (buffer_of front) event.kind)) two
       (subst (λ (n : ℕ). IsAhead n (newer (taken_index event.kind) (swapped_index opening front)) (buffer_after (buffer_of front) event.kind)) one step)))
-      (record { no_higher = omega arith; lower = λ some. absurd (some refl) }) all
+      (record { no_higher = omega arith; lower = λ some. absurd (some refl); level = λ none. refl }) all
 
   -- what may follow
   module _ (mine : List Event) (same : own story ≡ mine) (settled : IsSettled opening mine) where

@@ -11,5 +11,5 @@ pub use flushed::Flushed;
 pub use flusher::Flusher;
 pub use flushing::{
     Flushing, Mounted, a_journal_at_rest_stands, flush_if_free, flush_in_turn,
-    the_flusher_alone_tells, the_whole_story_is_kept,
+    the_flusher_alone_tells, the_whole_story_is_kept, what_is_taken_was_decided,
 };

@@ -6,6 +6,7 @@ pub mod Places
 pub mod History
 pub mod Reads
 pub mod Counts
+pub mod Puts
 pub mod Headline
 pub mod halts
 pub mod restored

@@ -1,15 +1,24 @@
 //! What one history says.
 
-ghost use Rattle.std.specs.Prelude.{◌≡◌, ◌≤◌, ℕ, [], List, IfSome};
+ghost use Rattle.std.specs.Prelude.{◌≡◌, ◌≢◌, ◌≤◌, ℕ, [], List, Contains, IfSome};
+ghost use Rattle.oz_command.specs.declared.command.Command.TheVariants as commands;
+ghost use Rattle.oz_command.specs.declared.command.Data.{Data as AnyData};
 ghost use Rattle.oz_core.specs.declared.event.Event.{Event as AnyEvent};
+ghost use Rattle.oz_core.specs.declared.limits.TheConstants.{SERVICE_CLIENT};
 ghost use Rattle.oz_core.specs.declared.opening.Opening.{Opening as AnyOpening};
 ghost use Rattle.oz_core.specs.Contents.{OpeningBytes};
-ghost use Rattle.oz_core.specs.Fits.{AllAreTold, Fits, line_numbers, told_lines};
+ghost use Rattle.oz_core.specs.Due.{IsDone};
+ghost use Rattle.oz_core.specs.Fits.{AllAreTold, Fits, FitsFrom, line_numbers, told_lines};
 ghost use Rattle.oz_core.specs.Law.{IsLegal};
 ghost use Rattle.oz_core.specs.Manager.{flushed_moment};
+ghost use Rattle.oz_core.specs.Steps.{target};
 ghost use Rattle.oz_headline.specs.Counts.{AreToldAsMany, IsClient};
 ghost use Rattle.oz_headline.specs.History.{AllAreBy, AllAreInTurn, RepliesAreOneThreads, ToldIsStable};
+ghost use Rattle.oz_headline.specs.Puts.{HasNamed};
 ghost use Rattle.oz_headline.specs.Reads.{ReadsAreContents};
+ghost use Rattle.oz_kept.specs.Held.{LinesAreApart};
+ghost use Rattle.oz_requests.specs.declared.answer.Values.{Values as AnyValues};
+ghost use Rattle.oz_script.specs.declared.lines.script.Line.{Line as AnyLine};
 ghost use Rattle.oz_script.specs.declared.lines.script.Script.{Script as AnyScript};
 ghost use Rattle.oz_script.specs.lines.Numbered.{IsNumbered};
 
@@ -38,4 +47,16 @@ pub fn all_are_told_by_count()
     ensures others { (opening : AnyOpening) (bytes : OpeningBytes) (script : AnyScript) (story : List AnyEvent)
         (client : ℕ) → IsNumbered script → Fits opening bytes script story → (IsClient script client → ⊥) →
         (line_numbers script client ≡ []) × (told_lines client story ≡ []) }
+{}
+
+/// A put that is done has its key named, at some place of the story behind its commit, with what was written for it and
+/// nothing else. The lines of the script are apart, and the put isn't the service job's.
+pub fn a_put_names_its_key()
+    ensures { (opening : AnyOpening) (bytes : OpeningBytes) (script : AnyScript) (story : List AnyEvent) (line : AnyLine)
+        (volume bucket key : List ℕ) (payload : AnyData) (it : AnyValues) →
+        IsLegal opening story → FitsFrom opening bytes script [] story →
+        LinesAreApart script → Contains script.lines line → line.client ≢ SERVICE_CLIENT →
+        line.command ≡ commands.KeyPut volume bucket key payload →
+        IsDone opening bytes script story line it →
+        HasNamed opening story line (target volume bucket key) }
 {}

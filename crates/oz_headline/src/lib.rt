@@ -12,7 +12,7 @@ pub use ended::the_story_keeps_the_headline;
 pub use halts::{
     a_halted_node_counted, halts_of_all_nodes_are_named, the_story_keeps_the_headline_of_all_disks,
 };
-pub use laws::{all_are_told_by_count, one_history_says_the_rest};
+pub use laws::{a_put_names_its_key, all_are_told_by_count, one_history_says_the_rest};
 pub use oz_nodes_loaded::{
     DiskName, LoadedNodes, RefusedNodes, StoreFault, a_loaded_datanode_stands,
     a_loaded_scm_stands_for_the_opening, all_disks_are_a_store, disks_of, its_seat_alone_tells,

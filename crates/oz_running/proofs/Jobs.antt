@@ -10,28 +10,33 @@ use Rattle.oz_turn.specs.declared.seat.Seat.{Seat}
 use Rattle.oz_turn.specs.declared.told.Told.{Ghosts}
 use Rattle.oz_turn.specs.Ring.{TurnId}
 use Rattle.oz_turn.specs.Seat.{IsReady}
+use Rattle.oz_worker.specs.declared.job.Job.{Job}
 use Rattle.oz_worker.specs.declared.job.Job.TheVariants.{Worker, Flusher}
+use Rattle.oz_worker.specs.Workers.{WorkerView}
 
 module _ {T O R : Type 0} where
-  pub worker_there : (workers place rest : ℕ) → place + rest + 1 ≡ workers → worker_at {T = T} {O = O} {R = R} (first_worker_seat + rest) ≡ job_at workers place
+  pub worker_there : (workers place rest : ℕ) → place + rest + 1 ≡ workers → worker_at {T = T} {O = O} {R = R} workers rest ≡ job_at workers place
   worker_there workers place rest e =
       let less : nat_lt place workers ≡ true = lt-ltb place workers (omega (arith, e)) in
-      let same : first_worker_seat + rest ≡ first_worker_seat + (workers - place - 1) = omega (arith, e) in
-      rw less (ap (λ (n : ℕ). worker_at {T = T} {O = O} {R = R} n) same)
+      let same : rest ≡ workers - place - 1 = omega (arith, e) in
+      rw less (ap (λ (n : ℕ). worker_at {T = T} {O = O} {R = R} workers n) same)
 
   pub flusher_there : (workers place : ℕ) → place ≡ workers → Flusher ≡ job_at {T = T} {O = O} {R = R} workers place
   flusher_there workers place e =
       let less : nat_lt place workers ≡ false = le-ltb place workers (omega (arith, e)) in
       rw less refl
 
+  abbrev a_worker : WorkerView → Job T O R
+  a_worker worker = Worker worker
+
   -- the seat of the worker at a place
-  pub seat_there : (workers place number : ℕ) → place < workers → Worker number ≡ job_at {T = T} {O = O} {R = R} workers place
-      → number ≡ first_worker_seat + (workers - place - 1)
-  seat_there workers place number less is =
+  pub seat_there : (workers place : ℕ) (worker : WorkerView) → place < workers → Worker worker ≡ job_at {T = T} {O = O} {R = R} workers place
+      → worker.number ≡ first_worker_seat + (workers - place - 1)
+  seat_there workers place worker less is =
       let there = worker_there workers place (workers - place - 1) (omega (arith, less)) in
       inside (is ∙ sym there)
     where
-      inside : {m n : ℕ} → worker_at {T = T} {O = O} {R = R} m ≡ worker_at n → m ≡ n
+      inside : {one other : WorkerView} → a_worker one ≡ a_worker other → one.number ≡ other.number
       inside e = cc
 
   pub no_flusher : (workers place : ℕ) → place < workers → Flusher ≡ job_at {T = T} {O = O} {R = R} workers place → ⊥
@@ -39,7 +44,7 @@ module _ {T O R : Type 0} where
       let there = worker_there workers place (workers - place - 1) (omega (arith, less)) in
       apart (is ∙ sym there)
     where
-      apart : {m : ℕ} → Flusher ≡ worker_at {T = T} {O = O} {R = R} m → ⊥
+      apart : {m : ℕ} → Flusher ≡ worker_at {T = T} {O = O} {R = R} workers m → ⊥
       apart e = cc
 
 module _ {A : Type 0} {told : Ghosts A Event} (turn : TurnId) where

@@ -6,13 +6,13 @@ use Rattle.oz_worker.specs.declared.job.Job.{Job}
 use Rattle.oz_worker.specs.declared.job.Job.TheVariants.{Worker, Flusher}
 
 module _ {T O R : Type 0} where
-  -- a worker with the seat of this number
-  abbrev pub worker_at : ℕ → Job T O R
-  worker_at number = Worker number
+  -- the worker at a place, of so many, with the seat of its number
+  abbrev pub worker_at : ℕ → ℕ → Job T O R
+  worker_at workers place = Worker (record { number = first_worker_seat + place; place = place; workers = workers })
 
-  -- of so many workers, from the one at the last seat to the first, and then the flusher
+  -- of so many workers, from the one at the last place to the first, and then the flusher
   abbrev pub job_at : ℕ → ℕ → Job T O R
-  job_at workers place = if nat_lt place workers then worker_at (first_worker_seat + (workers - place - 1)) else Flusher
+  job_at workers place = if nat_lt place workers then worker_at workers (workers - place - 1) else Flusher
 
   abbrev pub AreJobs : ℕ → List (Job T O R) → Type 0
   AreJobs workers jobs = ArePlaced (λ place job. job ≡ job_at workers place) jobs

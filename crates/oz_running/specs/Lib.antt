@@ -1,9 +1,11 @@
+pub mod Given
 pub mod Jobs
 pub mod Left
 pub mod Run
 pub mod Seats
 pub mod Staff
 pub mod disk_run
+pub use Rattle.oz_buffer.specs.Buffer
 pub use Rattle.oz_headline.specs.AllLoad
 pub use Rattle.oz_headline.specs.Counts
 pub use Rattle.oz_headline.specs.Disks
@@ -12,6 +14,7 @@ pub use Rattle.oz_headline.specs.Ids
 pub use Rattle.oz_headline.specs.Loads
 pub use Rattle.oz_headline.specs.NamedHalts
 pub use Rattle.oz_headline.specs.Printed
+pub use Rattle.oz_headline.specs.Puts
 pub use Rattle.oz_headline.specs.Reads
 pub use Rattle.oz_headline.specs.Refused
 pub use Rattle.oz_headline.specs.Statuses

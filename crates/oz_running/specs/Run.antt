@@ -1,6 +1,7 @@
 -- What the middle of a run leaves: one story, and all nodes as the story makes them.
-use Rattle.std.specs.Prelude.{◌≡◌, ◌≢◌, ◌↔◌, ℕ, ◌<◌, true, List, [], All, Option}
-use Rattle.oz_buffer.specs.Buffer.{AllFollow, Follows}
+use Rattle.std.specs.Prelude.{◌≡◌, ◌≢◌, ◌↔◌, ℕ, ◌<◌, Bool, true, false, List, [], All, Option}
+use Rattle.oz_buffer.specs.Buffer.{AllFollow, Follows, buffer_of}
+use Rattle.oz_core.specs.declared.event.Event.{Event}
 use Rattle.oz_core.specs.declared.event.Node.{Node}
 use Rattle.oz_core.specs.declared.opening.Opening.{Opening}
 use Rattle.oz_core.specs.Contents.{OpeningBytes}
@@ -23,6 +24,12 @@ pub record IsQuietSeat (opening : Opening) (seat : ℕ) : Type 0 where
   pub not_scm : seat ≢ scm_seat
   pub not_datanode : (dn : ℕ) → IsDatanodeSeat opening dn seat → ⊥
 
+-- Each client of the script was told as many lines as it has, and where no write of the manager's disk failed nothing that
+-- was decided is left to be flushed.
+pub record IsWorkedOff (stopped : Bool) (script : Script) (story : List Event) : Type 0 where
+  pub told : AreToldAsMany script story
+  pub flushed : stopped ≡ false → buffer_of story ≡ []
+
 -- What disks tell, their clocks and images, and how often they have failed; that they agree; what was opened, with its
 -- bytes and the bodies of the manager's journal; the script; how often the disks of each node had failed once they were
 -- loaded; what was seen of the manager's disk then; and the rows that were loaded from it.
@@ -44,4 +51,4 @@ module _ {D : Type 0} (told : D → Option (List ℕ)) (clock : D → ℕ) (imag
     -- The service job, the caller and datanodes that aren't there gave nothing.
     pub quiet : (seat : ℕ) → IsQuietSeat opening seat → mine seat ran.story.items ≡ []
     pub seated : All (λ event. event.seat < seats) ran.story.items
-    pub counted : (ran.all_told ≡ true) ↔ AreToldAsMany script ran.story.items
+    pub done : (ran.is_done ≡ true) ↔ IsWorkedOff ran.journal.stopped script ran.story.items

@@ -1,5 +1,5 @@
 -- For private calls: what a run is made of before its threads start.
-use Rattle.std.specs.Prelude.{◌≡◌, ℕ, ◌+◌, ◌-◌, ◌≤◌, List, [], length}
+use Rattle.std.specs.Prelude.{◌≡◌, ℕ, ◌+◌, ◌≤◌, List, [], length}
 use Rattle.oz_core.specs.declared.event.Event.{Event}
 use Rattle.oz_core.specs.Seats.{datanode_seat, first_worker_seat, flusher_seat, service_seat}
 use Rattle.oz_nodes.specs.declared.nodes.TheConstants.{MOST_NODES}
@@ -11,16 +11,16 @@ use Rattle.oz_turn.specs.Ring.{TurnId}
 use Rattle.oz_turn.specs.Seat.{IsNewSeat}
 use Rattle.oz_worker.specs.declared.job.Job.{Job}
 
--- Of a turn of so many seats, with so many datanodes: the jobs; the new seats of the flusher, of the service job and the
+-- Of a turn, with so many workers and so many datanodes: the jobs; the new seats of the flusher, of the service job and the
 -- caller, and of the datanodes that aren't there; and the list that all seats came in, empty, with room for them.
-pub record IsStaff {T O R A : Type 0} {told : Ghosts A Event} (turn : TurnId) (seats nodes : ℕ) (jobs : List (Job T O R))
+pub record IsStaff {T O R A : Type 0} {told : Ghosts A Event} (turn : TurnId) (workers nodes : ℕ) (jobs : List (Job T O R))
     (flusher : Seat A Event told) (quiet absent all : List (Seat A Event told)) (room : ℕ) : Type 0 where
-  pub count : first_worker_seat + length jobs ≡ seats + 1
-  pub of_workers : AreJobs (length jobs - 1) jobs
+  pub count : length jobs ≡ workers + 1
+  pub of_workers : AreJobs workers jobs
   pub first : IsNewSeat turn flusher_seat flusher
   pub quiet_count : length quiet ≡ 2
   pub quiet_seats : AreNewFrom turn service_seat quiet
   pub absent_count : nodes + length absent ≡ MOST_NODES
   pub absent_seats : AreNewFrom turn (datanode_seat nodes) absent
   pub none : all ≡ []
-  pub fits : seats ≤ room
+  pub fits : first_worker_seat + workers ≤ room

@@ -1,10 +1,11 @@
 //! The turn ends.
 
-ghost use Rattle.std.specs.Prelude.{◌≡◌, ◌≤◌, vec_len};
+ghost use Rattle.std.specs.Prelude.{◌≡◌, ◌≤◌, ◌↔◌, length, true, vec_len};
 ghost use Rattle.oz_core.specs.Seats.{first_worker_seat};
+ghost use Rattle.oz_script.specs.declared.lines.script.TheConstants.{MOST_CLIENTS};
 ghost use Rattle.oz_script.specs.lines.Numbered.{IsNumbered};
 ghost use Rattle.oz_running.specs.Left.{IsLeft};
-ghost use Rattle.oz_running.specs.Run.{IsRun};
+ghost use Rattle.oz_running.specs.Run.{IsRun, IsWorkedOff};
 ghost use Rattle.oz_turn.specs.Turn.{seats_of, turn_id};
 
 use crate::counting::each_is_told_as_many;
@@ -17,6 +18,17 @@ use oz_locks::Loaded;
 use oz_script::Script;
 use oz_turn::{Ring, Turn, ready_seats_may_close};
 use oz_world::Disk;
+
+/// Whether each client was told all its lines, and nothing is left to be flushed where the manager hasn't halted.
+fn is_worked_off<O: Opened>(script: &Script, ledger: &Ledger<O>, stopped: bool) -> bool
+    requires { length script.now.clients ≤ MOST_CLIENTS }
+    ensures { (result ≡ true) ↔ IsWorkedOff stopped script.now ledger.now.story }
+{
+    if !stopped && ledger.has_buffered() {
+        return false;
+    }
+    each_is_told_as_many(script, ledger)
+}
 
 /// What a run leaves whose nodes and seats are all back. It takes no memory.
 pub(crate) fn ended<D: Disk, O: Opened, L: Loaded, M: Mounted, R: Ring>(
@@ -44,13 +56,13 @@ pub(crate) fn ended<D: Disk, O: Opened, L: Loaded, M: Mounted, R: Ring>(
         seats,
     } = left;
     let ledger = turn.close(seats);
-    let all_told = each_is_told_as_many(script, &ledger);
+    let is_done = is_worked_off(script, &ledger, journal.stopped());
     let story = ledger.into_story();
     Ran {
         story,
         journal,
         scm,
         nodes,
-        all_told,
+        is_done,
     }
 }

@@ -29,43 +29,45 @@ pub(crate) fn hired<'s, O: Opened, R: Ring>(
     requires seats { AreNewFrom R.turn first_worker_seat seats.items }
     requires least { FEWEST_NODES ≤ nodes }
     requires most { nodes ≤ MOST_NODES }
+    requires opened { nodes ≡ length O.opening.nodes }
     ensures count { IfOk result (λ jobs. length jobs.items ≡ length seats.items + 1) }
     ensures jobs { IfOk result (λ jobs. AreJobs (length seats.items) jobs.items) }
 {
     let workers = seats.len() as u16;
     let mut jobs = Vec::with_capacity(alloc, seats.len() + 1)?;
     while let Some(seat) = seats.pop() {
-        let rest = seats.len() as u16;
-        jobs.push_reserved(hire::<O, R>(alloc, script, seat, rest, workers, nodes)?);
+        let place = seats.len() as u16;
+        jobs.push_reserved(hire::<O, R>(alloc, script, seat, place, workers, nodes)?);
     }
     jobs.push_reserved(Job::Flusher);
     Ok(jobs)
 }
 
-/// The worker at a seat, of so many.
+/// The worker at a place, of so many, with its seat.
 fn hire<'s, O: Opened, R: Ring>(
     alloc: Global,
     script: &'s Script,
     seat: Seat<Ledger<O>>,
-    rest: u16,
+    place: u16,
     workers: u16,
     nodes: u8,
 ) -> Result<Job<'s, Ledger<O>, O, R>, OutOfMemory>
     requires script { script.now ≡ O.script }
     requires numbered { IsNumbered O.script }
-    requires seat { IsReady R.turn (first_worker_seat + rest) seat }
+    requires seat { IsReady R.turn (first_worker_seat + place) seat }
     requires few { workers ≤ 16 }
-    requires one { rest < workers }
+    requires one { place < workers }
     requires least { FEWEST_NODES ≤ nodes }
     requires most { nodes ≤ MOST_NODES }
-    ensures { IfOk result (λ job. job ≡ worker_at (first_worker_seat + rest)) }
+    requires opened { nodes ≡ length O.opening.nodes }
+    ensures { IfOk result (λ job. job ≡ worker_at workers place) }
 {
     match Worker::make(
         alloc,
         script,
-        FIRST_WORKER_SEAT + rest,
+        FIRST_WORKER_SEAT + place,
         seat,
-        rest,
+        place,
         workers,
         nodes,
     ) {

@@ -16,8 +16,9 @@ mod working;
 
 pub use disk_run::{Disks, RefusedStore, StoreRan, run_over_disks};
 pub use oz_headline::{
-    DiskName, Status, StoreFault, a_halted_node_counted, all_are_told_by_count,
-    all_disks_are_a_store, unwritten_disks_are_a_store, what_loads_is_not_refused,
+    DiskName, Status, StoreFault, a_halted_node_counted, a_put_names_its_key,
+    all_are_told_by_count, all_disks_are_a_store, unwritten_disks_are_a_store,
+    what_loads_is_not_refused,
 };
 pub use ran::Ran;
 pub use running::run_lines;

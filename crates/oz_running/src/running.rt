@@ -1,22 +1,16 @@
 //! From the loaded disk to the story.
 
-ghost use Rattle.std.specs.Prelude.{◌≡◌, ◌≤◌, ◌+◌, [], false, length, vec_len, vec_capacity};
-ghost use Rattle.std.specs.Prelude.{IfOk, IfErr, IfSome, IsSome};
-ghost use Rattle.oz_core.specs.declared.event.Node.TheVariants.{Scm as ScmNode};
+ghost use Rattle.std.specs.Prelude.{◌≡◌, ◌≤◌, ◌+◌, length, vec_len, vec_capacity};
+ghost use Rattle.std.specs.Prelude.{IfOk, IfErr};
 ghost use Rattle.oz_core.specs.Seats.{first_worker_seat};
-ghost use Rattle.oz_flusher.specs.Stops.{StopsHold};
-ghost use Rattle.oz_journal.specs.Grammar.{IsJournal};
 ghost use Rattle.oz_script.specs.lines.Numbered.{IsNumbered};
-ghost use Rattle.oz_headline.specs.NodeSeat.{NumbersAreOld, StandsFor};
 ghost use Rattle.oz_headline.specs.Opens.{Opens};
 ghost use Rattle.oz_headline.specs.Seated.{ArePartsOf};
+ghost use Rattle.oz_running.specs.Given.{JournalIsGiven, NodesAreGiven};
 ghost use Rattle.oz_running.specs.Run.{IsRun};
 ghost use Rattle.oz_running.specs.Staff.{IsStaff};
-ghost use Rattle.oz_worker.specs.servers.Begun.{NodesStand, ScmStands};
 ghost use Rattle.oz_turn.specs.Seat.{AreNewSeats};
 ghost use Rattle.oz_turn.specs.Turn.{seats_of, turn_id};
-ghost use Rattle.oz_world.specs.Disk.{TellsAsBefore};
-ghost use Rattle.oz_world.specs.Moments.{Elapses};
 
 use crate::closing::ended;
 use crate::leaving::all_leave;
@@ -69,17 +63,8 @@ pub fn run_lines<
     requires numbered { IsNumbered O.script }
     requires some { 1 ≤ workers }
     requires few { workers ≤ 16 }
-    requires scm { ScmStands O.opening (O.faults ScmNode) scm (D.faults scm.disk) }
-    requires nodes { NodesStand (StandsFor D.told D.clock D.image D.faults O.coherent O.opening O.bytes O.script O.faults)
-        O.opening nodes.items }
-    requires old { O.coherent → NumbersAreOld O.opening }
-    requires running { flusher.stopped ≡ false }
-    requires faults { D.faults flusher.disk ≡ M.disk.faults }
-    requires telling { TellsAsBefore M.disk.told (D.told flusher.disk) }
-    requires time { Elapses M.disk.clock (D.clock flusher.disk) M.disk.image (D.image flusher.disk) }
-    requires journal { O.coherent → IfSome (D.told flusher.disk) (λ bytes. IsJournal bytes O.bodies) }
-    requires stops { O.coherent → IsSome (D.told flusher.disk) →
-        StopsHold O.bodies [] M.disk.clock (D.clock flusher.disk) (D.image flusher.disk) }
+    requires nodes { NodesAreGiven D.told D.clock D.image D.faults O.coherent O.opening O.bytes O.script O.faults scm nodes.items }
+    requires journal { JournalIsGiven D.told D.clock D.image D.faults O.coherent O.bodies M.disk flusher }
     ensures ran { IfOk result (λ ran. IsRun D.told D.clock D.image D.faults O.coherent O.opening O.bytes O.bodies O.script
         O.faults M.disk L.rows (first_worker_seat + workers) ran) }
     ensures journal { IfErr result (λ refused. refused.0.journal ≡ flusher) }
@@ -94,7 +79,7 @@ pub fn run_lines<
     ) {
         Ok((turn, seats)) => {
             run_in_turn::<D, O, L, M, Brand, W, G>(
-                rt, alloc, gate, script, unseated, flusher, scm, nodes, turn, seats,
+                rt, alloc, gate, script, unseated, flusher, scm, nodes, turn, seats, workers,
             )
         }
         Err((_ledger, error)) => Err((given_back(flusher, scm, nodes), error)),
@@ -121,26 +106,18 @@ fn run_in_turn<
     nodes: Vec<Datanode<D>>,
     turn: Turn<Ledger<O>>,
     seats: Vec<Seat<Ledger<O>>>,
+    workers: u8,
 ) -> Result<Ran<D>, (Unstarted<D>, OutOfMemory)>
     requires opens { Opens O.coherent O.opening O.bytes L.rows L.last_index L.coherent L.keeps }
     requires parts { ArePartsOf L.rows L.last_index unseated.parts }
     requires script { script.now ≡ O.script }
     requires numbered { IsNumbered O.script }
-    requires scm { ScmStands O.opening (O.faults ScmNode) scm (D.faults scm.disk) }
-    requires nodes { NodesStand (StandsFor D.told D.clock D.image D.faults O.coherent O.opening O.bytes O.script O.faults)
-        O.opening nodes.items }
-    requires old { O.coherent → NumbersAreOld O.opening }
-    requires running { flusher.stopped ≡ false }
-    requires faults { D.faults flusher.disk ≡ M.disk.faults }
-    requires telling { TellsAsBefore M.disk.told (D.told flusher.disk) }
-    requires time { Elapses M.disk.clock (D.clock flusher.disk) M.disk.image (D.image flusher.disk) }
-    requires journal { O.coherent → IfSome (D.told flusher.disk) (λ bytes. IsJournal bytes O.bodies) }
-    requires stops { O.coherent → IsSome (D.told flusher.disk) →
-        StopsHold O.bodies [] M.disk.clock (D.clock flusher.disk) (D.image flusher.disk) }
+    requires nodes { NodesAreGiven D.told D.clock D.image D.faults O.coherent O.opening O.bytes O.script O.faults scm nodes.items }
+    requires journal { JournalIsGiven D.told D.clock D.image D.faults O.coherent O.bodies M.disk flusher }
     requires turn { turn_id turn ≡ R.turn }
-    requires count { vec_len seats ≡ seats_of turn }
-    requires many { first_worker_seat ≤ vec_len seats }
-    requires few_seats { vec_len seats ≤ first_worker_seat + 16 }
+    requires count { vec_len seats ≡ first_worker_seat + workers }
+    requires all { seats_of turn ≡ first_worker_seat + workers }
+    requires few { workers ≤ 16 }
     requires seats { AreNewSeats R.turn seats.items }
     ensures ran { IfOk result (λ ran. IsRun D.told D.clock D.image D.faults O.coherent O.opening O.bytes O.bodies O.script
         O.faults M.disk L.rows (seats_of turn) ran) }
@@ -148,9 +125,9 @@ fn run_in_turn<
     ensures scm { IfErr result (λ refused. refused.0.scm ≡ scm) }
     ensures nodes { IfErr result (λ refused. refused.0.nodes.items ≡ nodes.items) }
 {
-    match staffed::<D, O, L, R>(alloc, script, unseated, scm, nodes, seats) {
+    match staffed::<D, O, L, R>(alloc, script, unseated, scm, nodes, seats, workers) {
         Ok(staff) => Ok(run_staffed::<D, O, L, M, R, W, G>(
-            rt, alloc, gate, script, flusher, turn, staff,
+            rt, alloc, gate, script, flusher, turn, staff, workers,
         )),
         Err((scm, nodes, error)) => Err((given_back(flusher, scm, nodes), error)),
     }
@@ -186,19 +163,14 @@ fn run_staffed<
     flusher: Flusher<D>,
     turn: Turn<Ledger<O>>,
     staff: Staff<'_, D, Ledger<O>, O, L, R>,
+    workers: u8,
 ) -> Ran<D>
     requires script { script.now ≡ O.script }
     requires numbered { IsNumbered O.script }
-    requires running { flusher.stopped ≡ false }
-    requires faults { D.faults flusher.disk ≡ M.disk.faults }
-    requires telling { TellsAsBefore M.disk.told (D.told flusher.disk) }
-    requires time { Elapses M.disk.clock (D.clock flusher.disk) M.disk.image (D.image flusher.disk) }
-    requires journal { O.coherent → IfSome (D.told flusher.disk) (λ bytes. IsJournal bytes O.bodies) }
-    requires stops { O.coherent → IsSome (D.told flusher.disk) →
-        StopsHold O.bodies [] M.disk.clock (D.clock flusher.disk) (D.image flusher.disk) }
+    requires journal { JournalIsGiven D.told D.clock D.image D.faults O.coherent O.bodies M.disk flusher }
     requires turn { turn_id turn ≡ R.turn }
-    requires many { first_worker_seat ≤ seats_of turn }
-    requires staff { IsStaff R.turn (seats_of turn) (length O.opening.nodes) staff.jobs.items staff.flusher
+    requires all { seats_of turn ≡ first_worker_seat + workers }
+    requires staff { IsStaff R.turn workers (length O.opening.nodes) staff.jobs.items staff.flusher
         staff.quiet.items staff.absent.items staff.all.items (vec_capacity staff.all) }
     ensures { IsRun D.told D.clock D.image D.faults O.coherent O.opening O.bytes O.bodies O.script O.faults M.disk L.rows
         (seats_of turn) result }
@@ -211,6 +183,7 @@ fn run_staffed<
         absent,
         all,
     } = staff;
+    let _workers = workers;
     let flushing = Mutex::new(Flushing::<D, Ledger<O>, O, M, R>::make(flusher, seat));
     work(
         rt,

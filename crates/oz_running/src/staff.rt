@@ -1,15 +1,13 @@
 //! What a run is made of before its threads start.
 
 ghost use Rattle.std.specs.Prelude.{◌≡◌, ◌≤◌, ◌+◌, length, vec_capacity, vec_len, IfErr, IfOk};
-ghost use Rattle.oz_core.specs.declared.event.Node.TheVariants.{Scm as ScmNode};
 ghost use Rattle.oz_core.specs.Seats.{datanode_seat, first_worker_seat, scm_seat};
 ghost use Rattle.oz_script.specs.lines.Numbered.{IsNumbered};
-ghost use Rattle.oz_headline.specs.NodeSeat.{NumbersAreOld, StandsFor};
 ghost use Rattle.oz_nodes.specs.declared.nodes.TheConstants.{FEWEST_NODES, MOST_NODES};
 ghost use Rattle.oz_headline.specs.Opens.{Opens};
 ghost use Rattle.oz_headline.specs.Seated.{ArePartsOf, ArePlaced};
+ghost use Rattle.oz_running.specs.Given.{NodesAreGiven};
 ghost use Rattle.oz_running.specs.Staff.{IsStaff};
-ghost use Rattle.oz_worker.specs.servers.Begun.{NodesStand, ScmStands};
 ghost use Rattle.oz_turn.specs.Seat.{AreNewSeats, IsNewSeat};
 
 use crate::hiring::hired;
@@ -62,19 +60,17 @@ pub(crate) fn staffed<'s, D: Disk, O: Opened, L: Loaded, R: Ring>(
     scm: Scm<D>,
     nodes: Vec<Datanode<D>>,
     seats: Vec<Seat<Ledger<O>>>,
+    workers: u8,
 ) -> Result<Staff<'s, D, Ledger<O>, O, L, R>, (Scm<D>, Vec<Datanode<D>>, OutOfMemory)>
     requires opens { Opens O.coherent O.opening O.bytes L.rows L.last_index L.coherent L.keeps }
     requires parts { ArePartsOf L.rows L.last_index unseated.parts }
     requires script { script.now ≡ O.script }
     requires numbered { IsNumbered O.script }
-    requires scm { ScmStands O.opening (O.faults ScmNode) scm (D.faults scm.disk) }
-    requires nodes { NodesStand (StandsFor D.told D.clock D.image D.faults O.coherent O.opening O.bytes O.script O.faults)
-        O.opening nodes.items }
-    requires old { O.coherent → NumbersAreOld O.opening }
-    requires many { first_worker_seat ≤ vec_len seats }
-    requires few { vec_len seats ≤ first_worker_seat + 16 }
+    requires nodes { NodesAreGiven D.told D.clock D.image D.faults O.coherent O.opening O.bytes O.script O.faults scm nodes.items }
+    requires count { vec_len seats ≡ first_worker_seat + workers }
+    requires few { workers ≤ 16 }
     requires seats { AreNewSeats R.turn seats.items }
-    ensures staff { IfOk result (λ staff. IsStaff R.turn (vec_len seats) (length O.opening.nodes) staff.jobs.items
+    ensures staff { IfOk result (λ staff. IsStaff R.turn workers (length O.opening.nodes) staff.jobs.items
         staff.flusher staff.quiet.items staff.absent.items staff.all.items (vec_capacity staff.all)) }
     ensures scm { IfErr result (λ refused. refused.0 ≡ scm) }
     ensures nodes { IfErr result (λ refused. refused.1.items ≡ nodes.items) }
@@ -89,7 +85,7 @@ pub(crate) fn staffed<'s, D: Disk, O: Opened, L: Loaded, R: Ring>(
         nodes: seats_of_nodes,
         absent,
         all,
-    } = match seat_all::<O, L, R>(alloc, script, unseated, seats, count) {
+    } = match seat_all::<O, L, R>(alloc, script, unseated, seats, count, workers) {
         Ok(seated) => seated,
         Err(error) => return Err((scm, nodes, error)),
     };
@@ -112,21 +108,23 @@ fn seat_all<'s, O: Opened, L: Loaded, R: Ring>(
     script: &'s Script,
     unseated: Unseated,
     mut seats: Vec<Seat<Ledger<O>>>,
-    count: u8,
+    nodes: u8,
+    workers: u8,
 ) -> Result<Seated<'s, Ledger<O>, O, L, R>, OutOfMemory>
     requires opens { Opens O.coherent O.opening O.bytes L.rows L.last_index L.coherent L.keeps }
     requires parts { ArePartsOf L.rows L.last_index unseated.parts }
     requires script { script.now ≡ O.script }
     requires numbered { IsNumbered O.script }
-    requires many { first_worker_seat ≤ vec_len seats }
-    requires few { vec_len seats ≤ first_worker_seat + 16 }
+    requires count { vec_len seats ≡ first_worker_seat + workers }
+    requires few { workers ≤ 16 }
     requires seats { AreNewSeats R.turn seats.items }
-    requires least { FEWEST_NODES ≤ count }
-    requires most { count ≤ MOST_NODES }
-    ensures staff { IfOk result (λ seated. IsStaff R.turn (vec_len seats) count seated.jobs.items seated.flusher
+    requires least { FEWEST_NODES ≤ nodes }
+    requires most { nodes ≤ MOST_NODES }
+    requires opened { nodes ≡ length O.opening.nodes }
+    ensures staff { IfOk result (λ seated. IsStaff R.turn workers nodes seated.jobs.items seated.flusher
         seated.quiet.items seated.absent.items seated.all.items (vec_capacity seated.all)) }
     ensures scm { IfOk result (λ seated. IsNewSeat R.turn scm_seat seated.scm) }
-    ensures node_count { IfOk result (λ seated. length seated.nodes.items ≡ count) }
+    ensures node_count { IfOk result (λ seated. length seated.nodes.items ≡ nodes) }
     ensures nodes { IfOk result (λ seated. ArePlaced (λ dn s. IsNewSeat R.turn (datanode_seat dn) s)
         seated.nodes.items) }
 {
@@ -134,12 +132,13 @@ fn seat_all<'s, O: Opened, L: Loaded, R: Ring>(
         flusher,
         quiet,
         scm,
-        nodes,
+        nodes: seats_of_nodes,
         absent,
         stripes,
-        workers,
-    } = parted_seats::<Ledger<O>, R>(&mut seats, count)?;
-    let jobs = hired::<O, R>(alloc, script, workers, count)?;
+        workers: seats_of_workers,
+    } = parted_seats::<Ledger<O>, R>(&mut seats, nodes)?;
+    let _workers = workers;
+    let jobs = hired::<O, R>(alloc, script, seats_of_workers, nodes)?;
     match Manager::seat(alloc, unseated, stripes) {
         Ok(manager) => Ok(Seated {
             manager,
@@ -147,7 +146,7 @@ fn seat_all<'s, O: Opened, L: Loaded, R: Ring>(
             flusher,
             quiet,
             scm,
-            nodes,
+            nodes: seats_of_nodes,
             absent,
             all: seats,
         }),

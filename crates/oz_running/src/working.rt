@@ -4,7 +4,7 @@ ghost use Rattle.std.specs.Prelude.{◌≡◌};
 ghost use Rattle.oz_turn.specs.Turn.{turn_id};
 
 use oz_buffer::{Ledger, Opened};
-use oz_flusher::{Flushing, Mounted};
+use oz_flusher::{Flushing, Mounted, flush_in_turn};
 use oz_locks::Loaded;
 use oz_turn::{Ring, Turn};
 use oz_worker::{Job, Servers, finish, work_together};
@@ -13,7 +13,8 @@ use std::alloc::Global;
 use std::sync::{Mutex, Wait};
 use std::thread::Threads;
 
-/// Does the jobs, each on a thread of its own, and then on this thread what they leave.
+/// Does the jobs, each on a thread of its own, and then on this thread what they leave. At last it flushes what nobody has
+/// flushed yet.
 pub(crate) fn work<
     D: Disk + Send,
     O: Opened + Send + Sync,
@@ -36,4 +37,5 @@ pub(crate) fn work<
 {
     work_together(rt, alloc, turn, servers, flushing, gate, jobs);
     let _all_done = finish(rt, alloc, turn, servers, flushing, gate, jobs);
+    let _flushed = flush_in_turn(rt, flushing, turn, gate);
 }

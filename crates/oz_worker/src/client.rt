@@ -35,8 +35,9 @@ impl<'s> Client<'s> {
     ) -> Result<Client<'s>, OutOfMemory>
         requires script { script.now ≡ O.script }
         requires numbered { IsNumbered O.script }
-        ensures { IfOk result (λ client. (seen : List AnyEvent) →
+        ensures served { IfOk result (λ client. (seen : List AnyEvent) →
             IsServed O.coherent O.opening O.bytes O.script seen client) }
+        ensures number { IfOk result (λ client. client.number ≡ number) }
     {
         let lines = client_lines(alloc, script, number)?;
         Ok(Client {

@@ -1,6 +1,6 @@
 //! How a worker goes on with its clients.
 
-ghost use Rattle.std.specs.Prelude.{◌≡◌, All};
+ghost use Rattle.std.specs.Prelude.{◌≡◌, All, map};
 ghost use Rattle.oz_script.specs.lines.Numbered.{IsNumbered};
 ghost use Rattle.oz_turn.specs.Seat.{IsReady, seen_of};
 ghost use Rattle.oz_turn.specs.Told.{BeginsWith};
@@ -45,12 +45,13 @@ pub(crate) fn each_goes_on<D: Disk, O: Opened, L: Loaded, R: Ring, W: Wait, G: G
 ) -> Pass
     requires turn { turn_id turn.now ≡ R.turn }
     requires ready { IsReady R.turn by seat.old }
-    requires worker { IsOfWorker by nodes }
+    requires worker { IsOfWorker O.opening by nodes }
     requires numbered { IsNumbered O.script }
     requires served { All (IsServed O.coherent O.opening O.bytes O.script (seen_of seat.old)) clients.old }
     ensures ready { IsReady R.turn by seat.new }
     ensures goes_on { BeginsWith (seen_of seat.new) (seen_of seat.old) }
     ensures served { All (IsServed O.coherent O.opening O.bytes O.script (seen_of seat.new)) clients.new }
+    ensures same { map (λ client. client.number) clients.new ≡ map (λ client. client.number) clients.old }
 {
     what_is_at_work_stays::<O>();
     let mut pass = Pass::Waits;

@@ -1,6 +1,6 @@
 //! How a client's next line starts, goes on and ends.
 
-ghost use Rattle.std.specs.Prelude.{◌≡◌, ◌≤◌, ◌<◌, List, None, Some};
+ghost use Rattle.std.specs.Prelude.{◌≡◌, ◌≤◌, ◌<◌, List, length, None, Some};
 ghost use Rattle.oz_at_work.specs.AtWork.{HasLeft, left_of};
 ghost use Rattle.oz_core.specs.declared.event.Event.{Event as AnyEvent};
 ghost use Rattle.oz_core.specs.Seats.{IsLineSeat};
@@ -42,11 +42,13 @@ impl<'s> Client<'s> {
         requires of_line { IsLineSeat by }
         requires least { FEWEST_NODES ≤ nodes }
         requires most { nodes ≤ MOST_NODES }
+        requires opened { nodes ≡ length O.opening.nodes }
         requires numbered { IsNumbered O.script }
         requires served { IsServed O.coherent O.opening O.bytes O.script (seen_of seat.old) self.old }
         ensures ready { IsReady R.turn by seat.new }
         ensures goes_on { BeginsWith (seen_of seat.new) (seen_of seat.old) }
         ensures served { IsServed O.coherent O.opening O.bytes O.script (seen_of seat.new) self.new }
+        ensures number { self.new.number ≡ self.old.number }
     {
         let length = turn.length();
         if self.rests(length, sight) {
@@ -80,11 +82,13 @@ impl<'s> Client<'s> {
         requires of_line { IsLineSeat by }
         requires least { FEWEST_NODES ≤ nodes }
         requires most { nodes ≤ MOST_NODES }
+        requires opened { nodes ≡ length O.opening.nodes }
         requires numbered { IsNumbered O.script }
         requires served { IsServed O.coherent O.opening O.bytes O.script (seen_of seat.old) self.old }
         ensures ready { IsReady R.turn by seat.new }
         ensures goes_on { BeginsWith (seen_of seat.new) (seen_of seat.old) }
         ensures served { IsServed O.coherent O.opening O.bytes O.script (seen_of seat.new) self.new }
+        ensures number { self.new.number ≡ self.old.number }
     {
         what_is_at_work_stays::<O>();
         let Some(mut work) = self.work.take() else {
@@ -120,12 +124,14 @@ impl<'s> Client<'s> {
         requires ready { IsReady (turn_id turn.now) by seat.old }
         requires least { FEWEST_NODES ≤ nodes }
         requires most { nodes ≤ MOST_NODES }
+        requires opened { nodes ≡ length O.opening.nodes }
         requires numbered { IsNumbered O.script }
         requires none { self.old.work ≡ None }
         requires served { IsServed O.coherent O.opening O.bytes O.script (seen_of seat.old) self.old }
         ensures ready { IsReady (turn_id turn.now) by seat.new }
         ensures goes_on { BeginsWith (seen_of seat.new) (seen_of seat.old) }
         ensures served { IsServed O.coherent O.opening O.bytes O.script (seen_of seat.new) self.new }
+        ensures number { self.new.number ≡ self.old.number }
     {
         what_is_at_work_stays::<O>();
         a_label_was_left::<O>();
@@ -155,6 +161,7 @@ impl<'s> Client<'s> {
         ensures served { (seen : List AnyEvent) → IsServed O.coherent O.opening O.bytes O.script seen self.old →
             (O.coherent → HasLeft O.coherent O.opening O.bytes O.script seen work.entry.line (left_of work.entry)) →
             IsServed O.coherent O.opening O.bytes O.script seen self.new }
+        ensures number { self.new.number ≡ self.old.number }
     {
         let command = &work.line().command;
         let left = work.into_label();

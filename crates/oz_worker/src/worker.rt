@@ -1,12 +1,12 @@
 //! A worker: a seat, and the clients that are served from it.
 
-ghost use Rattle.std.specs.Prelude.{◌≡◌, ◌<◌, All, List, IfOk, IfErr};
+ghost use Rattle.std.specs.Prelude.{◌≡◌, ◌<◌, All, List, length, map, IfOk, IfErr};
 ghost use Rattle.oz_core.specs.declared.event.Event.{Event as AnyEvent};
 ghost use Rattle.oz_script.specs.lines.Numbered.{IsNumbered};
 ghost use Rattle.oz_turn.specs.Seat.{IsReady};
 ghost use Rattle.oz_turn.specs.Turn.{turn_id};
 ghost use Rattle.oz_worker.specs.Served.{IsServed};
-ghost use Rattle.oz_worker.specs.Workers.{IsOfWorker};
+ghost use Rattle.oz_worker.specs.Workers.{IsOfWorker, clients_of};
 
 use crate::client::Client;
 use crate::passing::{Pass, each_goes_on};
@@ -35,10 +35,12 @@ const WHOLE: u32 = 64;
 /// How often a worker does on the caller's thread, where nobody else could help: once more behind a flush.
 pub(crate) const FEWEST_LOOKS: u32 = 1;
 
-/// Serves clients from a seat of the turn. Contracts see the seat's number.
+/// Serves clients from a seat of the turn: those that are dealt to it where it is the worker at its place, of so many.
 #[derive(Drop)]
 pub struct Worker<'s, T: Told<Entry = Event>, O: Opened, R: Ring> {
     number: u16,
+    place: u16,
+    workers: u16,
     seat: Seat<T>,
     clients: Vec<Client<'s>>,
     /// How many datanodes there are.
@@ -50,24 +52,25 @@ pub struct Worker<'s, T: Told<Entry = Event>, O: Opened, R: Ring> {
 }
 
 impl<'s, T: Told<Entry = Event>, O: Opened, R: Ring> Model for Worker<'s, T, O, R> {
-    ghost use Rattle.std.specs.Prelude.{ℕ, All};
+    ghost use Rattle.std.specs.Prelude.{◌≡◌, All, length, map};
     ghost use Rattle.oz_script.specs.lines.Numbered.{IsNumbered};
     ghost use Rattle.oz_turn.specs.Seat.{IsReady, seen_of};
     ghost use Rattle.oz_worker.specs.Served.{IsServed};
-    ghost use Rattle.oz_worker.specs.Workers.{IsOfWorker};
+    ghost use Rattle.oz_worker.specs.Workers.{IsOfWorker, WorkerView, clients_of};
 
-    ghost Value = { ℕ };
+    ghost Value = { WorkerView };
 
-    ghost view = { λ w. w.number };
+    ghost view = { λ w. record { number = w.number; place = w.place; workers = w.workers } };
 
-    ghost invariant = { λ w. IsReady R.turn w.number w.seat × IsOfWorker w.number w.nodes × IsNumbered O.script
+    ghost invariant = { λ w. IsReady R.turn w.number w.seat × IsOfWorker O.opening w.number w.nodes × IsNumbered O.script
+        × (map (λ client. client.number) w.clients.items ≡ clients_of w.workers w.place (length O.script.clients))
         × All (IsServed O.coherent O.opening O.bytes O.script (seen_of w.seat)) w.clients.items };
 }
 
 impl<'s, T: Told<Entry = Event>, O: Opened, R: Ring> Worker<'s, T, O, R> {
     /// The seat's number.
     pub fn number(&self) -> u16
-        ensures { result ≡ self.now }
+        ensures { result ≡ self.now.number }
     {
         self.number
     }
@@ -85,28 +88,30 @@ impl<'s, T: Told<Entry = Event>, O: Opened, R: Ring> Worker<'s, T, O, R> {
 }
 
 impl<'s, O: Opened, R: Ring> Worker<'s, Ledger<O>, O, R> {
-    /// A worker at a seat, for those clients of the script whose numbers less one leave `rest` when they are divided by
-    /// `workers`. `nodes` is the number of datanodes. Where there is no memory the seat comes back.
+    /// The worker at a seat who is at a place among so many workers, and serves the clients of the script that are dealt to
+    /// it. `nodes` is the number of datanodes. Where there is no memory the seat comes back.
     pub fn make(
         alloc: Global,
         script: &'s Script,
         number: u16,
         seat: Seat<Ledger<O>>,
-        rest: u16,
+        place: u16,
         workers: u16,
         nodes: u8,
     ) -> Result<Worker<'s, Ledger<O>, O, R>, (Seat<Ledger<O>>, OutOfMemory)>
         requires script { script.now ≡ O.script }
         requires numbered { IsNumbered O.script }
         requires seat { IsReady R.turn number seat }
-        requires worker { IsOfWorker number nodes }
+        requires worker { IsOfWorker O.opening number nodes }
         requires some { 0 < workers }
-        ensures ok { IfOk result (λ worker. worker ≡ number) }
+        ensures ok { IfOk result (λ worker. worker ≡ record { number = number; place = place; workers = workers }) }
         ensures err { IfErr result (λ refused. refused.0 ≡ seat) }
     {
-        match clients_from::<O>(alloc, script, rest, workers) {
+        match clients_from::<O>(alloc, script, place, workers) {
             Ok(clients) => Ok(Worker {
                 number,
+                place,
+                workers,
                 seat,
                 clients,
                 nodes,
@@ -120,10 +125,12 @@ impl<'s, O: Opened, R: Ring> Worker<'s, Ledger<O>, O, R> {
 
     /// Its seat. It takes no memory.
     pub fn into_seat(self) -> Seat<Ledger<O>>
-        ensures { IsReady R.turn self.entry result }
+        ensures { IsReady R.turn self.entry.number result }
     {
         let Worker {
             number: _,
+            place: _,
+            workers: _,
             seat,
             clients: _,
             nodes: _,
@@ -292,26 +299,27 @@ impl Flush {
     }
 }
 
-/// Those clients of a script whose numbers less one leave `rest` when they are divided by `workers`.
+/// The clients of a script that are dealt to the worker at a place, of so many.
 fn clients_from<'s, O: Opened>(
     alloc: Global,
     script: &'s Script,
-    rest: u16,
+    place: u16,
     workers: u16,
 ) -> Result<Vec<Client<'s>>, OutOfMemory>
     requires script { script.now ≡ O.script }
     requires numbered { IsNumbered O.script }
     requires some { 0 < workers }
-    ensures { IfOk result (λ clients. (seen : List AnyEvent) →
+    ensures served { IfOk result (λ clients. (seen : List AnyEvent) →
         All (IsServed O.coherent O.opening O.bytes O.script seen) clients.items) }
+    ensures dealt { IfOk result (λ clients.
+        map (λ client. client.number) clients.items ≡ clients_of workers place (length O.script.clients)) }
 {
     let mut clients = Vec::new(alloc);
     let count = script.clients.len() as u16;
-    for place in 0..count {
-        if place % workers != rest {
-            continue;
+    for dealt in 0..count {
+        if dealt % workers == place {
+            clients.push(Client::new::<O>(alloc, script, dealt + 1)?)?;
         }
-        clients.push(Client::new::<O>(alloc, script, place + 1)?)?;
     }
     Ok(clients)
 }

@@ -11,6 +11,8 @@ use Rattle.oz_core.specs.declared.opening.Opening.{Opening}
 use Rattle.oz_core.specs.Contents.{HasContent, OpeningBytes, written_for}
 use Rattle.oz_core.specs.Due.{IsDone, IsDue}
 use Rattle.oz_fields.specs.declared.block.Block.{Block}
+use Rattle.oz_core.specs.Steps.{target}
+use Rattle.oz_running.specs.Puts.{HasNamed}
 use Rattle.oz_running.specs.Reads.{HasRead}
 use Rattle.oz_requests.specs.declared.answer.Answer.{Answer}
 use Rattle.oz_requests.specs.declared.answer.Answer.TheVariants as told
@@ -25,13 +27,14 @@ module _ (opening : Opening) (bytes : OpeningBytes) (path : KeyPath) (given : Li
     pub parts : story ≡ front ++ rest
     pub has : HasContent opening bytes (script_for way path given) front block content
 
-  -- A put is done: all its steps are decided without a code, as many blocks as its bytes have pieces are written, and each
-  -- of them has its piece.
+  -- A put is done: all its steps are decided without a code, as many blocks as its bytes have pieces are written, each of
+  -- them has its piece, and its commit gave the key these blocks as its pieces.
   pub record IsKept (before : List Event) (it : Values) : Type 0 where
     pub all : it ≡ values.Length (length given)
     pub done : IsDone opening bytes (script_for Put path given) before (line_for Put path given) it
     pub contents : (j : ℕ) (block : Block) → slice_get (written_for 1 1 before) j ≡ Some block
         → HasFrom Put before block (piece j (line_for Put path given).command)
+    pub named : HasNamed opening before (line_for Put path given) (target path.volume path.bucket path.key)
 
   -- What was read are the contents of the pieces that the line's last reply names.
   abbrev pub IsContent : List Event → Values → Type 0

@@ -62,8 +62,8 @@ module _ {D : Type 0} (see : D → Seen) (words : List (List ℕ)) (before after
     pub given : List ℕ
     pub took : IsGiven way source.before source.after given
     pub any_halted : Bool
-    pub all_told : Bool
-    pub store : IsStoreRun see (script_for way path given) before after any_halted story all_told
+    pub is_done : Bool
+    pub store : IsStoreRun see (script_for way path given) before after any_halted story is_done
     pub ends : EndsSo (length given) (key_word words) story any_halted out errors way outcome
     pub named : StatusNamesHalts (if any_halted then status.Disk else status.Done) story
     pub halted : HaltsAreNamed (all_disks see

@@ -22,7 +22,8 @@ use crate::top::Ended;
 use oz_block::a_disk_stands_for_one_node;
 use oz_loaded::a_disk_loads_as_one_thing;
 use oz_running::{
-    Disks, RefusedStore, StoreRan, a_halted_node_counted, all_disks_are_a_store, run_over_disks,
+    Disks, RefusedStore, StoreRan, a_halted_node_counted, a_put_names_its_key,
+    all_disks_are_a_store, run_over_disks,
 };
 use oz_scm::a_disk_stands_for_one_thing;
 use oz_world::{Disk, Gate, Sink, Source};
@@ -87,6 +88,7 @@ pub fn transfer<
     a_disk_stands_for_one_thing();
     a_halted_node_counted::<D>();
     all_disks_are_a_store::<D>();
+    a_put_names_its_key();
     let Ready {
         asked,
         path: _,
@@ -108,7 +110,7 @@ pub fn transfer<
     let StoreRan {
         story,
         any_halted,
-        all_told: _,
+        is_done: _,
         disks,
     } = ran;
     let outcome = finish_transfer(alloc, asked, &story, any_halted, out, errors);

@@ -1,10 +1,10 @@
 //! What the flusher's seat has seen, and the whole story.
 
 ghost use Rattle.std.specs.Prelude.{◌≡◌, ℕ, List, [], Bool};
-ghost use Rattle.oz_buffer.specs.Buffer.{AllFollow, Follows};
+ghost use Rattle.oz_buffer.specs.Buffer.{AllFollow, Follows, buffer_of};
 ghost use Rattle.oz_core.specs.declared.event.Event.{Event as AnyEvent};
 ghost use Rattle.oz_core.specs.declared.event.Node.TheVariants.{Manager};
-ghost use Rattle.oz_core.specs.Manager.{swapped_index, durable_index, flushed_moment, halt_of};
+ghost use Rattle.oz_core.specs.Manager.{last_index, swapped_index, durable_index, flushed_moment, halt_of};
 ghost use Rattle.oz_core.specs.Seats.{flusher_seat};
 ghost use Rattle.oz_flusher.specs.Stops.{StopsHold};
 ghost use Rattle.oz_flusher.specs.flushing.Kept.{IsKept};
@@ -33,6 +33,12 @@ pub fn the_whole_story_is_kept<D: Disk, O: Opened, M: Mounted>()
         AllFollow (Follows O.coherent O.opening O.bytes O.script) [] story →
         IsKept O.coherent O.opening O.bodies M.disk stopped story mine
         (seen_disk (D.told disk) (D.clock disk) (D.image disk) (D.faults disk)) }
+{}
+
+/// Where the disks agree and nothing is left to be taken, all that was decided was taken to be flushed.
+pub fn what_is_taken_was_decided<O: Opened>()
+    ensures { (story : List AnyEvent) → O.coherent → AllFollow (Follows O.coherent O.opening O.bytes O.script) [] story →
+        buffer_of story ≡ [] → swapped_index O.opening story ≡ last_index O.opening story }
 {}
 
 /// Where the disks agree, the events of the flusher's seat alone tell what a story took and flushed, and whether the

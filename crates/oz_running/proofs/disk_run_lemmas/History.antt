@@ -7,7 +7,8 @@ use Rattle.oz_core.specs.declared.event.Node.{Node}
 use Rattle.oz_core.specs.declared.opening.Opening.{Opening}
 use Rattle.oz_core.specs.Contents.{OpeningBytes}
 use Rattle.oz_core.specs.Law.{IsLegal}
-use Rattle.oz_core.specs.Manager.{durable_index}
+use Rattle.oz_buffer.specs.Buffer.{buffer_of}
+use Rattle.oz_core.specs.Manager.{durable_index, last_index}
 use Rattle.oz_decision.specs.Meets.{AreInGrammar}
 use Rattle.oz_running.specs.disk_run.Coherent.{IsCoherentStore}
 use Rattle.oz_running.specs.disk_run.RunOver.{IsOneHistory, LoadingKeeps, OpensAs}
@@ -152,9 +153,13 @@ module _ {D : Type 0} (see : D → Seen) (script : Script) (others : OtherDisks 
         subst (StandUpTo opening story (bodies ++ bodies_of story)) (its.all_flushed agree running)
         (front_opens opening (row_of this.all) bodies this.all this.builds refl story legal (together rows) stood story [] (sym (append-nil story)))
 
+    stable : stopped ≡ false → buffer_of story ≡ [] → durable_index opening story ≡ last_index opening story
+    stable running none = sym (its.all_flushed agree running) ∙ its.all_taken agree none
+
     pub one_history : IsOneHistory see script before after stopped others nodes (left_by ran) opening contents (see mounted).faults (see mounted).clock story
     one_history = record {
       headline = its.headline agree before others;
+      all_stable = stable;
       stops = λ some moment left from by h.
           image_opens opening (row_of this.all) bodies this.all this.builds refl story legal (together rows) stood moment left
           (subst (λ (l : List (List ℕ)). IsPrefix l story moment left) (shown_bodies some) (its.run.kept.stops agree (some_after some) moment left from by h));

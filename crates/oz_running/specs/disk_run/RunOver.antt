@@ -1,20 +1,21 @@
 -- What a run over the disks of all nodes leaves.
-use Rattle.std.specs.Prelude.{◌≡◌, ◌↔◌, ℕ, ◌≤◌, Bool, true, false, List, IfSome, IsSome, IsSomeAnd, if◌then◌else◌}
+use Rattle.std.specs.Prelude.{◌≡◌, ◌↔◌, ℕ, ◌≤◌, Bool, true, false, List, [], IfSome, IsSome, IsSomeAnd, if◌then◌else◌}
 use Rattle.oz_core.specs.declared.event.Event.{Event}
 use Rattle.oz_core.specs.declared.opening.Opening.{Opening}
 use Rattle.oz_core.specs.Contents.{OpeningBytes}
-use Rattle.oz_core.specs.Manager.{durable_index}
+use Rattle.oz_buffer.specs.Buffer.{buffer_of}
+use Rattle.oz_core.specs.Manager.{durable_index, last_index}
 use Rattle.oz_running.specs.disk_run.Coherent.{IsCoherentStore}
 use Rattle.oz_running.specs.disk_run.Disks.{counts_loaded}
 use Rattle.oz_headline.specs.halts.Disks.{AreAsMany, OtherDisks, OtherNodes, all_disks, some_halted}
 use Rattle.oz_headline.specs.halts.Nodes.{AreAsTold, ScmIsAsTold}
 use Rattle.oz_headline.specs.declared.status.Status.TheVariants.{Disk, Done}
-use Rattle.oz_headline.specs.Counts.{AreToldAsMany}
 use Rattle.oz_headline.specs.Disks.{manager_disk}
 use Rattle.oz_headline.specs.NamedHalts.{HaltsAreNamed, StatusNamesHalts}
 use Rattle.oz_headline.specs.Headline.{Headline}
 use Rattle.oz_journal.specs.Grammar.{IsJournal}
 use Rattle.oz_journal.specs.Load.{IsLeftAlone, IsLoadable, loaded_at}
+use Rattle.oz_running.specs.Run.{IsWorkedOff}
 use Rattle.oz_script.specs.declared.lines.script.Script.{Script}
 use Rattle.oz_loaded.specs.Loads.{IsLoaded}
 use Rattle.oz_loaded.specs.Unseated.{UnseatedView}
@@ -46,6 +47,8 @@ module _ {D : Type 0} (see : D → Seen) (script : Script) (before after : D) (s
       : Type 0 where
     pub headline : Headline opening bytes script
         (all_disks see (manager_disk faults first stopped (see before) (see after)) others nodes left) story
+    -- Where no write failed and nothing is left to be flushed, all that was decided is stable.
+    pub all_stable : stopped ≡ false → buffer_of story ≡ [] → durable_index opening story ≡ last_index opening story
     -- A stop at any moment from then on leaves a journal that opens as the store after a first part of the story, with
     -- all that was flushed by that moment.
     pub stops : IsSome (see before).told → (moment : ℕ) (held : List ℕ) → first ≤ moment → moment ≤ (see after).clock
@@ -54,8 +57,8 @@ module _ {D : Type 0} (see : D → Seen) (script : Script) (before after : D) (s
     pub reopens : stopped ≡ false → IsSome (see before).told
         → IsSomeAnd (see after).told (λ held. OpensAs opening story held (durable_index opening story))
 
-  -- A run over disks, with its story, and whether each client was told as many lines as it has.
-  pub record IsRunOver (story : List Event) (all_told : Bool) : Type 0 where
+  -- A run over disks, with its story, and whether its work is done.
+  pub record IsRunOver (story : List Event) (is_done : Bool) : Type 0 where
     -- What was loaded: of the bodies that the bytes of the disk are a journal of, where it tells its bytes.
     pub bodies : List (List ℕ)
     pub unseated : UnseatedView
@@ -89,7 +92,7 @@ module _ {D : Type 0} (see : D → Seen) (script : Script) (before after : D) (s
     pub halted : HaltsAreNamed
         (all_disks see (manager_disk faults first stopped (see before) (see after)) others nodes left) story
     pub status : StatusNamesHalts (if some_halted stopped left then Disk else Done) story
-    pub counted : (all_told ≡ true) ↔ AreToldAsMany script story
+    pub done : (is_done ≡ true) ↔ IsWorkedOff stopped script story
     -- What a stop left while the manager's disk was loaded stands.
     pub loading : IfSome (see before).told (λ bytes.
         IsLoadable bytes ((see before).image (see before).clock) → LoadingKeeps (see before) bytes (see after).image)

@@ -15,7 +15,7 @@ use Rattle.oz_world.specs.Disk.{Seen}
 -- All disks were loaded, and no id on them is granted again. From the opening of all of them the lines ran over the nodes
 -- that were loaded, and what comes back are the disks of these nodes at the end. It says whether any node halted.
 pub record IsStoreRun {D : Type 0} (see : D → Seen) (script : Script) (before after : Disks D) (any_halted : Bool)
-    (story : List Event) (all_told : Bool) : Type 0 where
+    (story : List Event) (is_done : Bool) : Type 0 where
   -- the storage container manager and the datanodes as they were loaded, and at the end
   pub nodes : OtherNodes D
   pub left : OtherNodes D
@@ -23,7 +23,7 @@ pub record IsStoreRun {D : Type 0} (see : D → Seen) (script : Script) (before 
   pub nodes_loaded : AreNodesFrom see 0 before.nodes.items nodes.datanodes
   -- whether a write of the manager's disk failed
   pub stopped : Bool
-  pub over : IsRunOver see script before.manager after.manager stopped (others_of before) nodes left story all_told
+  pub over : IsRunOver see script before.manager after.manager stopped (others_of before) nodes left story is_done
   pub fresh : AreBelow over.unseated.greatest_id (map node_in nodes.datanodes) nodes.scm.made.next_id
   pub halted : any_halted ≡ some_halted stopped left
   pub scm_left : after.scm ≡ left.scm.disk

@@ -1,9 +1,10 @@
 -- For private calls: a run, and what its story tells where it is one history.
-use Rattle.std.specs.Prelude.{◌≡◌, ℕ, false, List, IfSome, Option, length, if◌then◌else◌}
+use Rattle.std.specs.Prelude.{◌≡◌, ℕ, false, List, [], IfSome, Option, length, if◌then◌else◌}
 use Rattle.oz_core.specs.declared.event.Node.{Node}
 use Rattle.oz_core.specs.declared.opening.Opening.{Opening}
 use Rattle.oz_core.specs.Contents.{OpeningBytes}
-use Rattle.oz_core.specs.Manager.{durable_index, swapped_index}
+use Rattle.oz_buffer.specs.Buffer.{buffer_of}
+use Rattle.oz_core.specs.Manager.{durable_index, last_index, swapped_index}
 use Rattle.oz_datanode.specs.Datanode.{Runs, State as Datanode}
 use Rattle.oz_datanode.specs.declared.disks.NodeDisks.{NodeDisks}
 use Rattle.oz_headline.specs.full.Full.{JournalStands}
@@ -74,3 +75,5 @@ module _ {D : Type 0} (see : D → Seen) (Coherent : Type 0) (opening : Opening)
     pub status : StatusNamesHalts (if some_halted ran.journal.stopped (left_by ran) then Disk else Done) ran.story.items
     pub all_flushed : Coherent → ran.journal.stopped ≡ false
         → swapped_index opening ran.story.items ≡ durable_index opening ran.story.items
+    pub all_taken : Coherent → buffer_of ran.story.items ≡ []
+        → swapped_index opening ran.story.items ≡ last_index opening ran.story.items

@@ -30,13 +30,13 @@ use std::alloc::Global;
 use std::sync::Wait;
 use std::thread::Threads;
 
-/// What a run leaves: what happened in it, whether a call on a node's disk failed, whether all lines were told, and the
-/// disks.
+/// What a run leaves: what happened in it, whether a call on a node's disk failed, whether its work is done (all lines were
+/// told, and nothing that was decided is left to be flushed), and the disks.
 #[derive(Drop)]
 pub struct StoreRan<D> {
     pub story: Vec<Event>,
     pub any_halted: bool,
-    pub all_told: bool,
+    pub is_done: bool,
     pub disks: Disks<D>,
 }
 
@@ -59,7 +59,7 @@ pub fn run_over_disks<D: Disk + Send, W: Threads + Wait + Sync, G: Gate + Sync>(
     requires least { FEWEST_NODES ≤ length disks.nodes.items }
     requires most { length disks.nodes.items ≤ MOST_NODES }
     ensures ran { IfOk result (λ ran. let see = (λ (d : D). seen (D.told d) (D.clock d) (D.image d) (D.faults d)) in
-        IsStoreRun see script.now disks ran.disks ran.any_halted ran.story.items ran.all_told) }
+        IsStoreRun see script.now disks ran.disks ran.any_halted ran.story.items ran.is_done) }
     ensures refused { IfErr result (λ refused. let see = (λ (d : D). seen (D.told d) (D.clock d) (D.image d) (D.faults d)) in
         IsRefusedFor see disks refused.disks refused.fault) }
     ensures spared { IfErr result (λ refused. let see = (λ (d : D). seen (D.told d) (D.clock d) (D.image d) (D.faults d)) in
@@ -160,7 +160,7 @@ fn ran_over<D: Disk>(ran: Ran<D>, room: Vec<NodeDisks<D>>) -> StoreRan<D>
     requires enough { vec_len ran.nodes ≤ vec_capacity room }
     ensures story { result.story ≡ ran.story }
     ensures any_halted { result.any_halted ≡ some_halted ran.journal.stopped (left_by ran) }
-    ensures all_told { result.all_told ≡ ran.all_told }
+    ensures is_done { result.is_done ≡ ran.is_done }
     ensures manager { result.disks.manager ≡ ran.journal.disk }
     ensures scm { result.disks.scm ≡ ran.scm.disk }
     ensures nodes { result.disks.nodes.items ≡ map disks_in ran.nodes.items }
@@ -174,7 +174,7 @@ fn ran_over<D: Disk>(ran: Ran<D>, room: Vec<NodeDisks<D>>) -> StoreRan<D>
         journal,
         scm,
         nodes,
-        all_told,
+        is_done,
     } = ran;
     let stopped = journal.stopped();
     let scm_halted = scm.stopped();
@@ -182,7 +182,7 @@ fn ran_over<D: Disk>(ran: Ran<D>, room: Vec<NodeDisks<D>>) -> StoreRan<D>
     StoreRan {
         story,
         any_halted: stopped || scm_halted || node_halted,
-        all_told,
+        is_done,
         disks: Disks {
             manager: journal.into_disk(),
             scm: scm.into_disk(),

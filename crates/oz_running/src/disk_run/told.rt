@@ -1,27 +1,25 @@
 //! What the story of a run tells.
 
-ghost use Rattle.std.specs.Prelude.{◌≡◌, ◌≤◌, ◌+◌, ℕ, [], Some, false, length, slice_get, IfOk, IfErr, IfSome, IsSome};
+ghost use Rattle.std.specs.Prelude.{◌≡◌, ◌≤◌, ◌+◌, ℕ, Some, length, slice_get, IfOk, IfErr};
 ghost use Rattle.oz_core.specs.declared.event.Node.TheVariants.{Scm as ScmNode};
 ghost use Rattle.oz_core.specs.Seats.{first_worker_seat};
 ghost use Rattle.oz_datanode.specs.Datanode.{State as AnyDatanode};
+ghost use Rattle.oz_running.specs.Given.{JournalIsGiven};
 ghost use Rattle.oz_running.specs.disk_run.Told.{IsOpened, IsTold, other_nodes};
-ghost use Rattle.oz_flusher.specs.Stops.{StopsHold};
 ghost use Rattle.oz_headline.specs.halts.Nodes.{AreCounted};
-ghost use Rattle.oz_journal.specs.Grammar.{IsJournal};
 ghost use Rattle.oz_script.specs.lines.Numbered.{IsNumbered};
 ghost use Rattle.oz_headline.specs.NodeSeat.{NumbersAreOld};
 ghost use Rattle.oz_nodes.specs.declared.nodes.TheConstants.{FEWEST_NODES, MOST_NODES};
 ghost use Rattle.oz_headline.specs.Opens.{Opens};
 ghost use Rattle.oz_headline.specs.Seated.{ArePartsOf};
 ghost use Rattle.oz_worker.specs.servers.Begun.{ScmStands};
-ghost use Rattle.oz_world.specs.Disk.{seen, TellsAsBefore};
-ghost use Rattle.oz_world.specs.Moments.{Elapses};
+ghost use Rattle.oz_world.specs.Disk.{seen};
 
 use crate::{Ran, Unstarted, run_lines};
 use oz_buffer::Opened;
 use oz_datanode::Datanode;
 use oz_fields::OutOfMemory;
-use oz_flusher::{Flusher, Mounted, the_flusher_alone_tells};
+use oz_flusher::{Flusher, Mounted, the_flusher_alone_tells, what_is_taken_was_decided};
 use oz_headline::{
     a_loaded_datanode_stands, halts_of_all_nodes_are_named,
     the_story_keeps_the_headline_of_all_disks,
@@ -69,13 +67,7 @@ pub(crate) fn run_told<
         IsOpened D.told D.clock D.image D.faults O.coherent O.opening O.bytes dn node }
     requires counted { AreCounted D.faults O.faults (other_nodes scm nodes.items) }
     requires old { O.coherent → NumbersAreOld O.opening }
-    requires running { flusher.stopped ≡ false }
-    requires faults { D.faults flusher.disk ≡ M.disk.faults }
-    requires telling { TellsAsBefore M.disk.told (D.told flusher.disk) }
-    requires time { Elapses M.disk.clock (D.clock flusher.disk) M.disk.image (D.image flusher.disk) }
-    requires journal { O.coherent → IfSome (D.told flusher.disk) (λ bytes. IsJournal bytes O.bodies) }
-    requires stops { O.coherent → IsSome (D.told flusher.disk) →
-        StopsHold O.bodies [] M.disk.clock (D.clock flusher.disk) (D.image flusher.disk) }
+    requires journal { JournalIsGiven D.told D.clock D.image D.faults O.coherent O.bodies M.disk flusher }
     ensures told { IfOk result (λ ran. let see = (λ (d : D). seen (D.told d) (D.clock d) (D.image d) (D.faults d)) in
         IsTold see O.coherent O.opening O.bytes O.bodies O.script O.faults M.disk L.rows (first_worker_seat + workers)
         (other_nodes scm nodes.items) ran) }
@@ -86,6 +78,7 @@ pub(crate) fn run_told<
     the_story_keeps_the_headline_of_all_disks::<D, O, M>();
     halts_of_all_nodes_are_named::<D, O, M>();
     the_flusher_alone_tells::<O>();
+    what_is_taken_was_decided::<O>();
     a_loaded_datanode_stands::<D, O>();
     run_lines::<D, O, L, M, W, G>(
         rt, alloc, gate, script, unseated, flusher, scm, nodes, workers,

@@ -3,12 +3,13 @@ use Rattle.std.specs.String.{string_bytes}
 use Rattle.oz_core.specs.declared.event.Event.{Event}
 use Rattle.oz_cluster.specs.Headline.{RunEnds}
 use Rattle.oz_cluster.proofs.Causes.{causes_of}
-use Rattle.oz_cluster.proofs.Endings.{names_halts, told_of}
+use Rattle.oz_cluster.proofs.Endings.{names_halts, stable_of, worked_off}
 use Rattle.oz_cluster.proofs.Right.{OneThing}
 use Rattle.oz_cluster.proofs.Stops.{stopped_early, stopped_late}
 use Rattle.oz_running.specs.declared.disk_run.disks.Disks.{Disks}
 use Rattle.oz_running.specs.halts.Disks.{some_halted}
 use Rattle.oz_running.specs.Printed.{IsPrinted}
+use Rattle.oz_running.specs.store_opening.Openings.{opening_of}
 use Rattle.oz_command.specs.command_line.Words.{IsRunWith}
 use Rattle.oz_world.specs.Disk.{Seen, seen}
 use Rattle.oz_world.specs.Faults.{Rose}
@@ -98,16 +99,20 @@ returns-clause-one_run g c =
         parsed = c.in-Ok.ensures.script;
         read = c.in-Ok.ensures.through;
         any_halted = ran.any_halted;
-        all_told = ran.all_told;
+        is_done = ran.is_done;
         store = store;
         printed = subst (λ (l : List Event). IsPrinted status script l (g.K.Sink.held c.args.out.now) (g.K.Sink.held c.finish-status.new.out) sink_rose) c.deref.ensures.value c.finish-status.ensures.printed;
         ended = names_halts status story ran.any_halted (some_halted store.stopped store.left) store.halted c.finish-status.ensures.done c.finish-status.ensures.disk store.over.status;
-        told = told_of status script story ran.all_told store.over.counted c.finish-status.ensures.told;
+        told = λ ne. (worked_off status script story store.stopped ran.is_done store.over.done c.finish-status.ensures.worked_off ne).told;
         halted = store.over.halted;
         headline = λ namespace coherent.
-            let history = (store.over.coherent namespace coherent).headline in (
+            let one = store.over.coherent namespace coherent in
+            let history = one.headline in (
               history,
-              λ ne. c.all_are_told_by_count.ensures.all _ _ script story c.in-Ok.ensures.numbered history.one_history.1 (told_of status script story ran.all_told store.over.counted c.finish-status.ensures.told ne),
+              λ ne. c.all_are_told_by_count.ensures.all _ _ script story c.in-Ok.ensures.numbered history.one_history.1
+                  (worked_off status script story store.stopped ran.is_done store.over.done c.finish-status.ensures.worked_off ne).told,
+              stable_of status script story (opening_of store.over.unseated namespace store.nodes.scm.made store.nodes.datanodes) store.stopped ran.is_done ran.any_halted _ store.halted c.finish-status.ensures.done store.over.done
+                  c.finish-status.ensures.worked_off one.all_stable,
             );
       },
     )

@@ -1,8 +1,8 @@
-use Rattle.std.proofs.Common.{◌≡◌, ◌≤◌, ◌<◌, ◌↔◌, true, List, length, All, sym, subst, arith}
+use Rattle.std.proofs.Common.{◌≡◌, ◌≤◌, ◌<◌, ◌↔◌, Bool, true, List, length, All, sym, subst, arith}
 use Rattle.oz_core.specs.declared.event.Event.{Event}
 use Rattle.oz_core.specs.Seats.{first_worker_seat}
 use Rattle.oz_script.specs.declared.lines.script.Script.{Script}
-use Rattle.oz_headline.specs.Counts.{AreToldAsMany}
+use Rattle.oz_running.specs.Run.{IsWorkedOff}
 use Rattle.oz_running.proofs.Whole.{flusher_left, nodes_left, quiet_left, ready_left, scm_left, stripe_left}
 use Rattle.oz_turn.specs.Seat.{AreReady, mine_of, number_of, seen_of}
 use Rattle.oz_turn.specs.Told.{BeginsWith, own_entries}
@@ -65,6 +65,7 @@ returns g c =
           (λ view node kept stood goes_on given. c.its_seat_alone_tells.ensures.stands view node story kept stood goes_on follow given);
       quiet = quiet_left D.told D.clock D.image D.faults O.coherent O.opening O.bytes O.bodies O.script O.faults M.disk rows turn stopped disk left.scm nodes seats is story many begins own;
       seated = subst (λ (l : List Event). All (λ (event : Event). event.seat < seats_of c.args.turn) l) same c.close-ledger.ensures.given;
-      counted = subst (λ (s : Script). (c.each_is_told_as_many-all_told.result ≡ true) ↔ AreToldAsMany s story) c.requires.script
-          (subst (λ (l : List Event). (c.each_is_told_as_many-all_told.result ≡ true) ↔ AreToldAsMany c.args.script.now l) same c.each_is_told_as_many-all_told.ensures);
+      done = subst (λ (b : Bool). (c.is_worked_off-is_done.result ≡ true) ↔ IsWorkedOff b O.script story) c.stopped.ensures.stopped
+          (subst (λ (s : Script). (c.is_worked_off-is_done.result ≡ true) ↔ IsWorkedOff c.stopped.result s story) c.requires.script
+          (subst (λ (l : List Event). (c.is_worked_off-is_done.result ≡ true) ↔ IsWorkedOff c.stopped.result c.args.script.now l) same c.is_worked_off-is_done.ensures));
     }

@@ -11,11 +11,11 @@ loop-seat-preserved g c =
     let i = c.loop-seat.invariant in
     let more = one_more c.loop-seat.seats.items c.pop.new.self.items c.in-Some.seat c.in-Some.ensures.items in
     let pushed = one_more c.push_reserved.new.self.items c.loop-seat.jobs.items c.in_ok-hire.field-0 c.push_reserved.ensures.items in
-    let rest : c.len-rest.result ≡ length c.pop.new.self.items = search rules in
+    let rest : c.len-place.result ≡ length c.pop.new.self.items = search rules in
     let room : c.len-workers.result + 1 ≤ vec_capacity c.push_reserved.new.self = search rules in record {
       left = front_of (λ n s. IsNewSeat g.R.Ring.turn (first_worker_seat + n) s) c.loop-seat.seats.items c.pop.new.self.items _ c.in-Some.ensures.items i.left;
       hired = with_last (λ place job. job ≡ job_at c.len-workers.result place) c.push_reserved.new.self.items c.loop-seat.jobs.items c.in_ok-hire.field-0 c.push_reserved.ensures.items i.hired
-          (c.in_ok-hire.ensures ∙ worker_there c.len-workers.result (length c.loop-seat.jobs.items) c.len-rest.result (omega (arith, more, i.count, rest)));
+          (c.in_ok-hire.ensures ∙ worker_there c.len-workers.result (length c.loop-seat.jobs.items) c.len-place.result (omega (arith, more, i.count, rest)));
       count = omega (arith, pushed, more, i.count);
       all = i.all;
       few = i.few;

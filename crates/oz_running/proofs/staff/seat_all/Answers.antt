@@ -6,7 +6,7 @@ pub returns-in-Ok-clause-staff : goal.returns-in-Ok-clause-staff
 returns-in-Ok-clause-staff g c = record {
   count = search rules;
   of_workers =
-      let count : length c.in_ok-flusher.field-0.workers.items ≡ length c.in_ok-jobs.jobs.items - 1 = omega (arith, c.in_ok-jobs.ensures.count) in
+      let count : length c.in_ok-flusher.field-0.workers.items ≡ c.args.workers = omega (arith, c.in_ok-flusher.ensures.worker_count, c.requires.count) in
       subst (λ n. AreJobs n c.in_ok-jobs.jobs.items) count c.in_ok-jobs.ensures.jobs;
   first = search rules;
   quiet_count = search rules;

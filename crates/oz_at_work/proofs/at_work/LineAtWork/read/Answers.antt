@@ -34,7 +34,7 @@ read_at_members-requires-clause-may g c coherent =
     let later = seen_of c.members_of.new.seat in
     let id : c.id-id.result ≡ id_of work.line work.asked = c.id-id.ensures ∙ ap (λ (w : WorkView). id_of work.line w.asked) c.self.view_is in
     subst (λ (i : AskId). MayRead O.coherent O.opening O.bytes O.script i piece c.in-Some-members_of.members later) (sym id)
-    (may_read O.coherent O.opening O.bytes O.script (seen_of c.args.seat.now) work piece coherent (c.requires.works coherent) c.in-Some.ensures (c.opens.ensures.store coherent).disks
+    (may_read O.coherent O.opening O.bytes O.script (seen_of c.args.seat.now) work piece coherent (c.requires.works coherent) c.in-Some.ensures.its (c.opens.ensures.store coherent).disks
     later c.members_of.ensures.goes_on c.members_of.ensures.follow c.in-Some-members_of.members (c.in-Some-members_of.ensures.are coherent))
 
 pub read_at_members-requires-clause-doubted : goal.read_at_members-requires-clause-doubted
@@ -45,7 +45,7 @@ read_at_members-requires-clause-doubted g c coherent =
     let seen = seen_of c.args.seat.now in
     let later = seen_of c.members_of.new.seat in
     let id : c.id-id.result ≡ id_of work.line work.asked = c.id-id.ensures ∙ ap (λ (w : WorkView). id_of work.line w.asked) c.self.view_is in
-    let fit = next_read O.coherent O.opening O.bytes O.script seen work piece coherent (c.requires.works coherent) c.in-Some.ensures in
+    let fit = next_read O.coherent O.opening O.bytes O.script seen work piece coherent (c.requires.works coherent) c.in-Some.ensures.its in
     subst (λ (i : AskId). AreDoubted later i piece.block c.self.inside.doubted) (sym id)
     (subst (λ (w : WorkView). AreDoubted later (id_of work.line work.asked) piece.block w.doubted) (sym c.self.view_is)
     (doubted_still later seen (id_of work.line work.asked) piece.block work.doubted c.members_of.ensures.goes_on fit.are_doubted))
@@ -63,7 +63,7 @@ returns-in-Ok-Bytes-clause-works g c coherent =
       goes_on = begins_through later (seen_of c.members_of.new.seat) seen c.read_at_members.ensures.goes_on c.members_of.ensures.goes_on;
       follow = c.read_at_members.ensures.follow c.members_of.ensures.follow;
       piece = c.in-Some.piece;
-      its = c.in-Some.ensures;
+      its = c.in-Some.ensures.its;
       has = known.1 coherent;
     })
 
@@ -81,7 +81,7 @@ returns-in-Ok-Nobody-clause-works g c coherent =
       at_work = c.requires.works coherent;
       goes_on = begins_through later (seen_of c.members_of.new.seat) seen c.read_at_members.ensures.goes_on c.members_of.ensures.goes_on;
       whole = (c.opens.ensures.store coherent).disks;
-      its = c.in-Some.ensures;
+      its = c.in-Some.ensures.its;
       doubted = subst (λ (i : AskId). (dn : ℕ) → Contains c.in-Ok-Nobody.lacks (lacking.Doubted dn) → IsDoubted later i c.in-Some.piece.block dn) id (known coherent).0;
       nobody = subst (λ (i : AskId). NobodyHasIt O.coherent O.opening O.bytes O.script i c.in-Some.piece c.in-Ok-Nobody.lacks later) id (known coherent).1;
     })

@@ -1,15 +1,17 @@
-use Rattle.std.proofs.Common.{inl, inr, refl, ℕ, Bool, List, map, sym, subst, length}
+use Rattle.std.proofs.Common.{inl, inr, refl, ℕ, Bool, List, map, sym, subst, length, arith}
 use Rattle.std.specs.Prelude.{if◌then◌else◌}
 use Rattle.std.specs.String.{string_bytes}
-use Rattle.oz_cluster.specs.files.Asked.{script_for}
+use Rattle.oz_cluster.specs.files.Asked.{line_for, script_for}
 use Rattle.oz_cluster.specs.files.Endings.{EndsSo}
 use Rattle.oz_cluster.specs.files.Reading.{path_of}
 use Rattle.oz_cluster.specs.files.Streams.{Stream, stream}
 use Rattle.oz_cluster.specs.files.Transfers.{TransferEnds}
 use Rattle.oz_cluster.specs.declared.files.words.Way.{Way}
+use Rattle.oz_cluster.specs.declared.files.words.Way.TheVariants.{Put}
+use Rattle.oz_command.specs.declared.command.Data.TheVariants.{Text}
 use Rattle.oz_cluster.specs.files.Words.{IsTransferOf, IsTransferWith, key_word}
 use Rattle.oz_cluster.proofs.Right.{OneThing}
-use Rattle.oz_cluster.proofs.TransferAnswers.{told_means}
+use Rattle.oz_cluster.proofs.TransferAnswers.{lines_are_apart, told_means}
 use Rattle.oz_cluster.proofs.TransferCauses.{transfer_causes}
 use Rattle.oz_cluster.proofs.TransferStops.{stopped_before, stopped_while}
 use Rattle.oz_cluster.proofs.TransferWords.{put_of}
@@ -98,8 +100,8 @@ returns-clause-one_transfer g c =
     let given : List ℕ = ready.given.items in
     let ran = c.in-Ok-run_over_disks.ran in
     let story : List Event = ran.story.items in
-    let store : IsStoreRun see (script_for way path given) c.args.disks ran.disks ran.any_halted story ran.all_told =
-    subst (λ (s : Script). IsStoreRun see s c.args.disks ran.disks ran.any_halted story ran.all_told) c.in-Ok.ensures.script c.in-Ok-run_over_disks.ensures.ran in
+    let store : IsStoreRun see (script_for way path given) c.args.disks ran.disks ran.any_halted story ran.is_done =
+    subst (λ (s : Script). IsStoreRun see s c.args.disks ran.disks ran.any_halted story ran.is_done) c.in-Ok.ensures.script c.in-Ok-run_over_disks.ensures.ran in
     let over = store.over in
     let outcome = c.finish_transfer-outcome.result in (
       outcome,
@@ -112,7 +114,7 @@ returns-clause-one_transfer g c =
         given = given;
         took = c.in-Ok.ensures.given;
         any_halted = ran.any_halted;
-        all_told = ran.all_told;
+        is_done = ran.is_done;
         store = store;
         ends = subst (λ (n : ℕ). EndsSo n (key_word words) story ran.any_halted out errors way outcome) c.in-Ok.ensures.size
             (subst (λ (k : List ℕ). EndsSo ready.asked.size k story ran.any_halted out errors way outcome) c.in-Ok.ensures.key
@@ -124,7 +126,11 @@ returns-clause-one_transfer g c =
             let opening = opening_of over.unseated namespace store.nodes.scm.made store.nodes.datanodes in
             let whole = c.all_disks_are_a_store.ensures.store over.bodies over.unseated over.loaded namespace store.nodes.scm.made store.nodes.datanodes coherent.stands coherent.sound store.fresh coherent.agree in (
               history,
-              told_means opening (opening_bytes see store.nodes.datanodes) path given story whole.disks.fresh way history.one_history.0 history.one_history.1,
+              told_means opening (opening_bytes see store.nodes.datanodes) path given story whole.disks.fresh
+                  (λ before it legal fits done.
+                  c.a_put_names_its_key.ensures opening (opening_bytes see store.nodes.datanodes) (script_for Put path given) before (line_for Put path given)
+                  path.volume path.bucket path.key (Text given) it legal fits (lines_are_apart Put path given) (0, omega arith, refl) (λ e. absurd (omega (arith, e))) refl done)
+                  way history.one_history.0 history.one_history.1,
             );
       },
     )

@@ -79,20 +79,18 @@ run_told-requires-clause-parts g c lives within =
     let law = c.the_parts_are_the_whole.ensures in
     are_parts bodies c.args.unseated this (law.there bodies c.args.unseated this) (law.same bodies c.args.unseated this)
 
-pub run_told-requires-clause-telling : goal.run_told-requires-clause-telling
-run_told-requires-clause-telling g c lives within = (λ none. none, λ none. none)
-
-pub run_told-requires-clause-time : goal.run_told-requires-clause-time
-run_told-requires-clause-time g c lives within = record { later = omega arith; kept = λ t left le. (λ h. h, λ h. h) }
-
 pub run_told-requires-clause-journal : goal.run_told-requires-clause-journal
-run_told-requires-clause-journal g c lives within coherent = shows_journal (g.D.Disk.told c.args.flusher.disk) c.requires.loaded.0 c.requires.loaded.2
-
-pub run_told-requires-clause-stops : goal.run_told-requires-clause-stops
-run_told-requires-clause-stops g c lives within coherent some =
+run_told-requires-clause-journal g c lives within =
     let D = g.D.Disk in
     let disk = c.args.flusher.disk in
-    let bodies = c.requires.loaded.0 in
-    let it = told_some (D.told disk) some in
-    subst (λ (l : List (List ℕ)). StopsHold l [] (D.clock disk) (D.clock disk) (D.image disk)) (sym (told_shows (D.told disk) bodies some c.requires.loaded.2))
-    (c.a_journal_at_rest_stands.ensures disk it.0 bodies (journal_at (D.told disk) (λ bytes. IsJournal bytes bodies) it.0 it.1 c.requires.loaded.2) (c.requires.stable it.0 it.1))
+    let bodies = c.requires.loaded.0 in record {
+      running = c.requires.running;
+      faults = refl;
+      telling = (λ none. none, λ none. none);
+      time = record { later = omega arith; kept = λ t left le. (λ h. h, λ h. h) };
+      tells = λ coherent. shows_journal (D.told disk) bodies c.requires.loaded.2;
+      stops = λ coherent some.
+          let it = told_some (D.told disk) some in
+          subst (λ (l : List (List ℕ)). StopsHold l [] (D.clock disk) (D.clock disk) (D.image disk)) (sym (told_shows (D.told disk) bodies some c.requires.loaded.2))
+          (c.a_journal_at_rest_stands.ensures disk it.0 bodies (journal_at (D.told disk) (λ bytes. IsJournal bytes bodies) it.0 it.1 c.requires.loaded.2) (c.requires.stable it.0 it.1));
+    }

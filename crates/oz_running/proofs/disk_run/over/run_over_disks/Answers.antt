@@ -160,7 +160,7 @@ returns-in-Ok-run_loaded-clause-ran g c =
     let its = c.ran_over.ensures in
     let back : Disks g.row.D.Denot = record { manager = after; scm = c.ran_over.result.disks.scm; nodes = c.ran_over.result.disks.nodes } in
     let same = disks_same c.ran_over.result.disks back its.manager refl refl in
-    let run : IsStoreRun see script disks back c.ran_over.result.any_halted ran.story.items ran.all_told = record {
+    let run : IsStoreRun see script disks back c.ran_over.result.any_halted ran.story.items ran.is_done = record {
       nodes = nodes;
       left = left;
       scm_loaded = loaded.ensures.scm;
@@ -191,7 +191,7 @@ returns-in-Ok-run_loaded-clause-ran g c =
         many = many;
         halted = told.halted before others many;
         status = told.status;
-        counted = told.run.counted;
+        done = told.run.done;
         loading = loading_keeps (see before) (see mounted) (see after) told.run.kept.time (D.told before) load.ended load.moments;
       };
       fresh = fresh;
@@ -201,9 +201,9 @@ returns-in-Ok-run_loaded-clause-ran g c =
       scm_reopens = subst (λ (n : ℕ). ScmReopens see n ran.scm) (told.run.scm.nodes ∙ (node_count datanodes ∙ loaded_count)) its.scm_reopens;
       nodes_reopen = its.nodes_reopen;
     } in
-    subst (λ (d : Disks g.row.D.Denot). IsStoreRun see script disks d c.ran_over.result.any_halted c.ran_over.result.story.items c.ran_over.result.all_told) (sym same)
-    (subst (λ (l : List Event). IsStoreRun see script disks back c.ran_over.result.any_halted l c.ran_over.result.all_told) (sym (ap (λ v. v.items) its.story))
-    (subst (λ (b : Bool). IsStoreRun see script disks back c.ran_over.result.any_halted ran.story.items b) (sym its.all_told) run))
+    subst (λ (d : Disks g.row.D.Denot). IsStoreRun see script disks d c.ran_over.result.any_halted c.ran_over.result.story.items c.ran_over.result.is_done) (sym same)
+    (subst (λ (l : List Event). IsStoreRun see script disks back c.ran_over.result.any_halted l c.ran_over.result.is_done) (sym (ap (λ v. v.items) its.story))
+    (subst (λ (b : Bool). IsStoreRun see script disks back c.ran_over.result.any_halted ran.story.items b) (sym its.is_done) run))
 
 pub returns-in-Err-run_loaded-clause-refused : goal.returns-in-Err-run_loaded-clause-refused
 returns-in-Err-run_loaded-clause-refused g c =

@@ -14,17 +14,21 @@ pub run_lines-requires-clause-nodes : goal.run_lines-requires-clause-nodes
 run_lines-requires-clause-nodes g c lives within =
     let D = g.D.Disk in
     let O = g.O.Opened in record {
-      count = c.requires.count;
-      least = c.requires.least;
-      most = c.requires.most;
-      each = λ dn node at.
-          let its = c.requires.nodes dn node at in
-          let at_id : slice_get c.args.nodes.items node.id ≡ Some node = subst (λ (n : ℕ). slice_get c.args.nodes.items n ≡ Some node) (sym its.number) at in
-          let counts = c.requires.counted.of_each node.id node at_id in record {
-            idle = its.idle;
-            stood = subst (λ (n : ℕ). StandsFor D.told D.clock D.image D.faults O.coherent O.opening O.bytes O.script O.faults (new_seat n) node) its.number
-                (c.a_loaded_datanode_stands.ensures node its.runs its.opened its.journal (omega (arith, counts)));
-          };
+      scm_stands = c.requires.scm;
+      nodes_stand = record {
+        count = c.requires.count;
+        least = c.requires.least;
+        most = c.requires.most;
+        each = λ dn node at.
+            let its = c.requires.nodes dn node at in
+            let at_id : slice_get c.args.nodes.items node.id ≡ Some node = subst (λ (n : ℕ). slice_get c.args.nodes.items n ≡ Some node) (sym its.number) at in
+            let counts = c.requires.counted.of_each node.id node at_id in record {
+              idle = its.idle;
+              stood = subst (λ (n : ℕ). StandsFor D.told D.clock D.image D.faults O.coherent O.opening O.bytes O.script O.faults (new_seat n) node) its.number
+                  (c.a_loaded_datanode_stands.ensures node its.runs its.opened its.journal (omega (arith, counts)));
+            };
+      };
+      old = c.requires.old;
     }
 
 pub returns-clause-told : goal.returns-clause-told
@@ -52,4 +56,5 @@ returns-clause-told g c =
       all_flushed = λ coherent running.
           c.the_flusher_alone_tells.ensures.swapped story coherent run.follow
           ∙ (run.kept.all_flushed running ∙ sym (c.the_flusher_alone_tells.ensures.durable story coherent run.follow));
+      all_taken = λ coherent none. c.what_is_taken_was_decided.ensures story coherent run.follow none;
     }) c.run_lines.ensures.ran

@@ -1,4 +1,4 @@
-use Rattle.std.proofs.Common.{ap, ◌∙◌, arith}
+use Rattle.std.proofs.Common.{ap, ◌∙◌, refl, arith}
 use Rattle.oz_at_work.specs.AtWork.{left_of}
 use Rattle.oz_script.specs.declared.lines.script.Line.{Line}
 use Rattle.oz_steps.specs.declared.label.Label.{Label}
@@ -21,4 +21,5 @@ returns g c = record {
       ∙ ap (λ (l : Line). noted c.args.self.now.labels.labels l.command c.into_label-left.result) c.line.ensures
       ∙ ap (λ (l : Option Label). noted c.args.self.now.labels.labels c.args.work.line.command l) c.into_label-left.ensures)
       it has;
+  number = refl;
 }

@@ -32,4 +32,5 @@ returns-in_default-go_on g c =
       served = subst (λ (client : Client). IsServed g.O.Opened.coherent g.O.Opened.opening g.O.Opened.bytes g.O.Opened.script (seen_of c.go_on.new.seat) client) (sym c.keep.ensures)
           (with_work g.O.Opened.coherent g.O.Opened.opening g.O.Opened.bytes g.O.Opened.script (seen_of c.go_on.new.seat) c.args.self.now c.go_on.new.self still
           (at ∙ ap (λ (l : Line). Some l) (sym c.go_on.ensures.line)) c.go_on.ensures.works);
+      number = ap (λ (client : Client). client.number) c.keep.ensures;
     }

@@ -7,8 +7,8 @@ use Rattle.oz_worker.specs.Served.{AreNoted}
 use Rattle.oz_worker.proofs.Served.{first_noted}
 use Rattle.oz_worker.proofs.client.Client.new.Goals as goal
 
-pub returns : goal.returns
-returns g c seen =
+pub returns-clause-served : goal.returns-clause-served
+returns-clause-served g c seen =
     record {
       lines = c.in_ok-lines.ensures ∙ ap (λ (s : Script). lines_of_client s c.args.number) c.requires.script;
       next = tt;

@@ -1,0 +1,3 @@
+pub mod repl
+pub mod views
+pub mod written

@@ -1,0 +1,10 @@
+use Rattle.std.proofs.Common.{sym}
+use Rattle.oz_rows.specs.RowMaps.{KeysRise}
+use Rattle.oz_reclaim.proofs.Decided.{served}
+use Rattle.oz_reclaim.proofs.deciding.decide.Goals as goal
+
+pub returns : goal.returns
+returns c =
+    let rise : KeysRise c.args.cached.now.durable.rows = rw (sym c.durable.ensures) c.rows_are_in_order.ensures in
+    let it = c.in_ok-decision.ensures in
+    served c.args.cached.now rise c.args.request.now c.requires.service c.requires.few c.in_ok-decision.decision it.done it.exact it.operations

@@ -1,0 +1,16 @@
+pub mod Reach
+pub mod Reclaimable
+pub mod Work
+pub mod Service
+pub mod Decisions
+pub mod Moves
+pub mod laws
+pub mod Gathered
+pub mod Owners
+pub mod Firsts
+pub mod Shown
+pub mod Found
+pub mod Going
+pub mod Marks
+pub mod Makes
+pub mod Numbered

@@ -1,0 +1,21 @@
+//! What deferred deletion and snapshots decide over rows: which deleted rows may go, what is to be done with deleted
+//! snapshots, and the requests by which both are done.
+#![tactic(auto)]
+
+mod counting;
+mod deciding;
+mod dropping;
+mod finding;
+mod gathering;
+mod listing;
+mod marking;
+mod moving;
+mod naming;
+mod owning;
+mod purging;
+mod reaching;
+mod working;
+
+pub use deciding::{decide, decide_purge, decide_snapshot};
+pub use finding::{MOST_PURGED, reclaimable};
+pub use working::chain_work;

@@ -1,8 +1,8 @@
-//! What became of each id that was asked, of each line and of each client, to be looked up.
+//! What became of each id that was asked, of each line, of each client and of each datanode, to be looked up.
 mod course;
 mod courses;
 mod keys;
 
-pub use course::{Course, LineCourse};
+pub use course::{Course, LineCourse, NodeCourse};
 pub use courses::Courses;
 pub use std::alloc::AllocError as OutOfMemory;

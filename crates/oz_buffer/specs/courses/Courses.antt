@@ -1,18 +1,20 @@
--- What became of ids, lines and clients.
+-- What became of ids, lines, clients and datanodes.
 use Rattle.std.specs.Prelude.{ℕ, ◌+◌, ◌*◌, ◌<◌, max, true, false, Bool, List, Option, None, Some}
 use Rattle.std.specs.Ordering.{nat_cmp}
 use Rattle.oz_buffer.specs.declared.courses.course.Course.{Course}
 use Rattle.oz_buffer.specs.declared.courses.course.LineCourse.{LineCourse}
+use Rattle.oz_buffer.specs.declared.courses.course.NodeCourse.{NodeCourse}
 use Rattle.oz_requests.specs.declared.request.AskId.{AskId}
 use Rattle.oz_sorted.specs.Sorted.{value_of}
 use Rattle.oz_sorted.specs.declared.entry.Entry.{Entry}
 
--- What contracts see: courses by the numbers of ids, lines and clients, and how many things more may become of one of them
+-- What contracts see: courses by the numbers of ids, lines, clients and datanodes, and how many things more may become of one of them
 -- without a refusal.
 pub record Kept : Type 0 where
   pub ids : List (Entry ℕ Course)
   pub lines : List (Entry ℕ LineCourse)
   pub clients : List (Entry ℕ ℕ)
+  pub nodes : List (Entry ℕ NodeCourse)
   pub spare : ℕ
 
 -- ids and lines as numbers
@@ -34,6 +36,10 @@ unasked = record { asked = false; pending = false; late = false; index = None }
 abbrev pub unasked_line : LineCourse
 unasked_line = record { ask = None; index = 0; told = false; said = 0 }
 
+-- a datanode of which nothing was told is up and runs
+abbrev pub untouched : NodeCourse
+untouched = record { halted = None; up = true; started = true }
+
 abbrev pub or_else : {X : Type 0} → Option X → X → X
 or_else None other = other
 or_else (Some x) other = x
@@ -47,6 +53,9 @@ line_at kept key = or_else (value_of nat_cmp kept.lines key) unasked_line
 -- how many lines a client was told
 abbrev pub told_at : Kept → ℕ → ℕ
 told_at kept client = or_else (value_of nat_cmp kept.clients client) 0
+
+abbrev pub node_at : Kept → ℕ → NodeCourse
+node_at kept dn = or_else (value_of nat_cmp kept.nodes dn) untouched
 
 -- one thing more
 abbrev pub asked_course : Bool → Course → Course

@@ -1,22 +1,23 @@
-//! Courses by ids, lines and clients.
+//! Courses by ids, lines, clients and datanodes.
 
 ghost use Rattle.std.specs.Prelude.{◌≡◌, ℕ, ◌<◌, ◌≤◌, ◌+◌, ◌^◌, ◌==◌, OnOk, OnErr, if◌then◌else◌};
-ghost use Rattle.oz_buffer.specs.courses.Courses.{asked_course, asked_line, course_at, decided_course, decided_line, id_key, line_at, line_key, said_line, told_at, told_line, unasked, unasked_line};
+ghost use Rattle.oz_buffer.specs.courses.Courses.{asked_course, asked_line, course_at, decided_course, decided_line, id_key, line_at, line_key, node_at, said_line, told_at, told_line, unasked, unasked_line, untouched};
 
 use crate::courses::OutOfMemory;
-use crate::courses::course::{Course, LineCourse};
+use crate::courses::course::{Course, LineCourse, NodeCourse};
 use crate::courses::keys::{number_of_id, number_of_line};
 use oz_requests::AskId;
 use oz_sorted::SortedMap;
 use std::alloc::Global;
 use std::marker::Model;
 
-/// What became of ids, lines and clients, with room reserved for further ones.
+/// What became of ids, lines, clients and datanodes, with room reserved for further ones.
 #[derive(Drop)]
 pub struct Courses {
     ids: SortedMap<u64, Course>,
     lines: SortedMap<u64, LineCourse>,
     clients: SortedMap<u64, u64>,
+    nodes: SortedMap<u64, NodeCourse>,
     spare: usize,
 }
 
@@ -30,6 +31,7 @@ impl Model for Courses {
       ids = courses.ids.entries;
       lines = courses.lines.entries;
       clients = courses.clients.entries;
+      nodes = courses.nodes.entries;
       spare = courses.spare;
     } };
 
@@ -37,6 +39,7 @@ impl Model for Courses {
       ids : courses.spare ≤ courses.ids.spare;
       lines : courses.spare ≤ courses.lines.spare;
       clients : courses.spare ≤ courses.clients.spare;
+      nodes : courses.spare ≤ courses.nodes.spare;
     } };
 }
 
@@ -46,12 +49,14 @@ impl Courses {
         ensures ids { (key : ℕ) → course_at result key ≡ unasked }
         ensures lines { (key : ℕ) → line_at result key ≡ unasked_line }
         ensures clients { (client : ℕ) → told_at result client ≡ 0 }
+        ensures nodes { (dn : ℕ) → node_at result dn ≡ untouched }
         ensures spare { result.spare ≡ 0 }
     {
         Courses {
             ids: SortedMap::new(alloc),
             lines: SortedMap::new(alloc),
             clients: SortedMap::new(alloc),
+            nodes: SortedMap::new(alloc),
             spare: 0,
         }
     }
@@ -62,6 +67,7 @@ impl Courses {
         ensures ids { self.new.ids ≡ self.old.ids }
         ensures lines { self.new.lines ≡ self.old.lines }
         ensures clients { self.new.clients ≡ self.old.clients }
+        ensures nodes { self.new.nodes ≡ self.old.nodes }
         ensures spare { OnOk result (more ≤ self.new.spare) }
         ensures kept { self.old.spare ≤ self.new.spare }
         ensures err { OnErr result (self.new ≡ self.old) }
@@ -73,6 +79,7 @@ impl Courses {
         self.ids.reserve(alloc, plenty)?;
         self.lines.reserve(alloc, plenty)?;
         self.clients.reserve(alloc, plenty)?;
+        self.nodes.reserve(alloc, plenty)?;
         self.spare = plenty;
         Ok(())
     }
@@ -117,6 +124,33 @@ impl Courses {
         }
     }
 
+    /// What became of a datanode.
+    pub fn node(&self, dn: u8) -> NodeCourse
+        ensures { result ≡ node_at self.now dn }
+    {
+        match self.nodes.get(&u64::from(dn)) {
+            Some(course) => *course,
+            None => NodeCourse {
+                halted: None,
+                up: true,
+                started: true,
+            },
+        }
+    }
+
+    /// A datanode comes to this.
+    pub fn comes_to(&mut self, dn: u8, course: NodeCourse)
+        requires { 0 < self.old.spare }
+        ensures ids { self.new.ids ≡ self.old.ids }
+        ensures lines { self.new.lines ≡ self.old.lines }
+        ensures clients { self.new.clients ≡ self.old.clients }
+        ensures nodes { (other : ℕ) → node_at self.new other ≡ (if dn == other then course else node_at self.old other) }
+        ensures spare { self.new.spare + 1 ≡ self.old.spare }
+    {
+        self.spare -= 1;
+        self.nodes.insert(u64::from(dn), course);
+    }
+
     /// An id is asked, while the manager has halted or not.
     pub fn asked(&mut self, id: AskId, late: bool)
         requires { 0 < self.old.spare }
@@ -125,6 +159,7 @@ impl Courses {
         ensures lines { (key : ℕ) → line_at self.new key ≡ (if line_key id.client id.line == key
             then asked_line id (line_at self.old key) else line_at self.old key) }
         ensures clients { self.new.clients ≡ self.old.clients }
+        ensures nodes { self.new.nodes ≡ self.old.nodes }
         ensures spare { self.new.spare + 1 ≡ self.old.spare }
     {
         let course = self.course(id);
@@ -158,6 +193,7 @@ impl Courses {
         ensures lines { (key : ℕ) → line_at self.new key ≡ (if line_key id.client id.line == key
             then decided_line index (line_at self.old key) else line_at self.old key) }
         ensures clients { self.new.clients ≡ self.old.clients }
+        ensures nodes { self.new.nodes ≡ self.old.nodes }
         ensures spare { self.new.spare + 1 ≡ self.old.spare }
     {
         let course = self.course(id);
@@ -192,6 +228,7 @@ impl Courses {
             then told_line (line_at self.old key) else line_at self.old key) }
         ensures clients { (other : ℕ) → told_at self.new other ≡ (if client == other then told_at self.old other + 1
             else told_at self.old other) }
+        ensures nodes { self.new.nodes ≡ self.old.nodes }
         ensures spare { self.new.spare + 1 ≡ self.old.spare }
     {
         let course = self.line(client, line);
@@ -217,6 +254,7 @@ impl Courses {
         ensures lines { (key : ℕ) → line_at self.new key ≡ (if line_key client line == key
             then said_line (line_at self.old key) else line_at self.old key) }
         ensures clients { self.new.clients ≡ self.old.clients }
+        ensures nodes { self.new.nodes ≡ self.old.nodes }
         ensures spare { self.new.spare + 1 ≡ self.old.spare }
     {
         let course = self.line(client, line);

@@ -1,5 +1,5 @@
 -- A line that reads its next piece, and what it knows once that was looked for.
-use Rattle.std.proofs.Common.{◌≡◌, ◌≢◌, ⊎_elim, inl, inr, ℕ, zero, suc, ◌+◌, ◌≤◌, ◌<◌, Bool, true, false, cond, List, [], ◌∷◌, ◌++◌, length, Option, None, Some, IsSome, Contains, refl, sym, ap, ◌∙◌, subst, length-append, arith}
+use Rattle.std.proofs.Common.{◌≡◌, ⊎_elim, inl, inr, ℕ, zero, suc, ◌+◌, ◌≤◌, Bool, true, false, List, [], ◌∷◌, ◌++◌, length, Option, None, Some, IsSome, Contains, refl, sym, ap, ◌∙◌, subst, length-append, arith}
 use Rattle.std.proofs.lemmas.Option.{none-some, same_Some}
 use Rattle.std.specs.FinMap.{get}
 use Rattle.std.specs.Prelude.{All, map}
@@ -11,7 +11,7 @@ use Rattle.oz_client.specs.declared.step.Got.{Got}
 use Rattle.oz_client.specs.declared.step.Got.TheVariants as gots
 use Rattle.oz_client.specs.declared.step.Step.{Step}
 use Rattle.oz_client.specs.declared.step.Step.TheVariants as steps
-use Rattle.oz_client.specs.LineState.{LineState, progress_after, state_after}
+use Rattle.oz_client.specs.LineState.{progress_after}
 use Rattle.oz_client.specs.Onward.{IsNext, IsReading}
 use Rattle.oz_command.specs.declared.command.Command.{Command}
 use Rattle.oz_core.specs.declared.event.Event.{Event}
@@ -26,7 +26,6 @@ use Rattle.oz_core.specs.Law.{IsNamed}
 use Rattle.oz_core.specs.Nodes.{is_intact}
 use Rattle.oz_core.specs.Scm.{containers, members}
 use Rattle.oz_fields.specs.declared.block.Piece.{Piece}
-use Rattle.oz_script.specs.declared.lines.script.Line.{Line}
 use Rattle.oz_script.specs.declared.lines.script.Script.{Script}
 use Rattle.oz_line_blocks.specs.declared.reading.lack.Doubted.{Doubted}
 use Rattle.oz_line_blocks.specs.declared.reading.lack.Lack.{Lack}
@@ -35,12 +34,10 @@ use Rattle.oz_line_blocks.specs.reading.Lacks.{doubted_in, stills_in}
 use Rattle.oz_line_blocks.specs.reading.Read.{MayRead}
 use Rattle.oz_requests.specs.declared.answer.Answer.{Answer}
 use Rattle.oz_requests.specs.declared.answer.Answer.TheVariants as answers
-use Rattle.oz_requests.specs.declared.request.Request.{Request}
-use Rattle.oz_steps.specs.Grants.{has_fate_written}
 use Rattle.oz_asker.specs.telling.Tells.{MayTell}
 use Rattle.oz_turn.specs.Told.{BeginsWith}
 use Rattle.oz_underway.specs.UnderWay.{IsUnderWay, ask_of, is_all_written}
-use Rattle.oz_underway.specs.laws.Going.{begins_itself, begins_through}
+use Rattle.oz_underway.specs.laws.Going.{begins_through}
 use Rattle.oz_underway.specs.laws.Lengths.{read_content}
 use Rattle.oz_underway.specs.laws.Made.{members_same, named_made}
 use Rattle.oz_underway.specs.laws.Reading.{its_reply, none_intact, read_is_named}
@@ -48,9 +45,8 @@ use Rattle.oz_underway.specs.laws.Said.{said_of_written}
 use Rattle.oz_underway.specs.laws.Starting.{started_still}
 use Rattle.oz_underway.specs.laws.UnderWay.{piece_read}
 use Rattle.oz_at_work.specs.AtWork.{HasGoneOn, HasPutAlone, IsAtWork, IsNextFit, IsNextRead, IsTelling, MayBeTold, WorkView, id_of, last_of}
-use Rattle.oz_at_work.specs.declared.refused.Refused.{Refused}
-use Rattle.oz_at_work.specs.inner.Read.{IsReadNext, WasMissed, WasRead, gives_piece}
-use Rattle.oz_at_work.specs.inner.Taken.{HasStepped, IsTakenUp}
+use Rattle.oz_at_work.specs.inner.Read.{IsReadNext, WasMissed, WasRead}
+use Rattle.oz_at_work.specs.inner.Taken.{IsTakenUp}
 use Rattle.oz_at_work.proofs.Cutting.{label_none, some_last, told_stays}
 use Rattle.oz_at_work.proofs.Staying.{all_written, begun_still, said_was, with_doubted, with_refused, work_still}
 use Rattle.oz_at_work.proofs.Stepping.{IsBeforeReading, stepped_works, stopped_works}

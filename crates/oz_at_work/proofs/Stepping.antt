@@ -71,7 +71,7 @@ use Rattle.oz_at_work.specs.AtWork.{HasPutAlone, IsAtWork, IsLabelOf, IsNextAsk,
 use Rattle.oz_at_work.specs.inner.Put.{WasWritten}
 use Rattle.oz_at_work.specs.inner.Replied.{IsAsking, WasReplied}
 use Rattle.oz_at_work.specs.inner.Taken.{HasStepped, HasStopped, IsTakenUp}
-use Rattle.oz_at_work.proofs.Cutting.{cut_fits, told_stays}
+use Rattle.oz_at_work.proofs.Cutting.{cut_fits}
 use Rattle.oz_at_work.proofs.Staying.{all_written, begun_still, said_now, said_was, there_still}
 use Rattle.oz_at_work.proofs.Taking.{nodes_stay}
 

@@ -10,7 +10,7 @@ use Rattle.oz_client.specs.Stories.{IsStepEverywhere}
 use Rattle.oz_requests.specs.declared.answer.Answer.TheVariants as answers
 use Rattle.oz_at_work.specs.AtWork.{HasGoneOn, IsTelling, WorkView}
 use Rattle.oz_at_work.specs.inner.Replied.{cut_with}
-use Rattle.oz_at_work.specs.inner.Taken.{IsTakenUp, come_to}
+use Rattle.oz_at_work.specs.inner.Taken.{HasStepped, IsTakenUp, come_to}
 
 pub nodes_stay : (progress : Progress) (got : Got) → (progress_after progress got).nodes ≡ progress.nodes
 nodes_stay progress (gots.Read None) = refl
@@ -24,17 +24,22 @@ cut_taken before state got asked said gave_up after same is =
     inr (record { state = state; command = ap (λ (s : LineState). s.command) same; nodes = ap (λ (s : LineState). s.progress.nodes) same; is = is })
 
 -- they go on
-pub come_taken : (before : WorkView) (state : LineState) (got : Got) (step : Step) (asked said : ℕ) (gave_up : Bool) (after : WorkView) → state ≡ state_after before.state got step
+pub come_stepped : (before : WorkView) (state : LineState) (got : Got) (step : Step) (asked said : ℕ) (gave_up : Bool) (after : WorkView) → state ≡ state_after before.state got step
     → IsNext before.state.command state.progress got step → IsStepEverywhere before.state.command state.progress got step
-    → after ≡ come_to (record before { state = state }) asked said gave_up step → IsTakenUp before got asked said gave_up after
-come_taken before state got step asked said gave_up after same next so is =
+    → after ≡ come_to (record before { state = state }) asked said gave_up step → HasStepped before got asked said gave_up after
+come_stepped before state got step asked said gave_up after same next so is =
     let progress : after.state.progress ≡ state.progress = ap (λ (w : WorkView). w.state.progress) is in
-    inl (record {
+    record {
       step = step;
       next = subst (λ (p : Progress). IsNext before.state.command p got step) (sym progress) next;
       so = subst (λ (p : Progress). IsStepEverywhere before.state.command p got step) (sym progress) so;
       is = is ∙ ap (λ (s : LineState). come_to (record before { state = s }) asked said gave_up step) same;
-    })
+    }
+
+pub come_taken : (before : WorkView) (state : LineState) (got : Got) (step : Step) (asked said : ℕ) (gave_up : Bool) (after : WorkView) → state ≡ state_after before.state got step
+    → IsNext before.state.command state.progress got step → IsStepEverywhere before.state.command state.progress got step
+    → after ≡ come_to (record before { state = state }) asked said gave_up step → IsTakenUp before got asked said gave_up after
+come_taken before state got step asked said gave_up after same next so is = inl (come_stepped before state got step asked said gave_up after same next so is)
 
 -- ---- what that is
 

@@ -1,7 +1,7 @@
 //! How a line's steps go on with what came back.
 
-ghost use Rattle.std.specs.Prelude.{◌≡◌};
-ghost use Rattle.oz_at_work.specs.inner.Taken.{IsTakenUp, come_to};
+ghost use Rattle.std.specs.Prelude.{◌≡◌, IfErr, OnOk};
+ghost use Rattle.oz_at_work.specs.inner.Taken.{HasStepped, IsTakenUp, IsUntaken, come_to};
 
 use crate::at_work::LineAtWork;
 use oz_client::{Got, Step};
@@ -9,19 +9,42 @@ use oz_line_blocks::Doubted;
 use oz_requests::Answer;
 use std::alloc::Global;
 
+/// Why a line's steps don't go on with what came back.
+#[derive(Clone, Copy, Debug, PartialEq, Eq)]
+pub(crate) enum Untaken {
+    /// It isn't what the last step waits for.
+    NoFit,
+    OutOfMemory,
+}
+
 impl<'s> LineAtWork<'s> {
     /// Its steps go on with what came back, once it has asked so often, so often something was said of its blocks, and
     /// one was given up or not. Where they can't it is told next that there is no memory.
-    pub(crate) fn take_up(&mut self, alloc: Global, got: Got, asked: u16, said: u64, gave_up: bool)
-        ensures { IsTakenUp self.old got asked said gave_up self.new }
+    pub(crate) fn take_up(
+        &mut self,
+        alloc: Global,
+        got: Got,
+        asked: u16,
+        said: u64,
+        gave_up: bool,
+    ) -> Result<(), Untaken>
+        ensures taken { IsTakenUp self.old got asked said gave_up self.new }
+        ensures stepped { OnOk result (HasStepped self.old got asked said gave_up self.new) }
+        ensures untaken { IfErr result (IsUntaken self.old got) }
     {
         if !self.steps.fits(&got) {
             self.cut(asked, Answer::OutOfMemory);
-            return;
+            return Err(Untaken::NoFit);
         }
         match self.steps.next(alloc, got) {
-            Ok(next) => self.come_to(asked, said, gave_up, next),
-            Err(_error) => self.cut(asked, Answer::OutOfMemory),
+            Ok(next) => {
+                self.come_to(asked, said, gave_up, next);
+                Ok(())
+            }
+            Err(_error) => {
+                self.cut(asked, Answer::OutOfMemory);
+                Err(Untaken::OutOfMemory)
+            }
         }
     }
 

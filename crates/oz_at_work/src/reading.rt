@@ -102,7 +102,7 @@ impl<'s> LineAtWork<'s> {
         ensures is { result ≡ Did.WentOn }
     {
         let (asked, said) = (self.asked, self.said);
-        self.take_up(alloc, Got::Read(Some(bytes)), asked, said, false);
+        let _taken = self.take_up(alloc, Got::Read(Some(bytes)), asked, said, false);
         Did::WentOn
     }
 

@@ -50,7 +50,7 @@ impl<'s> LineAtWork<'s> {
             return;
         }
         let (said, gave_up) = (self.said, self.gave_up);
-        self.take_up(alloc, Got::Reply(reply), step, said, gave_up);
+        let _taken = self.take_up(alloc, Got::Reply(reply), step, said, gave_up);
     }
 
     /// Whether so much is said of its blocks as it knows, if it looks.

@@ -14,6 +14,7 @@ use crate::at_work::LineAtWork;
 use crate::outcome::Did;
 use crate::piece::Put;
 use crate::servers::Servers;
+use oz_asker::story_length;
 use oz_buffer::{Ledger, Opened};
 use oz_client::{Got, Written};
 use oz_line_blocks::write_to_members;
@@ -52,7 +53,7 @@ impl<'s> LineAtWork<'s> {
     {
         servers.manager.opens();
         let asked = self.asked;
-        let Some(put) = self.put(alloc, servers.node_count()) else {
+        let Ok(put) = self.put(alloc, servers.node_count()) else {
             self.cut(asked, Answer::OutOfMemory);
             return Did::WentOn;
         };
@@ -63,6 +64,7 @@ impl<'s> LineAtWork<'s> {
             bytes,
         } = put;
         let (id, said) = (self.id(asked), self.said);
+        let from = story_length(rt, turn, seat, by);
         match write_to_members(
             rt,
             alloc,
@@ -77,6 +79,7 @@ impl<'s> LineAtWork<'s> {
             members,
             bytes.as_slice(),
             said,
+            from,
         ) {
             Ok((written, now)) => self.written::<O>(alloc, written, now),
             Err(_error) => self.cut(asked, Answer::OutOfMemory),
@@ -94,7 +97,7 @@ impl<'s> LineAtWork<'s> {
         ensures went_on { HasGoneOn self.old self.new }
     {
         let (asked, gave_up) = (self.asked, self.gives_up(&written));
-        self.take_up(alloc, Got::Written(written), asked, said, gave_up);
+        let _taken = self.take_up(alloc, Got::Written(written), asked, said, gave_up);
     }
 
     /// Whether a block was given up, once the members of its block answered so.

@@ -1,2 +1,4 @@
+pub mod Behind
+pub mod Causes
 pub mod Seated
 pub mod Standing

@@ -1,13 +1,15 @@
 -- For private calls: a line that goes on with what came back.
-use Rattle.std.specs.Prelude.{◌≡◌, ◌⊎◌, ℕ, Bool, false, None}
+use Rattle.std.specs.Prelude.{◌≡◌, ◌⊎◌, ℕ, Bool, false, true, None}
 use Rattle.oz_client.specs.declared.step.Got.{Got}
 use Rattle.oz_client.specs.declared.step.Step.{Step}
-use Rattle.oz_client.specs.LineState.{LineState, state_after}
+use Rattle.oz_client.specs.LineState.{LineState, is_fit, state_after}
 use Rattle.oz_client.specs.Onward.{IsNext}
 use Rattle.oz_client.specs.Stories.{IsStepEverywhere}
 use Rattle.oz_line_blocks.specs.reading.Lacks.{none_doubted}
 use Rattle.oz_requests.specs.declared.answer.Answer.TheVariants as answers
 use Rattle.oz_at_work.specs.AtWork.{WorkView}
+use Rattle.oz_at_work.specs.declared.onward.Untaken.{Untaken}
+use Rattle.oz_at_work.specs.declared.onward.Untaken.TheVariants as reasons
 use Rattle.oz_at_work.specs.inner.Replied.{cut_with}
 
 -- This comes next by its steps, once it has asked so often, so often something was said of its blocks, and one was given
@@ -41,3 +43,8 @@ pub record HasStopped (before : WorkView) (asked : ℕ) (after : WorkView) : Typ
 abbrev pub IsTakenUp : WorkView → Got → ℕ → ℕ → Bool → WorkView → Type 0
 IsTakenUp before got asked said gave_up after =
     HasStepped before got asked said gave_up after ⊎ HasStopped before asked after
+
+-- why its steps don't go on
+abbrev pub IsUntaken : WorkView → Got → Untaken → Type 0
+IsUntaken before got reasons.NoFit = is_fit before.state.progress.nodes before.state.awaited got ≡ false
+IsUntaken before got reasons.OutOfMemory = is_fit before.state.progress.nodes before.state.awaited got ≡ true

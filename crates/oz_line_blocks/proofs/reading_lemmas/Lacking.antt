@@ -1,8 +1,7 @@
 -- A member that gave none of a piece isn't intact: it is doubted, or hasn't the block.
-use Rattle.std.proofs.Common.{◌≡◌, ⊎_elim, ℕ, Bool, true, false, ◌&&◌, refl, cond, List, [], ◌∷◌, length, Option, None, Some, sym, ap, ◌∙◌, subst}
+use Rattle.std.proofs.Common.{◌≡◌, ⊎_elim, ℕ, Bool, true, false, ◌&&◌, refl, cond, List, [], length, Option, None, Some, sym, ap, ◌∙◌, subst}
 use Rattle.std.proofs.lemmas.Bool.{false≢true}
 use Rattle.std.specs.Prelude.{not}
-use Rattle.oz_buffer.specs.Buffer.{AllFollow, Follows}
 use Rattle.oz_core.specs.declared.event.Event.{Event}
 use Rattle.oz_core.specs.declared.event.Node.{Node}
 use Rattle.oz_core.specs.declared.event.PutRefusal.TheVariants as refusals
@@ -22,9 +21,7 @@ use Rattle.oz_replicas.specs.Stays.{Stays}
 use Rattle.oz_replicas.specs.declared.note.Note.{Note}
 use Rattle.oz_replicas.specs.declared.note.Note.TheVariants as notes
 use Rattle.oz_requests.specs.declared.request.AskId.{AskId}
-use Rattle.oz_turn.specs.Told.{BeginsWith}
 use Rattle.oz_world.specs.Disk.{Images}
-use Rattle.oz_line_blocks.specs.declared.reading.lack.Lack.TheVariants as lacking
 use Rattle.oz_line_blocks.specs.reading.Lacks.{IsDoubted, has_notes, lack_of}
 use Rattle.oz_line_blocks.specs.reading.Member.{IsGivenAt, LacksIt}
 use Rattle.oz_line_blocks.specs.reading.Read.{subject_of}

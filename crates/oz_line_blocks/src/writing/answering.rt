@@ -1,8 +1,9 @@
 //! Whether the answers of a block's members stand in a story.
 
-ghost use Rattle.std.specs.Prelude.{◌≡◌, true, length, Contains, IsTrue};
+ghost use Rattle.std.specs.Prelude.{◌≡◌, ◌↔◌, Contains, IsTrue};
 ghost use Rattle.oz_core.specs.declared.event.EventKind.TheVariants.{Refused};
 ghost use Rattle.oz_core.specs.Law.{puts};
+ghost use Rattle.oz_core.specs.Nodes.{is_block};
 ghost use Rattle.oz_core.specs.Seats.{datanode_seat};
 ghost use Rattle.oz_core.specs.Stories.{has_event};
 ghost use Rattle.oz_underway.specs.UnderWay.{HasAnswered, HaveAnswered};
@@ -15,40 +16,27 @@ use oz_requests::AskId;
 /// The seat of datanode 0. Those of the others follow it.
 const FIRST_DATANODE_SEAT: u16 = 4;
 
-/// Whether the answers of a block's members stand in the story. It looks at the events behind the first `from` alone.
+/// Whether the answers of a block's members stand in these events.
 pub(crate) fn all_stand(
-    story: &[Event],
-    from: u64,
+    since: &[Event],
     id: AskId,
     block: Block,
     members: [u8; 3],
     written: &Written,
 ) -> bool
-    ensures { IsTrue result → HaveAnswered story.now id block members written.now.answers }
+    ensures { IsTrue result ↔ HaveAnswered since.now id block members written.now.answers }
 {
     let [first, second, third] = members;
     let [one, two, three] = written.answers;
-    stands(story, from, id, block, first, one)
-        && stands(story, from, id, block, second, two)
-        && stands(story, from, id, block, third, three)
+    stands(since, id, block, first, one)
+        && stands(since, id, block, second, two)
+        && stands(since, id, block, third, three)
 }
 
 /// Whether the answer of one member does.
-fn stands(
-    story: &[Event],
-    from: u64,
-    id: AskId,
-    block: Block,
-    dn: u8,
-    answer: Option<PutRefusal>,
-) -> bool
-    ensures { IsTrue result → HasAnswered story.now id block dn answer }
+fn stands(since: &[Event], id: AskId, block: Block, dn: u8, answer: Option<PutRefusal>) -> bool
+    ensures { IsTrue result ↔ HasAnswered since.now id block dn answer }
 {
-    let start = from as usize;
-    if start > story.len() {
-        return false;
-    }
-    let since = &story[start..];
     match answer {
         None => has_put(since, dn, block),
         Some(refusal) => has_refused(since, id, block, dn, refusal),
@@ -57,45 +45,43 @@ fn stands(
 
 /// Whether a datanode put a block in these events.
 fn has_put(events: &[Event], dn: u8, block: Block) -> bool
-    ensures { IsTrue result → has_event (puts dn block) events.now ≡ true }
+    ensures { result ≡ has_event (puts dn block) events.now }
 {
-    for event in events {
-        if is_put(&event.kind, dn, block) {
-            return true;
-        }
-    }
-    false
+    events.iter().any(|event| is_put(&event.kind, dn, block))
 }
 
 fn is_put(kind: &EventKind, dn: u8, block: Block) -> bool
-    ensures { IsTrue result → puts dn block kind.now ≡ true }
+    ensures { result ≡ puts dn block kind.now }
 {
     match kind {
         EventKind::Put {
             dn: other,
             block: put,
             ..
-        } => *other == dn && *put == block,
+        } => *other == dn && is_block(block, *put),
         _ => false,
     }
 }
 
+fn is_block(block: Block, other: Block) -> bool
+    ensures { result ≡ is_block block other }
+{
+    other.container == block.container && other.local == block.local
+}
+
 /// Whether a datanode refused a block so for this ask in them.
 fn has_refused(events: &[Event], id: AskId, block: Block, dn: u8, refusal: PutRefusal) -> bool
-    ensures { IsTrue result →
+    ensures { IsTrue result ↔
         Contains events.now (record { seat = datanode_seat dn; kind = Refused dn block id refusal }) }
 {
-    for event in events {
-        if is_refused(event, id, block, dn, refusal) {
-            return true;
-        }
-    }
-    false
+    events
+        .iter()
+        .any(|event| is_refused(event, id, block, dn, refusal))
 }
 
 fn is_refused(event: &Event, id: AskId, block: Block, dn: u8, refusal: PutRefusal) -> bool
-    ensures { IsTrue result →
-        event.now ≡ record { seat = datanode_seat dn; kind = Refused dn block id refusal } }
+    ensures { IsTrue result ↔
+        (event.now ≡ record { seat = datanode_seat dn; kind = Refused dn block id refusal }) }
 {
     match &event.kind {
         EventKind::Refused {

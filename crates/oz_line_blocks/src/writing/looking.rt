@@ -1,6 +1,6 @@
 //! Whether a story has of a line what its worker knows.
 
-ghost use Rattle.std.specs.Prelude.{◌≡◌, [], IsTrue};
+ghost use Rattle.std.specs.Prelude.{◌≡◌, ◌↔◌, [], IsTrue, drop};
 ghost use Rattle.oz_buffer.specs.Buffer.{AllFollow, Follows};
 ghost use Rattle.oz_turn.specs.Seat.{IsReady, mine_of, room_of, seen_of};
 ghost use Rattle.oz_turn.specs.Told.{BeginsWith};
@@ -11,6 +11,7 @@ ghost use Rattle.oz_line_blocks.specs.writing.Written.{IsStill};
 use crate::writing::answering::all_stand;
 use oz_buffer::{Ledger, Opened};
 use oz_client::Written;
+use oz_core::Event;
 use oz_fields::Block;
 use oz_requests::AskId;
 use oz_turn::{Seat, Told, Turn};
@@ -31,7 +32,7 @@ pub(crate) fn is_still<O: Opened, W: Wait>(
     ensures goes_on { BeginsWith (seen_of seat.new) (seen_of seat.old) }
     ensures mine { mine_of seat.new ≡ mine_of seat.old }
     ensures follow { AllFollow (Follows O.coherent O.opening O.bytes O.script) [] (seen_of seat.new) }
-    ensures still { IsTrue result → IsStill id said (seen_of seat.new) }
+    ensures still { IsTrue result ↔ IsStill id said (seen_of seat.new) }
 {
     let (ledger, held) = turn.take(rt, seat);
     ledger.all_follow();
@@ -40,7 +41,7 @@ pub(crate) fn is_still<O: Opened, W: Wait>(
     still
 }
 
-/// Whether that is so, and the answers of a block's members stand in the story, behind so many events.
+/// Whether that is so, and the answers of a block's members stand in the story behind so many events, which alone it looks at.
 pub(crate) fn have_answered<O: Opened, W: Wait>(
     rt: &W,
     turn: &Turn<Ledger<O>>,
@@ -59,19 +60,31 @@ pub(crate) fn have_answered<O: Opened, W: Wait>(
     ensures goes_on { BeginsWith (seen_of seat.new) (seen_of seat.old) }
     ensures mine { mine_of seat.new ≡ mine_of seat.old }
     ensures follow { AllFollow (Follows O.coherent O.opening O.bytes O.script) [] (seen_of seat.new) }
-    ensures still { IsTrue result → IsStill id said (seen_of seat.new) }
-    ensures answered { IsTrue result → HaveAnswered (seen_of seat.new) id block members written.now.answers }
+    ensures still { IsTrue result ↔ (IsStill id said (seen_of seat.new)
+        × HaveAnswered (drop from (seen_of seat.new)) id block members written.now.answers) }
 {
     let (ledger, held) = turn.take(rt, seat);
     ledger.all_follow();
     let still = stands_still(&ledger, id, said);
-    let answered = still && all_stand(ledger.entries(), from, id, block, members, written);
+    let since = behind(ledger.entries(), from);
+    let answered = still && all_stand(since, id, block, members, written);
     turn.give_back(seat, ledger, held);
     answered
 }
 
 fn stands_still<O: Opened>(ledger: &Ledger<O>, id: AskId, said: u64) -> bool
-    ensures { IsTrue result → IsStill id said ledger.now.story }
+    ensures { IsTrue result ↔ IsStill id said ledger.now.story }
 {
     ledger.last_ask(id.client, id.line) == Some(id) && ledger.times_said(id.client, id.line) == said
+}
+
+/// The events behind so many.
+fn behind(story: &[Event], from: u64) -> &[Event]
+    ensures { result.now ≡ drop from story.now }
+{
+    let from = from as usize;
+    if from >= story.len() {
+        return &[];
+    }
+    &story[from..]
 }

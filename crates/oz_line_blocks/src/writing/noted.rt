@@ -1,14 +1,14 @@
 //! A block is written at its members, whose seats tell what came of it.
 
-ghost use Rattle.std.specs.Prelude.{◌≡◌, ◌≤◌, ◌<◌, All, length};
+ghost use Rattle.std.specs.Prelude.{◌≡◌, ◌≤◌, ◌<◌, All, drop, length, IfOk};
 ghost use Rattle.oz_fields.specs.declared.block.TheConstants.{LONGEST_PIECE};
 ghost use Rattle.oz_node_events.specs.Noting.{IsNoting};
 ghost use Rattle.oz_rows.specs.Rows.{IsBlock};
 ghost use Rattle.oz_turn.specs.Seat.{IsReady, mine_of, room_of, seen_of};
 ghost use Rattle.oz_turn.specs.Told.{BeginsWith};
 ghost use Rattle.oz_turn.specs.Turn.{turn_id};
+ghost use Rattle.oz_line_blocks.specs.writing.Unknown.{AllCame};
 
-use crate::writing::fault::Unwritten;
 use oz_buffer::{Ledger, Opened};
 use oz_client::Written;
 use oz_fields::{Block, OutOfMemory};
@@ -34,7 +34,7 @@ pub(crate) fn write_noted<D: Disk, O: Opened, R: Ring, W: Wait, G: Gate>(
     block: Block,
     members: [u8; 3],
     bytes: &[u8],
-) -> Result<Written, Unwritten>
+) -> Result<Written, OutOfMemory>
     requires turn { turn_id turn.now ≡ R.turn }
     requires ready { IsReady R.turn by seat.old }
     requires members { All (λ dn. dn < nodes.now) members }
@@ -47,6 +47,8 @@ pub(crate) fn write_noted<D: Disk, O: Opened, R: Ring, W: Wait, G: Gate>(
     ensures room { room_of seat.new ≡ room_of seat.old }
     ensures mine { mine_of seat.new ≡ mine_of seat.old }
     ensures goes_on { BeginsWith (seen_of seat.new) (seen_of seat.old) }
+    ensures came { IfOk result (λ written. AllCame O.coherent O.opening id block (seen_of seat.new)
+        (drop (length (seen_of seat.old)) (seen_of seat.new)) members written.answers) }
 {
     a_noter_stays_the_same::<D, O>();
     let mut noting = Noting::<D, Ledger<O>, O, R, W>::new(
@@ -54,8 +56,5 @@ pub(crate) fn write_noted<D: Disk, O: Opened, R: Ring, W: Wait, G: Gate>(
     );
     let written = write_block(rt, alloc, nodes, members, block, bytes, gate, &mut noting);
     let _seat = noting.into_seat();
-    match written {
-        Ok(written) => Ok(written),
-        Err(OutOfMemory) => Err(Unwritten::OutOfMemory),
-    }
+    written
 }

@@ -1,6 +1,6 @@
 //! A line tells that a block is written.
 
-ghost use Rattle.std.specs.Prelude.{◌≡◌, ◌≤◌, ◌<◌, ◌+◌, [], true, List, OnOk};
+ghost use Rattle.std.specs.Prelude.{◌≡◌, ◌≤◌, ◌<◌, ◌+◌, ◌-◌, [], true, List, OnOk, IfErr};
 ghost use Rattle.oz_buffer.specs.Buffer.{AllFollow, Follows};
 ghost use Rattle.oz_buffer.specs.Became.{times_said};
 ghost use Rattle.oz_core.specs.declared.event.Event.{Event as AnyEvent};
@@ -10,6 +10,7 @@ ghost use Rattle.oz_core.specs.Stories.{has_event};
 ghost use Rattle.oz_turn.specs.Seat.{IsReady, room_of, seen_of};
 ghost use Rattle.oz_turn.specs.Told.{BeginsWith};
 ghost use Rattle.oz_turn.specs.Turn.{turn_id};
+ghost use Rattle.oz_line_blocks.specs.writing.Unknown.{IsUntold};
 ghost use Rattle.oz_line_blocks.specs.writing.Written.{IsStill, is_quorum};
 
 use crate::writing::fault::Unwritten;
@@ -47,6 +48,7 @@ pub(crate) fn tell_wrote<O: Opened, W: Wait>(
     ensures follow { AllFollow (Follows O.coherent O.opening O.bytes O.script) [] (seen_of seat.new) }
     ensures still { OnOk result (IsStill id wrote (seen_of seat.new)) }
     ensures written { OnOk result (has_event (writes block) (seen_of seat.new) ≡ true) }
+    ensures untold { IfErr result (IsUntold id block (wrote - 1) wrote (seen_of seat.new)) }
 {
     match tell_written(rt, alloc, turn, seat, by, id, block, wrote - 1) {
         Ok(()) => {}

@@ -1,6 +1,6 @@
 //! How a line writes a block at its members.
 
-ghost use Rattle.std.specs.Prelude.{◌≡◌, ◌≤◌, ◌<◌, ◌+◌, [], true, All, List, Option, length, IfOk};
+ghost use Rattle.std.specs.Prelude.{◌≡◌, ◌≤◌, ◌<◌, ◌+◌, [], true, All, List, Option, length, IfOk, IfErr};
 ghost use Rattle.oz_buffer.specs.Buffer.{AllFollow, Follows};
 ghost use Rattle.oz_buffer.specs.Became.{times_said};
 ghost use Rattle.oz_core.specs.declared.event.Event.{Event as AnyEvent};
@@ -13,6 +13,7 @@ ghost use Rattle.oz_turn.specs.Seat.{IsReady, room_of, seen_of};
 ghost use Rattle.oz_turn.specs.Told.{BeginsWith};
 ghost use Rattle.oz_turn.specs.Turn.{turn_id};
 ghost use Rattle.oz_underway.specs.UnderWay.{HaveAnswered};
+ghost use Rattle.oz_line_blocks.specs.writing.Unknown.{IsUnknown};
 ghost use Rattle.oz_line_blocks.specs.writing.Written.{IsWritten, is_quorum};
 
 use crate::writing::fault::Unwritten;
@@ -22,7 +23,7 @@ use crate::writing::telling::{tell_wrote, two_put_it};
 use oz_asker::story_length;
 use oz_buffer::{Ledger, Opened};
 use oz_client::Written;
-use oz_fields::Block;
+use oz_fields::{Block, OutOfMemory};
 use oz_node_events::NodeSeat;
 use oz_replicas::Nodes;
 use oz_requests::AskId;
@@ -33,11 +34,11 @@ use std::sync::Wait;
 
 /// Writes a block that an ask of a line was granted at its three members, whose seats tell what came of it there, and tells
 /// that it is written where two of them put it. `by` is the number of the worker's seat, `first` the place of the bytes in the
-/// line's data, and `said` how often something had been said of the line's blocks. Answers what the members answered, and how
-/// often something is said of the line's blocks by then.
+/// line's data, `said` how often something had been said of the line's blocks, and `from` how many events the seat has seen.
+/// Answers what the members answered, and how often something is said of the line's blocks by then.
 ///
-/// Errors: `OtherStory` where the line asked more, or more was said of its blocks than this call has told, or less;
-/// `OutOfMemory`.
+/// Errors: `OtherStory` where the line asked more, or more was said of its blocks than this call has told, or less, and where a
+/// member had the block already; `OutOfMemory`. Members may have put it.
 pub fn write_to_members<D: Disk, O: Opened, R: Ring, W: Wait, G: Gate>(
     rt: &W,
     alloc: Global,
@@ -52,6 +53,7 @@ pub fn write_to_members<D: Disk, O: Opened, R: Ring, W: Wait, G: Gate>(
     members: [u8; 3],
     bytes: &[u8],
     said: u64,
+    from: u64,
 ) -> Result<(Written, u64), Unwritten>
     requires turn { turn_id turn.now ≡ R.turn }
     requires ready { IsReady R.turn by seat.old }
@@ -60,6 +62,7 @@ pub fn write_to_members<D: Disk, O: Opened, R: Ring, W: Wait, G: Gate>(
     requires block { IsBlock block }
     requires least { 1 ≤ length bytes.now }
     requires most { length bytes.now ≤ LONGEST_PIECE }
+    requires from { from ≡ length (seen_of seat.old) }
     requires knows { IsNoting O.coherent O.opening O.bytes O.script id first
         (record { block = block; members = members; bytes = bytes.now }) (seen_of seat.old) }
     requires may { O.coherent → (story : List AnyEvent) (answers : List (Option AnyRefusal)) → BeginsWith story (seen_of seat.old)
@@ -73,9 +76,10 @@ pub fn write_to_members<D: Disk, O: Opened, R: Ring, W: Wait, G: Gate>(
     ensures follow { AllFollow (Follows O.coherent O.opening O.bytes O.script) [] (seen_of seat.new) }
     ensures written { IfOk result (λ done.
         IsWritten id block members said done.0.answers done.1 (seen_of seat.new)) }
+    ensures unknown { IfErr result (IsUnknown O.coherent O.opening id block members said (seen_of seat.old) (seen_of seat.new)) }
 {
-    let from = story_length(rt, turn, seat, by);
     let Some(wrote) = said.checked_add(4) else {
+        let _length = story_length(rt, turn, seat, by);
         return Err(Unwritten::OtherStory);
     };
     let noted = write_noted(
@@ -83,9 +87,9 @@ pub fn write_to_members<D: Disk, O: Opened, R: Ring, W: Wait, G: Gate>(
     );
     let written = match noted {
         Ok(written) => written,
-        Err(error) => {
+        Err(OutOfMemory) => {
             let _length = story_length(rt, turn, seat, by);
-            return Err(error);
+            return Err(Unwritten::OutOfMemory);
         }
     };
     let put = wrote - 1;
@@ -95,6 +99,8 @@ pub fn write_to_members<D: Disk, O: Opened, R: Ring, W: Wait, G: Gate>(
     if !two_put_it(&written) {
         return Ok((written, put));
     }
-    tell_wrote(rt, alloc, turn, seat, by, id, block, wrote)?;
-    Ok((written, wrote))
+    match tell_wrote(rt, alloc, turn, seat, by, id, block, wrote) {
+        Ok(()) => Ok((written, wrote)),
+        Err(error) => Err(error),
+    }
 }

@@ -1,5 +1,5 @@
 -- Whether anything was noted, of notes behind others.
-use Rattle.std.proofs.Common.{◌≡◌, Bool, true, false, ◌||◌, List, [], ◌∷◌, ◌++◌, refl, sym, ap, ◌∙◌}
+use Rattle.std.proofs.Common.{◌≡◌, Bool, true, false, ◌||◌, List, [], ◌∷◌, ◌++◌, refl, ap, ◌∙◌}
 use Rattle.oz_replicas.specs.declared.note.Note.{Note}
 use Rattle.oz_line_blocks.specs.reading.Lacks.{has_notes}
 

@@ -1,4 +1,4 @@
-use Rattle.std.proofs.Common.{◌≡◌, List, length, Some, sym, ap, ◌∙◌, subst}
+use Rattle.std.proofs.Common.{List, Some, sym, ◌∙◌, subst}
 use Rattle.oz_requests.specs.declared.answer.Answer.TheVariants as answers
 use Rattle.oz_asker.specs.declared.telling.still.Still.{Still}
 use Rattle.oz_at_work.specs.AtWork.{IsAtWork, WorkView}

@@ -1,4 +1,4 @@
-use Rattle.std.proofs.Common.{◌≡◌, ℕ, List, Contains, ap, ◌∙◌, subst, sym}
+use Rattle.std.proofs.Common.{◌≡◌, ℕ, Contains, ap, ◌∙◌, subst, sym}
 use Rattle.oz_line_blocks.specs.declared.reading.lack.Lack.TheVariants as lacking
 use Rattle.oz_line_blocks.specs.declared.reading.reading.Reading.TheVariants as readings
 use Rattle.oz_line_blocks.specs.reading.Lacks.{AreDoubted, IsDoubted}

@@ -30,9 +30,9 @@ returns-clause-works g c coherent =
     λ looks. c.is_as_known.ensures.said c.if-not-is_as_known.false (c.looks-looks.ensures ∙ looks) in
     let said : inside.said ≡ work.said = ap (λ (w : WorkView). w.said) c.self.view_is in
     let gave_up : inside.gave_up ≡ work.gave_up = ap (λ (w : WorkView). w.gave_up) c.self.view_is in
-    let taken : IsTakenUp work (gots.Reply c.args.reply) (work.asked + 1) work.said work.gave_up c.take_up.new.self =
-    subst (λ (n : ℕ). IsTakenUp work (gots.Reply c.args.reply) n work.said work.gave_up c.take_up.new.self) c.requires.step
-    (subst (λ (n : ℕ). IsTakenUp work (gots.Reply c.args.reply) c.args.step n work.gave_up c.take_up.new.self) said
-    (subst (λ (b : Bool). IsTakenUp work (gots.Reply c.args.reply) c.args.step inside.said b c.take_up.new.self) gave_up c.take_up.ensures)) in
+    let taken : IsTakenUp work (gots.Reply c.args.reply) (work.asked + 1) work.said work.gave_up c.take_up-taken.new.self =
+    subst (λ (n : ℕ). IsTakenUp work (gots.Reply c.args.reply) n work.said work.gave_up c.take_up-taken.new.self) c.requires.step
+    (subst (λ (n : ℕ). IsTakenUp work (gots.Reply c.args.reply) c.args.step n work.gave_up c.take_up-taken.new.self) said
+    (subst (λ (b : Bool). IsTakenUp work (gots.Reply c.args.reply) c.args.step inside.said b c.take_up-taken.new.self) gave_up c.take_up-taken.ensures.taken)) in
     reply_works O.coherent O.opening O.bytes O.script later (seen_of c.args.seat.now) work c.args.reply coherent c.requires.asks was c.is_as_known.ensures.goes_on
-    (c.is_as_known.ensures.follow was.follow) as_said c.take_up.new.self taken
+    (c.is_as_known.ensures.follow was.follow) as_said c.take_up-taken.new.self taken

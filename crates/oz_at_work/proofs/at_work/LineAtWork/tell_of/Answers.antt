@@ -1,4 +1,4 @@
-use Rattle.std.proofs.Common.{◌≡◌, None, sym, subst}
+use Rattle.std.proofs.Common.{None, sym, subst}
 use Rattle.oz_requests.specs.declared.answer.Answer.TheVariants as answers
 use Rattle.oz_turn.specs.Seat.{mine_of, seen_of}
 use Rattle.oz_at_work.specs.AtWork.{HasLeft, IsAtWork, WorkView, left_of}

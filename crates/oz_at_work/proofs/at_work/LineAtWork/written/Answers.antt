@@ -12,7 +12,7 @@ returns-clause-works g c coherent seen was =
     let inside = c.self.inside in
     let work : WorkView = c.args.self.now in
     let asked : inside.asked ≡ work.asked = ap (λ (w : WorkView). w.asked) c.self.view_is in
-    let taken : IsTakenUp work (gots.Written c.args.written) work.asked c.args.said (work.gave_up || not (is_quorum c.args.written.answers)) c.take_up.new.self =
-    subst (λ (n : ℕ). IsTakenUp work (gots.Written c.args.written) n c.args.said (work.gave_up || not (is_quorum c.args.written.answers)) c.take_up.new.self) asked
-    (subst (λ (b : Bool). IsTakenUp work (gots.Written c.args.written) inside.asked c.args.said b c.take_up.new.self) c.gives_up-gave_up.ensures c.take_up.ensures) in
-    written_works O.coherent O.opening O.bytes O.script seen work c.args.written c.args.said coherent was c.take_up.new.self taken
+    let taken : IsTakenUp work (gots.Written c.args.written) work.asked c.args.said (work.gave_up || not (is_quorum c.args.written.answers)) c.take_up-taken.new.self =
+    subst (λ (n : ℕ). IsTakenUp work (gots.Written c.args.written) n c.args.said (work.gave_up || not (is_quorum c.args.written.answers)) c.take_up-taken.new.self) asked
+    (subst (λ (b : Bool). IsTakenUp work (gots.Written c.args.written) inside.asked c.args.said b c.take_up-taken.new.self) c.gives_up-gave_up.ensures c.take_up-taken.ensures.taken) in
+    written_works O.coherent O.opening O.bytes O.script seen work c.args.written c.args.said coherent was c.take_up-taken.new.self taken

@@ -2,7 +2,6 @@ use Rattle.std.proofs.Common.{inl, inr, refl, sym, ◌∙◌}
 use Rattle.std.proofs.lemmas.Bool.{false≢true}
 use Rattle.std.proofs.lemmas.Result.{IfOk-weaker}
 use Rattle.oz_turn.specs.Seat.{seen_of}
-use Rattle.oz_underway.specs.laws.Going.{begins_through}
 use Rattle.oz_line_blocks.proofs.reading_lemmas.Known.{may_later}
 use Rattle.oz_line_blocks.proofs.reading_lemmas.Told.{comes_from}
 use Rattle.oz_line_blocks.proofs.reading.member.read_member.Goals as goal

@@ -43,7 +43,8 @@ pub fn push_told(
     push_text(out, "\n")
 }
 
-fn push_answer(alloc: Global, out: &mut Vec<u8>, answer: &Answer) -> Result<(), OutOfMemory>
+/// Appends an answer as the report has it, without its line. Where there is no memory a part of it may stand there.
+pub fn push_answer(alloc: Global, out: &mut Vec<u8>, answer: &Answer) -> Result<(), OutOfMemory>
     ensures { OnOk result (out.new.items ≡ out.old.items ++ answer_text answer.now) }
 {
     match answer {

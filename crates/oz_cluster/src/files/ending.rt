@@ -4,13 +4,13 @@ ghost use Rattle.std.specs.Prelude.{◌≡◌, ◌⊎◌, if◌then◌else◌};
 ghost use Rattle.oz_cluster.specs.files.Endings.{EndsSo};
 ghost use Rattle.oz_cluster.specs.files.Finding.{IsFound};
 ghost use Rattle.oz_cluster.specs.files.Streams.{stream};
-ghost use Rattle.oz_cluster.specs.files.Telling.{TellsTheLine, refusal_text};
+ghost use Rattle.oz_cluster.specs.files.Telling.{refusal_text};
 ghost use Rattle.oz_running.specs.Printed.{Says, memory_fault};
 ghost use Rattle.oz_world.specs.Faults.{Rose};
 
 use crate::files::asked::Asked;
 use crate::files::outcome::Outcome;
-use crate::files::told::{ToldLine, last_told, refusal};
+use crate::files::told::{last_told, refusal};
 use crate::files::words::Way;
 use crate::stop::say;
 use crate::streams::write_all;
@@ -45,17 +45,17 @@ pub fn finish_transfer<K: Sink, E: Sink>(
         asked.entry.way result }
     ensures unwritten { asked.entry.way ≡ Way.Put → out.new ≡ out.old }
 {
-    let Some(told) = last_told(story) else {
+    let Some(answer) = last_told(story) else {
         say(errors, texts::out_of_memory_text().as_bytes());
         return Outcome::OutOfMemory;
     };
-    match found_in(asked.way, asked.size, told.answer) {
+    match found_in(asked.way, asked.size, answer) {
         Found::Kept => served(any_halted),
         Found::Read(read) => match write_all(out, read) {
             Ok(()) => served(any_halted),
             Err(_) => Outcome::Unwritten,
         },
-        Found::Other => say_refusal(alloc, asked.key, told, errors),
+        Found::Other => say_refusal(alloc, asked.key, answer, errors),
     }
 }
 
@@ -90,14 +90,13 @@ fn served(any_halted: bool) -> Outcome
 }
 
 /// Says what the line was told, and answers how the transfer ends.
-fn say_refusal<E: Sink>(alloc: Global, key: &str, told: ToldLine<'_>, errors: &mut E) -> Outcome
-    requires { TellsTheLine told }
+fn say_refusal<E: Sink>(alloc: Global, key: &str, answer: &Answer, errors: &mut E) -> Outcome
     ensures { let rose = Rose (E.faults errors.old) (E.faults errors.new) in
         ((result ≡ Outcome.Refused)
-        × Says (refusal_text key.now told.entry.answer.now) (E.held errors.old) (E.held errors.new) rose)
+        × Says (refusal_text key.now answer.now) (E.held errors.old) (E.held errors.new) rose)
         ⊎ ((result ≡ Outcome.OutOfMemory) × Says memory_fault (E.held errors.old) (E.held errors.new) rose) }
 {
-    let Ok(text) = refusal(alloc, key, told) else {
+    let Ok(text) = refusal(alloc, key, answer) else {
         say(errors, texts::out_of_memory_text().as_bytes());
         return Outcome::OutOfMemory;
     };

@@ -1,7 +1,7 @@
-use Rattle.std.proofs.Common.{◌≡◌, None, MatchOption, take}
+use Rattle.std.proofs.Common.{◌≡◌, None, Some, MatchOption, take}
 use Rattle.oz_cluster.specs.files.Asked.{told_in}
-use Rattle.oz_cluster.specs.files.Telling.{IsLastTold}
 use Rattle.oz_cluster.proofs.files.told.last_told.Given as goal
 
 abbrev pub invariant-loop-event : goal.invariant-loop-event
-invariant-loop-event l = MatchOption l.last (told_in (take l.event-index l.story) ≡ None) (IsLastTold (take l.event-index l.story))
+invariant-loop-event l =
+    MatchOption l.last (told_in (take l.event-index l.story) ≡ None) (λ answer. told_in (take l.event-index l.story) ≡ Some answer.now)

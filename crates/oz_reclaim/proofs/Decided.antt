@@ -1,9 +1,10 @@
 -- What is decided of the manager's own requests keeps all that a decision owes.
-use Rattle.std.proofs.Common.{◌≡◌, ◌↔◌, inl, inr, ⊎_elim, ℕ, ◌≤◌, true, List, [], ◌∷◌, ◌++◌, length, Option, None, Some, IsSome, is_some, refl, sym, ◌∙◌, ap, subst, arith, append-nil, length-append}
+use Rattle.std.proofs.Common.{◌≡◌, ◌≢◌, ◌↔◌, ◌==◌, ◌&&◌, false, inl, inr, ⊎_elim, ℕ, ◌≤◌, true, List, [], ◌∷◌, ◌++◌, length, map, Option, None, Some, IsSome, is_some, refl, sym, ◌∙◌, ap, subst, arith, append-nil, length-append}
 use mathlib.Core.Bool.{false≢true}
+use Rattle.std.specs.List.{AllByRecursion}
 use Rattle.oz_cache.specs.Cache.{CacheView, batched_changes, newest}
 use Rattle.oz_decision.specs.declared.decision.Decision.{Decision}
-use Rattle.oz_decision.specs.Meets.{AreInGrammar, IsSafe, MayGo, Meets, Stand}
+use Rattle.oz_decision.specs.Meets.{AreInGrammar, IsSafe, MayGo, Meets, Stand, granted_in}
 use Rattle.oz_decision.specs.laws.OneRow.{has_bytes, meets_in_all, nothing_is_safe, stand_but_renames}
 use Rattle.oz_effects.specs.Batches.{IsBatchOf}
 use Rattle.oz_effects.specs.Build.{base_of}
@@ -16,8 +17,9 @@ use Rattle.oz_reclaim.specs.Service.{IsPurge, ArePurged, AreServed, IsWorkedOff,
 use Rattle.oz_reclaim.specs.Work.{is_marked}
 use Rattle.oz_reclaim.specs.laws.Moving.{keeps, renames_stay, sound_now, stands_on}
 use Rattle.oz_reclaim.proofs.Dropped.{changes as dropped_changes, deleted_stays, fit_now as dropped_fit, live_still as dropped_live, moves as dropped_moves, renamed_stays, still_there}
-use Rattle.oz_reclaim.proofs.MovedOn.{fit_now as moved_fit, live_still as moved_live, moves as moved_moves, renames_move_on, still as moved_still}
-use Rattle.oz_reclaim.proofs.Purged.{batch as purged_batch, fit_now as purged_fit, moves as purged_moves, renamed_same, other as purged_other, short as purged_short, stay_or_go}
+use Rattle.oz_reclaim.proofs.MovedOn.{differ, goes_whole, no_zero, fit_now as moved_fit, live_still as moved_live, moves as moved_moves, renames_move_on, still as moved_still}
+use Rattle.oz_reclaim.proofs.Purged.{all_deleted, batch as purged_batch, fit_now as purged_fit, moves as purged_moves, renamed_same, other as purged_other, short as purged_short, stay_or_go}
+use Rattle.oz_reclaim.proofs.Origins.{IsFine, are_tidy, come_from, dropping_fine, gone_all_fine, moving_fine, none_fine}
 use Rattle.oz_reclaim.proofs.Served.{meets as served_meets, passed_over}
 use Rattle.oz_requests.specs.declared.reply.Reply.{Reply}
 use Rattle.oz_requests.specs.declared.reply.Reply.TheVariants as replies
@@ -39,7 +41,7 @@ use Rattle.oz_rows.specs.RowMaps.{Rows, AreRows, KeysRise, gone, row_of, after_c
 use Rattle.oz_rows.specs.laws.Changes.{become}
 use Rattle.oz_rows.specs.laws.Sizes.{operation_size}
 use Rattle.oz_sound.specs.Sound.{IsSound, IsSoundButRenames, RenamesAreSound}
-use Rattle.oz_sound.specs.stripes.laws.Lists.{one_list}
+use Rattle.oz_sound.specs.stripes.laws.Lists.{each_found, one_list}
 
 abbrev pub bytes_for : Request → List Change → List ℕ
 bytes_for request changes = batch_bytes (operations_for request changes)
@@ -94,19 +96,27 @@ module _ (v b : List ℕ) (n to : ℕ) where
     abbrev moved_changes : List Change
     moved_changes = operation_changes entries (operations.MoveDeleted v b n to)
 
-    move_fit : AreInGrammar listed → AreInGrammar (after_changes moved_changes listed)
-    move_fit fit = moved_fit v b n to entries rise fit may.marked may.next may.fits.3
+    module _ (fit : AreInGrammar listed) where
+      abbrev apart : n ≢ to
+      apart = differ listed v b n to fit may.marked may.next
+
+      abbrev goes_all : (l : ℕ) → n == 0 && is_some (listed (keys.Renamed v b to l)) ≡ false
+      goes_all l = goes_whole n (no_zero listed v b n to fit may.marked may.next) (is_some (listed (keys.Renamed v b to l)))
+
+      move_fit : AreInGrammar (after_changes moved_changes listed)
+      move_fit = moved_fit v b n to entries rise apart goes_all fit may.fits.3
+
+      move_renames : IsSoundButRenames listed → RenamesAreSound listed → RenamesAreSound (after_changes moved_changes listed)
+      move_renames sound renames = renames_move_on v b n to entries rise apart goes_all fit may.marked may.next sound renames
 
     move_meets : (bytes : List ℕ) → IsBatchOf listed bytes moved_changes → (namespace : Namespace) → Stand IsSoundButRenames listed namespace → MeetsBut listed namespace move bytes moved_changes
     move_meets bytes batch namespace stand =
-        let moved = moved_moves v b n to entries rise stand.fit may.marked may.next stand.sound in
-        served_meets IsSoundButRenames listed namespace move refl bytes moved_changes batch (move_fit stand.fit)
-        (stands_on listed (after_changes moved_changes listed) moved (moved_live v b n to entries rise stand.fit may.marked may.next stand.sound) namespace stand.stands)
-        (sound_now listed (after_changes moved_changes listed) moved (move_fit stand.fit) stand.sound)
-        (keeps listed (after_changes moved_changes listed) moved None (MayGo listed move) (λ w c k o l row block there has. inl (moved_still v b n to entries rise stand.fit may.marked may.next stand.sound w c k o l row there)))
-
-    move_renames : AreInGrammar listed → IsSoundButRenames listed → RenamesAreSound listed → RenamesAreSound (after_changes moved_changes listed)
-    move_renames fit sound renames = renames_move_on v b n to entries rise fit may.marked may.next sound renames
+        let fit = stand.fit in
+        let moved = moved_moves v b n to entries rise (apart fit) (goes_all fit) fit may.marked may.next stand.sound in
+        served_meets IsSoundButRenames listed namespace move refl bytes moved_changes batch (move_fit fit)
+        (stands_on listed (after_changes moved_changes listed) moved (moved_live v b n to entries rise (apart fit) (goes_all fit) fit may.marked may.next stand.sound) namespace stand.stands)
+        (sound_now listed (after_changes moved_changes listed) moved (move_fit fit) stand.sound)
+        (keeps listed (after_changes moved_changes listed) moved None (MayGo listed move) (λ w c k o l row block there has. inl (moved_still v b n to entries rise (apart fit) (goes_all fit) fit may.marked may.next stand.sound w c k o l row there)))
 
 -- ---- a marked snapshot itself
 
@@ -176,7 +186,7 @@ module _ (all : Rows) (entries : List RowEntry) (are : AreRows entries all) wher
   listed_is = λ i key. are.rows_are key i
 
   -- what holds over a list, of what it makes, holds over the rows that it lists
-  by_list : (P : Rows → List Change → Type 0) (changes own : List Change) → changes ≡ own → P (row_of entries) own → P all changes
+  pub by_list : (P : Rows → List Change → Type 0) (changes own : List Change) → changes ≡ own → P (row_of entries) own → P all changes
   by_list P changes own is holds = subst (λ (x : Rows). P x changes) listed_is (subst (λ (c : List Change). P (row_of entries) c) (sym is) holds)
 
   nothing_for : (request : Request) → family_of request ≡ Service → bytes_for request [] ≡ []
@@ -241,6 +251,17 @@ module _ (all : Rows) (entries : List RowEntry) (are : AreRows entries all) wher
       let most = stand_but_renames all namespace stand in
       meets_in_all all namespace request replies.Done (bytes_for request changes) changes (but_renames request changes family served namespace most) (renames request changes family served stand.fit most.sound stand.sound.renames)
 
+  -- where rows come from, and that keys of snapshots stay
+  pub all_fine : (request : Request) (changes : List Change) → AreServed all request changes → AllByRecursion (IsFine all changes) changes
+  all_fine (Purge v named) changes purged = subst (λ (c : List Change). AllByRecursion (IsFine all c) c) (sym purged.are) (gone_all_fine all (map gone purged.rows_gone) purged.rows_gone (all_deleted all v named changes purged))
+  all_fine (MoveDeleted v b n to) changes (inl (may, made)) =
+      by_list (λ x c. AllByRecursion (IsFine x c) c) changes (operation_changes entries (operations.MoveDeleted v b n to)) (made entries are) (moving_fine (row_of entries) entries (each_found entries are.in_order) v b n to)
+  all_fine (MoveDeleted v b n to) changes (inr (not, none)) = none_fine all changes none
+  all_fine (PurgeSnapshot v b n) changes (inl (may, made)) =
+      by_list (λ x c. AllByRecursion (IsFine x c) c) changes (dropped_changes v b n entries are.in_order) (made entries are) (dropping_fine (row_of entries) entries (each_found entries are.in_order) v b n)
+  all_fine (PurgeSnapshot v b n) changes (inr (not, none)) = none_fine all changes none
+  all_fine request changes served = absurd served
+
 -- changes have bytes
 pub have_bytes : (request : Request) (changes : List Change) → family_of request ≡ Service → (bytes_for request changes ≡ []) ↔ (changes ≡ [])
 have_bytes (Purge v named) changes family = has_bytes changes
@@ -253,7 +274,7 @@ have_bytes request changes family = absurd cc
 -- ---- the decision
 
 -- the newest rows of a cache as a list
-listed_rows : (cache : CacheView) → KeysRise cache.durable.rows → (entries : List RowEntry) × AreRows entries (newest cache)
+pub listed_rows : (cache : CacheView) → KeysRise cache.durable.rows → (entries : List RowEntry) × AreRows entries (newest cache)
 listed_rows cache rise =
     let made = become (batched_changes cache.entered) cache.durable.rows rise in
     (made.0, record { in_order = made.1.in_order; rows_are = λ key. made.1.rows key })
@@ -273,6 +294,8 @@ served cache rise request family few d done exact bytes =
             (subst (λ (l : List ℕ). MeetsBut all namespace request l d.changes) (sym bytes) (but_renames all list.0 list.1 request d.changes family exact namespace stand));
         safe = λ fit. subst (λ (l : List ℕ). IsSafe all l d.changes) (sym bytes) (safe all list.0 list.1 request d.changes family few exact fit);
         recorded = subst (λ (l : List ℕ). (l ≡ []) ↔ (d.changes ≡ [])) (sym bytes) (have_bytes request d.changes family);
+        origins = come_from all d.changes (all_fine all list.0 list.1 request d.changes exact) (granted_in d.reply);
+        tidy = are_tidy all d.changes (all_fine all list.0 list.1 request d.changes exact);
       };
       exact = exact;
       operations = bytes;

@@ -5,6 +5,13 @@ pub mod ShownBlocks
 pub mod FreeRows
 pub mod Removing
 pub mod Touched
+pub mod Alike
+pub mod Stripes
+pub mod Copied
+pub mod NotMade
+pub mod Created
+pub mod Recorded
+pub mod Origins
 pub mod Purged
 pub mod Served
 pub mod Chained
@@ -18,3 +25,4 @@ pub mod Named
 pub mod Marked
 pub mod Listed
 pub mod Counts
+pub mod sweep_lemmas

@@ -2,10 +2,11 @@
 use Rattle.std.proofs.Common.{◌≡◌, ◌↔◌, inl, inr, ℕ, ◌≤◌, ◌<◌, ◌^◌, Bool, true, false, not, ◌==◌, List, [], ◌∷◌, map, Option, None, Some, IsSome, is_some, cond, refl, sym, ◌∙◌, ap, subst}
 use mathlib.Core.Bool.{false≢true}
 use Rattle.std.specs.FinMap.{insert, len}
+use Rattle.std.specs.List.{AllByRecursion}
 use Rattle.std.specs.Prelude.{filter}
 use Rattle.oz_decision.specs.declared.decision.Decision.{Decision}
 use Rattle.oz_decision.specs.Drafts.{row_by_row}
-use Rattle.oz_decision.specs.Meets.{AreInGrammar, IsSafe, MayGo, Meets, Stand}
+use Rattle.oz_decision.specs.Meets.{AreInGrammar, IsSafe, MayGo, Meets, Stand, granted_in}
 use Rattle.oz_decision.specs.Replies.{IsReply, ShowsThat}
 use Rattle.oz_decision.specs.laws.Lookups.{there_are}
 use Rattle.oz_decision.specs.laws.OneRow.{has_bytes, homes_kept, meets_in_all, no_home_kept, nothing_changes, nothing_is_safe, put_is_safe, stand_but_renames}
@@ -15,31 +16,35 @@ use Rattle.oz_model.specs.Answers.{Answers, Replies, after, reply_from}
 use Rattle.oz_model.specs.Buckets.{bucket_at, bucket_in, buckets_at, snapshot_keys, without_snapshot, keys_in}
 use Rattle.oz_model.specs.Refusals.{first_of, no_bucket, no_volume, refusal}
 use Rattle.oz_model.specs.Scope.{scope_of}
-use Rattle.oz_model.specs.laws.Order.{refused_by_name, refused_by_row, refused_missing, refused_so}
+use Rattle.oz_model.specs.laws.Order.{refused_by_row, refused_missing, refused_so}
 use Rattle.oz_model.specs.laws.Scopes.{has_buckets, stays}
 use Rattle.oz_names.specs.declared.code.Code.{Code}
 use Rattle.oz_names.specs.declared.code.Code.TheVariants.{SnapshotNotFound}
+use Rattle.oz_names.specs.Names.{IsVolumeName, IsBucketName, IsSnapshotName}
 use Rattle.oz_names.specs.laws.NameTests.{volume_name-passes}
 use Rattle.oz_namespace.specs.declared.namespace.Bucket.{Bucket}
 use Rattle.oz_namespace.specs.declared.namespace.Namespace.{Namespace}
 use Rattle.oz_namespace.specs.declared.namespace.Snapshot.{Snapshot}
 use Rattle.oz_namespace.specs.Namespace.{bucket_of, buckets_of, snapshots_of}
 use Rattle.oz_reclaim.specs.Decisions.{IsSoundDecision}
-use Rattle.oz_reclaim.specs.Marks.{AreMarked, HasNumber, IsNamed, IsOnSnapshots, IsSnapshotDecision, Marks}
+use Rattle.oz_reclaim.specs.Marks.{HasNumber, IsNamed, Marks}
 use Rattle.oz_reclaim.specs.Moves.{DeletedMove, IsSteady}
+use Rattle.oz_reclaim.specs.Snapshots.{AreRecorded, IsNothing, IsRefused}
 use Rattle.oz_reclaim.specs.Work.{is_marked}
 use Rattle.oz_reclaim.specs.laws.Moving.{renames_stay, sound_now}
+use Rattle.oz_reclaim.proofs.Origins.{IsFine, are_tidy, come_from, marked_fine, none_fine}
 use Rattle.oz_reclaim.proofs.Named.{each_left, has_none, has_one, has_other_name, among_left, none_left, number_itself, one_number, rise_left}
 use Rattle.oz_requests.specs.declared.reply.Reply.{Reply}
 use Rattle.oz_requests.specs.declared.reply.Reply.TheVariants as replies
 use Rattle.oz_requests.specs.declared.request.Request.{Request}
 use Rattle.oz_requests.specs.declared.request.Request.TheVariants.{DeleteSnapshot, InfoSnapshot, ListSnapshots}
-use Rattle.oz_requests.specs.Names.{Named, bucket_named, first_fault, is_name_of, name_code, name_fault, snapshot_named, volume_in, volume_named}
+use Rattle.oz_requests.specs.Names.{Named, bucket_named, first_fault, is_name_of, name_code, name_fault, snapshot_named, volume_named}
 use Rattle.oz_rows.specs.declared.key.RowKey.{RowKey}
 use Rattle.oz_rows.specs.declared.key.RowKey.TheVariants as keys
 use Rattle.oz_rows.specs.declared.operation.Change.{Change}
 use Rattle.oz_rows.specs.declared.row.Row.{Row}
 use Rattle.oz_rows.specs.declared.row.Row.TheVariants as rows
+use Rattle.oz_rows.specs.declared.row.SnapshotState.{SnapshotState}
 use Rattle.oz_rows.specs.declared.row.SnapshotState.TheVariants.{Live, Marked}
 use Rattle.oz_rows.specs.Operations.{batch_bytes}
 use Rattle.oz_rows.specs.Rows.{RowFits}
@@ -84,12 +89,23 @@ others_named first others e = by_test (is_name_of first.kind first.name) refl
     by_test true is = (is, sym (ap (λ (t : Bool). cond t (first_fault others) (Some (name_code first.kind))) is) ∙ e)
     by_test false is = absurd (false≢true (ap is_some (sym e ∙ ap (λ (t : Bool). cond t (first_fault others) (Some (name_code first.kind))) is)))
 
-pub row_fits : (v b name : List ℕ) (n previous : ℕ) → name_fault (DeleteSnapshot v b name) ≡ None → 1 ≤ n → n < 2 ^ 64 → previous < 2 ^ 64 → RowFits (keys.Snapshot v b n) (rows.Snapshot name previous Marked)
-row_fits v b name n previous named least small short =
+-- a volume, a bucket and a snapshot
+pub record NamesFit (v b name : List ℕ) : Type 0 where
+  pub volume : IsVolumeName v
+  pub bucket : IsBucketName b
+  pub snapshot : IsSnapshotName name
+
+pub names_fit : (v b name : List ℕ) → first_fault (volume_named v ∷ bucket_named b ∷ snapshot_named name ∷ []) ≡ None → NamesFit v b name
+names_fit v b name named =
     let two = others_named (volume_named v) (bucket_named b ∷ snapshot_named name ∷ []) named in
     let three = others_named (bucket_named b) (snapshot_named name ∷ []) two.1 in
     let four = others_named (snapshot_named name) [] three.1 in
-    ((volume_name-passes v two.0, volume_name-passes b three.0, (least, small)), (volume_name-passes name four.0, short))
+    record { volume = volume_name-passes v two.0; bucket = volume_name-passes b three.0; snapshot = volume_name-passes name four.0 }
+
+pub row_fits : (v b name : List ℕ) (n previous : ℕ) (state : SnapshotState) → first_fault (volume_named v ∷ bucket_named b ∷ snapshot_named name ∷ []) ≡ None → 1 ≤ n → n < 2 ^ 64 → previous < 2 ^ 64 → RowFits (keys.Snapshot v b n) (rows.Snapshot name previous state)
+row_fits v b name n previous state named least small short =
+    let names = names_fit v b name named in
+    ((names.volume, names.bucket, (least, small)), (names.snapshot, short))
 
 module _ (all : Rows) (v b name : List ℕ) (named : name_fault (DeleteSnapshot v b name) ≡ None) where
   abbrev asked : Request
@@ -284,6 +300,8 @@ module _ (all : Rows) (it : Request) (d : Decision) (operations : d.bytes ≡ by
     but_renames = λ namespace stand. in_parts (Meets IsSoundButRenames all namespace it) d.reply [] refl none (unchanged stays IsSoundButRenames namespace stand stand);
     safe = λ fit. in_parts (λ r l c. IsSafe all l c) d.reply [] refl none (nothing_is_safe all fit);
     recorded = subst (λ (l : List ℕ). (l ≡ []) ↔ (d.changes ≡ [])) (sym operations) (has_bytes d.changes);
+    origins = come_from all d.changes (none_fine all d.changes none) (granted_in d.reply);
+    tidy = are_tidy all d.changes (none_fine all d.changes none);
   }
 
   -- a refusal leaves what was there
@@ -294,7 +312,7 @@ module _ (all : Rows) (v b name : List ℕ) (d : Decision) (operations : d.bytes
   abbrev it : Request
   it = DeleteSnapshot v b name
 
-  kept_marked : d.reply ≡ replies.Done → Marks all v b name d.changes → ((namespace : Namespace) → Stand IsSoundButRenames all namespace → Answers namespace it replies.Done) → IsSoundDecision all it d
+  kept_marked : d.reply ≡ replies.Done → Marks all v b name d.bytes d.changes → ((namespace : Namespace) → Stand IsSoundButRenames all namespace → Answers namespace it replies.Done) → IsSoundDecision all it d
   kept_marked is marks answers = record {
     meets = λ namespace stand.
         let most = stand_but_renames all namespace stand in
@@ -305,19 +323,35 @@ module _ (all : Rows) (v b name : List ℕ) (d : Decision) (operations : d.bytes
     safe = λ fit. in_parts all it d operations (λ r l c. IsSafe all l c) replies.Done (changes all v b name marks.number marks.previous marks.there) is marks.marked
         (is_safe all v b name marks.number marks.previous marks.there marks.bucket_there fit);
     recorded = subst (λ (l : List ℕ). (l ≡ []) ↔ (d.changes ≡ [])) (sym operations) (has_bytes d.changes);
+    origins = come_from all d.changes (fine marks) (granted_in d.reply);
+    tidy = are_tidy all d.changes (fine marks);
   }
+    where
+      fine : Marks all v b name d.bytes d.changes → AllByRecursion (IsFine all d.changes) d.changes
+      fine marks = subst (λ (c : List Change). AllByRecursion (IsFine all c) c) (sym marks.marked) (marked_fine all v b name marks.number marks.previous Marked)
 
-  kept : IsReply all it d.reply → AreMarked all it d.reply d.changes → IsSoundDecision all it d
+-- nothing in bytes is nothing in changes
+none_by_row : (bytes : List ℕ) (changes : List Change) → IsNothing bytes changes → bytes ≡ bytes_of changes
+none_by_row bytes changes none = none.0 ∙ sym (ap bytes_of none.1)
+
+module _ (all : Rows) (it : Request) (d : Decision) where
+  pub kept_refused : IsReply all it d.reply → IsRefused d.reply d.bytes d.changes → IsSoundDecision all it d
   unfolding Answers
-  kept reply (inl (is, marks)) = kept_marked is marks (λ namespace stand. subst (λ (r : Reply). Answers namespace it r) is (reply namespace stand))
-  kept reply (inr (code, is, none)) = kept_unchanged all it d operations none (λ namespace stand. (reply namespace stand, refusal_stays all it d operations code is namespace))
+  kept_refused reply (code, is, none) =
+      let operations = none_by_row d.bytes d.changes none in
+      kept_unchanged all it d operations none.1 (λ namespace stand. (reply namespace stand, refusal_stays all it d operations code is namespace))
+
+pub kept_deleted : (all : Rows) (v b name : List ℕ) (d : Decision) → IsReply all (DeleteSnapshot v b name) d.reply → AreRecorded all (DeleteSnapshot v b name) d.reply d.bytes d.changes → IsSoundDecision all (DeleteSnapshot v b name) d
+unfolding Answers
+kept_deleted all v b name d reply (inl (is, marks)) = kept_marked all v b name d marks.batch is marks (λ namespace stand. subst (λ (r : Reply). Answers namespace (DeleteSnapshot v b name) r) is (reply namespace stand))
+kept_deleted all v b name d reply (inr refused) = kept_refused all (DeleteSnapshot v b name) d reply refused
 
 -- a request is refused, or has its reply
 by_refusal : (reply result : Reply) (Holds : Reply → Type 0) (o : Option Code) → reply ≡ reply_from o result → ((code : Code) → Holds (replies.Code code)) → Holds result → Holds reply
 by_refusal reply result Holds None is refused done = subst Holds (sym is) done
 by_refusal reply result Holds (Some code) is refused done = subst Holds (sym is) (refused code)
 
-module _ (all : Rows) (v b : List ℕ) (d : Decision) (operations : d.bytes ≡ bytes_of d.changes) where
+module _ (all : Rows) (v b : List ℕ) (d : Decision) where
   abbrev lists : Request
   lists = ListSnapshots v b
 
@@ -328,11 +362,11 @@ module _ (all : Rows) (v b : List ℕ) (d : Decision) (operations : d.bytes ≡ 
       by_refusal d.reply named (λ r. after namespace lists r ≡ namespace) (refusal (scope_of namespace v) lists) answers
       (λ code. stays namespace lists (replies.Code code) refl) (stays namespace lists named refl)
 
-  kept_listed : IsReply all lists d.reply → d.changes ≡ [] → IsSoundDecision all lists d
+  pub kept_listed : IsReply all lists d.reply → IsNothing d.bytes d.changes → IsSoundDecision all lists d
   unfolding Answers
-  kept_listed reply none = kept_unchanged all lists d operations none (λ namespace stand. (reply namespace stand, list_stays namespace (reply namespace stand)))
+  kept_listed reply none = kept_unchanged all lists d (none_by_row d.bytes d.changes none) none.1 (λ namespace stand. (reply namespace stand, list_stays namespace (reply namespace stand)))
 
-module _ (all : Rows) (v b name : List ℕ) (d : Decision) (operations : d.bytes ≡ bytes_of d.changes) where
+module _ (all : Rows) (v b name : List ℕ) (d : Decision) where
   abbrev counts : Request
   counts = InfoSnapshot v b name
 
@@ -343,31 +377,6 @@ module _ (all : Rows) (v b name : List ℕ) (d : Decision) (operations : d.bytes
       by_refusal d.reply counted (λ r. after namespace counts r ≡ namespace) (refusal (scope_of namespace v) counts) answers
       (λ code. stays namespace counts (replies.Code code) refl) (stays namespace counts counted refl)
 
-  kept_counted : IsReply all counts d.reply → d.changes ≡ [] → IsSoundDecision all counts d
+  pub kept_counted : IsReply all counts d.reply → IsNothing d.bytes d.changes → IsSoundDecision all counts d
   unfolding Answers
-  kept_counted reply none = kept_unchanged all counts d operations none (λ namespace stand. (reply namespace stand, count_stays namespace (reply namespace stand)))
-
-pub decided : (all : Rows) (request : Request) → IsOnSnapshots request → (d : Decision) → IsReply all request d.reply → AreMarked all request d.reply d.changes → d.bytes ≡ bytes_of d.changes → IsSnapshotDecision all request d
-decided all (DeleteSnapshot v b name) is d reply exact operations = record { kept = kept all v b name d operations reply exact; exact = exact; operations = operations }
-decided all (ListSnapshots v b) is d reply exact operations = record { kept = kept_listed all v b d operations reply exact; exact = exact; operations = operations }
-decided all (InfoSnapshot v b name) is d reply exact operations = record { kept = kept_counted all v b name d operations reply exact; exact = exact; operations = operations }
-decided all request is d reply exact operations = absurd is
-
--- a name that is none
-wrong_exact : (all : Rows) (request : Request) → IsOnSnapshots request → (code : Code) (reply : Reply) (made : List Change) → reply ≡ replies.Code code → made ≡ [] → AreMarked all request reply made
-wrong_exact all (DeleteSnapshot v b name) is code reply made coded none = inr (code, coded, none)
-wrong_exact all (ListSnapshots v b) is code reply made coded none = none
-wrong_exact all (InfoSnapshot v b name) is code reply made coded none = none
-wrong_exact all request is code reply made coded none = absurd is
-
-pub named_wrong : (all : Rows) (request : Request) → IsOnSnapshots request → (code : Code) → name_fault request ≡ Some code → (d : Decision) → d.reply ≡ replies.Code code → d.changes ≡ [] → d.bytes ≡ [] → IsSnapshotDecision all request d
-unfolding Answers
-named_wrong all request is code fault d reply none bytes =
-    let operations : d.bytes ≡ bytes_of d.changes = bytes ∙ sym (ap bytes_of none) in
-    record {
-      kept = kept_unchanged all request d operations none (λ namespace stand.
-          let scope = scope_of namespace (volume_in request) in
-          (subst (λ (r : Reply). Answers namespace request r) (sym reply) (refused_so scope request code (refused_by_name scope request code fault)), refusal_stays all request d operations code reply namespace));
-      exact = wrong_exact all request is code d.reply d.changes reply none;
-      operations = operations;
-    }
+  kept_counted reply none = kept_unchanged all counts d (none_by_row d.bytes d.changes none) none.1 (λ namespace stand. (reply namespace stand, count_stays namespace (reply namespace stand)))

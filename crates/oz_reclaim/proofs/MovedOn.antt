@@ -23,7 +23,7 @@ use Rattle.oz_sound.specs.Sound.{IsNamedAnew, IsRename, IsSoundButRenames, Renam
 use Rattle.oz_sound.specs.StandsFor.{IsLive}
 
 -- what holds of one bucket, and of each other, holds of all
-by_place : (v b : List ℕ) (P : List ℕ → List ℕ → Type 0) → ((w c : List ℕ) → is_bucket v b w c ≡ false → P w c) → P v b → (w c : List ℕ) → P w c
+pub by_place : (v b : List ℕ) (P : List ℕ → List ℕ → Type 0) → ((w c : List ℕ) → is_bucket v b w c ≡ false → P w c) → P v b → (w c : List ℕ) → P w c
 by_place v b P elsewhere here w c = by (is_bucket v b w c) refl
   where
     by : (t : Bool) → is_bucket v b w c ≡ t → P w c
@@ -43,10 +43,7 @@ first_block v b k o l (rows.Deleted (block ∷ others)) fits = (block, fits.1, a
 first_block v b k o l (rows.Deleted []) fits = absurd fits.1
 first_block v b k o l row fits = absurd fits
 
-module _ (v b : List ℕ) (from to : ℕ) (entries : List RowEntry) (rise : KeysRise entries) (fit : AreInGrammar (row_of entries)) (marked : IsMarked (row_of entries) v b from) (next : IsNextOwner (row_of entries) v b from to) where
-  abbrev all : Rows
-  all = row_of entries
-
+module _ (all : Rows) (v b : List ℕ) (from to : ℕ) (fit : AreInGrammar all) (marked : IsMarked all v b from) (next : IsNextOwner all v b from to) where
   marked_there : (o : Option Row) → is_marked o ≡ true → IsSome o
   marked_there (Some row) e = refl
   marked_there None e = absurd (false≢true e)
@@ -61,11 +58,23 @@ module _ (v b : List ℕ) (from to : ℕ) (entries : List RowEntry) (rise : Keys
   pub differ : from ≢ to
   differ e = ⊎_elim (λ last. no_zero (e ∙ last.0)) (λ later. let lt = later.0.0 in omega (arith, lt, e)) next
 
+-- what a snapshot owns goes on whole
+pub goes_whole : (from : ℕ) → from ≢ 0 → (t : Bool) → from == 0 && t ≡ false
+goes_whole from some t = by (from == 0) refl
+  where
+    by : (s : Bool) → (from == 0) ≡ s → s && t ≡ false
+    by false e = refl
+    by true e = absurd (some (same_number from 0 e))
+
+module _ (v b : List ℕ) (from to : ℕ) (entries : List RowEntry) (rise : KeysRise entries) (differ : from ≢ to) (none_stays : (l : ℕ) → from == 0 && is_some (row_of entries (keys.Renamed v b to l)) ≡ false) where
+  abbrev all : Rows
+  all = row_of entries
+
   abbrev pub now : Rows
-  now = rows_now v b from to differ no_zero entries rise
+  now = rows_now v b from to differ entries rise none_stays
 
   other_kind : (q : RowKey) → kind_of q ≢ 5 → kind_of q ≢ 8 → now q ≡ all q
-  other_kind q not_deleted not_renamed = aside_stays v b from to differ no_zero entries rise q (record {
+  other_kind q not_deleted not_renamed = aside_stays v b from to differ entries rise none_stays q (record {
     deleted = λ o its k l e. not_deleted (sym (ap kind_of e));
     renamed = λ o its l e. not_renamed (sym (ap kind_of e));
   })
@@ -74,13 +83,13 @@ module _ (v b : List ℕ) (from to : ℕ) (entries : List RowEntry) (rise : Keys
   other_bucket w c not (volume, bucket) = false≢true (sym not ∙ (λ i. is_bucket v b (sym volume i) (sym bucket i)) ∙ bucket_itself v b)
 
   deleted_elsewhere : (w c k : List ℕ) (o l : ℕ) → is_bucket v b w c ≡ false → now (keys.Deleted w c o k l) ≡ all (keys.Deleted w c o k l)
-  deleted_elsewhere w c k o l not = aside_stays v b from to differ no_zero entries rise (keys.Deleted w c o k l) (record {
+  deleted_elsewhere w c k o l not = aside_stays v b from to differ entries rise none_stays (keys.Deleted w c o k l) (record {
     deleted = λ p its q m e. let volume : v ≡ w = cc in let bucket : b ≡ c = cc in other_bucket w c not (volume, bucket);
     renamed = λ p its m e. absurd (cc);
   })
 
   renamed_elsewhere : (w c : List ℕ) (o l : ℕ) → is_bucket v b w c ≡ false → now (keys.Renamed w c o l) ≡ all (keys.Renamed w c o l)
-  renamed_elsewhere w c o l not = aside_stays v b from to differ no_zero entries rise (keys.Renamed w c o l) (record {
+  renamed_elsewhere w c o l not = aside_stays v b from to differ entries rise none_stays (keys.Renamed w c o l) (record {
     deleted = λ p its q m e. absurd (cc);
     renamed = λ p its m e. let volume : v ≡ w = cc in let bucket : b ≡ c = cc in other_bucket w c not (volume, bucket);
   })
@@ -90,13 +99,13 @@ module _ (v b : List ℕ) (from to : ℕ) (entries : List RowEntry) (rise : Keys
   neither o p not_from not_to (inr is) e = not_to (sym e ∙ is)
 
   deleted_other : (k : List ℕ) (o l : ℕ) → o ≢ from → o ≢ to → now (keys.Deleted v b o k l) ≡ all (keys.Deleted v b o k l)
-  deleted_other k o l not_from not_to = aside_stays v b from to differ no_zero entries rise (keys.Deleted v b o k l) (record {
+  deleted_other k o l not_from not_to = aside_stays v b from to differ entries rise none_stays (keys.Deleted v b o k l) (record {
     deleted = λ p its q m e. let owner : p ≡ o = cc in neither o p not_from not_to its owner;
     renamed = λ p its m e. absurd (cc);
   })
 
   renamed_other : (o l : ℕ) → o ≢ from → o ≢ to → now (keys.Renamed v b o l) ≡ all (keys.Renamed v b o l)
-  renamed_other o l not_from not_to = aside_stays v b from to differ no_zero entries rise (keys.Renamed v b o l) (record {
+  renamed_other o l not_from not_to = aside_stays v b from to differ entries rise none_stays (keys.Renamed v b o l) (record {
     deleted = λ p its q m e. absurd (cc);
     renamed = λ p its m e. let owner : p ≡ o = cc in neither o p not_from not_to its owner;
   })
@@ -117,13 +126,13 @@ module _ (v b : List ℕ) (from to : ℕ) (entries : List RowEntry) (rise : Keys
 
   -- ---- owners
 
-  abbrev owner_now : List ℕ → List ℕ → ℕ → ℕ
+  abbrev pub owner_now : List ℕ → List ℕ → ℕ → ℕ
   owner_now w c o = cond (is_bucket v b w c && o == from) to o
 
   owner_elsewhere : (w c : List ℕ) (o : ℕ) → is_bucket v b w c ≡ false → owner_now w c o ≡ o
   owner_elsewhere w c o not = ap (λ (t : Bool). cond (t && o == from) to o) not
 
-  owner_from : owner_now v b from ≡ to
+  pub owner_from : owner_now v b from ≡ to
   owner_from = ap (λ (t : Bool). cond (t && from == from) to from) (bucket_itself v b) ∙ ap (λ (t : Bool). cond t to from) (number_itself from)
 
   owner_other : (o : ℕ) → o ≢ from → owner_now v b o ≡ o
@@ -133,9 +142,6 @@ module _ (v b : List ℕ) (from to : ℕ) (entries : List RowEntry) (rise : Keys
       by false e = refl
       by true e = absurd (not (same_number o from e))
 
-  next_there : to ≢ 0 → IsSome (all (keys.Snapshot v b to))
-  next_there nonzero = ⊎_elim (λ last. absurd (nonzero last.0)) (λ later. later.0.1) next
-
   -- ---- deleted rows
 
   abbrev Came : List ℕ → List ℕ → Type 0
@@ -143,7 +149,7 @@ module _ (v b : List ℕ) (from to : ℕ) (entries : List RowEntry) (rise : Keys
 
   came_here : Came v b
   came_here k o l row there = ⊎_elim
-      (λ is. none_some (ap (λ p. now (keys.Deleted v b p k l)) is ∙ deleted_gone v b from to differ no_zero entries rise k l) (ap is_some there))
+      (λ is. none_some (ap (λ p. now (keys.Deleted v b p k l)) is ∙ deleted_gone v b from to differ entries rise none_stays k l) (ap is_some there))
       (λ not_from. ⊎_elim
       (λ is. came_to is (some_or (all (keys.Deleted v b from k l))))
       (λ not_to. (o, owner_other o not_from, sym (deleted_other k o l not_from not_to) ∙ there))
@@ -151,13 +157,13 @@ module _ (v b : List ℕ) (from to : ℕ) (entries : List RowEntry) (rise : Keys
       (same_or_not o from)
     where
       at_to : o ≡ to → changed (λ r. Some r) (all (keys.Deleted v b from k l)) (all (keys.Deleted v b to k l)) ≡ Some row
-      at_to is = sym (deleted_comes v b from to differ no_zero entries rise k l) ∙ ap (λ p. now (keys.Deleted v b p k l)) (sym is) ∙ there
+      at_to is = sym (deleted_comes v b from to differ entries rise none_stays k l) ∙ ap (λ p. now (keys.Deleted v b p k l)) (sym is) ∙ there
 
       came_to : o ≡ to → ((r : Row) × (all (keys.Deleted v b from k l) ≡ Some r)) ⊎ (all (keys.Deleted v b from k l) ≡ None) → (before : ℕ) × (owner_now v b before ≡ o) × (all (keys.Deleted v b before k l) ≡ Some row)
       came_to is (inl (r, has)) = (from, owner_from ∙ sym is, has ∙ sym (ap (λ x. changed (λ r. Some r) x (all (keys.Deleted v b to k l))) has) ∙ at_to is)
       came_to is (inr none) = (to, owner_other to (λ e. differ (sym e)) ∙ sym is, sym (ap (λ x. changed (λ r. Some r) x (all (keys.Deleted v b to k l))) none) ∙ at_to is)
 
-  came : (w c : List ℕ) → Came w c
+  pub came : (w c : List ℕ) → Came w c
   came = by_place v b Came (λ w c not k o l row there. (o, owner_elsewhere w c o not, sym (deleted_elsewhere w c k o l not) ∙ there)) came_here
 
   abbrev RenamedCame : List ℕ → List ℕ → Type 0
@@ -165,7 +171,7 @@ module _ (v b : List ℕ) (from to : ℕ) (entries : List RowEntry) (rise : Keys
 
   renamed_here : RenamedCame v b
   renamed_here o l row there = ⊎_elim
-      (λ is. none_some (ap (λ p. now (keys.Renamed v b p l)) is ∙ renamed_gone v b from to differ no_zero entries rise l) (ap is_some there))
+      (λ is. none_some (ap (λ p. now (keys.Renamed v b p l)) is ∙ renamed_gone v b from to differ entries rise none_stays l) (ap is_some there))
       (λ not_from. ⊎_elim
       (λ is. came_to is (some_or (all (keys.Renamed v b from l))))
       (λ not_to. (o, owner_other o not_from, sym (renamed_other o l not_from not_to) ∙ there))
@@ -173,16 +179,16 @@ module _ (v b : List ℕ) (from to : ℕ) (entries : List RowEntry) (rise : Keys
       (same_or_not o from)
     where
       at_to : o ≡ to → changed (λ r. Some r) (all (keys.Renamed v b from l)) (all (keys.Renamed v b to l)) ≡ Some row
-      at_to is = sym (renamed_comes v b from to differ no_zero entries rise l) ∙ ap (λ p. now (keys.Renamed v b p l)) (sym is) ∙ there
+      at_to is = sym (renamed_comes v b from to differ entries rise none_stays l) ∙ ap (λ p. now (keys.Renamed v b p l)) (sym is) ∙ there
 
       came_to : o ≡ to → ((r : Row) × (all (keys.Renamed v b from l) ≡ Some r)) ⊎ (all (keys.Renamed v b from l) ≡ None) → (before : ℕ) × (owner_now v b before ≡ o) × (all (keys.Renamed v b before l) ≡ Some row)
       came_to is (inl (r, has)) = (from, owner_from ∙ sym is, has ∙ sym (ap (λ x. changed (λ r. Some r) x (all (keys.Renamed v b to l))) has) ∙ at_to is)
       came_to is (inr none) = (to, owner_other to (λ e. differ (sym e)) ∙ sym is, sym (ap (λ x. changed (λ r. Some r) x (all (keys.Renamed v b to l))) none) ∙ at_to is)
 
-  renamed_came : (w c : List ℕ) → RenamedCame w c
+  pub renamed_came : (w c : List ℕ) → RenamedCame w c
   renamed_came = by_place v b RenamedCame (λ w c not o l row there. (o, owner_elsewhere w c o not, sym (renamed_elsewhere w c o l not) ∙ there)) renamed_here
 
-  module _ (to_fits : IsOwner to) where
+  module _ (fit : AreInGrammar all) (to_fits : IsOwner to) where
     owner_fits : (w c : List ℕ) (before o : ℕ) → owner_now w c before ≡ o → IsOwner before → IsOwner o
     owner_fits w c before o is fits = subst IsOwner is (by (is_bucket v b w c && before == from))
       where
@@ -215,7 +221,73 @@ module _ (v b : List ℕ) (from to : ℕ) (entries : List RowEntry) (rise : Keys
     fit_now (keys.Snapshot w c n) row there = fit (keys.Snapshot w c n) row (sym (snapshot_same w c n) ∙ there)
     fit_now (keys.SnapshotKey w c n k) row there = fit (keys.SnapshotKey w c n k) row (sym (key_same w c k n) ∙ there)
 
-  module _ (sound : IsSoundButRenames all) where
+  -- where no row comes upon another, each is still there
+  module _ (alone : (k : List ℕ) (l : ℕ) (one two : Row) → all (keys.Deleted v b from k l) ≡ Some one → all (keys.Deleted v b to k l) ≡ Some two → ⊥) where
+    abbrev Stays : List ℕ → List ℕ → Type 0
+    Stays w c = (k : List ℕ) (o l : ℕ) (row : Row) → all (keys.Deleted w c o k l) ≡ Some row → now (keys.Deleted w c (owner_now w c o) k l) ≡ Some row
+
+    stays_here : Stays v b
+    stays_here k o l row there = ⊎_elim
+        (λ is.
+        let has : all (keys.Deleted v b from k l) ≡ Some row = ap (λ p. all (keys.Deleted v b p k l)) (sym is) ∙ there in
+        ap (λ p. now (keys.Deleted v b p k l)) (ap (owner_now v b) is ∙ owner_from)
+        ∙ deleted_comes v b from to differ entries rise none_stays k l
+        ∙ ap (λ x. changed (λ r. Some r) x (all (keys.Deleted v b to k l))) has)
+        (λ not_from. ap (λ p. now (keys.Deleted v b p k l)) (owner_other o not_from) ∙ ⊎_elim
+        (λ is. at_to is (some_or (all (keys.Deleted v b from k l))))
+        (λ not_to. deleted_other k o l not_from not_to ∙ there)
+        (same_or_not o to))
+        (same_or_not o from)
+      where
+        at_to : o ≡ to → ((r : Row) × (all (keys.Deleted v b from k l) ≡ Some r)) ⊎ (all (keys.Deleted v b from k l) ≡ None) → now (keys.Deleted v b o k l) ≡ Some row
+        at_to is (inl (r, has)) = absurd (alone k l r row has (ap (λ p. all (keys.Deleted v b p k l)) (sym is) ∙ there))
+        at_to is (inr none) =
+            ap (λ p. now (keys.Deleted v b p k l)) is
+            ∙ deleted_comes v b from to differ entries rise none_stays k l
+            ∙ ap (λ x. changed (λ r. Some r) x (all (keys.Deleted v b to k l))) none
+            ∙ ap (λ p. all (keys.Deleted v b p k l)) (sym is)
+            ∙ there
+
+    pub stays : (w c : List ℕ) → Stays w c
+    stays = by_place v b Stays (λ w c not k o l row there. ap (λ p. now (keys.Deleted w c p k l)) (owner_elsewhere w c o not) ∙ deleted_elsewhere w c k o l not ∙ there) stays_here
+
+  module _ (alone : (l : ℕ) (one two : Row) → all (keys.Renamed v b from l) ≡ Some one → all (keys.Renamed v b to l) ≡ Some two → ⊥) where
+    abbrev RenamedStays : List ℕ → List ℕ → Type 0
+    RenamedStays w c = (o l : ℕ) (row : Row) → all (keys.Renamed w c o l) ≡ Some row → now (keys.Renamed w c (owner_now w c o) l) ≡ Some row
+
+    renamed_stays_here : RenamedStays v b
+    renamed_stays_here o l row there = ⊎_elim
+        (λ is.
+        let has : all (keys.Renamed v b from l) ≡ Some row = ap (λ p. all (keys.Renamed v b p l)) (sym is) ∙ there in
+        ap (λ p. now (keys.Renamed v b p l)) (ap (owner_now v b) is ∙ owner_from)
+        ∙ renamed_comes v b from to differ entries rise none_stays l
+        ∙ ap (λ x. changed (λ r. Some r) x (all (keys.Renamed v b to l))) has)
+        (λ not_from. ap (λ p. now (keys.Renamed v b p l)) (owner_other o not_from) ∙ ⊎_elim
+        (λ is. at_to is (some_or (all (keys.Renamed v b from l))))
+        (λ not_to. renamed_other o l not_from not_to ∙ there)
+        (same_or_not o to))
+        (same_or_not o from)
+      where
+        at_to : o ≡ to → ((r : Row) × (all (keys.Renamed v b from l) ≡ Some r)) ⊎ (all (keys.Renamed v b from l) ≡ None) → now (keys.Renamed v b o l) ≡ Some row
+        at_to is (inl (r, has)) = absurd (alone l r row has (ap (λ p. all (keys.Renamed v b p l)) (sym is) ∙ there))
+        at_to is (inr none) =
+            ap (λ p. now (keys.Renamed v b p l)) is
+            ∙ renamed_comes v b from to differ entries rise none_stays l
+            ∙ ap (λ x. changed (λ r. Some r) x (all (keys.Renamed v b to l))) none
+            ∙ ap (λ p. all (keys.Renamed v b p l)) (sym is)
+            ∙ there
+
+    pub renamed_stays : (w c : List ℕ) → RenamedStays w c
+    renamed_stays = by_place v b RenamedStays (λ w c not o l row there. ap (λ p. now (keys.Renamed w c p l)) (owner_elsewhere w c o not) ∙ renamed_elsewhere w c o l not ∙ there) renamed_stays_here
+
+  -- the rows of a marked snapshot
+  module _ (fit : AreInGrammar all) (marked : IsMarked all v b from) (next : IsNextOwner all v b from to) (sound : IsSoundButRenames all) where
+    some_from : from ≢ 0
+    some_from = no_zero all v b from to fit marked next
+
+    next_there : to ≢ 0 → IsSome (all (keys.Snapshot v b to))
+    next_there nonzero = ⊎_elim (λ last. absurd (nonzero last.0)) (λ later. later.0.1) next
+
     -- two deleted rows of one local id and key have one owner
     not_both : (k : List ℕ) (l : ℕ) (one two : Row) → all (keys.Deleted v b from k l) ≡ Some one → all (keys.Deleted v b to k l) ≡ Some two → ⊥
     not_both k l one two here there =
@@ -228,36 +300,8 @@ module _ (v b : List ℕ) (from to : ℕ) (entries : List RowEntry) (rise : Keys
         let owner : from ≡ to = cc in
         differ owner
 
-    abbrev Stays : List ℕ → List ℕ → Type 0
-    Stays w c = (k : List ℕ) (o l : ℕ) (row : Row) → all (keys.Deleted w c o k l) ≡ Some row → now (keys.Deleted w c (owner_now w c o) k l) ≡ Some row
-
-    stays_here : Stays v b
-    stays_here k o l row there = ⊎_elim
-        (λ is.
-        let has : all (keys.Deleted v b from k l) ≡ Some row = ap (λ p. all (keys.Deleted v b p k l)) (sym is) ∙ there in
-        ap (λ p. now (keys.Deleted v b p k l)) (ap (owner_now v b) is ∙ owner_from)
-        ∙ deleted_comes v b from to differ no_zero entries rise k l
-        ∙ ap (λ x. changed (λ r. Some r) x (all (keys.Deleted v b to k l))) has)
-        (λ not_from. ap (λ p. now (keys.Deleted v b p k l)) (owner_other o not_from) ∙ ⊎_elim
-        (λ is. at_to is (some_or (all (keys.Deleted v b from k l))))
-        (λ not_to. deleted_other k o l not_from not_to ∙ there)
-        (same_or_not o to))
-        (same_or_not o from)
-      where
-        at_to : o ≡ to → ((r : Row) × (all (keys.Deleted v b from k l) ≡ Some r)) ⊎ (all (keys.Deleted v b from k l) ≡ None) → now (keys.Deleted v b o k l) ≡ Some row
-        at_to is (inl (r, has)) = absurd (not_both k l r row has (ap (λ p. all (keys.Deleted v b p k l)) (sym is) ∙ there))
-        at_to is (inr none) =
-            ap (λ p. now (keys.Deleted v b p k l)) is
-            ∙ deleted_comes v b from to differ no_zero entries rise k l
-            ∙ ap (λ x. changed (λ r. Some r) x (all (keys.Deleted v b to k l))) none
-            ∙ ap (λ p. all (keys.Deleted v b p k l)) (sym is)
-            ∙ there
-
-    pub stays : (w c : List ℕ) → Stays w c
-    stays = by_place v b Stays (λ w c not k o l row there. ap (λ p. now (keys.Deleted w c p k l)) (owner_elsewhere w c o not) ∙ deleted_elsewhere w c k o l not ∙ there) stays_here
-
     pub still : (w c k : List ℕ) (o l : ℕ) (row : Row) → all (keys.Deleted w c o k l) ≡ Some row → (after : ℕ) × (now (keys.Deleted w c after k l) ≡ Some row)
-    still w c k o l row there = (owner_now w c o, stays w c k o l row there)
+    still w c k o l row there = (owner_now w c o, stays not_both w c k o l row there)
 
     abbrev DeletedOwned : List ℕ → List ℕ → Type 0
     DeletedOwned w c = (k : List ℕ) (o l : ℕ) → IsSome (now (keys.Deleted w c o k l)) → o ≢ 0 → IsSome (all (keys.Snapshot w c o))
@@ -266,7 +310,7 @@ module _ (v b : List ℕ) (from to : ℕ) (entries : List RowEntry) (rise : Keys
     deleted_owned = by_place v b DeletedOwned
         (λ w c not k o l there some. sound.numbers.deleted w c k o l (subst IsSome (deleted_elsewhere w c k o l not) there) some)
         (λ k o l there some. ⊎_elim
-        (λ is. none_some (ap (λ p. now (keys.Deleted v b p k l)) is ∙ deleted_gone v b from to differ no_zero entries rise k l) there)
+        (λ is. none_some (ap (λ p. now (keys.Deleted v b p k l)) is ∙ deleted_gone v b from to differ entries rise none_stays k l) there)
         (λ not_from. ⊎_elim
         (λ is. subst (λ p. IsSome (all (keys.Snapshot v b p))) (sym is) (next_there (λ zero. some (is ∙ zero))))
         (λ not_to. sound.numbers.deleted v b k o l (subst IsSome (deleted_other k o l not_from not_to) there) some)
@@ -280,7 +324,7 @@ module _ (v b : List ℕ) (from to : ℕ) (entries : List RowEntry) (rise : Keys
     renamed_owned = by_place v b RenamedOwned
         (λ w c not o l there some. sound.numbers.renamed w c o l (subst IsSome (renamed_elsewhere w c o l not) there) some)
         (λ o l there some. ⊎_elim
-        (λ is. none_some (ap (λ p. now (keys.Renamed v b p l)) is ∙ renamed_gone v b from to differ no_zero entries rise l) there)
+        (λ is. none_some (ap (λ p. now (keys.Renamed v b p l)) is ∙ renamed_gone v b from to differ entries rise none_stays l) there)
         (λ not_from. ⊎_elim
         (λ is. subst (λ p. IsSome (all (keys.Snapshot v b p))) (sym is) (next_there (λ zero. some (is ∙ zero))))
         (λ not_to. sound.numbers.renamed v b o l (subst IsSome (renamed_other o l not_from not_to) there) some)
@@ -298,7 +342,7 @@ module _ (v b : List ℕ) (from to : ℕ) (entries : List RowEntry) (rise : Keys
           (was, subst IsSome (sym (snapshot_same w c n)) (sound.numbers.snapshot_keys w c k n (ap is_some was)));
       owner_now = owner_now;
       came = λ w c k o l row there. came w c k o l row there;
-      stays = λ w c k o l row there. inl (stays w c k o l row there);
+      stays = λ w c k o l row there. inl (stays not_both w c k o l row there);
       deleted_owners = λ w c k o l there some. subst IsSome (sym (snapshot_same w c o)) (deleted_owned w c k o l there some);
       renamed_owners = λ w c o l there some. subst IsSome (sym (snapshot_same w c o)) (renamed_owned w c o l there some);
     }
@@ -325,21 +369,21 @@ module _ (v b : List ℕ) (from to : ℕ) (entries : List RowEntry) (rise : Keys
       moved_row has = by (some_or (before_at from))
         where
           by : ((r : Row) × (before_at from ≡ Some r)) ⊎ (before_at from ≡ None) → now_at to ≡ before_at from
-          by (inl (r, is)) = renamed_comes v b from to differ no_zero entries rise l ∙ ap (λ x. changed (λ r. Some r) x (before_at to)) is ∙ sym is
+          by (inl (r, is)) = renamed_comes v b from to differ entries rise none_stays l ∙ ap (λ x. changed (λ r. Some r) x (before_at to)) is ∙ sym is
           by (inr none) = none_some none has
 
       kept_row : before_at from ≡ None → now_at to ≡ before_at to
-      kept_row none = renamed_comes v b from to differ no_zero entries rise l ∙ ap (λ x. changed (λ r. Some r) x (before_at to)) none
+      kept_row none = renamed_comes v b from to differ entries rise none_stays l ∙ ap (λ x. changed (λ r. Some r) x (before_at to)) none
 
       rename_before : (n : ℕ) → There n → n ≢ from → (o : ℕ) (name : List ℕ) → IsRename now v b n l o name → (owner : ℕ) × IsRename all v b n l owner name
       rename_before n there other o name is =
-          let found = first_before There before_at now_at from to no_zero next_row (renamed_gone v b from to differ no_zero entries rise l) moved_row kept_row (λ p not_from not_to. renamed_other p l not_from not_to) (λ p some nonzero. sound.numbers.renamed v b p l some nonzero)
+          let found = first_before There before_at now_at from to some_from next_row (renamed_gone v b from to differ entries rise none_stays l) moved_row kept_row (λ p not_from not_to. renamed_other p l not_from not_to) (λ p some nonzero. sound.numbers.renamed v b p l some nonzero)
           n there other o name (record { row = is.row; behind = is.behind; first = is.first }) in
           (found.0, record { row = found.1.row; behind = found.1.behind; first = found.1.first })
 
       rename_now : (n : ℕ) → There n → n ≢ from → (o : ℕ) (name : List ℕ) → IsRename all v b n l o name → (owner : ℕ) × IsRename now v b n l owner name
       rename_now n there other o name is =
-          let found = first_now There before_at now_at from to no_zero next_row (renamed_gone v b from to differ no_zero entries rise l) moved_row kept_row (λ p not_from not_to. renamed_other p l not_from not_to) (λ p some nonzero. sound.numbers.renamed v b p l some nonzero)
+          let found = first_now There before_at now_at from to some_from next_row (renamed_gone v b from to differ entries rise none_stays l) moved_row kept_row (λ p not_from not_to. renamed_other p l not_from not_to) (λ p some nonzero. sound.numbers.renamed v b p l some nonzero)
           n there other o name (record { row = is.row; behind = is.behind; first = is.first }) in
           (found.0, record { row = found.1.row; behind = found.1.behind; first = found.1.first })
 

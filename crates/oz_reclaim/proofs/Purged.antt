@@ -116,6 +116,13 @@ module _ (all : Rows) (volume : List ℕ) (named : List PurgeRow) (changes : Lis
   all_may [] each = tt
   all_may (key ∷ l) each = (one_may key each.0, all_may l each.1)
 
+  kinds : (l : List RowKey) → AllByRecursion (MayGo all) l → AllByRecursion (λ key. kind_of key ≡ 5) l
+  kinds [] may = tt
+  kinds (key ∷ l) may = (may.0.deleted, kinds l may.1)
+
+  pub all_deleted : AllByRecursion (λ key. kind_of key ≡ 5) found
+  all_deleted = kinds found (all_may found purged.each)
+
   named_so : (l : List RowKey) → AllByRecursion (IsPurged all volume named) l → AllByRecursion (λ key. list_any (is_same key) (map (key_named volume) named) ≡ true) l
   named_so [] each = tt
   named_so (key ∷ l) each = (turned key (map (key_named volume) named) each.0.named_so, named_so l each.1)

@@ -7,7 +7,8 @@ use Rattle.std.specs.List.{AllByRecursion, list_any}
 use Rattle.std.specs.Ordering.{is_eq}
 use Rattle.oz_fields.specs.declared.block.Block.{Block}
 use Rattle.oz_reclaim.specs.Found.{is_free}
-use Rattle.oz_reclaim.specs.Going.{AreKnown, Goes, HasFree, IsAdded, Tells}
+use Rattle.oz_reclaim.specs.Found.{HasFree}
+use Rattle.oz_reclaim.specs.Going.{AreKnown, Goes, IsAdded, Tells}
 use Rattle.oz_reclaim.specs.Reach.{IsShown}
 use Rattle.oz_reclaim.specs.Service.{ArePurged, AreUnreached, IsPurged, IsUnreached, key_named}
 use Rattle.oz_reclaim.specs.laws.Reach.{among, contains}

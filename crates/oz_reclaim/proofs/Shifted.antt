@@ -101,16 +101,10 @@ module _ (v b : List ℕ) where
   renamed_rest : (o p : ℕ) (a c : ℕ) → renamed_at o a ≡ renamed_at p c → a ≡ c
   renamed_rest o p a c e = cc
 
-  module _ (from to : ℕ) (differ : from ≢ to) (no_zero : from ≢ 0) (entries : List RowEntry) (rise : KeysRise entries) where
+  -- rows of the first owner go over, where none of them stays behind
+  module _ (from to : ℕ) (differ : from ≢ to) (entries : List RowEntry) (rise : KeysRise entries) (none_stays : (l : ℕ) → from == 0 && is_some (row_of entries (keys.Renamed v b to l)) ≡ false) where
     abbrev give : RowKey → Row → List Change
     give key r = moved entries v b from to key r
-
-    not_zero : (from == 0) ≡ false
-    not_zero = by (from == 0) refl
-      where
-        by : (t : Bool) → (from == 0) ≡ t → t ≡ false
-        by false e = refl
-        by true e = absurd (no_zero (same_number from 0 e))
 
     not_same : (from == to) ≡ false
     not_same = by (from == to) refl
@@ -149,15 +143,15 @@ module _ (v b : List ℕ) where
     renamed_gives (keys.Renamed w c o l) r = by (is_bucket v b w c && o == from) refl
       where
         list : Bool → Bool → List Change
-        list s t = cond s (gone (keys.Renamed v b from l) ∷ cond (t && is_some (row_of entries (keys.Renamed v b to l))) [] (put (keys.Renamed v b to l) r ∷ [])) []
+        list s t = cond s (gone (keys.Renamed v b from l) ∷ cond t [] (put (keys.Renamed v b to l) r ∷ [])) []
 
         by : (t : Bool) → is_bucket v b w c && o == from ≡ t → Gives renamed_at from to give renamed_owner renamed_rest (keys.Renamed w c o l) r
         by true e =
             let same = same_bucket v b w c (front (is_bucket v b w c) _ e) in
             let number = same_number o from (back (is_bucket v b w c) _ e) in
-            inl (l, (λ i. keys.Renamed (sym same.volume i) (sym same.bucket i) (number i) l), λ q row. ap (λ (t : Bool). row_after (list t (from == 0)) q row) e ∙ ap (λ (t : Bool). row_after (list true t) q row) not_zero)
+            inl (l, (λ i. keys.Renamed (sym same.volume i) (sym same.bucket i) (number i) l), λ q row. ap (λ (t : Bool). row_after (list t (from == 0 && is_some (row_of entries (keys.Renamed v b to l)))) q row) e ∙ ap (λ (t : Bool). row_after (list true t) q row) (none_stays l))
         by false e = inr (λ p a. (
-          (λ row. ap (λ (t : Bool). row_after (list t (from == 0)) (renamed_at p a) row) e),
+          (λ row. ap (λ (t : Bool). row_after (list t (from == 0 && is_some (row_of entries (keys.Renamed v b to l)))) (renamed_at p a) row) e),
           λ same. let volume : v ≡ w = cc in let bucket : b ≡ c = cc in let owner : o ≡ from = cc in false≢true (sym e ∙ is_its w c o volume bucket owner),
         ))
     renamed_gives (keys.Deleted w c o k l) r = inr (λ p a. ((λ row. by (is_bucket v b w c && o == from) p a row), λ same. absurd (cc)))

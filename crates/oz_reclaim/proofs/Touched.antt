@@ -26,9 +26,12 @@ pub key_itself : (key : RowKey) → is_same key key ≡ true
 key_itself key = ap is_eq (itself key)
 
 -- the row that one row makes of another, where it is there
+abbrev pub changed_so : (Row → Option Row → Option Row) → Option Row → Option Row → Option Row
+changed_so effect None row = row
+changed_so effect (Some found) row = effect found row
+
 abbrev pub changed : (Row → Option Row) → Option Row → Option Row → Option Row
-changed effect None row = row
-changed effect (Some found) row = effect found
+changed effect found row = changed_so (λ it before. effect it) found row
 
 -- what an entry gives leaves the row of this key
 abbrev pub Leaves : (RowEntry → List Change) → RowKey → RowEntry → Type 0
@@ -41,7 +44,7 @@ module _ (give : RowEntry → List Change) (q : RowKey) where
   untouched leaves (entry ∷ l) row = rows_join (give entry) (flat_map give l) q row ∙ ap (row_after (flat_map give l) q) (leaves entry row) ∙ untouched leaves l row
 
   -- the row of a key that the entry of one other key alone changes
-  module _ (source : RowKey) (effect : Row → Option Row) (others : (entry : RowEntry) → is_same entry.key source ≡ false → Leaves give q entry) (its : (entry : RowEntry) → entry.key ≡ source → (row : Option Row) → row_after (give entry) q row ≡ effect entry.row) where
+  module _ (source : RowKey) (effect : Row → Option Row → Option Row) (others : (entry : RowEntry) → is_same entry.key source ≡ false → Leaves give q entry) (its : (entry : RowEntry) → entry.key ≡ source → (row : Option Row) → row_after (give entry) q row ≡ effect entry.row row) where
     passed : (l : List RowEntry) → AllByRecursion (λ (entry : RowEntry). is_same entry.key source ≡ false) l → (row : Option Row) → row_after (flat_map give l) q row ≡ row
     passed [] all row = refl
     passed (entry ∷ l) all row = rows_join (give entry) (flat_map give l) q row ∙ ap (row_after (flat_map give l) q) (others entry all.0 row) ∙ passed l all.1 row
@@ -53,14 +56,19 @@ module _ (give : RowEntry → List Change) (q : RowKey) where
         not_less : is_same key x.key ≡ false → key ≡ x.key → ⊥
         not_less differ e = false≢true (sym differ ∙ ap (λ k. is_same key k) (sym e) ∙ key_itself key)
 
-    pub touched : (l : List RowEntry) → KeysRise l → (row : Option Row) → row_after (flat_map give l) q row ≡ changed effect (row_of l source) row
-    touched [] rise row = refl
-    touched (entry ∷ l) rise row = rows_join (give entry) (flat_map give l) q row ∙ by (is_same entry.key source) refl (touched l rise.1)
+    pub touched_so : (l : List RowEntry) → KeysRise l → (row : Option Row) → row_after (flat_map give l) q row ≡ changed_so effect (row_of l source) row
+    touched_so [] rise row = refl
+    touched_so (entry ∷ l) rise row = rows_join (give entry) (flat_map give l) q row ∙ by (is_same entry.key source) refl (touched_so l rise.1) row
       where
-        by : (t : Bool) → is_same entry.key source ≡ t → ((row : Option Row) → row_after (flat_map give l) q row ≡ changed effect (row_of l source) row)
-            → row_after (flat_map give l) q (row_after (give entry) q row) ≡ changed effect (cond (is_same entry.key source) (Some entry.row) (row_of l source)) row
-        by true e later =
+        by : (t : Bool) → is_same entry.key source ≡ t → ((row : Option Row) → row_after (flat_map give l) q row ≡ changed_so effect (row_of l source) row)
+            → (row : Option Row) → row_after (flat_map give l) q (row_after (give entry) q row) ≡ changed_so effect (cond (is_same entry.key source) (Some entry.row) (row_of l source)) row
+        by true e later row =
             let same = same_is_one entry.key source e in
-            ap (row_after (flat_map give l) q) (its entry same row) ∙ passed l (above entry.key l same rise.0) (effect entry.row) ∙ ap (λ (t : Bool). changed effect (cond t (Some entry.row) (row_of l source)) row) (sym e)
-        by false e later =
-            ap (row_after (flat_map give l) q) (others entry e row) ∙ later row ∙ ap (λ (t : Bool). changed effect (cond t (Some entry.row) (row_of l source)) row) (sym e)
+            ap (row_after (flat_map give l) q) (its entry same row) ∙ passed l (above entry.key l same rise.0) (effect entry.row row) ∙ ap (λ (t : Bool). changed_so effect (cond t (Some entry.row) (row_of l source)) row) (sym e)
+        by false e later row =
+            ap (row_after (flat_map give l) q) (others entry e row) ∙ later row ∙ ap (λ (t : Bool). changed_so effect (cond t (Some entry.row) (row_of l source)) row) (sym e)
+
+  -- the same, where the row before doesn't matter
+  pub touched : (source : RowKey) (effect : Row → Option Row) (others : (entry : RowEntry) → is_same entry.key source ≡ false → Leaves give q entry) (its : (entry : RowEntry) → entry.key ≡ source → (row : Option Row) → row_after (give entry) q row ≡ effect entry.row)
+      → (l : List RowEntry) → KeysRise l → (row : Option Row) → row_after (flat_map give l) q row ≡ changed effect (row_of l source) row
+  touched source effect others its l rise row = touched_so source (λ found before. effect found) others its l rise row

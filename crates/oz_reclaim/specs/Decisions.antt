@@ -1,13 +1,14 @@
 -- What a decision promises.
 use Rattle.std.specs.Prelude.{◌≡◌, ◌↔◌, []}
 use Rattle.oz_decision.specs.declared.decision.Decision.{Decision}
-use Rattle.oz_decision.specs.Meets.{AreInGrammar, IsSafe, Meets, Stand}
+use Rattle.oz_decision.specs.Meets.{AreInGrammar, IsSafe, Meets, Stand, granted_in}
 use Rattle.oz_namespace.specs.declared.namespace.Namespace.{Namespace}
+use Rattle.oz_reclaim.specs.Origins.{RowsComeFrom, SnapshotKeysStay}
 use Rattle.oz_reclaim.specs.Service.{AreServed, operations_for}
 use Rattle.oz_requests.specs.declared.reply.Reply.TheVariants.{Done}
 use Rattle.oz_requests.specs.declared.request.Request.{Request}
 use Rattle.oz_rows.specs.Operations.{batch_bytes}
-use Rattle.oz_rows.specs.RowMaps.{Rows}
+use Rattle.oz_rows.specs.RowMaps.{Rows, after_changes}
 use Rattle.oz_sound.specs.Sound.{IsSound, IsSoundButRenames}
 
 -- what every decision on a request promises of the rows that it was made on
@@ -21,6 +22,9 @@ pub record IsSoundDecision (all : Rows) (request : Request) (decision : Decision
   -- Rows that stand for no namespace stay such that a journal may hold them.
   pub safe : AreInGrammar all → IsSafe all decision.bytes decision.changes
   pub recorded : (decision.bytes ≡ []) ↔ (decision.changes ≡ [])
+  -- Where deleted and renamed rows come from, and that the keys of snapshots stay.
+  pub origins : RowsComeFrom all (after_changes decision.changes all) (granted_in decision.reply)
+  pub tidy : SnapshotKeysStay decision.changes
 
 -- The decision on a request of the manager's own: it is never refused, and what isn't to be done any more is passed over.
 pub record IsServed (all : Rows) (request : Request) (decision : Decision) : Type 0 where

@@ -4,6 +4,11 @@ pub mod Work
 pub mod Service
 pub mod Decisions
 pub mod Moves
+pub mod Creates
+pub mod Snapshots
+pub mod Renames
+pub mod Held
+pub mod Origins
 pub mod laws
 pub mod Gathered
 pub mod Owners
@@ -14,3 +19,4 @@ pub mod Going
 pub mod Marks
 pub mod Makes
 pub mod Numbered
+pub mod sweep

@@ -1,13 +1,6 @@
 -- Deleted snapshots are marked: their rows stay until all that they own has gone on.
-use Rattle.std.specs.Prelude.{◌≡◌, ◌⊎◌, ℕ, ◌≤◌, List, [], ◌∷◌, Option, None, Some, IsSome}
-use Rattle.oz_decision.specs.declared.decision.Decision.{Decision}
+use Rattle.std.specs.Prelude.{◌≡◌, ℕ, ◌≤◌, List, [], ◌∷◌, Option, None, Some, IsSome}
 use Rattle.oz_decision.specs.Drafts.{row_by_row}
-use Rattle.oz_names.specs.declared.code.Code.{Code as AnyCode}
-use Rattle.oz_reclaim.specs.Decisions.{IsSoundDecision}
-use Rattle.oz_requests.specs.declared.reply.Reply.{Reply}
-use Rattle.oz_requests.specs.declared.reply.Reply.TheVariants.{Code, Done}
-use Rattle.oz_requests.specs.declared.request.Request.{Request}
-use Rattle.oz_requests.specs.declared.request.Request.TheVariants.{DeleteSnapshot, InfoSnapshot, ListSnapshots}
 use Rattle.oz_rows.specs.declared.key.RowKey.TheVariants as keys
 use Rattle.oz_rows.specs.declared.operation.Change.{Change}
 use Rattle.oz_rows.specs.declared.row.Row.TheVariants as rows
@@ -26,30 +19,11 @@ HasNumber all volume bucket name None =
     (number : ℕ) → 1 ≤ number → IsNamed all volume bucket name number → ⊥
 HasNumber all volume bucket name (Some number) = (1 ≤ number) × IsNamed all volume bucket name number
 
--- the requests on snapshots that are decided here
-abbrev pub IsOnSnapshots : Request → Type 0
-IsOnSnapshots (DeleteSnapshot volume bucket snapshot) = Unit {0}
-IsOnSnapshots (ListSnapshots volume bucket) = Unit {0}
-IsOnSnapshots (InfoSnapshot volume bucket snapshot) = Unit {0}
-IsOnSnapshots request = ⊥
-
 -- The bucket is there, and the one change is that its live snapshot of this name is marked.
-pub record Marks (all : Rows) (volume bucket name : List ℕ) (changes : List Change) : Type 0 where
+pub record Marks (all : Rows) (volume bucket name bytes : List ℕ) (changes : List Change) : Type 0 where
   pub bucket_there : IsSome (all (keys.Bucket volume bucket))
   pub number : ℕ
   pub previous : ℕ
   pub there : all (keys.Snapshot volume bucket number) ≡ Some (rows.Snapshot name previous Live)
   pub marked : changes ≡ put (keys.Snapshot volume bucket number) (rows.Snapshot name previous Marked) ∷ []
-
--- A snapshot is marked, or the request is refused and nothing changes. The others change nothing.
-abbrev pub AreMarked : Rows → Request → Reply → List Change → Type 0
-AreMarked all (DeleteSnapshot volume bucket name) reply changes =
-    ((reply ≡ Done) × Marks all volume bucket name changes)
-    ⊎ ((code : AnyCode) × (reply ≡ Code code) × (changes ≡ []))
-AreMarked all request reply changes = changes ≡ []
-
--- the decision on a request on snapshots
-pub record IsSnapshotDecision (all : Rows) (request : Request) (decision : Decision) : Type 0 where
-  pub kept : IsSoundDecision all request decision
-  pub exact : AreMarked all request decision.reply decision.changes
-  pub operations : decision.bytes ≡ batch_bytes (row_by_row decision.changes)
+  pub batch : bytes ≡ batch_bytes (row_by_row changes)

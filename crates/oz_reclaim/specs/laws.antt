@@ -2,3 +2,7 @@
 pub mod Reach
 pub mod Moving
 pub mod Making
+pub mod Renames
+pub mod Held
+pub mod Origins
+pub mod Homes

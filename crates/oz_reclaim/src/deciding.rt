@@ -2,11 +2,10 @@
 
 ghost use Rattle.std.specs.Prelude.{◌≡◌, None, IfOk};
 ghost use Rattle.oz_cache.specs.Cache.{newest};
-ghost use Rattle.oz_decision.specs.Drafts.{row_by_row};
 ghost use Rattle.oz_decision.specs.Replies.{IsReply};
 ghost use Rattle.oz_reclaim.specs.Decisions.{IsServed};
-ghost use Rattle.oz_reclaim.specs.Marks.{AreMarked, IsOnSnapshots, IsSnapshotDecision};
 ghost use Rattle.oz_reclaim.specs.Service.{AreServed, AreUnreached, IsPurge, NamesFew, operations_for};
+ghost use Rattle.oz_reclaim.specs.Snapshots.{AreRecorded, IsOnSnapshots, IsSnapshotDecision};
 ghost use Rattle.oz_requests.specs.declared.request.Family.TheVariants.{Service};
 ghost use Rattle.oz_requests.specs.Families.{family_of};
 ghost use Rattle.oz_requests.specs.Names.{name_fault};
@@ -15,6 +14,7 @@ ghost use Rattle.oz_rows.specs.Operations.{batch_bytes};
 use crate::counting::info_snapshot;
 use crate::dropping::purge_snapshot;
 use crate::listing::list_snapshots;
+use crate::making::create_snapshot;
 use crate::marking::delete_snapshot;
 use crate::moving::move_deleted;
 use crate::purging::purge;
@@ -55,7 +55,7 @@ pub fn decide_purge(
     Ok(decision)
 }
 
-/// Decides a request on snapshots but a CreateSnapshot over the newest rows. It changes nothing.
+/// Decides a request on snapshots over the newest rows. It changes nothing.
 pub fn decide_snapshot(
     alloc: Global,
     cached: &Cached,
@@ -67,6 +67,7 @@ pub fn decide_snapshot(
     if let Some(code) = request.name_fault() {
         return Ok(Decision::unchanged(alloc, Reply::Code(code)));
     }
+    cached.durable().rows_are_in_order();
     let decision = decide_named(alloc, cached, request)?;
     Ok(decision)
 }
@@ -130,10 +131,14 @@ fn decide_named<M: RowMap>(
     requires named { name_fault request.now ≡ None }
     ensures reply { IfOk result (λ decision. IsReply (M.rows rows.now) request.now decision.reply) }
     ensures exact { IfOk result (λ decision.
-        AreMarked (M.rows rows.now) request.now decision.reply decision.changes) }
-    ensures operations { IfOk result (λ decision. decision.bytes ≡ batch_bytes (row_by_row decision.changes)) }
+        AreRecorded (M.rows rows.now) request.now decision.reply decision.bytes decision.changes) }
 {
     match request {
+        Request::CreateSnapshot {
+            volume,
+            bucket,
+            snapshot,
+        } => create_snapshot(alloc, rows, volume, bucket, snapshot),
         Request::DeleteSnapshot {
             volume,
             bucket,

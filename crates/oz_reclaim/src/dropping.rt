@@ -5,7 +5,7 @@ ghost use Rattle.oz_reclaim.specs.Service.{AreDropped, IsWorkedOff, operations_f
 ghost use Rattle.oz_requests.specs.declared.request.Request.{Request as AnyRequest};
 ghost use Rattle.oz_rows.specs.Operations.{batch_bytes};
 
-use crate::moving::{is_deleted, is_path};
+use crate::moving::is_deleted;
 use crate::owning::owns_row;
 use oz_decision::{Decision, Draft};
 use oz_effects::dropped_keys;
@@ -53,7 +53,7 @@ fn is_worked_off<M: RowMap>(
 ) -> Result<bool, OutOfMemory>
     ensures { IfOk result (λ may. IsTrue may ↔ IsWorkedOff (M.rows rows.now) volume.now bucket.now number) }
 {
-    if number == 0 || !is_path(volume, bucket) {
+    if number == 0 {
         return Ok(false);
     }
     let deleted = is_deleted(alloc, rows, volume, bucket, number)?;

@@ -8,14 +8,17 @@ mod dropping;
 mod finding;
 mod gathering;
 mod listing;
+mod making;
 mod marking;
 mod moving;
 mod naming;
 mod owning;
 mod purging;
 mod reaching;
+mod sweep;
 mod working;
 
 pub use deciding::{decide, decide_purge, decide_snapshot};
 pub use finding::{MOST_PURGED, reclaimable};
+pub use sweep::{Found, Note, Sweep, changes_are_noted, dates_are_exact, what_is_noted_may_change};
 pub use working::chain_work;

@@ -1,12 +1,10 @@
 //! A snapshot is deleted: its row is marked.
 
 ghost use Rattle.std.specs.Prelude.{◌≡◌, None, IfOk};
-ghost use Rattle.oz_decision.specs.Drafts.{row_by_row};
 ghost use Rattle.oz_decision.specs.Replies.{IsReply};
-ghost use Rattle.oz_reclaim.specs.Marks.{AreMarked};
+ghost use Rattle.oz_reclaim.specs.Snapshots.{AreRecorded};
 ghost use Rattle.oz_requests.specs.Names.{name_fault};
 ghost use Rattle.oz_requests.specs.declared.request.Request.{Request as AnyRequest};
-ghost use Rattle.oz_rows.specs.Operations.{batch_bytes};
 
 use crate::naming::{number_named, previous_in};
 use oz_decision::{Decision, Draft, missing_bucket};
@@ -27,9 +25,8 @@ pub(crate) fn delete_snapshot<M: RowMap>(
     requires { name_fault (AnyRequest.DeleteSnapshot volume.now bucket.now name.now) ≡ None }
     ensures reply { IfOk result (λ decision.
         IsReply (M.rows rows.now) (AnyRequest.DeleteSnapshot volume.now bucket.now name.now) decision.reply) }
-    ensures exact { IfOk result (λ decision.
-        AreMarked (M.rows rows.now) (AnyRequest.DeleteSnapshot volume.now bucket.now name.now) decision.reply decision.changes) }
-    ensures operations { IfOk result (λ decision. decision.bytes ≡ batch_bytes (row_by_row decision.changes)) }
+    ensures exact { IfOk result (λ decision. AreRecorded (M.rows rows.now)
+        (AnyRequest.DeleteSnapshot volume.now bucket.now name.now) decision.reply decision.bytes decision.changes) }
 {
     let of_bucket = RowKey::of_bucket(alloc, volume, bucket)?;
     let missing = missing_bucket(alloc, rows, volume, bucket, &of_bucket)?;

@@ -3,7 +3,7 @@
 ghost use Rattle.std.specs.Prelude.{◌≡◌, ◌↔◌, IsTrue, IfOk};
 ghost use Rattle.oz_names.specs.Names.{IsVolumeName, IsBucketName};
 ghost use Rattle.oz_reclaim.specs.Service.{AreMoved, MayMove, operations_for};
-ghost use Rattle.oz_reclaim.specs.Work.{is_marked as marked};
+ghost use Rattle.oz_reclaim.specs.Work.{IsMarked};
 ghost use Rattle.oz_requests.specs.declared.request.Request.{Request as AnyRequest};
 ghost use Rattle.oz_rows.specs.Operations.{batch_bytes};
 
@@ -60,9 +60,6 @@ fn may_move<M: RowMap>(
 ) -> Result<bool, OutOfMemory>
     ensures { IfOk result (λ may. IsTrue may ↔ MayMove (M.rows rows.now) volume.now bucket.now number to) }
 {
-    if !is_path(volume, bucket) {
-        return Ok(false);
-    }
     let deleted = is_deleted(alloc, rows, volume, bucket, number)?;
     if !deleted {
         return Ok(false);
@@ -71,14 +68,7 @@ fn may_move<M: RowMap>(
     Ok(next == to)
 }
 
-/// Whether these may be the names of a volume and a bucket.
-pub(crate) fn is_path(volume: &Name, bucket: &Name) -> bool
-    ensures { IsTrue result ↔ (IsVolumeName volume.now × IsBucketName bucket.now) }
-{
-    volume_name(volume.bytes()).is_ok() && bucket_name(bucket.bytes()).is_ok()
-}
-
-/// Whether the bucket's snapshot of this number was deleted, and is still there.
+/// Whether the bucket's snapshot of this number was deleted, and is still there. The names may be none.
 pub(crate) fn is_deleted<M: RowMap>(
     alloc: Global,
     rows: &M,
@@ -86,8 +76,19 @@ pub(crate) fn is_deleted<M: RowMap>(
     bucket: &Name,
     number: u64,
 ) -> Result<bool, OutOfMemory>
-    ensures { IfOk result (λ it. it ≡ marked (M.rows rows.now (RowKey.Snapshot volume.now bucket.now number))) }
+    ensures { IfOk result (λ it. IsTrue it
+        ↔ (IsVolumeName volume.now × IsBucketName bucket.now × IsMarked (M.rows rows.now) volume.now bucket.now number)) }
 {
+    if !is_path(volume, bucket) {
+        return Ok(false);
+    }
     let of_snapshot = RowKey::of_snapshot(alloc, volume, bucket, number)?;
     Ok(is_marked(rows.get(&of_snapshot)))
+}
+
+/// Whether these may be the names of a volume and a bucket.
+fn is_path(volume: &Name, bucket: &Name) -> bool
+    ensures { IsTrue result ↔ (IsVolumeName volume.now × IsBucketName bucket.now) }
+{
+    volume_name(volume.bytes()).is_ok() && bucket_name(bucket.bytes()).is_ok()
 }

@@ -4,7 +4,8 @@ ghost use Rattle.std.specs.Prelude.{◌≡◌, ◌↔◌, List as AnyList, ℕ, 
 ghost use Rattle.std.specs.List.{AllByRecursion, list_any};
 ghost use Rattle.oz_decision.specs.Drafts.{row_by_row};
 ghost use Rattle.oz_effects.specs.changes.Steps.{holds as does_hold};
-ghost use Rattle.oz_reclaim.specs.Going.{Tells, Goes, HasFree, IsAdded, AreKnown};
+ghost use Rattle.oz_reclaim.specs.Found.{HasFree};
+ghost use Rattle.oz_reclaim.specs.Going.{Tells, Goes, IsAdded, AreKnown};
 ghost use Rattle.oz_reclaim.specs.Service.{ArePurged, AreUnreached, key_named};
 ghost use Rattle.oz_rows.specs.declared.key.RowKey.{RowKey as AnyKey};
 ghost use Rattle.oz_rows.specs.Operations.{batch_bytes};

@@ -104,7 +104,7 @@ fn is_shown<M: RowMap>(alloc: Global, rows: &M, key: &RowKey) -> Result<bool, Ou
 }
 
 /// Whether a row is there and that of a snapshot that wasn't deleted.
-fn is_live(row: Option<&Row>) -> bool
+pub(crate) fn is_live(row: Option<&Row>) -> bool
     ensures { result ≡ live (option_copied row.entry) }
 {
     match row {
@@ -113,7 +113,8 @@ fn is_live(row: Option<&Row>) -> bool
     }
 }
 
-fn add_row(blocks: &mut BTreeSet<Block>, row: &Row) -> Result<(), OutOfMemory>
+/// Adds the blocks of a row.
+pub(crate) fn add_row(blocks: &mut BTreeSet<Block>, row: &Row) -> Result<(), OutOfMemory>
     ensures { OnOk result ((block : AnyBlock) → does_hold blocks.new block
         ≡ (does_hold blocks.old block || list_any (is_block block) (all_blocks_of row.now))) }
 {

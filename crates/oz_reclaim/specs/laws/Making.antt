@@ -20,6 +20,7 @@ use Rattle.oz_rows.specs.declared.row.SnapshotState.TheVariants.{Live}
 use Rattle.oz_rows.specs.Rows.{ValueFits, kind_of}
 use Rattle.oz_rows.specs.RowMaps.{Rows, is_block, is_same}
 use Rattle.oz_rows.specs.laws.Same.{same_is_one}
+use Rattle.oz_sound.specs.Kept.{HasHome, KeepsBlocks}
 use Rattle.oz_sound.specs.Sound.{StandsIn, blocks_of, bucket_of_row, IsKeeper, IsHome, SnapshotHas, AreTogether, ComesBehind, IsRename, IsNamedAnew, IsUsing, AtMost, BlocksAreSound, NamesAreSound, RenamesAreSound, NumbersAreSound, CountsAreSound, IsSoundButRenames}
 use Rattle.oz_sound.specs.StandsFor.{AreSnapshots, IsLive, NumbersRise, SnapshotsStand, drawn_in, is_among, pieces_in}
 use Rattle.oz_sound.specs.frames.laws.Moving.{at_most}
@@ -241,6 +242,19 @@ module _ (all now : Rows) (v b name : List ℕ) (n : ℕ) (is : SnapshotMade all
         together_now w c block other (sound.blocks.key_together w c k block other mine its)
         (λ q stands. subst (StandsIn all other) (one_home block (keys.Key w c k) (keys.Key w c q) tt tt mine stands) its);
   }
+
+  -- no block leaves its home or gets one
+  pub blocks_stay : (MayGo : Block → Type 0) → KeepsBlocks all now None MayGo
+  blocks_stay MayGo = record {
+    none_lost = λ block had. inl (home_now block had.key had.home had.here);
+    none_made = λ block has. let was = old_home block has.key has.home has.here in inl (record { key = was.old; home = was.home; here = was.stood });
+  }
+    where
+      home_now : (block : Block) (key : RowKey) → IsHome key → StandsIn all block key → HasHome now block
+      home_now block (keys.Key w c k) home stands = record { key = keys.Key w c k; home = tt; here = steady_after (keys.Key w c k) block tt stands }
+      home_now block (keys.Open w c k m) home stands = record { key = keys.Open w c k m; home = tt; here = steady_after (keys.Open w c k m) block tt stands }
+      home_now block (keys.Deleted w c o k l) home stands = record { key = keys.Deleted w c (is.owner_now w c o) k l; home = tt; here = record { row = stands.row; there = is.stays w c k o l stands.row stands.there; has = stands.has } }
+      home_now block key home stands = absurd home
 
   -- ---- names
 

@@ -42,7 +42,7 @@ put-requires g c =
     let short : previous < 2 ^ 64 = search rules in
     let same : c.in_ok-try_clone.field-0 ≡ name = search rules in
     subst (λ (k : RowKey). RowFits k (rows.Snapshot c.in_ok-try_clone.field-0 previous Marked)) (sym c.in_ok-of_snapshot.ensures)
-    (subst (λ (x : List ℕ). RowFits (keys.Snapshot v b n) (rows.Snapshot x previous Marked)) (sym same) (row_fits v b name n previous c.requires one.0 small short))
+    (subst (λ (x : List ℕ). RowFits (keys.Snapshot v b n) (rows.Snapshot x previous Marked)) (sym same) (row_fits v b name n previous Marked c.requires one.0 small short))
 
 pub returns-clause-reply : goal.returns-clause-reply
 returns-clause-reply g c =

@@ -1,0 +1,13 @@
+pub mod Order
+pub mod Notes
+pub mod Sets
+pub mod Parts
+pub mod Filed
+pub mod Dates
+pub mod Swept
+pub mod Found
+pub mod Changes
+pub mod History
+pub mod Traced
+pub mod Marked
+pub mod Exact

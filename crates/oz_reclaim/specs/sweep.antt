@@ -1,0 +1,10 @@
+pub mod Notes
+pub mod Kept
+pub mod Dead
+pub mod Dates
+pub mod View
+pub mod Swept
+pub mod Found
+pub mod Changes
+pub mod History
+pub mod Filing

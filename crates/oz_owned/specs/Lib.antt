@@ -1,0 +1,7 @@
+pub mod Own
+pub mod Front
+pub mod Left
+pub mod Ordered
+pub mod Swept
+pub mod Settled
+pub mod laws

@@ -1,0 +1,13 @@
+-- Laws with their proofs, which proofs cite, those of other crates too. A reader has nothing to believe here.
+pub mod Named
+pub mod Found
+pub mod Homes
+pub mod Owned
+pub mod Staying
+pub mod Front
+pub mod Left
+pub mod Swept
+pub mod Numbered
+pub mod Purged
+pub mod Gone
+pub mod Drained

@@ -4,9 +4,11 @@ ghost use Rattle.std.specs.Prelude.{IfOk, IsTrue};
 ghost use Rattle.oz_om_session.specs.Picks.{IsPick};
 ghost use Rattle.oz_rows.specs.Rows.{IsBlock, IsBlockNumber};
 
+use crate::reclaiming::decide_behind;
 use crate::rows::stand_alike;
 use crate::said::{line, reply_text, request_of};
 use crate::store::Store;
+use crate::sweeping::note_left;
 use crate::wrong::Wrong;
 use case_files::bytes_of;
 use oz_decision::Decision;
@@ -128,15 +130,32 @@ pub fn ask(
 {
     let request = request_of(alloc, asked.said)?;
     match decide(alloc, &store.cached, &request, pick)? {
-        Outcome::Decided(decision) => {
-            let plain = replied(alloc, store, &request, pick)?;
-            compare(alloc, asked, &decision.reply, &plain)?;
-            store.note(alloc, asked.said, &plain)?;
-            go_on(alloc, store, decision)
-        }
+        Outcome::Decided(decision) => decided(alloc, store, asked, &request, pick, decision),
         Outcome::NoBlock => is_wanted(alloc, asked, "no_block"),
-        Outcome::NotYet => is_wanted(alloc, asked, "not_yet"),
+        Outcome::NotYet => match decide_behind(alloc, &store.cached, &request)? {
+            Some(decision) => decided(alloc, store, asked, &request, pick, decision),
+            None => is_wanted(alloc, asked, "not_yet"),
+        },
     }
+}
+
+/// What was decided is what the plain program replies, and both go on to what it leaves.
+fn decided(
+    alloc: Global,
+    store: &mut Store,
+    asked: Asked<'_>,
+    request: &Request,
+    pick: Option<(Block, u8)>,
+    decision: Decision,
+) -> Result<(), Wrong> {
+    let plain = replied(alloc, store, request, pick)?;
+    compare(alloc, asked, &decision.reply, &plain)?;
+    store.note(alloc, asked.said, &plain)?;
+    if matches!(request, Request::Purge { .. }) {
+        store.is_purged = true;
+    }
+    go_on(alloc, store, decision)?;
+    Ok(note_left(alloc, store, request)?)
 }
 
 /// What the plain program replies. It goes on to the namespace that is left.

@@ -2,15 +2,16 @@
 //!
 //! `drawn STATE STREAM COUNT LEAST MOST` has a block of requests, of which each time one is drawn. In it a name that a statement
 //! `among NAME WORD..` has stands for one of its words, `SESSION` for the volume, the bucket, the key and the number of a
-//! session, mostly one of the last four, and `PIECES` for most of that session's blocks, each with a length. So many requests
-//! change something.
+//! session, mostly one of the last four, `PIECES` for most of that session's blocks, each with a length, and `DELETED` for the
+//! volume and the key of a deleted row. So many requests change something.
 
 ghost use Rattle.oz_rows.specs.Rows.{IsBlock};
 
 use crate::asked::{Asked, ask};
-use crate::rows::stand_alike;
+use crate::rows::{row_lines, stand_alike};
 use crate::said::{cannot, line};
 use crate::store::{Store, flush, some_words};
+use crate::sweeping::sweep;
 use crate::wrong::Wrong;
 use case_files::Statement;
 use oz_fields::Block;
@@ -59,6 +60,7 @@ pub fn drawn<'a>(
         changed = changed.saturating_add(u64::from(store.cached.last_epoch() != epoch));
         if below(&mut words, 4) == 0 {
             flush(&mut store.cached);
+            sweep(alloc, store)?;
         }
     }
     if least <= changed && changed <= most {
@@ -144,7 +146,22 @@ fn add_word(
             let session = some_words(alloc, text.as_str(), 4)?;
             text.push_str(drawn_pieces(alloc, words, store, session.as_str())?.as_str())
         }
+        "DELETED" => add_deleted(alloc, words, store, text),
         _ => text.push_str(drawn_word(source, words, word)),
+    }
+}
+
+/// Adds the volume of a deleted row, and the row as a Purge names it; one that isn't there where there is none.
+fn add_deleted(
+    alloc: Global,
+    words: &mut Pcg32,
+    store: &Store,
+    text: &mut String,
+) -> Result<(), AllocError> {
+    let rows = row_lines(alloc, &store.cached)?;
+    match one_of(words, &rows.deleted) {
+        "" => text.push_str("vol-a bk-a:0:k:1"),
+        row => text.push_str(row),
     }
 }
 

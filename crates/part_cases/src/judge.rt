@@ -10,6 +10,7 @@ use crate::scripts::judge_scripts;
 use crate::steps::judge_steps;
 use crate::stories::judge_stories;
 use crate::unread::{holds, unread};
+use crate::views::judge_views;
 use crate::words::judge_words;
 use case_files::{Judged, Statement};
 use node_parts::{judge_datanode, judge_journal};
@@ -33,9 +34,10 @@ fn takes_block(part: &str, word: &str) -> bool {
         ),
         "commands" | "words" => word == "table",
         "containers" | "logs" | "nodes" | "scm" => word == "calls",
-        "requests" => matches!(word, "ask" | "plain" | "rows" | "drawn"),
+        "requests" => matches!(word, "ask" | "plain" | "rows" | "drawn" | "reclaimable"),
         "scripts" => matches!(word, "script" | "is" | "text"),
         "steps" => false,
+        "views" => word == "view",
         _ => true,
     }
 }
@@ -70,6 +72,7 @@ pub fn judge(alloc: Global, case: &[Statement]) -> Result<Judged, AllocError> {
         "scm" => judge_scm(alloc, case),
         "scripts" => judge_scripts(alloc, case),
         "steps" => judge_steps(alloc, case),
+        "views" => judge_views(alloc, case),
         "words" => judge_words(alloc, case),
         "cache" | "names" | "rows" | "tables" => judge_rows(alloc, case),
         _ => unread(alloc, first, "no part has this name"),

@@ -6,19 +6,21 @@
 //! - `plain` and a block of requests that the plain program alone is asked.
 //! - `rows` and a block of all rows, in the order of their keys.
 //! - `reach` and the blocks that keys, sessions and snapshots reach.
-//! - `flush`: what was entered goes down to the tables.
+//! - `flush`: what was entered goes down to the tables, and the sweep has to find there what a walk finds.
 //! - `stripes NUMBER`: so many numbers were drawn in each stripe.
-//! - `snapshot VOLUME BUCKET NUMBER NAME STATE`: a row of a snapshot, `live` or `marked`.
 //! - `full VOLUME BUCKETS KEYS SESSIONS`: a volume with so many buckets, the first of which has so many keys and sessions.
 //! - `drawn` and `among`: requests that are drawn.
+//! - `reclaimable` and `chain-work`: what is to be done next with what was deleted.
 
 use crate::asked::{ask_all, tell_all};
 use crate::drawn::drawn;
 use crate::full::give_full;
-use crate::given::{give_snapshot, give_stripes};
+use crate::given::give_stripes;
+use crate::reclaiming::{are_reclaimable, is_chain_work};
 use crate::rows::{first_other, row_lines};
 use crate::said::{blocks_text, cannot, line};
 use crate::store::{Store, flush};
+use crate::sweeping::sweep;
 use crate::wrong::Wrong;
 use case_files::{Judged, Statement};
 use oz_fields::List;
@@ -71,10 +73,14 @@ fn step(
         "rows" => are_rows(alloc, store, &statement.block),
         "reach" => is_reached(alloc, store, statement.word(1)),
         "stripes" => give_stripes(alloc, store, statement),
-        "snapshot" => give_snapshot(alloc, store, statement),
         "full" => give_full(alloc, store, statement),
         "drawn" => drawn(alloc, case, store, statement),
-        "flush" => Ok(flush(&mut store.cached)),
+        "flush" => {
+            flush(&mut store.cached);
+            sweep(alloc, store)
+        }
+        "reclaimable" => are_reclaimable(alloc, store, statement),
+        "chain-work" => is_chain_work(alloc, store, statement),
         "among" => Ok(()),
         _ => cannot(alloc, "no statement begins so"),
     }

@@ -5,7 +5,7 @@ use crate::store::Store;
 use crate::wrong::Wrong;
 use oz_cache::Cached;
 use oz_fields::{Block, List, Name, Piece};
-use oz_model::{Bucket, NameMap, Namespace};
+use oz_model::{Bucket, NameMap, Namespace, Snapshot, reach};
 use oz_rows::{Row, RowKey, SnapshotState};
 use std::alloc::{AllocError, Global};
 
@@ -13,6 +13,8 @@ use std::alloc::{AllocError, Global};
 #[derive(Drop)]
 pub struct Rows {
     pub lines: Vec<String>,
+    /// The deleted ones, each by its volume and as a Purge names it.
+    pub deleted: Vec<String>,
     blocks: Vec<Block>,
 }
 
@@ -26,6 +28,8 @@ fn least_keys(alloc: Global) -> Result<Vec<RowKey>, AllocError> {
     keys.push(RowKey::of_session(alloc, &none, &none, &none, 0)?)?;
     keys.push(RowKey::of_deleted(alloc, &none, &none, 0, &none, 0)?)?;
     keys.push(RowKey::of_snapshot(alloc, &none, &none, 0)?)?;
+    keys.push(RowKey::of_snapshot_key(alloc, &none, &none, 0, &none)?)?;
+    keys.push(RowKey::of_renamed(alloc, &none, &none, 0, 0)?)?;
     keys.push(RowKey::Stripe { stripe: 0 })?;
     Ok(keys)
 }
@@ -34,6 +38,7 @@ fn least_keys(alloc: Global) -> Result<Vec<RowKey>, AllocError> {
 pub fn row_lines(alloc: Global, cached: &Cached) -> Result<Rows, AllocError> {
     let mut rows = Rows {
         lines: Vec::new(alloc),
+        deleted: Vec::new(alloc),
         blocks: Vec::new(alloc),
     };
     for least in &least_keys(alloc)? {
@@ -50,21 +55,43 @@ fn add_kind(
     least: &RowKey,
 ) -> Result<(), AllocError> {
     if let Some(row) = cached.get(least) {
-        add_row(alloc, rows, least, row)?;
+        add_row(alloc, rows, cached, least, row)?;
     }
     let mut from = least;
     for _ in 0..u64::MAX {
         let Some((key, row)) = cached.next(from) else {
             return Ok(());
         };
-        add_row(alloc, rows, key, row)?;
+        add_row(alloc, rows, cached, key, row)?;
         from = key;
     }
     Ok(())
 }
 
-fn add_row(alloc: Global, rows: &mut Rows, key: &RowKey, row: &Row) -> Result<(), AllocError> {
-    rows.lines.push(row_line(alloc, key, row)?)?;
+fn add_row(
+    alloc: Global,
+    rows: &mut Rows,
+    cached: &Cached,
+    key: &RowKey,
+    row: &Row,
+) -> Result<(), AllocError> {
+    rows.lines.push(row_line(alloc, cached, key, row)?)?;
+    if let RowKey::Deleted {
+        volume,
+        bucket,
+        owner,
+        key,
+        local,
+    } = key
+    {
+        let of_bucket = format!(in alloc;
+            "{} {}",
+            name_text(alloc, volume)?,
+            name_text(alloc, bucket)?
+        )?;
+        let named = format!(in alloc; "{of_bucket}:{owner}:{}:{local}", name_text(alloc, key)?)?;
+        rows.deleted.push(named)?;
+    }
     match row {
         Row::Key { pieces, .. } => {
             for piece in pieces {
@@ -81,9 +108,24 @@ fn add_row(alloc: Global, rows: &mut Rows, key: &RowKey, row: &Row) -> Result<()
     Ok(())
 }
 
-/// A row as a line.
-fn row_line(alloc: Global, key: &RowKey, row: &Row) -> Result<String, AllocError> {
+/// A row as a line. A key of a snapshot has the name of the snapshot's row.
+fn row_line(alloc: Global, cached: &Cached, key: &RowKey, row: &Row) -> Result<String, AllocError> {
     match (key, row) {
+        (RowKey::SnapshotKey { .. }, Row::SnapshotKey { pieces, .. }) => {
+            kept_line(alloc, cached, key, pieces)
+        }
+        (
+            RowKey::Renamed {
+                volume,
+                bucket,
+                owner,
+                local,
+            },
+            Row::Renamed { key },
+        ) => {
+            let rest = format!(in alloc; "{owner} {local}")?;
+            Place { volume, bucket }.named(alloc, "renamed", key, rest)
+        }
         (RowKey::Volume { volume }, Row::Volume) => volume_line(alloc, volume),
         (RowKey::Bucket { volume, bucket }, Row::Bucket) => {
             Place { volume, bucket }.line(alloc, "bucket", "")
@@ -95,6 +137,44 @@ fn row_line(alloc: Global, key: &RowKey, row: &Row) -> Result<String, AllocError
             format!(in alloc; "stripe {stripe} {number}")
         }
         _ => key_line(alloc, key, row),
+    }
+}
+
+/// The line of a key that a snapshot keeps, whose row this is.
+fn kept_line(
+    alloc: Global,
+    cached: &Cached,
+    key: &RowKey,
+    pieces: &List<Piece>,
+) -> Result<String, AllocError> {
+    let RowKey::SnapshotKey {
+        volume,
+        bucket,
+        snapshot,
+        key,
+    } = key
+    else {
+        return format!(in alloc; "{key:?}");
+    };
+    let place = Place { volume, bucket };
+    match cached.get(&RowKey::of_snapshot(alloc, volume, bucket, *snapshot)?) {
+        Some(
+            Row::Snapshot {
+                name,
+                state: SnapshotState::Live,
+                ..
+            },
+        ) => place.kept(alloc, name, key, pieces),
+        Some(
+            Row::Snapshot {
+                state: SnapshotState::Marked,
+                ..
+            },
+        ) => {
+            let rest = pieces_text(alloc, pieces)?;
+            place.named(alloc, "deleted-snapshot-key", key, rest)
+        }
+        _ => place.named(alloc, "stray-snapshot-key", key, String::new(alloc)),
     }
 }
 
@@ -121,12 +201,12 @@ fn key_line(alloc: Global, key: &RowKey, row: &Row) -> Result<String, AllocError
             RowKey::Deleted {
                 volume,
                 bucket,
-                owner: 0,
+                owner,
                 key,
                 ..
             },
             Row::Deleted { blocks },
-        ) => { Place { volume, bucket }.named(alloc, "deleted", key, blocks_text(alloc, blocks)?) }
+        ) => Place { volume, bucket }.deleted(alloc, *owner, key, blocks),
         _ => format!(in alloc; "{key:?} {row:?}"),
     }
 }
@@ -162,6 +242,37 @@ impl Place<'_> {
 
     fn key(&self, alloc: Global, key: &Name, pieces: &List<Piece>) -> Result<String, AllocError> {
         self.named(alloc, "key", key, pieces_text(alloc, pieces)?)
+    }
+
+    /// A deleted row, with its owner where that is a snapshot.
+    fn deleted(
+        &self,
+        alloc: Global,
+        owner: u64,
+        key: &Name,
+        blocks: &List<Block>,
+    ) -> Result<String, AllocError> {
+        let rest = blocks_text(alloc, blocks)?;
+        match owner {
+            0 => self.named(alloc, "deleted", key, rest),
+            _ => self.named(alloc, "deleted", key, format!(in alloc; "{rest} {owner}")?),
+        }
+    }
+
+    /// A key that a live snapshot of this name keeps.
+    fn kept(
+        &self,
+        alloc: Global,
+        snapshot: &Name,
+        key: &Name,
+        pieces: &List<Piece>,
+    ) -> Result<String, AllocError> {
+        let rest = format!(in alloc;
+            "{} {}",
+            name_text(alloc, key)?,
+            pieces_text(alloc, pieces)?
+        )?;
+        self.named(alloc, "snapshot-key", snapshot, rest)
     }
 
     fn session(
@@ -243,6 +354,21 @@ fn add_keys(
     }
     for snapshot in &bucket.snapshots {
         lines.push(place.snapshot(alloc, &snapshot.name, SnapshotState::Live)?)?;
+        add_kept(alloc, lines, place, snapshot)?;
+    }
+    Ok(())
+}
+
+/// Adds the keys that a snapshot keeps.
+fn add_kept(
+    alloc: Global,
+    lines: &mut Vec<String>,
+    place: Place<'_>,
+    snapshot: &Snapshot,
+) -> Result<(), AllocError> {
+    let keys = &snapshot.keys;
+    for (key, pieces) in keys.names(alloc)?.iter().zip(keys.values()) {
+        lines.push(place.kept(alloc, &snapshot.name, key, pieces)?)?;
     }
     Ok(())
 }
@@ -278,10 +404,15 @@ pub fn first_other<'a>(lines: &'a [String], wanted: &'a [String]) -> Option<(&'a
     None
 }
 
-/// The rows are those of the namespace, and each block that was granted stands in them once.
+/// The rows are those of the namespace, and each block that was granted stands in them once, but that a Purge took away what
+/// nothing reaches.
 pub fn stand_alike(alloc: Global, store: &Store) -> Result<(), Wrong> {
-    let Rows { mut lines, blocks } = row_lines(alloc, &store.cached)?;
-    lines.retain(|line| !line.starts_with("deleted"));
+    let Rows {
+        mut lines,
+        blocks,
+        ..
+    } = row_lines(alloc, &store.cached)?;
+    lines.retain(|line| !(line.starts_with("deleted") || line.starts_with("renamed")));
     lines.sort()?;
     let mut wanted = namespace_lines(alloc, &store.namespace)?;
     wanted.sort()?;
@@ -291,9 +422,12 @@ pub fn stand_alike(alloc: Global, store: &Store) -> Result<(), Wrong> {
     each_stands_once(alloc, store, blocks)
 }
 
-/// These are the blocks that were granted, each once.
+/// These are the blocks that were granted, each once; and some more of them that nothing reaches, where something was purged.
 fn each_stands_once(alloc: Global, store: &Store, blocks: Vec<Block>) -> Result<(), Wrong> {
     let mut standing = blocks;
+    if store.is_purged {
+        add_purged(alloc, store, &mut standing)?;
+    }
     standing.sort()?;
     let mut granted = Vec::new(alloc);
     for grant in &store.grants {
@@ -305,4 +439,20 @@ fn each_stands_once(alloc: Global, store: &Store, blocks: Vec<Block>) -> Result<
     }
     let standing = blocks_text(alloc, &List::of(standing))?;
     line(format!(in alloc; "the granted blocks don't each stand once in the rows: {standing}"))
+}
+
+/// Adds the blocks that were granted, stand nowhere, and aren't reached.
+fn add_purged(alloc: Global, store: &Store, standing: &mut Vec<Block>) -> Result<(), AllocError> {
+    let reached = reach(alloc, &store.namespace)?;
+    let before = standing.len();
+    for grant in &store.grants {
+        let stands = standing
+            .iter()
+            .take(before)
+            .any(|block| *block == grant.block);
+        if !stands && !reached.contains(&grant.block) {
+            standing.push(grant.block)?;
+        }
+    }
+    Ok(())
 }

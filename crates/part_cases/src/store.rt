@@ -6,6 +6,7 @@ use oz_cache::Cached;
 use oz_epochs::Steps;
 use oz_fields::{Block, List, OutOfMemory};
 use oz_model::Namespace;
+use oz_reclaim::Sweep;
 use oz_requests::Reply;
 use oz_rows::Change;
 use oz_tables::Tables;
@@ -18,6 +19,8 @@ use std::sync::ledger::{Blank, Ledger};
 pub struct Grant {
     pub session: String,
     pub block: Block,
+    /// The index at which the block left reach, None while it is reached.
+    pub left: Option<u64>,
 }
 
 /// Rows and the namespace beside them.
@@ -30,6 +33,13 @@ pub struct Store {
     pub grants: Vec<Grant>,
     /// The operations of the last request that was decided.
     pub batch: List<u8>,
+    /// Whether rows were purged, so that granted blocks may stand nowhere.
+    pub is_purged: bool,
+    pub sweep: Sweep,
+    /// Whether a snapshot was deleted since the last sweep.
+    pub is_marked: bool,
+    /// Whether a deleted snapshot was worked off before the sweep knew of its deletion, so that it may date a row later.
+    pub is_early: bool,
 }
 
 impl Store {
@@ -40,6 +50,10 @@ impl Store {
             opened: Vec::new(alloc),
             grants: Vec::new(alloc),
             batch: List::new(alloc),
+            is_purged: false,
+            sweep: Sweep::new(alloc),
+            is_marked: false,
+            is_early: false,
         }
     }
 
@@ -49,9 +63,11 @@ impl Store {
             return Ok(());
         }
         let epoch = self.cached.last_epoch();
+        self.sweep.room(alloc, changes.items())?;
         let prepared = self.cached.prepare(alloc, changes.into_items())?;
         if epoch < 1 << 62 {
             self.cached.enter(epoch + 1, prepared);
+            self.sweep.enter(epoch + 1);
         }
         Ok(())
     }
@@ -66,7 +82,11 @@ impl Store {
             Reply::Granted(block, _) => {
                 let session = some_words(alloc, said, 4)?;
                 let block = *block;
-                self.grants.push(Grant { session, block })?;
+                self.grants.push(Grant {
+                    session,
+                    block,
+                    left: None,
+                })?;
             }
             _ => {}
         }

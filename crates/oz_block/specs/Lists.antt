@@ -1,5 +1,26 @@
 -- Lists of what is held.
-use Rattle.std.specs.Prelude.{◌≡◌, ℕ, ◌≤◌, Bool, true, ◌&&◌, ◌↔◌, List, [], ◌∷◌, Option, None, Some, is_some, IsSomeAnd, IsTrue, Contains, max, map, if◌then◌else◌}
+use Rattle.std.specs.Prelude.{
+  ◌≡◌,
+  ℕ,
+  ◌≤◌,
+  Bool,
+  true,
+  ◌&&◌,
+  ◌↔◌,
+  List,
+  [],
+  ◌∷◌,
+  Option,
+  None,
+  Some,
+  is_some,
+  IsSomeAnd,
+  IsTrue,
+  Contains,
+  max,
+  map,
+  if◌then◌else◌,
+}
 use Rattle.std.specs.List.Sorted.{IsStrictlyIncreasing, IsStrictlySortedBy}
 use Rattle.std.specs.Option.{option_map}
 use Rattle.oz_container.specs.declared.state.State.{State}

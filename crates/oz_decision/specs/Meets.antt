@@ -56,7 +56,8 @@ MayGo rows request block = ⊥
 -- The reply is that of one thread. The bytes are a batch of the changes, which lead to rows that stand for what one thread
 -- leaves. Where that is what was there, nothing changes; but for a service request, which may change rows then. No block
 -- is lost but by a Purge, and none is made but the one that the reply grants.
-pub record Meets (Sound : Rows → Type 0) (rows : Rows) (namespace : Namespace) (request : Request) (reply : Reply) (bytes : List ℕ) (changes : List Change) : Type 0 where
+pub record Meets (Sound : Rows → Type 0) (rows : Rows) (namespace : Namespace) (request : Request) (reply : Reply) (bytes : List ℕ)
+    (changes : List Change) : Type 0 where
   pub answers : Answers namespace request reply
   pub batch : IsBatchOf rows bytes changes
   pub leads : Stand Sound (after_changes changes rows) (after namespace request reply)

@@ -32,7 +32,8 @@ pub fn missing_bucket<M: RowMap>(
     key: &RowKey,
 ) -> Result<Option<Code>, OutOfMemory>
     requires { key.now ≡ RowKey.Bucket volume.now bucket.now }
-    ensures code { IfOk result (λ code. ShowsThat (M.rows rows.now) (λ namespace. code ≡ first_of (no_volume (scope_of namespace volume.now) ∷ no_bucket (scope_of namespace volume.now) bucket.now ∷ []))) }
+    ensures code { IfOk result (λ code. ShowsThat (M.rows rows.now)
+        (λ namespace. code ≡ first_of (no_volume (scope_of namespace volume.now) ∷ no_bucket (scope_of namespace volume.now) bucket.now ∷ []))) }
     ensures none { IfOk result (λ code. code ≡ None → IsSome (M.rows rows.now (RowKey.Bucket volume.now bucket.now))) }
 {
     let of_volume = RowKey::of_volume(alloc, volume)?;
@@ -174,7 +175,8 @@ pub fn snapshot_count<M: RowMap>(
     bucket: &Name,
 ) -> Result<u32, OutOfMemory>
     ensures shows { IfOk result (λ count. ShowsThat (M.rows rows.now) (λ namespace. count ≡ length (bucket_at namespace volume.now bucket.now).snapshots)) }
-    ensures none { IfOk result (λ count. count ≡ 0 → AreInGrammar (M.rows rows.now) → (number : ℕ) → IsLive (M.rows rows.now) volume.now bucket.now number → ⊥) }
+    ensures none { IfOk result (λ count. count ≡ 0 → AreInGrammar (M.rows rows.now) → (number : ℕ) → IsLive (M.rows rows.now) volume.now bucket.now number
+        → ⊥) }
 {
     let from = first_snapshot(alloc, volume, bucket.try_clone(alloc)?)?;
     let to = first_snapshot(alloc, volume, next_name(alloc, bucket)?)?;

@@ -1,6 +1,29 @@
 //! One stripe: its rows, and the seat whose Decides they are.
 
-ghost use Rattle.std.specs.Prelude.{◌≡◌, ℕ, ◌+◌, ◌<◌, ◌≤◌, List as AnyList, [], ◌∷◌, ◌++◌, length, take, drop, true, All, Any, None, IsSome, IfOk, IfSome, OnOk, OnErr, MatchOption};
+ghost use Rattle.std.specs.Prelude.{
+  ◌≡◌,
+  ℕ,
+  ◌+◌,
+  ◌<◌,
+  ◌≤◌,
+  List as AnyList,
+  [],
+  ◌∷◌,
+  ◌++◌,
+  length,
+  take,
+  drop,
+  true,
+  All,
+  Any,
+  None,
+  IsSome,
+  IfOk,
+  IfSome,
+  OnOk,
+  OnErr,
+  MatchOption,
+};
 ghost use Rattle.oz_cache.specs.Cache.{batch_of, batched_changes, last_epoch, later, newest, up_to};
 ghost use Rattle.oz_core.specs.Asks.{is_told};
 ghost use Rattle.oz_core.specs.Grants.{IsExcluded};

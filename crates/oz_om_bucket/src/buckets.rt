@@ -54,7 +54,8 @@ fn not_made<M: RowMap>(
     requires volume { is_volume_name volume.now ≡ true }
     requires bucket { is_volume_name bucket.now ≡ true }
     requires key { key.now ≡ RowKey.Bucket volume.now bucket.now }
-    ensures code { IfOk result (λ code. ShowsThat (M.rows rows.now) (λ namespace. code ≡ refusal (scope_of namespace volume.now) (Request.CreateBucket volume.now bucket.now))) }
+    ensures code { IfOk result (λ code. ShowsThat (M.rows rows.now)
+        (λ namespace. code ≡ refusal (scope_of namespace volume.now) (Request.CreateBucket volume.now bucket.now))) }
     ensures none { IfOk result (λ code. code ≡ None → IsAllowed (M.rows rows.now) (Request.CreateBucket volume.now bucket.now)) }
 {
     let of_volume = RowKey::of_volume(alloc, volume)?;
@@ -139,7 +140,8 @@ fn kept<M: RowMap>(
     requires volume { is_volume_name volume.now ≡ true }
     requires bucket { is_volume_name bucket.now ≡ true }
     requires key { key.now ≡ RowKey.Bucket volume.now bucket.now }
-    ensures code { IfOk result (λ code. ShowsThat (M.rows rows.now) (λ namespace. code ≡ refusal (scope_of namespace volume.now) (Request.DeleteBucket volume.now bucket.now))) }
+    ensures code { IfOk result (λ code. ShowsThat (M.rows rows.now)
+        (λ namespace. code ≡ refusal (scope_of namespace volume.now) (Request.DeleteBucket volume.now bucket.now))) }
     ensures none { IfOk result (λ code. code ≡ None → IsAllowed (M.rows rows.now) (Request.DeleteBucket volume.now bucket.now)) }
 {
     if let Some(code) = missing_bucket(alloc, rows, volume, bucket, key)? {

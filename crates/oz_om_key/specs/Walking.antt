@@ -35,7 +35,8 @@ IsLast rows volume bucket source prefix last =
     → IsNext rows last (place_of volume bucket source name) row → ⊥
 
 -- These are the first names of those to be listed, and the others stand above this row, which is above none of these.
-pub record AreFirst (keys : ByName (List Piece)) (volume bucket : List ℕ) (source : Source) (prefix start : List ℕ) (last : RowKey) (found : List (List ℕ)) : Type 0 where
+pub record AreFirst (keys : ByName (List Piece)) (volume bucket : List ℕ) (source : Source) (prefix start : List ℕ) (last : RowKey)
+    (found : List (List ℕ)) : Type 0 where
   pub rest : List (List ℕ)
   pub whole : filter (is_listed prefix start) (names_in keys) ≡ found ++ rest
   pub at : List ℕ

@@ -21,7 +21,8 @@ pub(crate) fn missing_code<M: RowMap>(
     volume: &Name,
     bucket: &Name,
 ) -> Result<Option<Code>, OutOfMemory>
-    ensures code { IfOk result (λ code. ShowsThat (M.rows rows.now) (λ namespace. code ≡ first_of (no_volume (scope_of namespace volume.now) ∷ no_bucket (scope_of namespace volume.now) bucket.now ∷ []))) }
+    ensures code { IfOk result (λ code. ShowsThat (M.rows rows.now)
+        (λ namespace. code ≡ first_of (no_volume (scope_of namespace volume.now) ∷ no_bucket (scope_of namespace volume.now) bucket.now ∷ []))) }
     ensures none { IfOk result (λ code. code ≡ None → IsSome (M.rows rows.now (RowKey.Bucket volume.now bucket.now))) }
 {
     let of_bucket = RowKey::of_bucket(alloc, volume, bucket)?;
@@ -36,7 +37,8 @@ pub(crate) fn asked_source<M: RowMap>(
     bucket: &Name,
     snapshot: &Option<Name>,
 ) -> Result<Option<Source>, OutOfMemory>
-    ensures { IfOk result (λ found. ShowsThat (M.rows rows.now) (λ namespace. IsAsked (M.rows rows.now) volume.now bucket.now (keys_asked (bucket_at namespace volume.now bucket.now) snapshot.now) found)) }
+    ensures { IfOk result (λ found. ShowsThat (M.rows rows.now)
+        (λ namespace. IsAsked (M.rows rows.now) volume.now bucket.now (keys_asked (bucket_at namespace volume.now bucket.now) snapshot.now) found)) }
 {
     match snapshot {
         Some(name) => snapshot_named(alloc, rows, volume, bucket, name),
@@ -52,7 +54,8 @@ fn snapshot_named<M: RowMap>(
     bucket: &Name,
     name: &Name,
 ) -> Result<Option<Source>, OutOfMemory>
-    ensures { IfOk result (λ found. ShowsThat (M.rows rows.now) (λ namespace. IsAsked (M.rows rows.now) volume.now bucket.now (keys_asked (bucket_at namespace volume.now bucket.now) (Some name.now)) found)) }
+    ensures { IfOk result (λ found. ShowsThat (M.rows rows.now)
+        (λ namespace. IsAsked (M.rows rows.now) volume.now bucket.now (keys_asked (bucket_at namespace volume.now bucket.now) (Some name.now)) found)) }
 {
     let from = RowKey::of_snapshot(alloc, volume, bucket, 0)?;
     let after = next_name(alloc, bucket)?;

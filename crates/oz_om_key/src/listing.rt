@@ -107,7 +107,8 @@ fn next_listed<'r, M: RowMap>(
     prefix: &Name,
     last: &RowKey,
 ) -> Option<(&'r RowKey, &'r Name)>
-    ensures some { IfSome result (λ next. IsFound (M.rows rows.now) place.now.volume.now place.now.bucket.now place.now.source prefix.now last.now next.0.now next.1.now) }
+    ensures some { IfSome result (λ next. IsFound
+        (M.rows rows.now) place.now.volume.now place.now.bucket.now place.now.source prefix.now last.now next.0.now next.1.now) }
     ensures none { IfNone result (IsLast (M.rows rows.now) place.now.volume.now place.now.bucket.now place.now.source prefix.now last.now) }
 {
     let Some((key, _row)) = rows.next(last) else {

@@ -111,12 +111,16 @@ fn allocate<M: RowMap>(
 ) -> Result<Option<Decision>, OutOfMemory>
     requires named { name_fault (Request.AllocateBlock volume.now bucket.now key.now session exclude.now) ≡ None }
     requires pick { IsPick pick }
-    ensures reply { IfOk result (λ decided. IfSome decided (λ decision. IsReply (M.rows rows.now) (Request.AllocateBlock volume.now bucket.now key.now session exclude.now) decision.reply)) }
-    ensures allowed { IfOk result (λ decided. IfSome decided (λ decision. MayRecordGrant (M.rows rows.now) (Request.AllocateBlock volume.now bucket.now key.now session exclude.now) decision.reply)) }
+    ensures reply { IfOk result (λ decided. IfSome decided
+        (λ decision. IsReply (M.rows rows.now) (Request.AllocateBlock volume.now bucket.now key.now session exclude.now) decision.reply)) }
+    ensures allowed { IfOk result (λ decided. IfSome decided
+        (λ decision. MayRecordGrant (M.rows rows.now) (Request.AllocateBlock volume.now bucket.now key.now session exclude.now) decision.reply)) }
     ensures picked { IfOk result (λ decided. IfSome decided (λ decision. IsPicked pick decision.reply)) }
     ensures none { IfOk result (λ decided. IfNone decided ((pick ≡ None) × ShowsThat (M.rows rows.now) (λ namespace.
         refusal (scope_of namespace volume.now) (Request.AllocateBlock volume.now bucket.now key.now session exclude.now) ≡ None))) }
-    ensures changes { IfOk result (λ decided. IfSome decided (λ decision. decision.changes ≡ recorded_grant (M.rows rows.now) (Request.AllocateBlock volume.now bucket.now key.now session exclude.now) decision.reply)) }
+    ensures changes { IfOk result (λ decided. IfSome decided
+        (λ decision. decision.changes ≡ recorded_grant (M.rows rows.now)
+        (Request.AllocateBlock volume.now bucket.now key.now session exclude.now) decision.reply)) }
     ensures operations { IfOk result (λ decided. IfSome decided (λ decision. decision.bytes ≡ batch_bytes (row_by_row decision.changes))) }
 {
     let _unused = exclude;
@@ -154,7 +158,8 @@ fn not_granted<M: RowMap>(
 ) -> Result<Option<Code>, OutOfMemory>
     requires named { name_fault (Request.AllocateBlock volume.now bucket.now key.now session exclude.now) ≡ None }
     requires key { of_session.now ≡ RowKey.Open volume.now bucket.now key.now session }
-    ensures code { IfOk result (λ code. ShowsThat (M.rows rows.now) (λ namespace. code ≡ refusal (scope_of namespace volume.now) (Request.AllocateBlock volume.now bucket.now key.now session exclude.now))) }
+    ensures code { IfOk result (λ code. ShowsThat (M.rows rows.now)
+        (λ namespace. code ≡ refusal (scope_of namespace volume.now) (Request.AllocateBlock volume.now bucket.now key.now session exclude.now))) }
     ensures none { IfOk result (λ code. code ≡ None → HasRoom (M.rows rows.now) volume.now bucket.now key.now session) }
 {
     let _unused = exclude;

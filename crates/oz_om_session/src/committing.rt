@@ -95,8 +95,10 @@ fn commit<M: RowMap>(
 ) -> Result<Decision, OutOfMemory>
     requires { name_fault (Request.CommitKey volume.now bucket.now key.now session pieces.now) ≡ None }
     ensures reply { IfOk result (λ decision. IsReply (M.rows rows.now) (Request.CommitKey volume.now bucket.now key.now session pieces.now) decision.reply) }
-    ensures allowed { IfOk result (λ decision. MayRecordCommit (M.rows rows.now) (Request.CommitKey volume.now bucket.now key.now session pieces.now) decision.reply) }
-    ensures changes { IfOk result (λ decision. decision.changes ≡ recorded_commit (M.rows rows.now) (Request.CommitKey volume.now bucket.now key.now session pieces.now) decision.reply) }
+    ensures allowed { IfOk result (λ decision. MayRecordCommit (M.rows rows.now)
+        (Request.CommitKey volume.now bucket.now key.now session pieces.now) decision.reply) }
+    ensures changes { IfOk result (λ decision. decision.changes
+        ≡ recorded_commit (M.rows rows.now) (Request.CommitKey volume.now bucket.now key.now session pieces.now) decision.reply) }
     ensures operations { IfOk result (λ decision. decision.bytes ≡ batch_bytes (row_by_row decision.changes)) }
 {
     let of_session = RowKey::of_session(alloc, volume, bucket, key, session)?;
@@ -123,8 +125,10 @@ fn commit_open<M: RowMap>(
     requires key { of_session ≡ RowKey.Open volume.now bucket.now key.now session }
     requires there { IsOpen (M.rows rows.now) volume.now bucket.now key.now session }
     ensures reply { IfOk result (λ decision. IsReply (M.rows rows.now) (Request.CommitKey volume.now bucket.now key.now session pieces.now) decision.reply) }
-    ensures allowed { IfOk result (λ decision. MayRecordCommit (M.rows rows.now) (Request.CommitKey volume.now bucket.now key.now session pieces.now) decision.reply) }
-    ensures changes { IfOk result (λ decision. decision.changes ≡ recorded_commit (M.rows rows.now) (Request.CommitKey volume.now bucket.now key.now session pieces.now) decision.reply) }
+    ensures allowed { IfOk result (λ decision. MayRecordCommit (M.rows rows.now)
+        (Request.CommitKey volume.now bucket.now key.now session pieces.now) decision.reply) }
+    ensures changes { IfOk result (λ decision. decision.changes
+        ≡ recorded_commit (M.rows rows.now) (Request.CommitKey volume.now bucket.now key.now session pieces.now) decision.reply) }
     ensures operations { IfOk result (λ decision. decision.bytes ≡ batch_bytes (row_by_row decision.changes)) }
 {
     let of_key = RowKey::of_key(alloc, volume, bucket, key)?;
@@ -160,8 +164,11 @@ fn put_left<M: RowMap>(
     requires blocks { AreItems IsBlock (blocks_at (M.rows rows.now of_session.now)) }
     ensures none { IfOk result (λ left. IfNone left (are_committed (M.rows rows.now of_session.now) (M.rows rows.now of_key.now) pieces.now ≡ false)) }
     ensures some { IfOk result (λ left. IfSome left (λ draft. are_committed (M.rows rows.now of_session.now) (M.rows rows.now of_key.now) pieces.now ≡ true)) }
-    ensures bytes { IfOk result (λ left. IfSome left (λ draft. draft.bytes ≡ batch_bytes (row_by_row (changes_of_left volume.now bucket.now key.now (M.rows rows.now of_key.now) (M.rows rows.now of_session.now) pieces.now)))) }
-    ensures changes { IfOk result (λ left. IfSome left (λ draft. draft.changes ≡ changes_of_left volume.now bucket.now key.now (M.rows rows.now of_key.now) (M.rows rows.now of_session.now) pieces.now)) }
+    ensures bytes { IfOk result (λ left. IfSome left
+        (λ draft. draft.bytes ≡ batch_bytes (row_by_row
+        (changes_of_left volume.now bucket.now key.now (M.rows rows.now of_key.now) (M.rows rows.now of_session.now) pieces.now)))) }
+    ensures changes { IfOk result (λ left. IfSome left
+        (λ draft. draft.changes ≡ changes_of_left volume.now bucket.now key.now (M.rows rows.now of_key.now) (M.rows rows.now of_session.now) pieces.now)) }
 {
     if !are_committed(rows, of_session, of_key, pieces) {
         return Ok(None);
@@ -195,7 +202,8 @@ fn put_key(
 ) -> Result<Draft, OutOfMemory>
     requires session { KeyFits of_session }
     requires key { RowFits of_key (AnyRow.Key number pieces.now) }
-    ensures bytes { IfOk result (λ more. more.bytes ≡ draft.bytes ++ batch_bytes (row_by_row (gone of_session ∷ put of_key (AnyRow.Key number pieces.now) ∷ []))) }
+    ensures bytes { IfOk result (λ more. more.bytes ≡ draft.bytes
+        ++ batch_bytes (row_by_row (gone of_session ∷ put of_key (AnyRow.Key number pieces.now) ∷ []))) }
     ensures changes { IfOk result (λ more. more.changes ≡ draft.changes ++ gone of_session ∷ put of_key (AnyRow.Key number pieces.now) ∷ []) }
 {
     let draft = draft.remove(alloc, of_session)?;

@@ -193,7 +193,11 @@ stripe_key_at = do
 -- the key fields of a kind, nothing where there is no such kind
 abbrev pub key_of_kind_at : ℕ → ℕ → List ℕ → Result (RowKey × List ℕ) ℕ
 key_of_kind_at left kind =
-    if kind == 1 then volume_key_at else (if kind == 2 then bucket_key_at else (if kind == 3 then key_key_at else (if kind == 4 then open_key_at else (if kind == 5 then deleted_key_at else (if kind == 6 then snapshot_at else (if kind == 7 then snapshot_key_at else (if kind == 8 then renamed_key_at else (if kind == 9 then stripe_key_at else (λ bytes. Err left)))))))))
+    if kind == 1 then volume_key_at else
+    (if kind == 2 then bucket_key_at else (if kind == 3 then key_key_at else
+    (if kind == 4 then open_key_at else (if kind == 5 then deleted_key_at else
+    (if kind == 6 then snapshot_at else (if kind == 7 then snapshot_key_at else
+    (if kind == 8 then renamed_key_at else (if kind == 9 then stripe_key_at else (λ bytes. Err left)))))))))
 
 unfoldable pub key_at : List ℕ → Result (RowKey × List ℕ) ℕ
 key_at [] = Err 0
@@ -297,7 +301,9 @@ drop_open_at = do
 -- the fields of an operation, nothing where there is no such operation
 abbrev pub operation_of_tag_at : ℕ → ℕ → List ℕ → Result (Operation × List ℕ) ℕ
 operation_of_tag_at left tag =
-    if tag == 1 then put_at else (if tag == 2 then remove_at else (if tag == 3 then copy_keys_at else (if tag == 4 then move_deleted_at else (if tag == 5 then drop_keys_at else (if tag == 6 then drop_open_at else (λ bytes. Err left))))))
+    if tag == 1 then put_at else
+    (if tag == 2 then remove_at else (if tag == 3 then copy_keys_at else
+    (if tag == 4 then move_deleted_at else (if tag == 5 then drop_keys_at else (if tag == 6 then drop_open_at else (λ bytes. Err left))))))
 
 unfoldable pub operation_at : List ℕ → Result (Operation × List ℕ) ℕ
 operation_at [] = Err 0

@@ -6,9 +6,9 @@ use std::sync::Wait;
 use std::sync::atomic::{AtomicU64, Ordering};
 
 // So often a thread looks whose ticket is the next one, and so often another, before it sleeps.
-const LOOKS_OF_NEXT: u32 = 400;
+const LOOKS_OF_NEXT: u32 = 4_000;
 
-const LOOKS: u32 = 100;
+const LOOKS: u32 = 1_000;
 
 const SILENT: u64 = 0;
 

@@ -1,5 +1,32 @@
 -- What a legal story has of a script's Asks, and of the Decides of what they asked.
-use Rattle.std.proofs.Common.{◌≡◌, ⊎_elim, ℕ, zero, suc, ◌<◌, Bool, true, false, ◌&&◌, ◌||◌, ◌==◌, List, [], ◌∷◌, ◌++◌, take, Some, Contains, eq-eqb, refl, sym, ◌∙◌, ap, subst, arith}
+use Rattle.std.proofs.Common.{
+  ◌≡◌,
+  ⊎_elim,
+  ℕ,
+  zero,
+  suc,
+  ◌<◌,
+  Bool,
+  true,
+  false,
+  ◌&&◌,
+  ◌||◌,
+  ◌==◌,
+  List,
+  [],
+  ◌∷◌,
+  ◌++◌,
+  take,
+  Some,
+  Contains,
+  eq-eqb,
+  refl,
+  sym,
+  ◌∙◌,
+  ap,
+  subst,
+  arith,
+}
 use Rattle.std.proofs.lemmas.Bool.{cases_lt, and_from, false≢true}
 use Rattle.std.specs.List.{slice_get}
 use Rattle.oz_core.specs.declared.event.Event.{Event}
@@ -47,7 +74,8 @@ or_true : (b : Bool) → (b || true) ≡ true
 or_true true = refl
 or_true false = refl
 
-pub asked_at : (story : List Event) (place seat : ℕ) (id : AskId) (request : Request) → slice_get story place ≡ Some (ask seat id request) → is_asked id story ≡ true
+pub asked_at : (story : List Event) (place seat : ℕ) (id : AskId) (request : Request) → slice_get story place ≡ Some (ask seat id request)
+    → is_asked id story ≡ true
 asked_at [] place seat id request is = absurd cc
 asked_at (event ∷ story) zero seat id request is =
     let same : event ≡ ask seat id request = cc in
@@ -69,13 +97,16 @@ some_event : (a b : Event) → Some a ≡ Some b → a ≡ b
 some_event a b e = cc
 
 module _ (opening : Opening) (story : List Event) (legal : IsLegal opening story) (id : AskId) (of_script : is_script id ≡ true) where
-  not_before : (place later seat other : ℕ) (request another : Request) → slice_get story place ≡ Some (ask seat id request) → slice_get story later ≡ Some (ask other id another)
+  not_before : (place later seat other : ℕ) (request another : Request) → slice_get story place ≡ Some (ask seat id request)
+      → slice_get story later ≡ Some (ask other id another)
       → place < later → ⊥
   not_before place later seat other request another is also lt =
       let enabled : AskIsEnabled opening (take later story) other id another = enabled_at opening story legal later (ask other id another) also in
-      false≢true (sym (enabled.unasked of_script) ∙ asked_at (take later story) place seat id request (kept_in_front story place later (ask seat id request) lt is))
+      false≢true (sym (enabled.unasked of_script)
+      ∙ asked_at (take later story) place seat id request (kept_in_front story place later (ask seat id request) lt is))
 
-  one_place : (place later seat other : ℕ) (request another : Request) → slice_get story place ≡ Some (ask seat id request) → slice_get story later ≡ Some (ask other id another)
+  one_place : (place later seat other : ℕ) (request another : Request) → slice_get story place ≡ Some (ask seat id request)
+      → slice_get story later ≡ Some (ask other id another)
       → place ≡ later
   one_place place later seat other request another is also = ⊎_elim
       (λ lt. absurd (not_before place later seat other request another is also lt))
@@ -86,7 +117,8 @@ module _ (opening : Opening) (story : List Event) (legal : IsLegal opening story
       (cases_lt place later)
 
   -- so it asks one thing
-  pub one_request : (place later seat other : ℕ) (request another : Request) → slice_get story place ≡ Some (ask seat id request) → slice_get story later ≡ Some (ask other id another)
+  pub one_request : (place later seat other : ℕ) (request another : Request) → slice_get story place ≡ Some (ask seat id request)
+      → slice_get story later ≡ Some (ask other id another)
       → request ≡ another
   unfolding request_of
   one_request place later seat other request another is also =
@@ -111,9 +143,11 @@ module _ (opening : Opening) (story : List Event) (legal : IsLegal opening story
   pub decided_as_asked : (at place seat index : ℕ) (request : Request) (reply : Reply) (batch : List ℕ) → IsAskAt story at id request
       → slice_get story place ≡ Some (record { seat = seat; kind = Decide id index reply batch }) → IsDecidedAsAsked opening story place seat id request reply
   decided_as_asked at place seat index request reply batch asked is =
-      let enabled : DecideIsEnabled opening (take place story) seat id index reply batch = enabled_at opening story legal place (record { seat = seat; kind = Decide id index reply batch }) is in
+      let enabled : DecideIsEnabled opening (take place story) seat id index reply batch =
+      enabled_at opening story legal place (record { seat = seat; kind = Decide id index reply batch }) is in
       let same = pending_is at place request enabled.request asked enabled.undecided in
-      subst (λ (r : Request). IsDecidedAsAsked opening story place seat id r reply) same (record { asked = enabled.undecided; of_stripe = enabled.of_stripe; one_thread = enabled.one_thread })
+      subst (λ (r : Request). IsDecidedAsAsked opening story place seat id r reply) same
+      (record { asked = enabled.undecided; of_stripe = enabled.of_stripe; one_thread = enabled.one_thread })
 
 -- ---- the last Ask of an id
 

@@ -1,5 +1,32 @@
 -- The indexes of Decides: a later one has no lower index, and who was decided stays so.
-use Rattle.std.proofs.Common.{◌≡◌, ℕ, zero, suc, ◌<◌, ◌≤◌, Bool, true, false, List, [], ◌∷◌, ◌++◌, take, drop, Option, None, Some, is_some, cond, refl, sym, ◌∙◌, ap, subst, arith}
+use Rattle.std.proofs.Common.{
+  ◌≡◌,
+  ℕ,
+  zero,
+  suc,
+  ◌<◌,
+  ◌≤◌,
+  Bool,
+  true,
+  false,
+  List,
+  [],
+  ◌∷◌,
+  ◌++◌,
+  take,
+  drop,
+  Option,
+  None,
+  Some,
+  is_some,
+  cond,
+  refl,
+  sym,
+  ◌∙◌,
+  ap,
+  subst,
+  arith,
+}
 use Rattle.std.proofs.lemmas.List.{take-append-drop}
 use Rattle.std.proofs.lemmas.List.Sums.{fold-append}
 use Rattle.std.specs.List.{slice_get, fold}
@@ -38,7 +65,8 @@ some_behind id (event ∷ more) before some = some_behind id more (newer (decide
 
 pub decided_still : (id : AskId) (seen more : List Event) → IsSome (index_of id seen) → IsSome (index_of id (seen ++ more))
 decided_still id seen more some =
-    subst IsSome (sym (fold-append (λ told (event : Event). newer (decided_with id event.kind) told) None seen more)) (some_behind id more (index_of id seen) some)
+    subst IsSome (sym (fold-append (λ told (event : Event). newer (decided_with id event.kind) told) None seen more))
+    (some_behind id more (index_of id seen) some)
 
 -- the event at a place decided the id
 pub decided_there : (id : AskId) (reply : Reply) (story : List Event) (place : ℕ) → IsDecideAt story place id reply → IsSome (index_of id story)
@@ -67,10 +95,13 @@ pub index_covers : (opening : Opening) (story : List Event) → IsLegal opening 
 index_covers opening story legal place before seat other index lower id one reply answer batch bytes lt is was =
     let front = take place story in
     let event : Event = record { seat = other; kind = Decide one lower answer bytes } in
-    let enabled : DecideIsEnabled opening front seat id index reply batch = enabled_at opening story legal place (record { seat = seat; kind = Decide id index reply batch }) is in
+    let enabled : DecideIsEnabled opening front seat id index reply batch =
+    enabled_at opening story legal place (record { seat = seat; kind = Decide id index reply batch }) is in
     let grows = front_grows front before event (kept_in_front story before place event lt was) in
     let its : last_index opening (take (suc before) front) ≡ lower = ap (last_index opening) grows ∙ last_next opening (take before front) event in
-    let rises = indexes_rise opening 0 (drop (suc before) front) (take (suc before) front) (legal_parts opening front (suc before) (front_legal opening story legal place)) in
-    let whole : last_index opening (take (suc before) front ++ drop (suc before) front) ≡ last_index opening front = ap (last_index opening) (take-append-drop (suc before) front) in
+    let rises = indexes_rise opening 0 (drop (suc before) front) (take (suc before) front)
+    (legal_parts opening front (suc before) (front_legal opening story legal place)) in
+    let whole : last_index opening (take (suc before) front ++ drop (suc before) front) ≡ last_index opening front =
+    ap (last_index opening) (take-append-drop (suc before) front) in
     let last = index_rises opening front seat id index reply batch enabled in
     omega (arith, its, rises, whole, last)

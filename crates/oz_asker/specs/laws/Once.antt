@@ -1,5 +1,34 @@
 -- A script's id is decided once.
-use Rattle.std.proofs.Common.{◌≡◌, ◌⊎◌, ⊎_elim, inl, inr, ℕ, zero, suc, ◌<◌, ◌≤◌, length, arith, Bool, true, false, ◌||◌, List, [], ◌∷◌, ◌++◌, None, Some, cond, refl, sym, ◌∙◌, ap, subst}
+use Rattle.std.proofs.Common.{
+  ◌≡◌,
+  ◌⊎◌,
+  ⊎_elim,
+  inl,
+  inr,
+  ℕ,
+  zero,
+  suc,
+  ◌<◌,
+  ◌≤◌,
+  length,
+  arith,
+  Bool,
+  true,
+  false,
+  ◌||◌,
+  List,
+  [],
+  ◌∷◌,
+  ◌++◌,
+  None,
+  Some,
+  cond,
+  refl,
+  sym,
+  ◌∙◌,
+  ap,
+  subst,
+}
 use Rattle.std.proofs.lemmas.Bool.{cases_lt, false≢true}
 use Rattle.std.proofs.lemmas.Option.{none-some}
 use Rattle.std.specs.List.{slice_get}
@@ -48,7 +77,8 @@ was_asked : (id : AskId) (request : Request) (story : List Event) → pending id
 was_asked id request story e =
     let was = pending_asked id request story e in
     let event : Event = record { seat = was.seat; kind = Ask was.other request } in
-    let found = found_at story event was.there ∙ ap (λ (i : AskId). Some (record { seat = was.seat; kind = Ask i request })) (sym (one_ask_id id was.other was.same)) in
+    let found = found_at story event was.there
+    ∙ ap (λ (i : AskId). Some (record { seat = was.seat; kind = Ask i request })) (sym (one_ask_id id was.other was.same)) in
     asked_at story was.there.0 was.seat id request found
 
 module _ (opening : Opening) (id : AskId) (of_script : is_script id ≡ true) where
@@ -57,7 +87,8 @@ module _ (opening : Opening) (id : AskId) (of_script : is_script id ≡ true) wh
     index_stays : newer (decided_with id kind) (index_of id before) ≡ Some index
     none_comes : pending_after id (pending id before) kind ≡ None
 
-  stays : (index : ℕ) (before : List Event) (seat : ℕ) (kind : EventKind) → KindIsEnabled opening before seat kind → IsDone id index before → Stays index before kind
+  stays : (index : ℕ) (before : List Event) (seat : ℕ) (kind : EventKind) → KindIsEnabled opening before seat kind → IsDone id index before
+      → Stays index before kind
   stays index before seat (Ask other request) enabled done = by (is_id id other) refl
     where
       by : (t : Bool) → is_id id other ≡ t → Stays index before (Ask other request)
@@ -81,7 +112,8 @@ module _ (opening : Opening) (id : AskId) (of_script : is_script id ≡ true) wh
       }
   stays index before seat kind enabled done = record { index_stays = done.index_is; none_comes = done.none_left }
 
-  done_still : (index : ℕ) (before : List Event) (event : Event) → IsEnabled opening before event → IsDone id index before → IsDone id index (before ++ event ∷ [])
+  done_still : (index : ℕ) (before : List Event) (event : Event) → IsEnabled opening before event → IsDone id index before
+      → IsDone id index (before ++ event ∷ [])
   done_still index before event enabled done =
       let next = stays index before event.seat event.kind enabled done in
       record {
@@ -126,9 +158,11 @@ module _ (opening : Opening) (id : AskId) (of_script : is_script id ≡ true) wh
 
   -- what is pending behind a story isn't decided in it
   pub decided_beyond : (before more : List Event) → IsLegal opening before → (request : Request) → pending id before ≡ Some request
-      → (place seat index : ℕ) (reply : Reply) (batch : List ℕ) → slice_get (before ++ more) place ≡ Some (record { seat = seat; kind = Decide id index reply batch })
+      → (place seat index : ℕ) (reply : Reply) (batch : List ℕ)
+      → slice_get (before ++ more) place ≡ Some (record { seat = seat; kind = Decide id index reply batch })
       → length before ≤ place
   decided_beyond before more legal request waits place seat index reply batch is = ⊎_elim
-      (λ lt. absurd (none-some request (sym (all_done before legal place seat index reply batch (in_front before more place (decide seat index reply batch) lt is)).none_left ∙ waits)))
+      (λ lt. absurd (none-some request (sym (all_done before legal place seat index reply batch
+      (in_front before more place (decide seat index reply batch) lt is)).none_left ∙ waits)))
       (λ le. le)
       (cases_lt place (length before))

@@ -1,7 +1,23 @@
 //! Courses by ids, lines, clients and datanodes.
 
 ghost use Rattle.std.specs.Prelude.{◌≡◌, ℕ, ◌<◌, ◌≤◌, ◌+◌, ◌^◌, ◌==◌, OnOk, OnErr, if◌then◌else◌};
-ghost use Rattle.oz_buffer.specs.courses.Courses.{asked_course, asked_line, course_at, decided_course, decided_line, id_key, line_at, line_key, node_at, said_line, told_at, told_line, unasked, unasked_line, untouched};
+ghost use Rattle.oz_buffer.specs.courses.Courses.{
+  asked_course,
+  asked_line,
+  course_at,
+  decided_course,
+  decided_line,
+  id_key,
+  line_at,
+  line_key,
+  node_at,
+  said_line,
+  told_at,
+  told_line,
+  unasked,
+  unasked_line,
+  untouched,
+};
 
 use crate::courses::OutOfMemory;
 use crate::courses::course::{Course, LineCourse, NodeCourse};

@@ -1,5 +1,31 @@
 -- What stands in the slots of a disk that is written to.
-use Rattle.std.proofs.Common.{◌≡◌, inl, inr, ℕ, Bool, false, ◌+◌, ◌-◌, ◌*◌, ◌≤◌, List, ◌++◌, length, take, drop, replicate, refl, sym, ◌∙◌, ap, subst, arith, length-append, length-take, append_assoc}
+use Rattle.std.proofs.Common.{
+  ◌≡◌,
+  inl,
+  inr,
+  ℕ,
+  Bool,
+  false,
+  ◌+◌,
+  ◌-◌,
+  ◌*◌,
+  ◌≤◌,
+  List,
+  ◌++◌,
+  length,
+  take,
+  drop,
+  replicate,
+  refl,
+  sym,
+  ◌∙◌,
+  ap,
+  subst,
+  arith,
+  length-append,
+  length-take,
+  append_assoc,
+}
 use Rattle.std.proofs.lemmas.Bool.{cases_lt, false≢true}
 use Rattle.std.proofs.lemmas.List.{take_at, drop_at, length-replicate}
 use Rattle.oz_world.specs.Disk.{overwritten, Torn, Same, Images}
@@ -55,7 +81,8 @@ keeps_then kept first second third one two slot is_kept within =
     let last = two slot is_kept between.0 in
     (last.0, last.1 ∙ between.1)
 
-pub write_spans : (kept : ℕ → Bool) (slot from to : ℕ) (old new : Images) → kept slot ≡ false → Spans (Torn (start_of slot) 16384) from to old new → Spans (Keeps kept) from to old new
+pub write_spans : (kept : ℕ → Bool) (slot from to : ℕ) (old new : Images) → kept slot ≡ false → Spans (Torn (start_of slot) 16384) from to old new
+    → Spans (Keeps kept) from to old new
 write_spans kept slot from to old new other spans = record {
   elapses = spans.elapses;
   made = λ t after past by h.
@@ -71,11 +98,13 @@ still_spans kept from to old new spans = record {
       (found.0, found.1, subst (λ (l : List ℕ). Keeps kept found.0 l) (sym found.2) (keeps_same kept found.0));
 }
 
-pub many_spans : (kept : ℕ → Bool) (from between to : ℕ) (old middle new : Images) → Spans (Keeps kept) from between old middle → Spans (Keeps kept) between to middle new → Spans (Keeps kept) from to old new
+pub many_spans : (kept : ℕ → Bool) (from between to : ℕ) (old middle new : Images) → Spans (Keeps kept) from between old middle
+    → Spans (Keeps kept) between to middle new → Spans (Keeps kept) from to old new
 many_spans kept from between to old middle new =
     spans_then (Keeps kept) (Keeps kept) (Keeps kept) from between to old middle new (λ x y h. h) (λ x y h. h) (keeps_then kept)
 
-pub images_keep : (kept : ℕ → Bool) (bytes : List ℕ) (from to : ℕ) (old new : Images) → LeavesOnly (Keeps kept bytes) from from old → Spans (Keeps kept) from to old new → LeavesOnly (Keeps kept bytes) from to new
+pub images_keep : (kept : ℕ → Bool) (bytes : List ℕ) (from to : ℕ) (old new : Images) → LeavesOnly (Keeps kept bytes) from from old
+    → Spans (Keeps kept) from to old new → LeavesOnly (Keeps kept bytes) from to new
 images_keep kept bytes from to old new first spans t left since by h = elim (cases_lt from t) [
   | inl later ↦
       let found = spans.made t left later by h in

@@ -55,8 +55,13 @@ module _ {D : Type 0} (told : D → Option (List ℕ)) (faults : D → ℕ) wher
   }
 
   pub count_never_falls : (old new : State D) → DisksGoOn told faults old new → count_of faults old ≤ count_of faults new
-  count_never_falls old new goes = both_never_fall (2 ^ 64 - 1) (faults (meta_of old)) (faults (slots_of old)) (faults (meta_of new)) (faults (slots_of new)) goes.meta_never_falls goes.slots_never_fall
+  count_never_falls old new goes =
+      both_never_fall (2 ^ 64 - 1) (faults (meta_of old)) (faults (slots_of old)) (faults (meta_of new))
+      (faults (slots_of new)) goes.meta_never_falls goes.slots_never_fall
 
-  pub count_rose : (old new : State D) → DisksGoOn told faults old new → Rose (faults (meta_of old)) (faults (meta_of new)) ⊎ Rose (faults (slots_of old)) (faults (slots_of new)) → Rose (count_of faults old) (count_of faults new)
-  count_rose old new goes (inl meta) = one_rose (2 ^ 64 - 1) (faults (meta_of old)) (faults (slots_of old)) (faults (meta_of new)) (faults (slots_of new)) goes.slots_never_fall meta
-  count_rose old new goes (inr slots) = other_rose (2 ^ 64 - 1) (faults (meta_of old)) (faults (slots_of old)) (faults (meta_of new)) (faults (slots_of new)) goes.meta_never_falls slots
+  pub count_rose : (old new : State D) → DisksGoOn told faults old new → Rose (faults (meta_of old)) (faults (meta_of new))
+      ⊎ Rose (faults (slots_of old)) (faults (slots_of new)) → Rose (count_of faults old) (count_of faults new)
+  count_rose old new goes (inl meta) =
+      one_rose (2 ^ 64 - 1) (faults (meta_of old)) (faults (slots_of old)) (faults (meta_of new)) (faults (slots_of new)) goes.slots_never_fall meta
+  count_rose old new goes (inr slots) =
+      other_rose (2 ^ 64 - 1) (faults (meta_of old)) (faults (slots_of old)) (faults (meta_of new)) (faults (slots_of new)) goes.meta_never_falls slots

@@ -43,7 +43,8 @@ none_between [] (x ∷ w) over under = absurd (by_order (nat_cmp x 0) refl under
 none_between (y ∷ v) [] over under = absurd (over refl)
 none_between (y ∷ v) (x ∷ w) over under = by_order (nat_cmp x y) refl over under (none_between v w)
   where
-    by_order : (o : Ordering) → nat_cmp x y ≡ o → (ordering_then o (cmp w v) ≡ Less → ⊥) → ordering_then o (cmp w (next v)) ≡ Less → ((cmp w v ≡ Less → ⊥) → cmp w (next v) ≡ Less → w ≡ v) → x ∷ w ≡ y ∷ v
+    by_order : (o : Ordering) → nat_cmp x y ≡ o → (ordering_then o (cmp w v) ≡ Less → ⊥) → ordering_then o (cmp w (next v)) ≡ Less
+        → ((cmp w v ≡ Less → ⊥) → cmp w (next v) ≡ Less → w ≡ v) → x ∷ w ≡ y ∷ v
     by_order Less e over under later = absurd (over refl)
     by_order Equal e over under later = λ i. nat_cmp-IsAntisymmetric x y e i ∷ later over under i
     by_order Greater e over under later = absurd (false≢true (ap is_lt under))
@@ -94,12 +95,17 @@ module _ (rows : Rows) (v : List ℕ) where
   buckets_rise b c e = first_less _ _ (sym (ap (λ o. ordering_then o (ordering_then (cmp b c) Equal)) (tied v)) ∙ e) (λ e. false≢true (ap is_lt e))
 
 -- a path of two names between one and the next one
-path_between : (v b w c : List ℕ) (low high : Ordering) → (high ≡ Less → ⊥) → (ordering_then (cmp w v) (ordering_then (cmp c b) low) ≡ Less → ⊥) → ordering_then (cmp w v) (ordering_then (cmp c (next b)) high) ≡ Less → (w ≡ v) × (c ≡ b)
+path_between : (v b w c : List ℕ) (low high : Ordering) → (high ≡ Less → ⊥) → (ordering_then (cmp w v) (ordering_then (cmp c b) low) ≡ Less → ⊥)
+    → ordering_then (cmp w v) (ordering_then (cmp c (next b)) high) ≡ Less → (w ≡ v) × (c ≡ b)
 path_between v b w c low high last over under = by_order (cmp w v) refl over under
   where
-    by_order : (o : Ordering) → cmp w v ≡ o → (ordering_then o (ordering_then (cmp c b) low) ≡ Less → ⊥) → ordering_then o (ordering_then (cmp c (next b)) high) ≡ Less → (w ≡ v) × (c ≡ b)
+    by_order : (o : Ordering) → cmp w v ≡ o → (ordering_then o (ordering_then (cmp c b) low) ≡ Less → ⊥)
+        → ordering_then o (ordering_then (cmp c (next b)) high) ≡ Less → (w ≡ v) × (c ≡ b)
     by_order Less e over under = absurd (over refl)
-    by_order Equal e over under = (slice_cmp-IsAntisymmetric nat_cmp-IsAntisymmetric w v e, none_between b c (λ f. over (ap (λ o. ordering_then o low) f)) (first_less _ _ under last))
+    by_order Equal e over under = (
+      slice_cmp-IsAntisymmetric nat_cmp-IsAntisymmetric w v e,
+      none_between b c (λ f. over (ap (λ o. ordering_then o low) f)) (first_less _ _ under last),
+    )
     by_order Greater e over under = absurd (false≢true (ap is_lt under))
 
 not_equal : Equal ≡ Less → ⊥
@@ -125,7 +131,8 @@ module _ (rows : Rows) (v b : List ℕ) where
 
   pub a_key : (key : RowKey) → IsBetween rows (first_key b) (first_key (next b)) key → (k : List ℕ) × (key ≡ keys.Key v b k)
   a_key (keys.Key w c k) is =
-      let same = path_between v b w c (ordering_then (cmp k []) Equal) (ordering_then (cmp k []) Equal) (then_nothing k Equal not_equal) is.not_below is.below in
+      let same = path_between v b w c (ordering_then (cmp k []) Equal) (ordering_then (cmp k []) Equal)
+      (then_nothing k Equal not_equal) is.not_below is.below in
       (k, λ i. keys.Key (same.0 i) (same.1 i) k)
   a_key (keys.Volume w) is = absurd (is.not_below refl)
   a_key (keys.Bucket w c) is = absurd (is.not_below refl)

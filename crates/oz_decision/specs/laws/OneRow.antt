@@ -1,5 +1,32 @@
 -- What a decision owes that changes one row, or none.
-use Rattle.std.proofs.Common.{◌≡◌, ◌≤◌, ◌↔◌, ℕ, Bool, true, false, List, [], ◌∷◌, ◌++◌, length, Option, None, Some, IsSome, is_some, cond, refl, sym, ◌∙◌, ap, subst, arith, inl, append-nil}
+use Rattle.std.proofs.Common.{
+  ◌≡◌,
+  ◌≤◌,
+  ◌↔◌,
+  ℕ,
+  Bool,
+  true,
+  false,
+  List,
+  [],
+  ◌∷◌,
+  ◌++◌,
+  length,
+  Option,
+  None,
+  Some,
+  IsSome,
+  is_some,
+  cond,
+  refl,
+  sym,
+  ◌∙◌,
+  ap,
+  subst,
+  arith,
+  inl,
+  append-nil,
+}
 use mathlib.Core.Bool.{false≢true}
 use Rattle.std.proofs.lemmas.Option.{same_Some}
 use Rattle.oz_fields.specs.declared.block.Block.{Block}
@@ -30,7 +57,8 @@ some_apart : {A : Type 0} {a : A} → Some a ≡ None → ⊥
 some_apart e = false≢true (sym (ap is_some e))
 
 -- rows in the grammar stay so where one that fits takes the place of another
-pub fit_replaced : (all : Rows) (key : RowKey) (row : Option Row) → ((r : Row) → row ≡ Some r → RowFits key r) → AreInGrammar all → AreInGrammar (replaced all key row)
+pub fit_replaced : (all : Rows) (key : RowKey) (row : Option Row) → ((r : Row) → row ≡ Some r → RowFits key r) → AreInGrammar all
+    → AreInGrammar (replaced all key row)
 fit_replaced all key row fits fit q r e = by_test (is_same key q) refl
   where
     by_test : (t : Bool) → is_same key q ≡ t → RowFits q r
@@ -61,7 +89,8 @@ module _ (all : Rows) (fit : AreInGrammar all) where
   nothing_is_safe = record { batch = nothing_is_batch all; size = omega arith; fit = fit }
 
   -- a row whose base is there may be put
-  pub put_is_safe : (key : RowKey) (row : Row) → RowFits key row → ((base : RowKey) → base_of key row ≡ Some base → IsSome (all base)) → IsSafe all (batch_bytes (Put key row ∷ [])) (put key row ∷ [])
+  pub put_is_safe : (key : RowKey) (row : Row) → RowFits key row → ((base : RowKey) → base_of key row ≡ Some base → IsSome (all base))
+      → IsSafe all (batch_bytes (Put key row ∷ [])) (put key row ∷ [])
   put_is_safe key row fits based =
       let bytes = append-nil (operation_bytes (Put key row)) in
       record {
@@ -71,7 +100,9 @@ module _ (all : Rows) (fit : AreInGrammar all) where
       }
 
   -- a row that is there may go where none stands on it
-  pub removal_is_safe : (key : RowKey) → KeyFits key → IsSome (all key) → ((other : RowKey) (row : Row) → all other ≡ Some row → base_of other row ≡ Some key → ⊥) → IsSafe all (batch_bytes (Remove key ∷ [])) (gone key ∷ [])
+  pub removal_is_safe : (key : RowKey) → KeyFits key → IsSome (all key)
+      → ((other : RowKey) (row : Row) → all other ≡ Some row → base_of other row ≡ Some key → ⊥)
+      → IsSafe all (batch_bytes (Remove key ∷ [])) (gone key ∷ [])
   removal_is_safe key fits there unneeded =
       let bytes = append-nil (operation_bytes (Remove key)) in
       record {
@@ -81,7 +112,8 @@ module _ (all : Rows) (fit : AreInGrammar all) where
       }
 
 -- no block moves where the rows of keys, open keys and deleted keys are as they were
-pub homes_kept : (all now : Rows) (granted : Option Block) (Gone : Block → Type 0) → ((key : RowKey) → IsHome key → now key ≡ all key) → KeepsBlocks all now granted Gone
+pub homes_kept : (all now : Rows) (granted : Option Block) (Gone : Block → Type 0) → ((key : RowKey) → IsHome key → now key ≡ all key)
+    → KeepsBlocks all now granted Gone
 homes_kept all now granted Gone same = record {
   none_lost = λ block had. inl (record {
     key = had.key;
@@ -104,7 +136,8 @@ no_home_kept all key row no_home q home = by_test (is_same key q) refl
     by_test false e = refl
 
 -- a decision that changes nothing
-pub nothing_changes : (Sound : Rows → Type 0) (all : Rows) (namespace : Namespace) (request : Request) (reply : Reply) → Stand Sound all namespace → Answers namespace request reply → after namespace request reply ≡ namespace → Meets Sound all namespace request reply [] []
+pub nothing_changes : (Sound : Rows → Type 0) (all : Rows) (namespace : Namespace) (request : Request) (reply : Reply) → Stand Sound all namespace
+    → Answers namespace request reply → after namespace request reply ≡ namespace → Meets Sound all namespace request reply [] []
 nothing_changes Sound all namespace request reply stand answers same = record {
   answers = answers;
   batch = nothing_is_batch all;
@@ -121,7 +154,9 @@ pub stand_but_renames : (all : Rows) (namespace : Namespace) → Stand IsSound a
 stand_but_renames all namespace stand = record { fit = stand.fit; stands = stand.stands; sound = most all stand.sound }
 
 -- a decision that keeps what renamed rows say keeps rows sound in all
-pub meets_in_all : (all : Rows) (namespace : Namespace) (request : Request) (reply : Reply) (bytes : List ℕ) (changes : List Change) → Meets IsSoundButRenames all namespace request reply bytes changes → RenamesAreSound (after_changes changes all) → Meets IsSound all namespace request reply bytes changes
+pub meets_in_all : (all : Rows) (namespace : Namespace) (request : Request) (reply : Reply) (bytes : List ℕ) (changes : List Change)
+    → Meets IsSoundButRenames all namespace request reply bytes changes → RenamesAreSound (after_changes changes all)
+    → Meets IsSound all namespace request reply bytes changes
 meets_in_all all namespace request reply bytes changes meets renames = record {
   answers = meets.answers;
   batch = meets.batch;

@@ -44,7 +44,8 @@ pub passed : (l : List Refusal) → first_of l ≡ None → AllByRecursion (λ (
 passed [] e = tt
 passed (r ∷ l) e = by_test r.applies refl (passed l)
   where
-    by_test : (t : Bool) → r.applies ≡ t → (first_of l ≡ None → AllByRecursion (λ (r : Refusal). r.applies ≡ false) l) → (r.applies ≡ false) × AllByRecursion (λ (r : Refusal). r.applies ≡ false) l
+    by_test : (t : Bool) → r.applies ≡ t → (first_of l ≡ None → AllByRecursion (λ (r : Refusal). r.applies ≡ false) l) → (r.applies ≡ false)
+        × AllByRecursion (λ (r : Refusal). r.applies ≡ false) l
     by_test false is later = (is, later (sym (ap (λ (t : Bool). cond t (Some r.code) (first_of l)) is) ∙ e))
     by_test true is later = absurd (false≢true (sym (ap is_some (sym (ap (λ (t : Bool). cond t (Some r.code) (first_of l)) is) ∙ e))))
 
@@ -54,8 +55,10 @@ not_refused None reply result apart e = refl
 not_refused (Some code) reply result apart e = absurd (apart code e)
 
 -- a name that is none is what is refused first
-pub refused : (Sound : Rows → Type 0) (all : Rows) (namespace : Namespace) (request : Request) (code : Code) → name_fault request ≡ Some code → Stand Sound all namespace → Meets Sound all namespace request (replies.Code code) [] []
+pub refused : (Sound : Rows → Type 0) (all : Rows) (namespace : Namespace) (request : Request) (code : Code) → name_fault request ≡ Some code
+    → Stand Sound all namespace → Meets Sound all namespace request (replies.Code code) [] []
 unfolding Answers
 refused Sound all namespace request code e stand =
     let scope = scope_of namespace (volume_in request) in
-    nothing_changes Sound all namespace request (replies.Code code) stand (refused_so scope request code (refused_by_name scope request code e)) (stays namespace request (replies.Code code) refl)
+    nothing_changes Sound all namespace request (replies.Code code) stand (refused_so scope request code (refused_by_name scope request code e))
+    (stays namespace request (replies.Code code) refl)

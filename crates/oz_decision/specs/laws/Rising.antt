@@ -69,26 +69,31 @@ module _ {K : Type 0} (R : K → K → Ordering) (o : IsTotalOrder R) (one : IsA
   not_both x y here there = false≢true (sym (ap is_lt (o.antisymm x y ∙ ap ordering_reverse there)) ∙ ap is_lt here)
 
   -- rising lists that have the same are one
-  pub same_rising : (a b : List K) → Rises a → Rises b → ((q : K) → among q a ≡ true → among q b ≡ true) → ((q : K) → among q b ≡ true → among q a ≡ true) → a ≡ b
+  pub same_rising : (a b : List K) → Rises a → Rises b → ((q : K) → among q a ≡ true → among q b ≡ true) → ((q : K) → among q b ≡ true → among q a ≡ true)
+      → a ≡ b
   same_rising [] [] rise_a rise_b to from = refl
   same_rising [] (y ∷ b) rise_a rise_b to from = absurd (false≢true (from y (among_head y b)))
   same_rising (x ∷ a) [] rise_a rise_b to from = absurd (false≢true (to x (among_head x a)))
   same_rising (x ∷ a) (y ∷ b) rise_a rise_b to from = both (same_rising a b rise_a.1 rise_b.1 to_rest from_rest)
     where
       first : x ≡ y
-      first = among_cases x y b (to x (among_head x a)) (λ e. e) (λ in_b. among_cases y x a (from y (among_head y b)) sym (λ in_a. absurd (not_both x y (below_those x y a rise_a.0 in_a) (below_those y x b rise_b.0 in_b))))
+      first = among_cases x y b (to x (among_head x a)) (λ e. e)
+          (λ in_b. among_cases y x a (from y (among_head y b)) sym
+          (λ in_a. absurd (not_both x y (below_those x y a rise_a.0 in_a) (below_those y x b rise_b.0 in_b))))
 
       to_rest : (q : K) → among q a ≡ true → among q b ≡ true
       to_rest q e = among_cases q y b (to q (among_later q x a e)) (λ same. absurd (apart x q (below_those x q a rise_a.0 e) (first ∙ sym same))) (λ in_b. in_b)
 
       from_rest : (q : K) → among q b ≡ true → among q a ≡ true
-      from_rest q e = among_cases q x a (from q (among_later q y b e)) (λ same. absurd (apart y q (below_those y q b rise_b.0 e) (sym first ∙ sym same))) (λ in_a. in_a)
+      from_rest q e = among_cases q x a (from q (among_later q y b e)) (λ same. absurd (apart y q (below_those y q b rise_b.0 e) (sym first ∙ sym same)))
+          (λ in_a. in_a)
 
       both : a ≡ b → x ∷ a ≡ y ∷ b
       both others = λ i. first i ∷ others i
 
   -- lists without repetitions that have the same are of one length
-  pub same_size : (a b : List K) → AllDiffer a → AllDiffer b → AllByRecursion (λ x. among x b ≡ true) a → AllByRecursion (λ x. among x a ≡ true) b → length a ≡ length b
+  pub same_size : (a b : List K) → AllDiffer a → AllDiffer b → AllByRecursion (λ x. among x b ≡ true) a → AllByRecursion (λ x. among x a ≡ true) b
+      → length a ≡ length b
   same_size a b differ_a differ_b to from =
       let up = no_longer (eq_by_cmp R) same_is a b differ_a to in
       let down = no_longer (eq_by_cmp R) same_is b a differ_b from in

@@ -1,5 +1,34 @@
 -- What the tests of a session's row tell.
-use Rattle.std.proofs.Common.{◌≡◌, ◌≤◌, ◌<◌, ℕ, Bool, true, false, ◌&&◌, ◌+◌, nat_le, nat_lt, List, [], ◌∷◌, ◌++◌, length, Option, None, Some, is_some, cond, get_or, refl, sym, ◌∙◌, ap, subst, arith}
+use Rattle.std.proofs.Common.{
+  ◌≡◌,
+  ◌≤◌,
+  ◌<◌,
+  ℕ,
+  Bool,
+  true,
+  false,
+  ◌&&◌,
+  ◌+◌,
+  nat_le,
+  nat_lt,
+  List,
+  [],
+  ◌∷◌,
+  ◌++◌,
+  length,
+  Option,
+  None,
+  Some,
+  is_some,
+  cond,
+  get_or,
+  refl,
+  sym,
+  ◌∙◌,
+  ap,
+  subst,
+  arith,
+}
 use mathlib.Core.Bool.{false≢true}
 use Rattle.std.proofs.lemmas.Bool.Decides.{nat_tests}
 use Rattle.std.specs.List.{AllByRecursion, list_all}
@@ -87,7 +116,8 @@ open_row number row e = absurd (false≢true e)
 
 -- in the grammar each row of a session's key is one
 pub row_is_open : (v b k : List ℕ) (number : ℕ) (row : Row) → RowFits (keys.Open v b k number) row → is_open number (Some row) ≡ true
-row_is_open v b k number (rows.Open blocks) fits = let least = fits.0.3.0 in both (nat_lt 0 number) _ (from_under 0 number (omega (arith, least))) (blocks_are_good blocks fits.1)
+row_is_open v b k number (rows.Open blocks) fits = let least =
+    fits.0.3.0 in both (nat_lt 0 number) _ (from_under 0 number (omega (arith, least))) (blocks_are_good blocks fits.1)
 row_is_open v b k number row fits = absurd fits.1
 
 -- good names
@@ -97,7 +127,9 @@ module _ (v b k : List ℕ) (others : List Named) (named : first_fault (volume_n
   key_named_well false e =
       let volume = volume_name-from v (volume_fits v (bucket_named b ∷ key_named k ∷ others) named) in
       let bucket = volume_name-from b (bucket_fits v b (key_named k ∷ others) named) in
-      let code : first_fault (volume_named v ∷ bucket_named b ∷ key_named k ∷ others) ≡ Some InvalidKeyName = λ i. cond (volume i) (cond (bucket i) (cond (e i) (first_fault others) (Some InvalidKeyName)) (Some InvalidBucketName)) (Some InvalidVolumeName) in
+      let code : first_fault (volume_named v ∷ bucket_named b ∷ key_named k ∷ others) ≡ Some InvalidKeyName =
+      λ i. cond (volume i) (cond (bucket i) (cond (e i) (first_fault others) (Some InvalidKeyName)) (Some InvalidBucketName))
+      (Some InvalidVolumeName) in
       absurd (false≢true (ap is_some (sym named ∙ code)))
 
   pub volume_is : IsVolumeName v
@@ -118,9 +150,14 @@ size_with_one [] x = refl
 size_with_one (y ∷ l) x = omega (arith, size_with_one l x)
 
 -- blocks that stand in a deleted row under the local id of the first
-pub deleted_fits : (v b k : List ℕ) → name_fault (DeleteKey v b k) ≡ None → (first : Block) (others : List Block) → AreItems IsBlock (first ∷ others) → RowFits (keys.Deleted v b 0 k first.local) (rows.Deleted (first ∷ others))
+pub deleted_fits : (v b k : List ℕ) → name_fault (DeleteKey v b k) ≡ None → (first : Block) (others : List Block) → AreItems IsBlock (first ∷ others)
+    → RowFits (keys.Deleted v b 0 k first.local) (rows.Deleted (first ∷ others))
 deleted_fits v b k named first others fit = ((volume_is v b k [] named, bucket_is v b k [] named, (omega arith), key_is v b k [] named, fit.1.0.1), (fit, refl))
 
-pub deleted_of : (v b k : List ℕ) → name_fault (DeleteKey v b k) ≡ None → (blocks lent : List Block) (first : Block) → lent ≡ blocks → 0 < length lent → first ≡ get_or lent 0 first → AreItems IsBlock blocks → RowFits (keys.Deleted v b 0 k first.local) (rows.Deleted blocks)
+pub deleted_of : (v b k : List ℕ) → name_fault (DeleteKey v b k) ≡ None → (blocks lent : List Block) (first : Block) → lent ≡ blocks → 0 < length lent
+    → first ≡ get_or lent 0 first → AreItems IsBlock blocks → RowFits (keys.Deleted v b 0 k first.local) (rows.Deleted blocks)
 deleted_of v b k named blocks [] first same some e fit = absurd (omega (arith, some))
-deleted_of v b k named blocks (x ∷ l) first same some e fit = subst (λ (f : Block). RowFits (keys.Deleted v b 0 k f.local) (rows.Deleted blocks)) (sym e) (subst (λ (bs : List Block). RowFits (keys.Deleted v b 0 k x.local) (rows.Deleted bs)) same (deleted_fits v b k named x l (subst (AreItems IsBlock) (sym same) fit)))
+deleted_of v b k named blocks (x ∷ l) first same some e fit =
+    subst (λ (f : Block). RowFits (keys.Deleted v b 0 k f.local) (rows.Deleted blocks)) (sym e)
+    (subst (λ (bs : List Block). RowFits (keys.Deleted v b 0 k x.local) (rows.Deleted bs)) same
+    (deleted_fits v b k named x l (subst (AreItems IsBlock) (sym same) fit)))

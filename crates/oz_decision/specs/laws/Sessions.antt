@@ -35,8 +35,11 @@ pub one_name : (a b : List ℕ) → is_same_name a b ≡ true → a ≡ b
 one_name a b e = same_text a b (sym e)
 
 -- where the names are good, what isn't there is tested, and then the request's own codes
-pub own_refusals : (scope : Scope) (request : Request) → name_fault request ≡ None → refusal scope request ≡ first_of (missing scope request ++ codes scope request)
-own_refusals scope request named = in_order scope request ∙ ap (λ fault. or_then fault (or_then (first_of (missing scope request)) (first_of (codes scope request)))) named ∙ sym (one_then_other (missing scope request) (codes scope request))
+pub own_refusals : (scope : Scope) (request : Request) → name_fault request ≡ None
+    → refusal scope request ≡ first_of (missing scope request ++ codes scope request)
+own_refusals scope request named = in_order scope request
+    ∙ ap (λ fault. or_then fault (or_then (first_of (missing scope request)) (first_of (codes scope request)))) named
+    ∙ sym (one_then_other (missing scope request) (codes scope request))
 
 pub first_found : (some others : List Refusal) (code : Option Code) (c : Code) → code ≡ Some c → code ≡ first_of some → Some c ≡ first_of (some ++ others)
 first_found some others code c is e = ap (λ o. or_then o (first_of others)) (sym is ∙ e) ∙ sym (one_then_other some others)
@@ -59,7 +62,8 @@ module _ (all : Rows) (v b : List ℕ) (namespace : Namespace) (stand : Stand Is
       (λ e. both.0 (same ∙ e), λ e. sym same ∙ both.1 e)
 
   -- a session's row shows the session
-  pub session_is : (k : List ℕ) (n : ℕ) → is_open n (all (keys.Open v b k n)) ≡ true → get bucket.sessions n ≡ Some (record { key = k; blocks = blocks_at (all (keys.Open v b k n)) })
+  pub session_is : (k : List ℕ) (n : ℕ) → is_open n (all (keys.Open v b k n)) ≡ true
+      → get bucket.sessions n ≡ Some (record { key = k; blocks = blocks_at (all (keys.Open v b k n)) })
   session_is k n e = (session_stands n (record { key = k; blocks = blocks_at (all (keys.Open v b k n)) })).1 (open_row n _ e).is
 
   pub blocks_are : (k : List ℕ) (n : ℕ) → is_open n (all (keys.Open v b k n)) ≡ true → session_blocks bucket n ≡ blocks_at (all (keys.Open v b k n))
@@ -76,7 +80,8 @@ module _ (all : Rows) (v b : List ℕ) (namespace : Namespace) (stand : Stand Is
       by_test false same = refl
       by_test true same =
           let there = (session_stands n s).0 e in
-          let here : all (keys.Open v b k n) ≡ Some (rows.Open s.blocks) = subst (λ q. all (keys.Open v b q n) ≡ Some (rows.Open s.blocks)) (one_name s.key k same) there in
+          let here : all (keys.Open v b k n) ≡ Some (rows.Open s.blocks) =
+          subst (λ q. all (keys.Open v b q n) ≡ Some (rows.Open s.blocks)) (one_name s.key k same) there in
           absurd (false≢true (sym (ap is_some none) ∙ ap is_some here))
 
   -- whether the session is there, its row says
@@ -97,7 +102,9 @@ module _ (all : Rows) (v b : List ℕ) (namespace : Namespace) (stand : Stand Is
   scope = scope_of namespace v
 
   -- in a bucket that is there, the session is missing or isn't
-  pub session_missing : (k : List ℕ) (n : ℕ) (code : Option Code) (t : Bool) → code ≡ None → code ≡ first_of (no_volume scope ∷ no_bucket scope b ∷ []) → t ≡ is_open n (all (keys.Open v b k n)) → cond t None (Some KeyNotFound) ≡ first_of (no_volume scope ∷ no_bucket scope b ∷ no_session bucket k n ∷ [])
+  pub session_missing : (k : List ℕ) (n : ℕ) (code : Option Code) (t : Bool) → code ≡ None → code ≡ first_of (no_volume scope ∷ no_bucket scope b ∷ [])
+      → t ≡ is_open n (all (keys.Open v b k n))
+      → cond t None (Some KeyNotFound) ≡ first_of (no_volume scope ∷ no_bucket scope b ∷ no_session bucket k n ∷ [])
   session_missing k n code t none e is =
       turned t KeyNotFound ∙ ap (λ (u : Bool). cond (not u) (Some KeyNotFound) None) (is ∙ sym (row_tells k n))
       ∙ none_found (no_volume scope ∷ no_bucket scope b ∷ []) (no_session bucket k n ∷ []) code none e

@@ -96,7 +96,8 @@ module _ (all : Rows) (v b k : List ℕ) (n : ℕ) (sessions changed : FinMap na
   session_at : (m : ℕ) (s : Session) → m ≡ n → get sessions m ≡ Some s → k ≡ s.key
   session_at m s same e = ap (λ (x : Session). x.key) (same_Some (session_of k blocks) s (sym was ∙ ap (get sessions) (sym same) ∙ e))
 
-  at_number : (m : ℕ) (s : Session) → is_number m n ≡ true → (t : Bool) → is_same here (keys.Open v b s.key m) ≡ t → (session_with k new ≡ Some s) ↔ (cond t (row_with new) (all (keys.Open v b s.key m)) ≡ Some (rows.Open s.blocks))
+  at_number : (m : ℕ) (s : Session) → is_number m n ≡ true → (t : Bool) → is_same here (keys.Open v b s.key m) ≡ t
+      → (session_with k new ≡ Some s) ↔ (cond t (row_with new) (all (keys.Open v b s.key m)) ≡ Some (rows.Open s.blocks))
   at_number m s e true f =
       let same = same_is_one here (keys.Open v b s.key m) f in
       let key : k ≡ s.key = cc in
@@ -111,7 +112,8 @@ module _ (all : Rows) (v b k : List ℕ) (n : ℕ) (sessions changed : FinMap na
     where
       by_number : (t : Bool) → is_number m n ≡ t → (get changed m ≡ Some s) ↔ (row_now s.key m ≡ Some (rows.Open s.blocks))
       by_number false e =
-          let row : row_now s.key m ≡ all (keys.Open v b s.key m) = ap (λ (t : Bool). cond t (row_with new) (all (keys.Open v b s.key m))) (other_number m s.key e) in
+          let row : row_now s.key m ≡ all (keys.Open v b s.key m) =
+          ap (λ (t : Bool). cond t (row_with new) (all (keys.Open v b s.key m))) (other_number m s.key e) in
           let found : get changed m ≡ get sessions m = gets m ∙ ap (λ (t : Bool). cond t (session_with k new) (get sessions m)) e in
           (λ g. row ∙ (stood m s).0 (sym found ∙ g), λ g. found ∙ (stood m s).1 (sym row ∙ g))
       by_number true e =
@@ -120,9 +122,11 @@ module _ (all : Rows) (v b k : List ℕ) (n : ℕ) (sessions changed : FinMap na
           (λ g. both.0 (sym found ∙ g), λ g. found ∙ both.1 g)
 
 -- snapshots stand where their rows are as they were
-module _ (all now : Rows) (same : (v b : List ℕ) (n : ℕ) → now (keys.Snapshot v b n) ≡ all (keys.Snapshot v b n)) (same_keys : (v b : List ℕ) (n : ℕ) (k : List ℕ) → now (keys.SnapshotKey v b n k) ≡ all (keys.SnapshotKey v b n k)) where
+module _ (all now : Rows) (same : (v b : List ℕ) (n : ℕ) → now (keys.Snapshot v b n) ≡ all (keys.Snapshot v b n))
+    (same_keys : (v b : List ℕ) (n : ℕ) (k : List ℕ) → now (keys.SnapshotKey v b n k) ≡ all (keys.SnapshotKey v b n k)) where
   snapshot_again : (v b : List ℕ) (n : ℕ) (snapshot : Snapshot) → IsSnapshot all v b n snapshot → IsSnapshot now v b n snapshot
-  snapshot_again v b n snapshot is = record { previous = is.previous; row = same v b n ∙ is.row; pieces = λ k. is.pieces k ∙ ap pieces_in (sym (same_keys v b n k)) }
+  snapshot_again v b n snapshot is =
+      record { previous = is.previous; row = same v b n ∙ is.row; pieces = λ k. is.pieces k ∙ ap pieces_in (sym (same_keys v b n k)) }
 
   each_again : (v b numbers : List ℕ) (snapshots : List Snapshot) → AreSnapshots all v b numbers snapshots → AreSnapshots now v b numbers snapshots
   each_again v b [] [] are = tt
@@ -150,13 +154,17 @@ pub pieces_at : (o : Option Bucket) (q : List ℕ) → option_and_then (λ (b : 
 pieces_at None q = sym (get-empty (slice_cmp nat_cmp) q)
 pieces_at (Some bucket) q = refl
 
-pub stripes_again : (all now : Rows) → ((n : ℕ) → now (keys.Stripe n) ≡ all (keys.Stripe n)) → (l : List ℕ) → map (λ stripe. drawn_in (all (keys.Stripe stripe))) l ≡ map (λ stripe. drawn_in (now (keys.Stripe stripe))) l
+pub stripes_again : (all now : Rows) → ((n : ℕ) → now (keys.Stripe n) ≡ all (keys.Stripe n)) → (l : List ℕ)
+    → map (λ stripe. drawn_in (all (keys.Stripe stripe))) l ≡ map (λ stripe. drawn_in (now (keys.Stripe stripe))) l
 stripes_again all now same [] = refl
 stripes_again all now same (n ∷ l) = λ i. drawn_in (sym (same n) i) ∷ stripes_again all now same l i
 
 -- the bucket that was put is there
-pub bucket_put : (namespace : Namespace) (v b : List ℕ) (bucket : Bucket) → bucket_at (with_volume namespace v (insert (buckets_at namespace v) b bucket)) v b ≡ bucket
+pub bucket_put : (namespace : Namespace) (v b : List ℕ) (bucket : Bucket)
+    → bucket_at (with_volume namespace v (insert (buckets_at namespace v) b bucket)) v b ≡ bucket
 bucket_put namespace v b bucket =
     let buckets = insert (buckets_at namespace v) b bucket in
-    ap (λ (o : Option (ByName Bucket)). bucket_or_new (option_and_then (λ bs. get bs b) o)) (get-insert nat_list_cmp_total namespace.volumes v buckets v ∙ ap (λ (t : Bool). cond t (Some buckets) (buckets_of namespace v)) (itself_name v))
-    ∙ ap bucket_or_new (get-insert nat_list_cmp_total (buckets_at namespace v) b bucket b ∙ ap (λ (t : Bool). cond t (Some bucket) (get (buckets_at namespace v) b)) (itself_name b))
+    ap (λ (o : Option (ByName Bucket)). bucket_or_new (option_and_then (λ bs. get bs b) o))
+    (get-insert nat_list_cmp_total namespace.volumes v buckets v ∙ ap (λ (t : Bool). cond t (Some buckets) (buckets_of namespace v)) (itself_name v))
+    ∙ ap bucket_or_new (get-insert nat_list_cmp_total (buckets_at namespace v) b bucket b
+    ∙ ap (λ (t : Bool). cond t (Some bucket) (get (buckets_at namespace v) b)) (itself_name b))

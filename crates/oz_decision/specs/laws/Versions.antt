@@ -55,5 +55,6 @@ each_good (piece ∷ pieces) all = both (is_good piece.block) _ (block_is_good p
 
 -- a key's row in the grammar keeps the rules
 pub version_is_good : (v b k : List ℕ) (row : Row) → RowFits (keys.Key v b k) row → is_version (Some row) ≡ true
-version_is_good v b k (rows.Key number pieces) fits = both (nat_le (length pieces) 256) _ (from_at_most (length pieces) 256 fits.1.1.0) (each_good pieces fits.1.1.1)
+version_is_good v b k (rows.Key number pieces) fits =
+    both (nat_le (length pieces) 256) _ (from_at_most (length pieces) 256 fits.1.1.0) (each_good pieces fits.1.1.1)
 version_is_good v b k row fits = refl

@@ -1,5 +1,36 @@
 -- A walk from key to key finds all keys between two.
-use Rattle.std.proofs.Common.{◌≡◌, ◌<◌, ◌≤◌, ◌-◌, ℕ, suc, Bool, true, false, ◌||◌, List, [], ◌∷◌, ◌++◌, length, None, is_some, refl, sym, ◌∙◌, ap, subst, arith, inl, inr, ◌⊎◌, append-nil, append_assoc, get_or, ◌+◌}
+use Rattle.std.proofs.Common.{
+  ◌≡◌,
+  ◌<◌,
+  ◌≤◌,
+  ◌-◌,
+  ℕ,
+  suc,
+  Bool,
+  true,
+  false,
+  ◌||◌,
+  List,
+  [],
+  ◌∷◌,
+  ◌++◌,
+  length,
+  None,
+  is_some,
+  refl,
+  sym,
+  ◌∙◌,
+  ap,
+  subst,
+  arith,
+  inl,
+  inr,
+  ◌⊎◌,
+  append-nil,
+  append_assoc,
+  get_or,
+  ◌+◌,
+}
 use mathlib.Core.Bool.{false≢true}
 use Rattle.std.specs.List.{AllByRecursion, list_any}
 use Rattle.std.specs.Ordering.{is_eq, is_gt}
@@ -61,7 +92,8 @@ either : (p : RowKey → Bool) (l m : List RowKey) → list_any p (l ++ m) ≡ t
 either p [] m e = inr e
 either p (x ∷ l) m e = by_test (p x) refl (either p l m)
   where
-    by_test : (t : Bool) → p x ≡ t → (list_any p (l ++ m) ≡ true → (list_any p l ≡ true) ⊎ (list_any p m ≡ true)) → (list_any p (x ∷ l) ≡ true) ⊎ (list_any p m ≡ true)
+    by_test : (t : Bool) → p x ≡ t → (list_any p (l ++ m) ≡ true → (list_any p l ≡ true) ⊎ (list_any p m ≡ true)) → (list_any p (x ∷ l) ≡ true)
+        ⊎ (list_any p m ≡ true)
     by_test true is later = inl (ap (λ (t : Bool). t || list_any p l) is)
     by_test false is later = elim (later (subst (λ (t : Bool). t || list_any p (l ++ m) ≡ true) is e)) [
       | inl here ↦ inl (ap (λ (t : Bool). t || list_any p l) is ∙ here)
@@ -110,7 +142,8 @@ module _ (all : Rows) (from to : RowKey) (absent : all from ≡ None) (kinds : k
     x_above : IsAbove all last x
     x_above = record {
       has_row = between_x.has_row;
-      same_kind = same_kind x between_x ∙ sym (last_has (λ k. kind_of k ≡ kind_of from) from found refl (all_kinds found (all_before _ found (x ∷ rest) are.each)));
+      same_kind = same_kind x between_x
+          ∙ sym (last_has (λ k. kind_of k ≡ kind_of from) from found refl (all_kinds found (all_before _ found (x ∷ rest) are.each)));
       above = last_under from x found rest (from_under x between_x) are.rise;
     }
       where
@@ -123,7 +156,8 @@ module _ (all : Rows) (from to : RowKey) (absent : all from ≡ None) (kinds : k
       not_over_x = is.least x x_above
 
       over_from : IsBelow key from → ⊥
-      over_from below = last_has (λ k. IsBelow k from → ⊥) from found (not_itself from) (all_over found (all_before _ found (x ∷ rest) are.each)) (key_order_total.trans last key from is.is_above.above below)
+      over_from below = last_has (λ k. IsBelow k from → ⊥) from found (not_itself from) (all_over found (all_before _ found (x ∷ rest) are.each))
+          (key_order_total.trans last key from is.is_above.above below)
         where
           all_over : (l : List RowKey) → AllByRecursion (IsBetween all from to) l → AllByRecursion (λ k. IsBelow k from → ⊥) l
           all_over [] each = tt
@@ -153,7 +187,9 @@ module _ (all : Rows) (from to : RowKey) (absent : all from ≡ None) (kinds : k
 
           by_test : (t : Bool) → is_same key x ≡ t → list_any (is_same key) (x ∷ rest) ≡ true → key ≡ x
           by_test true e there = same_is_one key x e
-          by_test false e there = absurd (not_over_x (over_x rest (behind_rises found (x ∷ rest) are.rise).0 (subst (λ (t : Bool). t || list_any (is_same key) rest ≡ true) e there)))
+          by_test false e there =
+              absurd (not_over_x (over_x rest (behind_rises found (x ∷ rest) are.rise).0
+              (subst (λ (t : Bool). t || list_any (is_same key) rest ≡ true) e there)))
 
   -- one step further
   pub steps : (found now : List RowKey) (left : ℕ) → 0 < left → IsStep all from found now → Walked all from to found left → Walked all from to now (left - 1)

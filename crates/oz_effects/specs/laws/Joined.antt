@@ -31,15 +31,18 @@ changes_join [] b key row = refl
 changes_join (change ∷ a) b key row = changes_join a b key _
 
 -- a batch and a second over the rows after it
-pub batches_are_one : (rows : Rows) (bytes later : List ℕ) (changes others : List Change) → IsBatchOf rows bytes changes → IsBatchOf (after_changes changes rows) later others → IsBatchOf rows (bytes ++ later) (changes ++ others)
+pub batches_are_one : (rows : Rows) (bytes later : List ℕ) (changes others : List Change) → IsBatchOf rows bytes changes
+    → IsBatchOf (after_changes changes rows) later others → IsBatchOf rows (bytes ++ later) (changes ++ others)
 batches_are_one rows bytes later changes others first second = record {
   items = first.items ++ second.items;
   fit = operations_join first.items second.items first.fit second.fit;
-  bytes_are = ap (λ (text : List ℕ). text ++ later) first.bytes_are ∙ ap (λ (text : List ℕ). batch_bytes first.items ++ text) second.bytes_are ∙ sym (flat_map-append operation_bytes first.items second.items);
+  bytes_are = ap (λ (text : List ℕ). text ++ later) first.bytes_are ∙ ap (λ (text : List ℕ). batch_bytes first.items ++ text) second.bytes_are
+      ∙ sym (flat_map-append operation_bytes first.items second.items);
   comes = λ all are based.
       let one = first.comes all are based in
       let rise = leads_rise all first.items one.after one.leads are.in_order in
-      let between : AreRows one.after (after_changes changes rows) = record { in_order = rise; rows_are = λ key. one.rows_are key ∙ ap (row_after changes key) (are.rows_are key) } in
+      let between : AreRows one.after (after_changes changes rows) =
+      record { in_order = rise; rows_are = λ key. one.rows_are key ∙ ap (row_after changes key) (are.rows_are key) } in
       let two = second.comes one.after between one.based in
       record {
         after = two.after;

@@ -46,7 +46,13 @@ module _ (l after : List RowEntry) (key : RowKey) (row : Row) (rows : (q : RowKe
           let here = sym (rows q ∙ ap (λ (t : Bool). cond t (Some row) (row_of l q)) e) ∙ orphan.stands in
           let needs = ap (λ k. base_of k row) (same_is_one key q e) ∙ ap (base_of q) (some_inside row row orphan.row here) ∙ orphan.needs in
           false≢true (sym (ap is_some (stays base orphan.absent)) ∙ needed base needs)
-      by_test false e = based q base (record { row = orphan.row; stands = sym (rows q ∙ ap (λ (t : Bool). cond t (Some row) (row_of l q)) e) ∙ orphan.stands; needs = orphan.needs; absent = stays base orphan.absent })
+      by_test false e = based q base
+          (record {
+            row = orphan.row;
+            stands = sym (rows q ∙ ap (λ (t : Bool). cond t (Some row) (row_of l q)) e) ∙ orphan.stands;
+            needs = orphan.needs;
+            absent = stays base orphan.absent;
+          })
 
 -- a row that no other needs may go
 module _ (l after : List RowEntry) (key : RowKey) (rows : (q : RowKey) → row_of after q ≡ cond (is_same key q) None (row_of l q)) where
@@ -55,7 +61,9 @@ module _ (l after : List RowEntry) (key : RowKey) (rows : (q : RowKey) → row_o
     where
       by_test : (t : Bool) → is_same key q ≡ t → (s : Bool) → is_same key base ≡ s → ⊥
       by_test true e s f = some_apart (sym orphan.stands ∙ rows q ∙ ap (λ (t : Bool). cond t None (row_of l q)) e)
-      by_test false e true f = unneeded q orphan.row (sym (rows q ∙ ap (λ (t : Bool). cond t None (row_of l q)) e) ∙ orphan.stands) (orphan.needs ∙ ap Some (sym (same_is_one key base f)))
+      by_test false e true f =
+          unneeded q orphan.row (sym (rows q ∙ ap (λ (t : Bool). cond t None (row_of l q)) e) ∙ orphan.stands)
+          (orphan.needs ∙ ap Some (sym (same_is_one key base f)))
       by_test false e false f = based q base (record {
         row = orphan.row;
         stands = sym (rows q ∙ ap (λ (t : Bool). cond t None (row_of l q)) e) ∙ orphan.stands;
@@ -63,7 +71,8 @@ module _ (l after : List RowEntry) (key : RowKey) (rows : (q : RowKey) → row_o
         absent = sym (rows base ∙ ap (λ (t : Bool). cond t None (row_of l base)) f) ∙ orphan.absent;
       })
 
-pub put_is_batch : (rows : Rows) (key : RowKey) (row : Row) → RowFits key row → ((base : RowKey) → base_of key row ≡ Some base → IsSome (rows base)) → IsBatchOf rows (1 ∷ row_bytes key row) (put key row ∷ [])
+pub put_is_batch : (rows : Rows) (key : RowKey) (row : Row) → RowFits key row → ((base : RowKey) → base_of key row ≡ Some base → IsSome (rows base))
+    → IsBatchOf rows (1 ∷ row_bytes key row) (put key row ∷ [])
 unfolding Leads
 put_is_batch rows key row fits needed = record {
   items = Put key row ∷ [];
@@ -79,7 +88,8 @@ put_is_batch rows key row fits needed = record {
       };
 }
 
-pub removal_is_batch : (rows : Rows) (key : RowKey) → KeyFits key → IsSome (rows key) → ((other : RowKey) (row : Row) → rows other ≡ Some row → base_of other row ≡ Some key → ⊥) → IsBatchOf rows (2 ∷ key_bytes key) (gone key ∷ [])
+pub removal_is_batch : (rows : Rows) (key : RowKey) → KeyFits key → IsSome (rows key)
+    → ((other : RowKey) (row : Row) → rows other ≡ Some row → base_of other row ≡ Some key → ⊥) → IsBatchOf rows (2 ∷ key_bytes key) (gone key ∷ [])
 unfolding Leads
 removal_is_batch rows key fits there unneeded = record {
   items = Remove key ∷ [];
@@ -98,17 +108,25 @@ removal_is_batch rows key fits there unneeded = record {
 -- a batch without operations
 pub nothing_is_batch : (rows : Rows) → IsBatchOf rows [] []
 unfolding Leads
-nothing_is_batch rows = record { items = []; fit = tt; bytes_are = refl; comes = λ all are based. record { after = all; leads = refl; based = based; rows_are = λ q. refl } }
+nothing_is_batch rows =
+    record { items = []; fit = tt; bytes_are = refl; comes = λ all are based. record { after = all; leads = refl; based = based; rows_are = λ q. refl } }
 
-pub one_more : (before : List RowEntry) (last : Head) (bodies : List (List ℕ)) (all : List RowEntry) (head : Head) → BuildsFrom before last bodies all head → (bytes : List ℕ) (body : Operations) (after : List RowEntry) → IsNextBody head all bytes body after → BuildsFrom before last (bodies ++ bytes ∷ []) after (head_in body)
+pub one_more : (before : List RowEntry) (last : Head) (bodies : List (List ℕ)) (all : List RowEntry) (head : Head) → BuildsFrom before last bodies all head
+    → (bytes : List ℕ) (body : Operations) (after : List RowEntry) → IsNextBody head all bytes body after
+    → BuildsFrom before last (bodies ++ bytes ∷ []) after (head_in body)
 unfolding BuildsFrom
-one_more before last [] all head builds bytes body after next =
-    (body, after, subst (λ l. IsNextBody l before bytes body after) builds.1 (subst (λ rows. IsNextBody head rows bytes body after) builds.0 next), (refl, refl))
+one_more before last [] all head builds bytes body after next = (
+  body,
+  after,
+  subst (λ l. IsNextBody l before bytes body after) builds.1 (subst (λ rows. IsNextBody head rows bytes body after) builds.0 next),
+  (refl, refl),
+)
 one_more before last (first ∷ bodies) all head builds bytes body after next =
     (builds.0, builds.1, builds.2, one_more builds.1 (head_in builds.0) bodies all head builds.3 bytes body after next)
 
 -- what holds of the rows of bodies
-based_from : (before : List RowEntry) (last : Head) (bodies : List (List ℕ)) (all : List RowEntry) (head : Head) → BuildsFrom before last bodies all head → AllAreBased before → AllAreBased all
+based_from : (before : List RowEntry) (last : Head) (bodies : List (List ℕ)) (all : List RowEntry) (head : Head) → BuildsFrom before last bodies all head
+    → AllAreBased before → AllAreBased all
 unfolding BuildsFrom
 based_from before last [] all head builds based = subst AllAreBased (sym builds.0) based
 based_from before last (first ∷ bodies) all head builds based = based_from builds.1 (head_in builds.0) bodies all head builds.3 builds.2.based
@@ -121,18 +139,23 @@ unfolding Leads
 leads_rise before [] after leads rise = subst KeysRise (sym leads) rise
 leads_rise before (item ∷ items) after leads rise = leads_rise leads.0 items after leads.3 leads.2.in_order
 
-rise_from : (before : List RowEntry) (last : Head) (bodies : List (List ℕ)) (all : List RowEntry) (head : Head) → BuildsFrom before last bodies all head → KeysRise before → KeysRise all
+rise_from : (before : List RowEntry) (last : Head) (bodies : List (List ℕ)) (all : List RowEntry) (head : Head) → BuildsFrom before last bodies all head
+    → KeysRise before → KeysRise all
 unfolding BuildsFrom
 rise_from before last [] all head builds rise = subst KeysRise (sym builds.0) rise
-rise_from before last (first ∷ bodies) all head builds rise = rise_from builds.1 (head_in builds.0) bodies all head builds.3 (leads_rise before builds.0.items builds.1 builds.2.leads rise)
+rise_from before last (first ∷ bodies) all head builds rise =
+    rise_from builds.1 (head_in builds.0) bodies all head builds.3 (leads_rise before builds.0.items builds.1 builds.2.leads rise)
 
 -- there is one layout so far
-layout_from : (before : List RowEntry) (last : Head) (bodies : List (List ℕ)) (all : List RowEntry) (head : Head) → BuildsFrom before last bodies all head → last.layout ≡ 1 → head.layout ≡ 1
+layout_from : (before : List RowEntry) (last : Head) (bodies : List (List ℕ)) (all : List RowEntry) (head : Head) → BuildsFrom before last bodies all head
+    → last.layout ≡ 1 → head.layout ≡ 1
 unfolding BuildsFrom
 layout_from before last [] all head builds e = ap (λ (h : Head). h.layout) builds.1 ∙ e
 layout_from before last (first ∷ bodies) all head builds e = layout_from builds.1 (head_in builds.0) bodies all head builds.3 builds.2.body_is.0.0
 
-pub body_follows : (bodies : List (List ℕ)) (all : List RowEntry) (last index : ℕ) (batch : List ℕ) (changes : List Change) → Builds bodies all last → IsIndex index → last < index → IsBatchOf (row_of all) batch changes → (after : List RowEntry) × Builds (bodies ++ (head_bytes (new_head index) ++ batch) ∷ []) after index × AreRows after (after_changes changes (row_of all))
+pub body_follows : (bodies : List (List ℕ)) (all : List RowEntry) (last index : ℕ) (batch : List ℕ) (changes : List Change) → Builds bodies all last
+    → IsIndex index → last < index → IsBatchOf (row_of all) batch changes → (after : List RowEntry)
+    × Builds (bodies ++ (head_bytes (new_head index) ++ batch) ∷ []) after index × AreRows after (after_changes changes (row_of all))
 body_follows bodies all last index batch changes builds fits rises is =
     let rise = rise_from [] no_head bodies all builds.0 builds.1 tt in
     let comes = is.comes all (record { in_order = rise; rows_are = λ q. refl }) (bodies_based bodies all last builds) in

@@ -27,7 +27,8 @@ then_eq Greater p = refl
 pub eq_block : (a b : Block) → is_eq (block_order a b) ≡ is_same_block a b
 eq_block a b =
     then_eq (nat_cmp a.container b.container) (nat_cmp a.local b.local)
-    ∙ (ap (λ (t : Bool). t && is_eq (nat_cmp a.local b.local)) (eq_number a.container b.container) ∙ ap (λ (t : Bool). eqb a.container b.container && t) (eq_number a.local b.local))
+    ∙ (ap (λ (t : Bool). t && is_eq (nat_cmp a.local b.local)) (eq_number a.container b.container)
+    ∙ ap (λ (t : Bool). eqb a.container b.container && t) (eq_number a.local b.local))
 
 pub same_block : (a b : Block) → is_same_block a b ≡ true → a ≡ b
 same_block a b same =

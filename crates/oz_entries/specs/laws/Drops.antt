@@ -1,5 +1,37 @@
 -- No slot is used by a block of a container exactly where none of its blocks is held.
-use Rattle.std.proofs.Common.{◌≡◌, inl, inr, ℕ, zero, suc, ◌≤◌, ◌<◌, ◌^◌, eqb, ◌||◌, Bool, true, false, cond, List, [], ◌∷◌, length, Option, None, Some, is_some, refl, sym, ap, subst, ◌∙◌, eqb-true, eq-eqb, arith}
+use Rattle.std.proofs.Common.{
+  ◌≡◌,
+  inl,
+  inr,
+  ℕ,
+  zero,
+  suc,
+  ◌≤◌,
+  ◌<◌,
+  ◌^◌,
+  eqb,
+  ◌||◌,
+  Bool,
+  true,
+  false,
+  cond,
+  List,
+  [],
+  ◌∷◌,
+  length,
+  Option,
+  None,
+  Some,
+  is_some,
+  refl,
+  sym,
+  ap,
+  subst,
+  ◌∙◌,
+  eqb-true,
+  eq-eqb,
+  arith,
+}
 use Rattle.std.proofs.lemmas.Bool.{false≢true, cases_lt, or_left, or_right, and_parts}
 use Rattle.std.specs.Option.{option_map_or}
 use Rattle.oz_fields.specs.declared.block.Block.{Block}
@@ -9,7 +41,24 @@ use Rattle.oz_entries.specs.declared.row.BlockRow.{BlockRow}
 use Rattle.oz_entries.specs.declared.row.Chunk.{Chunk}
 use Rattle.oz_entries.specs.Build.{MakesFrom}
 use Rattle.oz_entries.specs.Held.{IsSound, belongs_to, row_has}
-use Rattle.oz_entries.specs.Node.{Node, empty_node, after_entry, chunk_count, has_slot, is_held, is_in, is_same_block, is_used, HaveFreeSlots, MayFollow, RowFits, uses_below, with_row, without, names}
+use Rattle.oz_entries.specs.Node.{
+  Node,
+  empty_node,
+  after_entry,
+  chunk_count,
+  has_slot,
+  is_held,
+  is_in,
+  is_same_block,
+  is_used,
+  HaveFreeSlots,
+  MayFollow,
+  RowFits,
+  uses_below,
+  with_row,
+  without,
+  names,
+}
 use Rattle.oz_entries.specs.laws.Blocks.{itself}
 
 -- the slot is used by a block of the container
@@ -18,12 +67,14 @@ is_theirs container user = option_map_or (is_in container) user false
 
 -- ---- looking through the slots
 
-pub uses_none : (users : ℕ → Option Block) (container count : ℕ) → ((slot : ℕ) → is_theirs container (users slot) ≡ false) → uses_below users container count ≡ false
+pub uses_none : (users : ℕ → Option Block) (container count : ℕ) → ((slot : ℕ) → is_theirs container (users slot) ≡ false)
+    → uses_below users container count ≡ false
 unfolding uses_below
 uses_none users container zero none = refl
 uses_none users container (suc count) none = ap (λ (b : Bool). b || uses_below users container count) (none count) ∙ uses_none users container count none
 
-pub uses_one : (users : ℕ → Option Block) (container slot count : ℕ) → slot < count → is_theirs container (users slot) ≡ true → uses_below users container count ≡ true
+pub uses_one : (users : ℕ → Option Block) (container slot count : ℕ) → slot < count → is_theirs container (users slot) ≡ true
+    → uses_below users container count ≡ true
 unfolding uses_below
 uses_one users container slot zero less is = absurd (omega (arith, less))
 uses_one users container slot (suc count) less is = elim (cases_lt slot count) [
@@ -35,7 +86,8 @@ uses_one users container slot (suc count) less is = elim (cases_lt slot count) [
 
 -- ---- where none is held
 
-pub nobody : (container : ℕ) (node : Node) → IsSound node → ((local : ℕ) → is_held node (record { container = container; local = local }) ≡ false) → (slot : ℕ) → is_theirs container (node.users slot) ≡ false
+pub nobody : (container : ℕ) (node : Node) → IsSound node → ((local : ℕ) → is_held node (record { container = container; local = local }) ≡ false)
+    → (slot : ℕ) → is_theirs container (node.users slot) ≡ false
 nobody container node sound none slot = by (node.users slot) refl
   where
     not_there : (block : Block) (row : Option BlockRow) → row ≡ node.rows block → container ≡ block.container → is_some row ≡ false
@@ -52,11 +104,13 @@ nobody container node sound none slot = by (node.users slot) refl
         apart : (b : Bool) → b ≡ eqb container block.container → b ≡ false
         apart false e = refl
         apart true e =
-            let has : row_has (node.rows block) slot ≡ true = sym (sound slot block) ∙ (ap (λ (u : Option Block). belongs_to u block) (sym is) ∙ itself block) in
+            let has : row_has (node.rows block) slot ≡ true = sym (sound slot block)
+            ∙ (ap (λ (u : Option Block). belongs_to u block) (sym is) ∙ itself block) in
             sym has ∙ nothing (node.rows block) (not_there block (node.rows block) refl (eqb-true container block.container (sym e)))
 
 -- a drop may follow
-pub unheld_drops : (container : ℕ) (node : Node) → IsSound node → container < 2 ^ 64 → ((local : ℕ) → is_held node (record { container = container; local = local }) ≡ false) → MayFollow node (Drop container)
+pub unheld_drops : (container : ℕ) (node : Node) → IsSound node → container < 2 ^ 64
+    → ((local : ℕ) → is_held node (record { container = container; local = local }) ≡ false) → MayFollow node (Drop container)
 unheld_drops container node sound small none = (small, uses_none node.users container 16384 (nobody container node sound none))
 
 -- ---- each block that is held uses one of the slots that there are
@@ -90,7 +144,8 @@ slots_with : (block : Block) (row : BlockRow) (node : Node) → HaveSlots node �
 slots_with block row node have fits other found is = by (is_same_block block other) is
   where
     by : (same : Bool) → cond same (Some row) (node.rows other) ≡ Some found → (slot : ℕ) × (slot < 16384) × (has_slot found slot ≡ true)
-    by true e = let same : row ≡ found = cc e in subst (λ (r : BlockRow). (slot : ℕ) × (slot < 16384) × (has_slot r slot ≡ true)) same (first_slot (is_used node) row fits)
+    by true e = let same : row ≡ found =
+        cc e in subst (λ (r : BlockRow). (slot : ℕ) × (slot < 16384) × (has_slot r slot ≡ true)) same (first_slot (is_used node) row fits)
     by false e = have other found e
 
 slots_after : (node : Node) (entry : Entry) → HaveSlots node → MayFollow node entry → HaveSlots (after_entry entry node)
@@ -108,7 +163,8 @@ pub empty_slots : HaveSlots empty_node
 empty_slots block row is = absurd cc
 
 -- where a drop may follow none is held
-pub dropped_unheld : (container : ℕ) (node : Node) → IsSound node → HaveSlots node → MayFollow node (Drop container) → (local : ℕ) → is_held node (record { container = container; local = local }) ≡ false
+pub dropped_unheld : (container : ℕ) (node : Node) → IsSound node → HaveSlots node → MayFollow node (Drop container) → (local : ℕ)
+    → is_held node (record { container = container; local = local }) ≡ false
 dropped_unheld container node sound have follows local = by (node.rows block) refl
   where
     block : Block

@@ -1,5 +1,30 @@
 -- Nodes that hold the same are one, and blocks that go one after another.
-use Rattle.std.proofs.Common.{◌≡◌, ℕ, eqb, ◌||◌, ◌&&◌, Bool, true, false, cond, List, [], ◌∷◌, take, length, get_or, ◌+◌, ◌<◌, Option, None, Some, refl, sym, ap, ◌∙◌}
+use Rattle.std.proofs.Common.{
+  ◌≡◌,
+  ℕ,
+  eqb,
+  ◌||◌,
+  ◌&&◌,
+  Bool,
+  true,
+  false,
+  cond,
+  List,
+  [],
+  ◌∷◌,
+  take,
+  length,
+  get_or,
+  ◌+◌,
+  ◌<◌,
+  Option,
+  None,
+  Some,
+  refl,
+  sym,
+  ap,
+  ◌∙◌,
+}
 use Rattle.std.proofs.lemmas.List.{take_more}
 use Rattle.std.proofs.lemmas.List.Folds.{list_any-append}
 use Rattle.std.specs.List.{list_any}
@@ -17,7 +42,8 @@ same_node node other same = λ i. record {
 }
 
 -- some blocks, and then others
-pub twice : (first second both : Block → Bool) (node : Node) → ((block : Block) → both block ≡ (first block || second block)) → AreSame (without both node) (without second (without first node))
+pub twice : (first second both : Block → Bool) (node : Node) → ((block : Block) → both block ≡ (first block || second block))
+    → AreSame (without both node) (without second (without first node))
 twice first second both node is = record {
   rows = λ block. rows (first block) (second block) (both block) (node.rows block) (is block);
   states = λ container. refl;
@@ -45,7 +71,8 @@ either false a b = refl
 
 -- one local id more
 pub named_more : (container : ℕ) (locals : List ℕ) (i d : ℕ) → i < length locals → (block : Block)
-    → names_some container (take (i + 1) locals) block ≡ (names_some container (take i locals) block || is_same_block (record { container = container; local = get_or locals i d }) block)
+    → names_some container (take (i + 1) locals) block
+    ≡ (names_some container (take i locals) block || is_same_block (record { container = container; local = get_or locals i d }) block)
 named_more container locals i d less block =
     let test : ℕ → Bool = λ local. eqb local block.local in
     ap (λ (l : List ℕ). eqb container block.container && list_any test l) (take_more locals i d less)

@@ -17,7 +17,8 @@ sound_same node other same sound slot block =
 pub sound_without : (is_gone : Block → Bool) (node : Node) → IsSound node → IsSound (without is_gone node)
 sound_without is_gone node sound slot block = by (node.users slot) refl (is_gone block) refl
   where
-    by : (user : Option Block) → user ≡ node.users slot → (g : Bool) → g ≡ is_gone block → belongs_to (unless_gone is_gone user) block ≡ row_has (cond g None (node.rows block)) slot
+    by : (user : Option Block) → user ≡ node.users slot → (g : Bool) → g ≡ is_gone block
+        → belongs_to (unless_gone is_gone user) block ≡ row_has (cond g None (node.rows block)) slot
     by None is true gone = refl
     by None is false gone = ap (λ (o : Option Block). belongs_to o block) is ∙ sound slot block
     by (Some user) is g gone = each (is_gone user) refl g gone
@@ -28,7 +29,8 @@ sound_without is_gone node sound slot block = by (node.users slot) refl (is_gone
         alike : is_same_block block user ≡ true → is_gone block ≡ is_gone user
         alike same = ap is_gone (same_block block user same)
 
-        each : (u : Bool) → u ≡ is_gone user → (g : Bool) → g ≡ is_gone block → belongs_to (cond u None (Some user)) block ≡ row_has (cond g None (node.rows block)) slot
+        each : (u : Bool) → u ≡ is_gone user → (g : Bool) → g ≡ is_gone block
+            → belongs_to (cond u None (Some user)) block ≡ row_has (cond g None (node.rows block)) slot
         each true user_gone true gone = refl
         each false user_gone false gone = here
         each true user_gone false gone = sym (sym here ∙ apart (is_same_block block user) (λ same. user_gone ∙ (sym (alike same) ∙ sym gone)))
@@ -43,7 +45,8 @@ sound_without is_gone node sound slot block = by (node.users slot) refl (is_gone
             apart false never = refl
 
 -- a free slot isn't in use
-pub free_slot : (used : ℕ → Bool) (chunks : List Chunk) → HaveFreeSlots used chunks → (slot : ℕ) → has_slot (record { length = 0; chunks = chunks }) slot ≡ true → used slot ≡ false
+pub free_slot : (used : ℕ → Bool) (chunks : List Chunk) → HaveFreeSlots used chunks → (slot : ℕ)
+    → has_slot (record { length = 0; chunks = chunks }) slot ≡ true → used slot ≡ false
 free_slot used [] free slot has = absurd (false≢true has)
 free_slot used (chunk ∷ chunks) free slot has = by (eqb chunk.slot slot) refl (free_slot (or_slot used chunk.slot) chunks free.3 slot)
   where
@@ -51,15 +54,19 @@ free_slot used (chunk ∷ chunks) free slot has = by (eqb chunk.slot slot) refl 
     first true t never = never
     first false t never = refl
 
-    by : (b : Bool) → b ≡ eqb chunk.slot slot → (has_slot (record { length = 0; chunks = chunks }) slot ≡ true → or_slot used chunk.slot slot ≡ false) → used slot ≡ false
+    by : (b : Bool) → b ≡ eqb chunk.slot slot → (has_slot (record { length = 0; chunks = chunks }) slot ≡ true → or_slot used chunk.slot slot ≡ false)
+        → used slot ≡ false
     by true is others = let same : chunk.slot ≡ slot = eqb-true chunk.slot slot (sym is) in subst (λ (n : ℕ). used n ≡ false) same free.1
-    by false is others = first (used slot) (eqb chunk.slot slot) (others (ap (λ (b : Bool). b || has_slot (record { length = 0; chunks = chunks }) slot) is ∙ has))
+    by false is others =
+        first (used slot) (eqb chunk.slot slot) (others (ap (λ (b : Bool). b || has_slot (record { length = 0; chunks = chunks }) slot) is ∙ has))
 
 -- a row comes to a block that had none, in slots that weren't in use
-pub sound_with : (block : Block) (row : BlockRow) (node : Node) → IsSound node → node.rows block ≡ None → HaveFreeSlots (is_used node) row.chunks → IsSound (with_row block row node)
+pub sound_with : (block : Block) (row : BlockRow) (node : Node) → IsSound node → node.rows block ≡ None → HaveFreeSlots (is_used node) row.chunks
+    → IsSound (with_row block row node)
 sound_with block row node sound none free slot other = by (has_slot row slot) refl (is_same_block block other) refl
   where
-    by : (h : Bool) → h ≡ has_slot row slot → (s : Bool) → s ≡ is_same_block block other → belongs_to (cond h (Some block) (node.users slot)) other ≡ row_has (cond s (Some row) (node.rows other)) slot
+    by : (h : Bool) → h ≡ has_slot row slot → (s : Bool) → s ≡ is_same_block block other
+        → belongs_to (cond h (Some block) (node.users slot)) other ≡ row_has (cond s (Some row) (node.rows other)) slot
     by true has true same = subst (λ (b : Block). is_same_block b block ≡ has_slot row slot) (same_block block other (sym same)) (itself block ∙ has)
     by true has false same = not_other ∙ sym (unused (node.users slot) refl)
       where
@@ -68,11 +75,13 @@ sound_with block row node sound none free slot other = by (has_slot row slot) re
         turned false never = refl
 
         not_other : is_same_block other block ≡ false
-        not_other = turned (is_same_block other block) (λ is. sym (itself block) ∙ (ap (λ (b : Block). is_same_block block b) (sym (same_block other block is)) ∙ sym same))
+        not_other = turned (is_same_block other block)
+            (λ is. sym (itself block) ∙ (ap (λ (b : Block). is_same_block block b) (sym (same_block other block is)) ∙ sym same))
 
         unused : (user : Option Block) → user ≡ node.users slot → row_has (node.rows other) slot ≡ false
         unused None is = sym (sound slot other) ∙ ap (λ (o : Option Block). belongs_to o other) (sym is)
-        unused (Some user) is = absurd (false≢true (sym (free_slot (is_used node) row.chunks free slot (sym has)) ∙ ap (λ (o : Option Block). used_by o) (sym is)))
+        unused (Some user) is =
+            absurd (false≢true (sym (free_slot (is_used node) row.chunks free slot (sym has)) ∙ ap (λ (o : Option Block). used_by o) (sym is)))
           where
             used_by : Option Block → Bool
             used_by None = false
@@ -84,7 +93,8 @@ sound_with block row node sound none free slot other = by (has_slot row slot) re
     by false has false same = sound slot other
 
 -- the slots of a block that goes are those of its row
-pub released : (block : Block) (node : Node) → IsSound node → (slot : ℕ) → cond (row_has (node.rows block) slot) None (node.users slot) ≡ unless_gone (is_same_block block) (node.users slot)
+pub released : (block : Block) (node : Node) → IsSound node → (slot : ℕ)
+    → cond (row_has (node.rows block) slot) None (node.users slot) ≡ unless_gone (is_same_block block) (node.users slot)
 released block node sound slot = by (node.users slot) refl
   where
     by : (user : Option Block) → user ≡ node.users slot → cond (row_has (node.rows block) slot) None user ≡ unless_gone (is_same_block block) user

@@ -1,5 +1,42 @@
 -- Blocks that are being deleted.
-use Rattle.std.proofs.Common.{◌≡◌, ⊎_elim, ◌⊎◌, ℕ, zero, suc, ◌<◌, ◌≤◌, Bool, true, false, ◌&&◌, ◌||◌, ◌==◌, List, [], ◌∷◌, ◌++◌, length, take, drop, map, Option, None, Some, Contains, cond, inl, inr, refl, sym, ◌∙◌, ap, subst, append-nil, arith}
+use Rattle.std.proofs.Common.{
+  ◌≡◌,
+  ⊎_elim,
+  ◌⊎◌,
+  ℕ,
+  zero,
+  suc,
+  ◌<◌,
+  ◌≤◌,
+  Bool,
+  true,
+  false,
+  ◌&&◌,
+  ◌||◌,
+  ◌==◌,
+  List,
+  [],
+  ◌∷◌,
+  ◌++◌,
+  length,
+  take,
+  drop,
+  map,
+  Option,
+  None,
+  Some,
+  Contains,
+  cond,
+  inl,
+  inr,
+  refl,
+  sym,
+  ◌∙◌,
+  ap,
+  subst,
+  append-nil,
+  arith,
+}
 use Rattle.std.proofs.lemmas.Bool.{eq-eqb}
 use Rattle.std.proofs.lemmas.List.{take-append-drop}
 use Rattle.std.proofs.lemmas.List.Sums.{fold_push}
@@ -17,7 +54,20 @@ use Rattle.oz_core.specs.declared.opening.Opening.{Opening}
 use Rattle.oz_core.specs.declared.opening.Unretired.{Unretired}
 use Rattle.oz_core.specs.Coherent.{LogIsCoherent}
 use Rattle.oz_core.specs.Law.{IsLegal, IsLegalFrom, IsEnabled, KindIsEnabled, PurgeAskIsEnabled, LogIsEnabled, DeleteIsEnabled, IsPurged}
-use Rattle.oz_core.specs.Manager.{IsUsed, IsUsedAndKept, WasUsed, kept_block, durable_index, last_index, stable_index, kept_namespace, kept_up_to, namespace_from, namespace_of, namespace_at}
+use Rattle.oz_core.specs.Manager.{
+  IsUsed,
+  IsUsedAndKept,
+  WasUsed,
+  kept_block,
+  durable_index,
+  last_index,
+  stable_index,
+  kept_namespace,
+  kept_up_to,
+  namespace_from,
+  namespace_of,
+  namespace_at,
+}
 use Rattle.oz_core.specs.Nodes.{holds}
 use Rattle.oz_core.specs.Scm.{logged, is_logged_at_opening, names_block}
 use Rattle.oz_core.specs.Stories.{all_told, newer}
@@ -78,7 +128,8 @@ used_at_front opening most story block kept (inr (inl left)) = inr (inl left)
 used_at_front opening most story block kept (inr (inr (inl logged))) = inr (inr (inl logged))
 used_at_front opening most story block kept (inr (inr (inr granted))) = inr (inr (inr (subst (λ (l : List Block). Contains l block) kept.blocks granted)))
 
-pub purged_away : (opening : Opening) (story : List Event) (block : Block) (place later : ℕ) → IsLegal opening story → IsPurgeAt story block place → place ≤ later
+pub purged_away : (opening : Opening) (story : List Event) (block : Block) (place later : ℕ) → IsLegal opening story → IsPurgeAt story block place
+    → place ≤ later
     → IsReached (namespace_at opening story later) block → ⊥
 unfolding namespace_from
 purged_away opening story block place later legal purge le reached =
@@ -86,39 +137,49 @@ purged_away opening story block place later legal purge le reached =
     let enabled : PurgeAskIsEnabled opening (take place story) purge.seat purge.blocks = enabled_at opening story legal place event purge.there in
     let most = durable_index opening (take place story) in
     let kept = front opening (durable_index opening (take place story)) (take place story) [] (front_legal opening story legal place) in
-    let used = used_at_front opening most (take place story) block kept (All-contains (IsUsedAndKept opening (take place story)) purge.blocks block enabled.used purge.among) in
+    let used = used_at_front opening most (take place story) block kept
+    (All-contains (IsUsedAndKept opening (take place story)) purge.blocks block enabled.used purge.among) in
     let away = All-contains (λ block. IsReached (kept_namespace opening (take place story)) block → ⊥) purge.blocks block enabled.unreached purge.among in
     let same = taken_twice story kept.size place kept.within in
     never_back opening story block kept.size later legal (omega (arith, kept.within, taken_length story place, le))
     (subst (λ (l : List Event). IsUsed opening l block) same used)
-    (λ there. away (subst (λ (n : Namespace). IsReached n block) (sym kept.namespace) (subst (λ (l : List Event). IsReached (namespace_of opening l) block) (sym same) there)))
+    (λ there. away (subst (λ (n : Namespace). IsReached n block) (sym kept.namespace)
+    (subst (λ (l : List Event). IsReached (namespace_of opening l) block) (sym same) there)))
     reached
 
-durable_next : (opening : Opening) (before : List Event) (event : Event) → durable_index opening (before ++ event ∷ []) ≡ newer (stable_index event.kind) (durable_index opening before)
+durable_next : (opening : Opening) (before : List Event) (event : Event)
+    → durable_index opening (before ++ event ∷ []) ≡ newer (stable_index event.kind) (durable_index opening before)
 durable_next opening before event = fold_push (λ told (event : Event). newer (stable_index event.kind) told) opening.last_index before event
 
-kind_durable : (opening : Opening) (before : List Event) (seat : ℕ) (kind : EventKind) → KindIsEnabled opening before seat kind → durable_index opening before ≤ newer (stable_index kind) (durable_index opening before)
+kind_durable : (opening : Opening) (before : List Event) (seat : ℕ) (kind : EventKind) → KindIsEnabled opening before seat kind
+    → durable_index opening before ≤ newer (stable_index kind) (durable_index opening before)
 kind_durable opening before seat (Flushed index moment) enabled = omega (arith, enabled.unstable)
 kind_durable opening before seat kind enabled = omega arith
 
 -- what is stable stays so
-pub durable_rises : (opening : Opening) (rest before : List Event) → IsLegalFrom opening before rest → durable_index opening before ≤ durable_index opening (before ++ rest)
-durable_rises opening [] before legal = subst (λ (l : List Event). durable_index opening before ≤ durable_index opening l) (sym (append-nil before)) (omega arith)
+pub durable_rises : (opening : Opening) (rest before : List Event) → IsLegalFrom opening before rest
+    → durable_index opening before ≤ durable_index opening (before ++ rest)
+durable_rises opening [] before legal =
+    subst (λ (l : List Event). durable_index opening before ≤ durable_index opening l) (sym (append-nil before)) (omega arith)
 durable_rises opening (event ∷ rest) before legal =
     let first = kind_durable opening before event.seat event.kind (legal_first opening before event rest legal) in
     let later = durable_rises opening rest (before ++ event ∷ []) (legal_rest opening before event rest legal) in
-    subst (λ (l : List Event). durable_index opening before ≤ durable_index opening l) (moved_over before rest event) (omega (arith, first, later, durable_next opening before event))
+    subst (λ (l : List Event). durable_index opening before ≤ durable_index opening l) (moved_over before rest event)
+    (omega (arith, first, later, durable_next opening before event))
 
 pub legal_parts : (opening : Opening) (story : List Event) (n : ℕ) → IsLegal opening story → IsLegalFrom opening (take n story) (drop n story)
-legal_parts opening story n legal = legal_behind opening [] (take n story) (drop n story) (subst (IsLegalFrom opening []) (sym (take-append-drop n story)) legal)
+legal_parts opening story n legal =
+    legal_behind opening [] (take n story) (drop n story) (subst (IsLegalFrom opening []) (sym (take-append-drop n story)) legal)
 
-pub durable_within : (opening : Opening) (story : List Event) (place : ℕ) → IsLegal opening story → durable_index opening (take place story) ≤ durable_index opening story
+pub durable_within : (opening : Opening) (story : List Event) (place : ℕ) → IsLegal opening story
+    → durable_index opening (take place story) ≤ durable_index opening story
 durable_within opening story place legal =
     subst (λ (l : List Event). durable_index opening (take place story) ≤ durable_index opening l) (take-append-drop place story)
     (durable_rises opening (drop place story) (take place story) (legal_parts opening story place legal))
 
 -- nor does what a stop would leave at any index from the stable one on
-pub kept_away : (opening : Opening) (story : List Event) (block : Block) (place most : ℕ) → IsLegal opening story → IsPurgeAt story block place → durable_index opening story ≤ most
+pub kept_away : (opening : Opening) (story : List Event) (block : Block) (place most : ℕ) → IsLegal opening story → IsPurgeAt story block place
+    → durable_index opening story ≤ most
     → IsReached (kept_up_to opening most story) block → ⊥
 unfolding namespace_from
 kept_away opening story block place most legal purge le reached =
@@ -126,18 +187,22 @@ kept_away opening story block place most legal purge le reached =
     let enabled : PurgeAskIsEnabled opening (take place story) purge.seat purge.blocks = enabled_at opening story legal place event purge.there in
     let stable = durable_index opening (take place story) in
     let kept = front opening (durable_index opening (take place story)) (take place story) [] (front_legal opening story legal place) in
-    let used = used_at_front opening stable (take place story) block kept (All-contains (IsUsedAndKept opening (take place story)) purge.blocks block enabled.used purge.among) in
+    let used = used_at_front opening stable (take place story) block kept
+    (All-contains (IsUsedAndKept opening (take place story)) purge.blocks block enabled.used purge.among) in
     let away = All-contains (λ block. IsReached (kept_namespace opening (take place story)) block → ⊥) purge.blocks block enabled.unreached purge.among in
     let same = taken_twice story kept.size place kept.within in
     let first = durable_rises opening (take place story) [] (front_legal opening story legal place) in
     let index = subst (λ (l : List Event). last_index opening l ≤ stable) same (kept.index first) in
     let behind = legal_parts opening story kept.size legal in
     let within = durable_within opening story place legal in
-    let longer = front_behind opening most (take kept.size story) (drop kept.size story) behind (omega (arith, index, within, le)) (front_legal opening story legal kept.size) in
+    let longer = front_behind opening most (take kept.size story) (drop kept.size story) behind (omega (arith, index, within, le))
+    (front_legal opening story legal kept.size) in
     stays_away opening block (drop kept.size story) (take kept.size story) (front opening most (drop kept.size story) (take kept.size story) behind).size behind
     (subst (λ (l : List Event). IsUsed opening l block) same used)
-    (λ there. away (subst (λ (n : Namespace). IsReached n block) (sym kept.namespace) (subst (λ (l : List Event). IsReached (namespace_of opening l) block) (sym same) there)))
-    (subst (λ (n : Namespace). IsReached n block) longer (subst (λ (l : List Event). IsReached (kept_up_to opening most l) block) (sym (take-append-drop kept.size story)) reached))
+    (λ there. away (subst (λ (n : Namespace). IsReached n block) (sym kept.namespace)
+    (subst (λ (l : List Event). IsReached (namespace_of opening l) block) (sym same) there)))
+    (subst (λ (n : Namespace). IsReached n block) longer
+    (subst (λ (l : List Event). IsReached (kept_up_to opening most l) block) (sym (take-append-drop kept.size story)) reached))
 
 -- a purged block of a front has its place in the story
 purge_of : (story : List Event) (place : ℕ) (block : Block) → IsPurged (take place story) block → (before : ℕ) × (before < place) × IsPurgeAt story block before
@@ -153,7 +218,8 @@ pub logged_purged : (opening : Opening) (story : List Event) (place seat number 
     → slice_get story place ≡ Some (record { seat = seat; kind = Log number container locals }) → Contains locals local
     → (before : ℕ) × (before < place) × IsPurgeAt story (record { container = container; local = local }) before
 logged_purged opening story place seat number container local locals legal is among =
-    let enabled : LogIsEnabled opening (take place story) seat number container locals = enabled_at opening story legal place (record { seat = seat; kind = Log number container locals }) is in
+    let enabled : LogIsEnabled opening (take place story) seat number container locals =
+    enabled_at opening story legal place (record { seat = seat; kind = Log number container locals }) is in
     purge_of story place (record { container = container; local = local })
     (All-contains (λ local. IsPurged (take place story) (record { container = container; local = local })) locals local enabled.purged among)
 
@@ -176,7 +242,8 @@ told_at (event ∷ story) txn among = by (logged event.kind) refl (told_at story
     behind : ((place : ℕ) × IsLogAt story txn place) → (place : ℕ) × IsLogAt (event ∷ story) txn place
     behind later = (suc later.0, record { event = later.1.event; there = later.1.there; tells = later.1.tells })
 
-    by : (o : Option Txn) → logged event.kind ≡ o → (Contains (all_told logged story) txn → (place : ℕ) × IsLogAt story txn place) → (place : ℕ) × IsLogAt (event ∷ story) txn place
+    by : (o : Option Txn) → logged event.kind ≡ o → (Contains (all_told logged story) txn → (place : ℕ) × IsLogAt story txn place) → (place : ℕ)
+        × IsLogAt (event ∷ story) txn place
     by None e rest = behind (rest (subst (λ (o : Option Txn). Contains (cons_option o (all_told logged story)) txn) e among))
     by (Some first) e rest = ⊎_elim
         (λ same. (0, record { event = event; there = refl; tells = e ∙ ap Some same }))
@@ -187,16 +254,19 @@ some_txn : (a b : Txn) → Some a ≡ Some b → a ≡ b
 some_txn a b e = cc
 
 -- the PurgeAsk before a Log
-log_purged : (opening : Opening) (story : List Event) (txn : Txn) (place local : ℕ) → IsLegal opening story → IsLogAt story txn place → Contains txn.locals local
+log_purged : (opening : Opening) (story : List Event) (txn : Txn) (place local : ℕ) → IsLegal opening story → IsLogAt story txn place
+    → Contains txn.locals local
     → (before : ℕ) × (before < place) × IsPurgeAt story (record { container = txn.container; local = local }) before
 log_purged opening story txn place local legal at among = by at.event.kind refl
   where
-    by : (kind : EventKind) → at.event.kind ≡ kind → (before : ℕ) × (before < place) × IsPurgeAt story (record { container = txn.container; local = local }) before
+    by : (kind : EventKind) → at.event.kind ≡ kind → (before : ℕ) × (before < place)
+        × IsPurgeAt story (record { container = txn.container; local = local }) before
     by (Log number container locals) e =
         let same : record { number = number; container = container; locals = locals } ≡ txn = some_txn _ txn (sym (ap logged e) ∙ at.tells) in
         let event : Event = record { seat = at.event.seat; kind = Log number container locals } in
         let is : slice_get story place ≡ Some event = at.there ∙ ap (λ (kind : EventKind). Some (record { seat = at.event.seat; kind = kind })) e in
-        let found = logged_purged opening story place at.event.seat number container local locals legal is (subst (λ (t : Txn). Contains t.locals local) (sym same) among) in
+        let found = logged_purged opening story place at.event.seat number container local locals legal is
+        (subst (λ (t : Txn). Contains t.locals local) (sym same) among) in
         (found.0, found.1, subst (λ (t : Txn). IsPurgeAt story (record { container = t.container; local = local }) found.0) same found.2)
     by kind e = let none = sym (ap logged e) ∙ at.tells in absurd cc
 
@@ -236,11 +306,13 @@ names_own txn local among =
 opening_txns : Opening → List Txn
 opening_txns opening = map (λ (unretired : Unretired). unretired.txn) opening.unretired
 
-named_at_opening : (opening : Opening) (txn : Txn) (local : ℕ) → Contains (opening_txns opening) txn → Contains txn.locals local → is_logged_at_opening opening (record { container = txn.container; local = local }) ≡ true
+named_at_opening : (opening : Opening) (txn : Txn) (local : ℕ) → Contains (opening_txns opening) txn → Contains txn.locals local
+    → is_logged_at_opening opening (record { container = txn.container; local = local }) ≡ true
 unfolding opening_txns
 named_at_opening opening txn local there among =
     let block : Block = record { container = txn.container; local = local } in
-    ap (list_any (names_block block)) (append-nil (opening_txns opening)) ∙ one_passes (names_block block) (opening_txns opening) txn there (names_own txn local among)
+    ap (list_any (names_block block)) (append-nil (opening_txns opening))
+    ∙ one_passes (names_block block) (opening_txns opening) txn there (names_own txn local among)
 
 earlier_purge : (story : List Event) (place later : ℕ) (block : Block) → place < later
     → ((before : ℕ) × (before < place) × IsPurgeAt story block before) → (before : ℕ) × (before < later) × IsPurgeAt story block before
@@ -251,10 +323,12 @@ pub deleted_let_go : (opening : Opening) (story : List Event) (place seat dn num
     → WasLetGo opening story place number local
 unfolding opening_txns
 deleted_let_go opening story place seat dn number local locals legal is among =
-    let enabled : DeleteIsEnabled opening (take place story) seat dn number locals = enabled_at opening story legal place (record { seat = seat; kind = Delete dn number locals }) is in
+    let enabled : DeleteIsEnabled opening (take place story) seat dn number locals =
+    enabled_at opening story legal place (record { seat = seat; kind = Delete dn number locals }) is in
     let txn = enabled.txn in
     let block : Block = record { container = txn.container; local = local } in
-    let inside = passed (λ local. holds opening (take place story) dn (record { container = txn.container; local = local })) txn.locals local (subst (λ (l : List ℕ). Contains l local) enabled.held among) in
+    let inside = passed (λ local. holds opening (take place story) dn (record { container = txn.container; local = local })) txn.locals local
+    (subst (λ (l : List ℕ). Contains l local) enabled.held among) in
     record {
       txn = txn;
       there = enabled.logged;
@@ -270,7 +344,8 @@ deleted_let_go opening story place seat dn number local locals legal is among =
           (Contains-append_cases (opening_txns opening) (all_told logged (take place story)) txn enabled.logged);
     }
 
-pub opening_away : (opening : Opening) (story : List Event) (block : Block) (later : ℕ) → LogIsCoherent opening → IsLegal opening story → is_logged_at_opening opening block ≡ true
+pub opening_away : (opening : Opening) (story : List Event) (block : Block) (later : ℕ) → LogIsCoherent opening → IsLegal opening story
+    → is_logged_at_opening opening block ≡ true
     → IsReached (namespace_at opening story later) block → ⊥
 unfolding namespace_from
 opening_away opening story block later coherent legal is reached =

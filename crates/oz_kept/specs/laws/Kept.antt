@@ -1,5 +1,35 @@
 -- What a stop would leave of the namespace is what a front of the story made.
-use Rattle.std.proofs.Common.{◌≡◌, ◌≢◌, ⊎_elim, ◌⊎◌, ℕ, suc, ◌<◌, ◌≤◌, Bool, true, false, List, [], ◌∷◌, ◌++◌, length, take, Option, None, cond, inl, inr, refl, sym, ◌∙◌, ap, subst, append-nil, arith}
+use Rattle.std.proofs.Common.{
+  ◌≡◌,
+  ◌≢◌,
+  ⊎_elim,
+  ◌⊎◌,
+  ℕ,
+  suc,
+  ◌<◌,
+  ◌≤◌,
+  Bool,
+  true,
+  false,
+  List,
+  [],
+  ◌∷◌,
+  ◌++◌,
+  length,
+  take,
+  Option,
+  None,
+  cond,
+  inl,
+  inr,
+  refl,
+  sym,
+  ◌∙◌,
+  ap,
+  subst,
+  append-nil,
+  arith,
+}
 use Rattle.std.proofs.lemmas.Bool.{cases_lt, lt-leb, le-leb}
 use Rattle.std.proofs.lemmas.List.Sums.{fold_push}
 use Rattle.std.specs.Prelude.{nat_le}
@@ -18,11 +48,22 @@ use Rattle.oz_core.specs.declared.event.EventKind.TheVariants.{Decide}
 use Rattle.oz_core.specs.declared.opening.Opening.{Opening}
 use Rattle.oz_core.specs.Asks.{pending}
 use Rattle.oz_core.specs.Law.{IsLegalFrom, KindIsEnabled, DecideIsEnabled}
-use Rattle.oz_core.specs.Manager.{last_index, decided_index, namespace_step, namespace_after, namespace_from, namespace_of, kept_block, granted_block, block_of_reply}
+use Rattle.oz_core.specs.Manager.{
+  last_index,
+  decided_index,
+  namespace_step,
+  namespace_after,
+  namespace_from,
+  namespace_of,
+  kept_block,
+  granted_block,
+  block_of_reply,
+}
 use Rattle.oz_core.specs.Stories.{all_told, newer}
 use Rattle.oz_kept.specs.laws.Places.{moved_over, legal_first, legal_rest, namespace_next, namespace_parts}
 
-pub last_next : (opening : Opening) (before : List Event) (event : Event) → last_index opening (before ++ event ∷ []) ≡ newer (decided_index event.kind) (last_index opening before)
+pub last_next : (opening : Opening) (before : List Event) (event : Event)
+    → last_index opening (before ++ event ∷ []) ≡ newer (decided_index event.kind) (last_index opening before)
 last_next opening before event = fold_push (λ told (event : Event). newer (decided_index event.kind) told) opening.last_index before event
 
 is_service : (family : Family) → (family ≡ Service) ⊎ (family ≢ Service)
@@ -39,7 +80,8 @@ index_rises opening before seat id index reply batch enabled = ⊎_elim (λ belo
   where
     changed : index < last_index opening before → after (namespace_of opening before) enabled.request reply ≢ namespace_of opening before
     changed below same = ⊎_elim
-        (λ service. ⊎_elim (λ stays. absurd (omega (arith, below, stays))) (λ rises. absurd (omega (arith, below, rises))) (enabled.index_goes_on.service service))
+        (λ service. ⊎_elim (λ stays. absurd (omega (arith, below, stays))) (λ rises. absurd (omega (arith, below, rises)))
+        (enabled.index_goes_on.service service))
         (λ other. absurd (omega (arith, below, enabled.index_goes_on.stays same other)))
         (is_service (family_of enabled.request))
 
@@ -80,7 +122,8 @@ module _ (opening : Opening) (most : ℕ) where
   no_more [] before legal above = record { namespace = λ namespace. refl; blocks = refl }
   no_more (event ∷ rest) before legal above =
       let past = kind_past before event.seat event.kind (legal_first opening before event rest legal) above in
-      let later = no_more rest (before ++ event ∷ []) (legal_rest opening before event rest legal) (subst (λ n. most < n) (sym (last_next opening before event)) past.above) in
+      let later = no_more rest (before ++ event ∷ []) (legal_rest opening before event rest legal)
+      (subst (λ n. most < n) (sym (last_next opening before event)) past.above) in
       record {
         namespace = λ namespace. later.namespace (namespace_step (λ index. nat_le index most) before namespace event.kind) ∙ past.step namespace;
         blocks = ap (λ (o : Option Block). cons_option o (all_told (kept_block most) rest)) past.block ∙ later.blocks;
@@ -115,7 +158,14 @@ module _ (opening : Opening) (most : ℕ) where
 
   pub front : (rest before : List Event) → IsLegalFrom opening before rest → Front before rest
   unfolding namespace_from
-  front [] before legal = record { size = 0; within = omega arith; index = λ below. subst (λ (l : List Event). last_index opening l ≤ most) (sym (append-nil before)) below; namespace = ap (namespace_of opening) (sym (append-nil before)); blocks = refl }
+  front [] before legal =
+      record {
+        size = 0;
+        within = omega arith;
+        index = λ below. subst (λ (l : List Event). last_index opening l ≤ most) (sym (append-nil before)) below;
+        namespace = ap (namespace_of opening) (sym (append-nil before));
+        blocks = refl;
+      }
   front (event ∷ rest) before legal = ⊎_elim
       (λ alike.
       let later = front rest (before ++ event ∷ []) (legal_rest opening before event rest legal) in
@@ -125,19 +175,22 @@ module _ (opening : Opening) (most : ℕ) where
         index = λ below. subst (λ (l : List Event). last_index opening l ≤ most) (moved_over before (take later.size rest) event)
             (later.index (subst (λ n. n ≤ most) (sym (last_next opening before event)) (alike.within below)));
         namespace =
-            ap (λ (n : Namespace). namespace_from (λ index. nat_le index most) (before ++ event ∷ []) n rest) (alike.step (namespace_of opening before) ∙ sym (namespace_next opening before event))
+            ap (λ (n : Namespace). namespace_from (λ index. nat_le index most) (before ++ event ∷ []) n rest)
+            (alike.step (namespace_of opening before) ∙ sym (namespace_next opening before event))
             ∙ later.namespace ∙ ap (namespace_of opening) (moved_over before (take later.size rest) event);
         blocks =
             ap (λ (o : Option Block). cons_option o (all_told (kept_block most) rest)) alike.block
             ∙ ap (λ (l : List Block). cons_option (granted_block event.kind) l) later.blocks;
       })
       (λ past.
-      let none = no_more rest (before ++ event ∷ []) (legal_rest opening before event rest legal) (subst (λ n. most < n) (sym (last_next opening before event)) past.above) in
+      let none = no_more rest (before ++ event ∷ []) (legal_rest opening before event rest legal)
+      (subst (λ n. most < n) (sym (last_next opening before event)) past.above) in
       record {
         size = 0;
         within = omega arith;
         index = λ below. subst (λ (l : List Event). last_index opening l ≤ most) (sym (append-nil before)) below;
-        namespace = none.namespace (namespace_step (λ index. nat_le index most) before (namespace_of opening before) event.kind) ∙ past.step (namespace_of opening before)
+        namespace = none.namespace (namespace_step (λ index. nat_le index most) before (namespace_of opening before) event.kind)
+            ∙ past.step (namespace_of opening before)
             ∙ ap (namespace_of opening) (sym (append-nil before));
         blocks = ap (λ (o : Option Block). cons_option o (all_told (kept_block most) rest)) past.block ∙ none.blocks;
       })
@@ -147,7 +200,8 @@ module _ (opening : Opening) (most : ℕ) where
   pub record AllCount (before rest : List Event) : Type 0 where
     pub namespace : namespace_from (λ index. nat_le index most) before (namespace_of opening before) rest ≡ namespace_of opening (before ++ rest)
 
-  kind_index : (before : List Event) (seat : ℕ) (kind : EventKind) → KindIsEnabled opening before seat kind → last_index opening before ≤ newer (decided_index kind) (last_index opening before)
+  kind_index : (before : List Event) (seat : ℕ) (kind : EventKind) → KindIsEnabled opening before seat kind
+      → last_index opening before ≤ newer (decided_index kind) (last_index opening before)
   kind_index before seat (Decide id index reply batch) enabled = index_rises opening before seat id index reply batch enabled
   kind_index before seat kind enabled = omega arith
 
@@ -156,7 +210,8 @@ module _ (opening : Opening) (most : ℕ) where
   indexes_rise (event ∷ rest) before legal =
       let first = kind_index before event.seat event.kind (legal_first opening before event rest legal) in
       let later = indexes_rise rest (before ++ event ∷ []) (legal_rest opening before event rest legal) in
-      subst (λ (l : List Event). last_index opening before ≤ last_index opening l) (moved_over before rest event) (omega (arith, first, later, last_next opening before event))
+      subst (λ (l : List Event). last_index opening before ≤ last_index opening l) (moved_over before rest event)
+      (omega (arith, first, later, last_next opening before event))
 
   pub all_count : (rest before : List Event) → IsLegalFrom opening before rest → last_index opening (before ++ rest) ≤ most → AllCount before rest
   unfolding namespace_from
@@ -169,7 +224,8 @@ module _ (opening : Opening) (most : ℕ) where
       (λ alike.
       record {
         namespace =
-            ap (λ (n : Namespace). namespace_from (λ index. nat_le index most) (before ++ event ∷ []) n rest) (alike.step (namespace_of opening before) ∙ sym (namespace_next opening before event))
+            ap (λ (n : Namespace). namespace_from (λ index. nat_le index most) (before ++ event ∷ []) n rest)
+            (alike.step (namespace_of opening before) ∙ sym (namespace_next opening before event))
             ∙ later.namespace ∙ ap (namespace_of opening) (moved_over before rest event);
       })
       (λ past.
@@ -179,7 +235,8 @@ module _ (opening : Opening) (most : ℕ) where
 
   -- what it leaves of a story that goes on is what a longer front made
   pub front_behind : (before rest : List Event) → (behind : IsLegalFrom opening before rest) → last_index opening before ≤ most → IsLegalFrom opening [] before
-      → namespace_from (λ index. nat_le index most) [] opening.namespace (before ++ rest) ≡ namespace_of opening (before ++ take (front rest before behind).size rest)
+      → namespace_from (λ index. nat_le index most) [] opening.namespace (before ++ rest)
+      ≡ namespace_of opening (before ++ take (front rest before behind).size rest)
   unfolding namespace_from
   front_behind before rest behind le legal =
       namespace_parts (λ index. nat_le index most) [] opening.namespace before rest

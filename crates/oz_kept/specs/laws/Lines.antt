@@ -36,7 +36,8 @@ later_above rest before line x numbered later same =
     let first = ap (λ (c : ℕ). lines_of before c) same in
     omega (arith, behind, numbered.1, first, one_more before line x.client same)
 
-apart_in : (rest before : List Line) (a b : Line) → AreNumbered before rest → Contains rest a → Contains rest b → a.client ≡ b.client → a.number ≡ b.number → a ≡ b
+apart_in : (rest before : List Line) (a b : Line) → AreNumbered before rest → Contains rest a → Contains rest b → a.client ≡ b.client → a.number ≡ b.number
+    → a ≡ b
 apart_in [] before a b numbered in_a in_b client number = absurd (omega (arith, in_a.1))
 apart_in (line ∷ rest) before a b numbered in_a in_b client number = ⊎_elim
     (λ first_a. ⊎_elim

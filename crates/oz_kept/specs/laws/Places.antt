@@ -1,5 +1,28 @@
 -- Stories in two parts: what the second is behind the first, and what its events make of the namespace.
-use Rattle.std.proofs.Common.{◌≡◌, ℕ, zero, suc, ◌-◌, ◌≤◌, Bool, true, List, [], ◌∷◌, ◌++◌, take, drop, refl, sym, ◌∙◌, ap, subst, append_assoc, append-nil, arith}
+use Rattle.std.proofs.Common.{
+  ◌≡◌,
+  ℕ,
+  zero,
+  suc,
+  ◌-◌,
+  ◌≤◌,
+  Bool,
+  true,
+  List,
+  [],
+  ◌∷◌,
+  ◌++◌,
+  take,
+  drop,
+  refl,
+  sym,
+  ◌∙◌,
+  ap,
+  subst,
+  append_assoc,
+  append-nil,
+  arith,
+}
 use Rattle.oz_namespace.specs.declared.namespace.Namespace.{Namespace}
 use Rattle.oz_core.specs.declared.event.Event.{Event}
 use Rattle.oz_core.specs.declared.opening.Opening.{Opening}
@@ -16,11 +39,13 @@ legal_behind opening before [] b legal = subst (λ (l : List Event). IsLegalFrom
 legal_behind opening before (event ∷ a) b legal =
     subst (λ (l : List Event). IsLegalFrom opening l b) (moved_over before a event) (legal_behind opening (before ++ event ∷ []) a b legal.1)
 
-pub legal_first : (opening : Opening) (before : List Event) (event : Event) (rest : List Event) → IsLegalFrom opening before (event ∷ rest) → IsEnabled opening before event
+pub legal_first : (opening : Opening) (before : List Event) (event : Event) (rest : List Event) → IsLegalFrom opening before (event ∷ rest)
+    → IsEnabled opening before event
 unfolding IsLegalFrom
 legal_first opening before event rest legal = legal.0
 
-pub legal_rest : (opening : Opening) (before : List Event) (event : Event) (rest : List Event) → IsLegalFrom opening before (event ∷ rest) → IsLegalFrom opening (before ++ event ∷ []) rest
+pub legal_rest : (opening : Opening) (before : List Event) (event : Event) (rest : List Event) → IsLegalFrom opening before (event ∷ rest)
+    → IsLegalFrom opening (before ++ event ∷ []) rest
 unfolding IsLegalFrom
 legal_rest opening before event rest legal = legal.1
 

@@ -1,5 +1,29 @@
 -- Blocks that left reach.
-use Rattle.std.proofs.Common.{◌≡◌, ⊎_elim, ℕ, zero, suc, ◌≤◌, ◌-◌, true, List, [], ◌∷◌, ◌++◌, take, drop, Option, Contains, inl, inr, sym, ap, subst, append-nil, arith}
+use Rattle.std.proofs.Common.{
+  ◌≡◌,
+  ⊎_elim,
+  ℕ,
+  zero,
+  suc,
+  ◌≤◌,
+  ◌-◌,
+  true,
+  List,
+  [],
+  ◌∷◌,
+  ◌++◌,
+  take,
+  drop,
+  Option,
+  Contains,
+  inl,
+  inr,
+  sym,
+  ap,
+  subst,
+  append-nil,
+  arith,
+}
 use Rattle.std.proofs.lemmas.List.{take-append-drop}
 use Rattle.std.proofs.lemmas.List.Elements.{Contains-append_left, Contains-push_cases, filter_map-append}
 use Rattle.oz_fields.specs.declared.block.Block.{Block}
@@ -50,7 +74,8 @@ granted_anew opening before namespace (AllocateBlock volume bucket key session e
     allowed.unused (subst (IsUsed opening before) (sym (in_one other block granted)) used)
 granted_anew opening before namespace (AllocateBlock volume bucket key session exclude) reply block answers allowed used granted = in_none block granted
 granted_anew opening before namespace request reply block answers allowed used granted =
-    let none = grants_none (refusal (scope_of namespace (volume_in request)) request) (scope_of namespace (volume_in request)) request reply (λ e. absurd cc) answers in
+    let none = grants_none (refusal (scope_of namespace (volume_in request)) request) (scope_of namespace (volume_in request)) request reply
+    (λ e. absurd cc) answers in
     in_none block (subst (λ (l : List Block). Contains l block) none granted)
 
 -- what an event makes of the namespace reaches no used block that it didn't reach
@@ -60,15 +85,19 @@ step_away : (opening : Opening) (before : List Event) (seat : ℕ) (kind : Event
 step_away opening before seat (Decide id index reply batch) block enabled used away reached =
     let asked : namespace_after (pending id before) (namespace_of opening before) reply ≡ after (namespace_of opening before) enabled.request reply =
     ap (λ (o : Option Request). namespace_after o (namespace_of opening before) reply) enabled.undecided in
-    let grown = reach_grows block (namespace_of opening before) enabled.request reply enabled.one_thread (subst (λ (n : Namespace). IsReached n block) asked reached) in
+    let grown = reach_grows block (namespace_of opening before) enabled.request reply enabled.one_thread
+    (subst (λ (n : Namespace). IsReached n block) asked reached) in
     ⊎_elim away (granted_anew opening before (namespace_of opening before) enabled.request reply block enabled.one_thread enabled.granted used) grown
 step_away opening before seat kind block enabled used away reached = away reached
 
 pub stays_away : (opening : Opening) (block : Block) (rest before : List Event) (n : ℕ) → IsLegalFrom opening before rest → IsUsed opening before block
     → (IsReached (namespace_of opening before) block → ⊥) → IsReached (namespace_of opening (before ++ take n rest)) block → ⊥
-stays_away opening block [] before zero legal used away reached = away (subst (λ (l : List Event). IsReached (namespace_of opening l) block) (append-nil before) reached)
-stays_away opening block [] before (suc n) legal used away reached = away (subst (λ (l : List Event). IsReached (namespace_of opening l) block) (append-nil before) reached)
-stays_away opening block (event ∷ rest) before zero legal used away reached = away (subst (λ (l : List Event). IsReached (namespace_of opening l) block) (append-nil before) reached)
+stays_away opening block [] before zero legal used away reached =
+    away (subst (λ (l : List Event). IsReached (namespace_of opening l) block) (append-nil before) reached)
+stays_away opening block [] before (suc n) legal used away reached =
+    away (subst (λ (l : List Event). IsReached (namespace_of opening l) block) (append-nil before) reached)
+stays_away opening block (event ∷ rest) before zero legal used away reached =
+    away (subst (λ (l : List Event). IsReached (namespace_of opening l) block) (append-nil before) reached)
 stays_away opening block (event ∷ rest) before (suc n) legal used away reached =
     let next = step_away opening before event.seat event.kind block (legal_first opening before event rest legal) used away in
     stays_away opening block rest (before ++ event ∷ []) n (legal_rest opening before event rest legal) (used_still opening before (event ∷ []) block used)
@@ -76,7 +105,8 @@ stays_away opening block (event ∷ rest) before (suc n) legal used away reached
     (subst (λ (l : List Event). IsReached (namespace_of opening l) block) (sym (moved_over before (take n rest) event)) reached)
 
 pub never_back : (opening : Opening) (story : List Event) (block : Block) (place later : ℕ) → IsLegal opening story → place ≤ later
-    → IsUsed opening (take place story) block → (IsReached (namespace_at opening story place) block → ⊥) → IsReached (namespace_at opening story later) block → ⊥
+    → IsUsed opening (take place story) block → (IsReached (namespace_at opening story place) block → ⊥)
+    → IsReached (namespace_at opening story later) block → ⊥
 never_back opening story block place later legal le used away reached =
     let behind = legal_behind opening [] (take place story) (drop place story) (subst (IsLegalFrom opening []) (sym (take-append-drop place story)) legal) in
     stays_away opening block (drop place story) (take place story) (later - place) behind used away

@@ -14,5 +14,6 @@ coded scope (AllocateBlock volume bucket key session exclude) reply code is = is
 coded scope request reply code is = is
 
 -- a request that is refused so has this reply and no other
-pub code_alone : (scope : Scope) (request : Request) (reply : Reply) (code : Code) → refusal scope request ≡ Some code → AnswersIn scope request reply → reply ≡ replies.Code code
+pub code_alone : (scope : Scope) (request : Request) (reply : Reply) (code : Code) → refusal scope request ≡ Some code → AnswersIn scope request reply
+    → reply ≡ replies.Code code
 code_alone scope request reply code is answers = coded scope request reply code (subst (λ o. Replies o scope request reply) is answers)

@@ -17,7 +17,8 @@ nothing : (o : Option Code) (given reply : Reply) → granted_by given ≡ [] �
 nothing None given reply none is = ap granted_by is ∙ none
 nothing (Some code) given reply none is = ap granted_by is
 
-pub grants_none : (o : Option Code) (scope : Scope) (request : Request) (reply : Reply) → family_of request ≢ Allocation → Replies o scope request reply → granted_by reply ≡ []
+pub grants_none : (o : Option Code) (scope : Scope) (request : Request) (reply : Reply) → family_of request ≢ Allocation → Replies o scope request reply
+    → granted_by reply ≡ []
 grants_none o scope (AllocateBlock volume bucket key session exclude) reply apart is = absurd (apart refl)
 grants_none o scope request reply apart is = nothing o _ reply refl is
 
@@ -25,6 +26,7 @@ pub nothing_picked : (pick : Option (Block × ℕ)) (reply : Reply) → granted_
 nothing_picked pick (replies.Granted block pipeline) none = absurd cc
 nothing_picked pick reply none = tt
 
-pub is_picked : (o : Option Code) (block : Block) (pipeline : ℕ) (reply : Reply) → reply ≡ reply_from o (replies.Granted block pipeline) → IsPicked (Some (block, pipeline)) reply
+pub is_picked : (o : Option Code) (block : Block) (pipeline : ℕ) (reply : Reply) → reply ≡ reply_from o (replies.Granted block pipeline)
+    → IsPicked (Some (block, pipeline)) reply
 is_picked None block pipeline reply is = subst (IsPicked (Some (block, pipeline))) (sym is) refl
 is_picked (Some code) block pipeline reply is = subst (IsPicked (Some (block, pipeline))) (sym is) tt

@@ -1,5 +1,30 @@
 -- Members of lists that are joined, filtered or mapped, and the values of finite maps.
-use Rattle.std.proofs.Common.{◌≡◌, ⊎_elim, Bool, true, T, is_some, false, List, [], ◌∷◌, Option, None, Some, refl, sym, ap, subst, ◌∙◌, cond, suc, ◌||◌, map, filter, arith}
+use Rattle.std.proofs.Common.{
+  ◌≡◌,
+  ⊎_elim,
+  Bool,
+  true,
+  T,
+  is_some,
+  false,
+  List,
+  [],
+  ◌∷◌,
+  Option,
+  None,
+  Some,
+  refl,
+  sym,
+  ap,
+  subst,
+  ◌∙◌,
+  cond,
+  suc,
+  ◌||◌,
+  map,
+  filter,
+  arith,
+}
 use mathlib.Core.Bool.{false≢true}
 use Rattle.std.proofs.Math.Bool.{◌&&◌}
 use Rattle.std.specs.declared.cmp.Ordering.{Ordering}
@@ -59,7 +84,11 @@ module _ {A B : Type 0} (f : A → List B) where
   comes [] y has = no_member y has
   comes (item ∷ items) y has = ⊎_elim
       (λ first. record { item = item; there = Contains-append_left (item ∷ []) items item (Contains-push [] item); has = first })
-      (λ later. let rest = comes items y later in record { item = rest.item; there = Contains-append_right (item ∷ []) items rest.item rest.there; has = rest.has })
+      (λ later. let rest = comes items y later in record {
+        item = rest.item;
+        there = Contains-append_right (item ∷ []) items rest.item rest.there;
+        has = rest.has;
+      })
       (Contains-append_cases (f item) (flat_map f items) y has)
 
 -- what is there of two steps
@@ -113,7 +142,8 @@ module _ {K X : Type 0} {R : K → K → Ordering} (o : IsTotalOrder R) (same : 
 
   pub holder : (found : FinMap R X) (x : X) → Contains (values found) x → Holder found x
   holder found x has =
-      let origin = comes (λ (e : K × X). e.1 ∷ []) (entries found) x (subst (λ l. Contains l x) (sym (flat_map_single (λ (e : K × X). e.1) (entries found))) has) in
+      let origin = comes (λ (e : K × X). e.1 ∷ []) (entries found) x
+      (subst (λ l. Contains l x) (sym (flat_map_single (λ (e : K × X). e.1) (entries found))) has) in
       let value = one_member x origin.item.1 origin.has in
       record { key = origin.item.0; is_there = has_entry found origin.item.0 x (subst (λ v. Contains (entries found) (origin.item.0, v)) value origin.there) }
 
@@ -140,7 +170,8 @@ module _ {A : Type 0} (p : A → Bool) where
       behind : Contains l x × (p x ≡ true) → Contains (first ∷ l) x × (p x ≡ true)
       behind (later, pass) = ((suc later.0, omega (arith, later.1), later.2), pass)
 
-      by : (t : Bool) → p first ≡ t → Contains (cond t (first ∷ filter p l) (filter p l)) x → (Contains (filter p l) x → Contains l x × (p x ≡ true)) → Contains (first ∷ l) x × (p x ≡ true)
+      by : (t : Bool) → p first ≡ t → Contains (cond t (first ∷ filter p l) (filter p l)) x → (Contains (filter p l) x → Contains l x × (p x ≡ true))
+          → Contains (first ∷ l) x × (p x ≡ true)
       by true e there rest = ⊎_elim
           (λ here. let same = one_member x first here in ((0, omega arith, same), ap p (sym same) ∙ e))
           (λ later. behind (rest later))

@@ -32,7 +32,9 @@ module _ (block : Block) where
       record { key = there.key; pieces = origin.item; is_there = there.is_there; has = origin.has }
 
   sessions_have : (bucket : Bucket) → InSessions bucket block → Contains (in_sessions (values bucket.sessions)) block
-  sessions_have bucket it = joins (λ (session : Session). session.blocks) (values bucket.sessions) it.session block (value_there nat_cmp_total nat_cmp-IsAntisymmetric bucket.sessions it.number it.session it.is_there) it.has
+  sessions_have bucket it =
+      joins (λ (session : Session). session.blocks) (values bucket.sessions) it.session block
+      (value_there nat_cmp_total nat_cmp-IsAntisymmetric bucket.sessions it.number it.session it.is_there) it.has
 
   have_sessions : (bucket : Bucket) → Contains (in_sessions (values bucket.sessions)) block → InSessions bucket block
   have_sessions bucket has =
@@ -41,7 +43,8 @@ module _ (block : Block) where
       record { number = there.key; session = origin.item; is_there = there.is_there; has = origin.has }
 
   snapshots_have : (bucket : Bucket) → InSnapshots bucket block → Contains (in_snapshots bucket.snapshots) block
-  snapshots_have bucket it = joins (λ (snapshot : Snapshot). in_keys snapshot.keys) bucket.snapshots it.snapshot block it.is_there (keys_have it.snapshot.keys it.in_keys)
+  snapshots_have bucket it =
+      joins (λ (snapshot : Snapshot). in_keys snapshot.keys) bucket.snapshots it.snapshot block it.is_there (keys_have it.snapshot.keys it.in_keys)
 
   have_snapshots : (bucket : Bucket) → Contains (in_snapshots bucket.snapshots) block → InSnapshots bucket block
   have_snapshots bucket has =
@@ -73,7 +76,8 @@ module _ (block : Block) where
       let steps = both (λ (buckets : ByName Bucket). get buckets it.name) (get namespace.volumes it.volume) it.bucket it.is_there in
       joins in_buckets (values namespace.volumes) steps.between block
       (value_there nat_list_cmp_total names_apart namespace.volumes it.volume steps.between steps.first)
-      (joins in_bucket (values steps.between) it.bucket block (value_there nat_list_cmp_total names_apart steps.between it.name it.bucket steps.then) (bucket_has it.bucket it.has))
+      (joins in_bucket (values steps.between) it.bucket block (value_there nat_list_cmp_total names_apart steps.between it.name it.bucket steps.then)
+      (bucket_has it.bucket it.has))
 
   pub reached : (namespace : Namespace) → Contains (in_namespace namespace) block → IsReached namespace block
   reached namespace has =

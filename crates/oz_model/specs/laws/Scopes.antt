@@ -23,16 +23,21 @@ equal Equal e = refl
 equal Greater e = absurd (false≢true e)
 
 -- a map in which one name has what it has
-put_back : (volumes : ByName (ByName Bucket)) (volume : List ℕ) (found : Option (ByName Bucket)) → get volumes volume ≡ found → volumes_with volumes volume found ≡ volumes
+put_back : (volumes : ByName (ByName Bucket)) (volume : List ℕ) (found : Option (ByName Bucket)) → get volumes volume ≡ found
+    → volumes_with volumes volume found ≡ volumes
 put_back volumes volume found is = by_case found is
   where
-    kept : (found : Option (ByName Bucket)) (q : List ℕ) (t : Bool) → eq_by_cmp (slice_cmp nat_cmp) q volume ≡ t → get volumes volume ≡ found → cond t found (get volumes q) ≡ get volumes q
+    kept : (found : Option (ByName Bucket)) (q : List ℕ) (t : Bool) → eq_by_cmp (slice_cmp nat_cmp) q volume ≡ t → get volumes volume ≡ found
+        → cond t found (get volumes q) ≡ get volumes q
     kept found q true tied is = sym is ∙ get_tied nat_list_cmp_total volumes q volume (equal (slice_cmp nat_cmp q volume) tied)
     kept found q false tied is = refl
 
     by_case : (found : Option (ByName Bucket)) → get volumes volume ≡ found → volumes_with volumes volume found ≡ volumes
-    by_case None is = same_map nat_list_cmp_total (slice_cmp-IsAntisymmetric nat_cmp-IsAntisymmetric) _ _ (λ q. get-remove nat_list_cmp_total volumes volume q ∙ kept None q (eq_by_cmp (slice_cmp nat_cmp) q volume) refl is)
-    by_case (Some buckets) is = same_map nat_list_cmp_total (slice_cmp-IsAntisymmetric nat_cmp-IsAntisymmetric) _ _ (λ q. get-insert nat_list_cmp_total volumes volume buckets q ∙ kept (Some buckets) q (eq_by_cmp (slice_cmp nat_cmp) q volume) refl is)
+    by_case None is = same_map nat_list_cmp_total (slice_cmp-IsAntisymmetric nat_cmp-IsAntisymmetric) _ _
+        (λ q. get-remove nat_list_cmp_total volumes volume q ∙ kept None q (eq_by_cmp (slice_cmp nat_cmp) q volume) refl is)
+    by_case (Some buckets) is =
+        same_map nat_list_cmp_total (slice_cmp-IsAntisymmetric nat_cmp-IsAntisymmetric) _ _
+        (λ q. get-insert nat_list_cmp_total volumes volume buckets q ∙ kept (Some buckets) q (eq_by_cmp (slice_cmp nat_cmp) q volume) refl is)
 
 pub same_scope : (namespace : Namespace) (volume : List ℕ) → with_scope namespace volume (scope_of namespace volume) ≡ namespace
 same_scope namespace volume = λ i. record {
@@ -41,19 +46,23 @@ same_scope namespace volume = λ i. record {
 }
 
 -- where no number is drawn, the volume alone changes
-pub has_buckets : (namespace : Namespace) (volume : List ℕ) (buckets : ByName Bucket) → with_scope namespace volume (record { buckets = Some buckets; drawn = drawn_in namespace (stripe_of volume) }) ≡ with_volume namespace volume buckets
+pub has_buckets : (namespace : Namespace) (volume : List ℕ) (buckets : ByName Bucket)
+    → with_scope namespace volume (record { buckets = Some buckets; drawn = drawn_in namespace (stripe_of volume) }) ≡ with_volume namespace volume buckets
 has_buckets namespace volume buckets = λ i. record {
   volumes = volumes_with namespace.volumes volume (Some buckets);
   stripes = set-get_or namespace.stripes (stripe_of volume) 0 i;
 }
 
-pub is_gone : (namespace : Namespace) (volume : List ℕ) → with_scope namespace volume (record { buckets = None; drawn = drawn_in namespace (stripe_of volume) }) ≡ without_volume namespace volume
+pub is_gone : (namespace : Namespace) (volume : List ℕ)
+    → with_scope namespace volume (record { buckets = None; drawn = drawn_in namespace (stripe_of volume) }) ≡ without_volume namespace volume
 is_gone namespace volume = λ i. record {
   volumes = volumes_with namespace.volumes volume None;
   stripes = set-get_or namespace.stripes (stripe_of volume) 0 i;
 }
 
 -- a request whose scope stays leaves all as it was
-pub stays : (namespace : Namespace) (request : Request) (reply : Reply) → scope_after (scope_of namespace (volume_in request)) request reply ≡ scope_of namespace (volume_in request) → after namespace request reply ≡ namespace
+pub stays : (namespace : Namespace) (request : Request) (reply : Reply)
+    → scope_after (scope_of namespace (volume_in request)) request reply ≡ scope_of namespace (volume_in request)
+    → after namespace request reply ≡ namespace
 unfolding after
 stays namespace request reply same = ap (with_scope namespace (volume_in request)) same ∙ same_scope namespace (volume_in request)

@@ -28,12 +28,14 @@ equal Equal e = refl
 equal Greater e = absurd (false≢true e)
 
 -- what is found where one volume was changed
-pub found_with : (volumes : ByName (ByName Bucket)) (name : List ℕ) (buckets : Option (ByName Bucket)) (volume : List ℕ) → get (volumes_with volumes name buckets) volume ≡ cond (eq_by_cmp (slice_cmp nat_cmp) volume name) buckets (get volumes volume)
+pub found_with : (volumes : ByName (ByName Bucket)) (name : List ℕ) (buckets : Option (ByName Bucket)) (volume : List ℕ)
+    → get (volumes_with volumes name buckets) volume ≡ cond (eq_by_cmp (slice_cmp nat_cmp) volume name) buckets (get volumes volume)
 found_with volumes name None volume = get-remove nat_list_cmp_total volumes name volume
 found_with volumes name (Some buckets) volume = get-insert nat_list_cmp_total volumes name buckets volume
 
 -- another volume is as it was
-pub others_stay : (volumes : ByName (ByName Bucket)) (name : List ℕ) (buckets : Option (ByName Bucket)) (volume : List ℕ) → volume ≢ name → get (volumes_with volumes name buckets) volume ≡ get volumes volume
+pub others_stay : (volumes : ByName (ByName Bucket)) (name : List ℕ) (buckets : Option (ByName Bucket)) (volume : List ℕ) → volume ≢ name
+    → get (volumes_with volumes name buckets) volume ≡ get volumes volume
 others_stay volumes name buckets volume apart = found_with volumes name buckets volume ∙ by_test (eq_by_cmp (slice_cmp nat_cmp) volume name) refl
   where
     by_test : (t : Bool) → eq_by_cmp (slice_cmp nat_cmp) volume name ≡ t → cond t buckets (get volumes volume) ≡ get volumes volume
@@ -60,26 +62,35 @@ scopes_agree : (one other : Namespace) (volume : List ℕ) → AgreeOn (stripe_o
 scopes_agree one other volume agree = λ i. record { buckets = agree.volumes volume refl i; drawn = drawn i }
   where
     drawn : get_or one.stripes (stripe_of volume) 0 ≡ get_or other.stripes (stripe_of volume) 0
-    drawn = sym (unwrap_or-slice_get one.stripes (stripe_of volume) 0) ∙ ap (λ o. unwrap_or o 0) agree.drawn ∙ unwrap_or-slice_get other.stripes (stripe_of volume) 0
+    drawn = sym (unwrap_or-slice_get one.stripes (stripe_of volume) 0) ∙ ap (λ o. unwrap_or o 0) agree.drawn
+        ∙ unwrap_or-slice_get other.stripes (stripe_of volume) 0
 
-pub replies_agree : (one other : Namespace) (request : Request) (reply : Reply) → AgreeOn (stripe_of (volume_in request)) one other → Answers one request reply → Answers other request reply
+pub replies_agree : (one other : Namespace) (request : Request) (reply : Reply) → AgreeOn (stripe_of (volume_in request)) one other
+    → Answers one request reply → Answers other request reply
 unfolding Answers
-replies_agree one other request reply agree answers = subst (λ (scope : Scope). AnswersIn scope request reply) (scopes_agree one other (volume_in request) agree) answers
+replies_agree one other request reply agree answers =
+    subst (λ (scope : Scope). AnswersIn scope request reply) (scopes_agree one other (volume_in request) agree) answers
 
-with_alike : (one other : Namespace) (volume : List ℕ) (scope : Scope) → AgreeOn (stripe_of volume) one other → AgreeOn (stripe_of volume) (with_scope one volume scope) (with_scope other volume scope)
+with_alike : (one other : Namespace) (volume : List ℕ) (scope : Scope) → AgreeOn (stripe_of volume) one other
+    → AgreeOn (stripe_of volume) (with_scope one volume scope) (with_scope other volume scope)
 with_alike one other volume scope agree = record {
-  volumes = λ name of. found_with one.volumes volume scope.buckets name ∙ ap (cond (eq_by_cmp (slice_cmp nat_cmp) name volume) scope.buckets) (agree.volumes name of) ∙ sym (found_with other.volumes volume scope.buckets name);
+  volumes = λ name of. found_with one.volumes volume scope.buckets name
+      ∙ ap (cond (eq_by_cmp (slice_cmp nat_cmp) name volume) scope.buckets) (agree.volumes name of)
+      ∙ sym (found_with other.volumes volume scope.buckets name);
   drawn = set_alike one.stripes other.stripes (stripe_of volume) scope.drawn agree.drawn;
 }
 
-pub left_agree : (one other : Namespace) (request : Request) (reply : Reply) → AgreeOn (stripe_of (volume_in request)) one other → AgreeOn (stripe_of (volume_in request)) (after one request reply) (after other request reply)
+pub left_agree : (one other : Namespace) (request : Request) (reply : Reply) → AgreeOn (stripe_of (volume_in request)) one other
+    → AgreeOn (stripe_of (volume_in request)) (after one request reply) (after other request reply)
 unfolding after
 left_agree one other request reply agree =
     let volume = volume_in request in
-    subst (λ (scope : Scope). AgreeOn (stripe_of volume) (after one request reply) (with_scope other volume (scope_after scope request reply))) (scopes_agree one other volume agree)
+    subst (λ (scope : Scope). AgreeOn (stripe_of volume) (after one request reply) (with_scope other volume (scope_after scope request reply)))
+    (scopes_agree one other volume agree)
     (with_alike one other volume (scope_after (scope_of one volume) request reply) agree)
 
-pub elsewhere : (namespace : Namespace) (request : Request) (reply : Reply) (stripe : ℕ) → stripe ≢ stripe_of (volume_in request) → AgreeOn stripe (after namespace request reply) namespace
+pub elsewhere : (namespace : Namespace) (request : Request) (reply : Reply) (stripe : ℕ) → stripe ≢ stripe_of (volume_in request)
+    → AgreeOn stripe (after namespace request reply) namespace
 unfolding after
 elsewhere namespace request reply stripe apart =
     let volume = volume_in request in
@@ -89,6 +100,8 @@ elsewhere namespace request reply stripe apart =
       drawn = set_elsewhere namespace.stripes (stripe_of volume) stripe scope.drawn apart;
     }
 
-pub other_volumes : (namespace : Namespace) (request : Request) (reply : Reply) (volume : List ℕ) → volume ≢ volume_in request → buckets_of (after namespace request reply) volume ≡ buckets_of namespace volume
+pub other_volumes : (namespace : Namespace) (request : Request) (reply : Reply) (volume : List ℕ) → volume ≢ volume_in request
+    → buckets_of (after namespace request reply) volume ≡ buckets_of namespace volume
 unfolding after
-other_volumes namespace request reply volume apart = others_stay namespace.volumes (volume_in request) (scope_after (scope_of namespace (volume_in request)) request reply).buckets volume apart
+other_volumes namespace request reply volume apart =
+    others_stay namespace.volumes (volume_in request) (scope_after (scope_of namespace (volume_in request)) request reply).buckets volume apart

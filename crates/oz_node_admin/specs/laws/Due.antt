@@ -1,5 +1,39 @@
 -- What a line that had something done to a datanode may be told.
-use Rattle.std.proofs.Common.{◌≡◌, ◌≢◌, ◌⊎◌, ⊎_elim, inl, inr, ℕ, ◌-◌, ◌<◌, ◌≤◌, Bool, true, false, ◌||◌, ◌==◌, cond, List, [], ◌∷◌, ◌++◌, length, Option, None, Some, eq-eqb, refl, sym, ap, ◌∙◌, subst, append_assoc, append-nil, arith}
+use Rattle.std.proofs.Common.{
+  ◌≡◌,
+  ◌≢◌,
+  ◌⊎◌,
+  ⊎_elim,
+  inl,
+  inr,
+  ℕ,
+  ◌-◌,
+  ◌<◌,
+  ◌≤◌,
+  Bool,
+  true,
+  false,
+  ◌||◌,
+  ◌==◌,
+  cond,
+  List,
+  [],
+  ◌∷◌,
+  ◌++◌,
+  length,
+  Option,
+  None,
+  Some,
+  eq-eqb,
+  refl,
+  sym,
+  ap,
+  ◌∙◌,
+  subst,
+  append_assoc,
+  append-nil,
+  arith,
+}
 use Rattle.std.proofs.lemmas.Bool.{cases_lt, false≢true}
 use Rattle.std.proofs.lemmas.List.{same_from_push}
 use Rattle.std.proofs.lemmas.List.Folds.{list_any-append}
@@ -51,13 +85,15 @@ after_or_not story (Some named) = true_or_not (is_told named.0 named.1 story)
 before_or_not : (story : List Event) (line : Line)
     → (1 < line.number → is_told line.client (line.number - 1) story ≡ true) ⊎ ((1 < line.number → is_told line.client (line.number - 1) story ≡ true) → ⊥)
 before_or_not story line = ⊎_elim
-    (λ (second : 1 < line.number). ⊎_elim (λ told. inl (λ lt. told)) (λ untold. inr (λ all. untold (all second))) (true_or_not (is_told line.client (line.number - 1) story)))
+    (λ (second : 1 < line.number). ⊎_elim (λ told. inl (λ lt. told)) (λ untold. inr (λ all. untold (all second)))
+    (true_or_not (is_told line.client (line.number - 1) story)))
     (λ first. inl (λ lt. absurd (omega (arith, first, lt))))
     (cases_lt 1 line.number)
 
 started_or_not : (story : List Event) (line : Line) → HasStarted story line ⊎ (HasStarted story line → ⊥)
 started_or_not story line = ⊎_elim
-    (λ before. ⊎_elim (λ after. inl (record { before_it = before; after_it = after })) (λ not. inr (λ started. not started.after_it)) (after_or_not story line.after))
+    (λ before. ⊎_elim (λ after. inl (record { before_it = before; after_it = after })) (λ not. inr (λ started. not started.after_it))
+    (after_or_not story line.after))
     (λ not. inr (λ started. not started.before_it))
     (before_or_not story line)
 
@@ -84,7 +120,8 @@ starts_from line front (event ∷ behind) first started =
     (λ earlier other same has. not (subst (λ (l : List Event). HasStarted l line) (sym (same_from_push front earlier event other same).0) has))
     (subst (λ (l : List Event). HasStarted l line) (sym (append_assoc front (event ∷ []) behind)) started))
   where
-    by : HasStarted front line ⊎ (HasStarted front line → ⊥) → ((HasStarted front line → ⊥) → Starts line ((front ++ event ∷ []) ++ behind)) → Starts line (front ++ event ∷ behind)
+    by : HasStarted front line ⊎ (HasStarted front line → ⊥) → ((HasStarted front line → ⊥) → Starts line ((front ++ event ∷ []) ++ behind))
+        → Starts line (front ++ event ∷ behind)
     by (inl now) later = record { start = front; behind = event ∷ behind; parts = refl; started = now; first = first }
     by (inr not) later = subst (Starts line) (append_assoc front (event ∷ []) behind) (later not)
 
@@ -108,12 +145,14 @@ halt_kept node (event ∷ more) halt some = halt_kept node more (newer (halt_cou
 pub halt_stays : (node : Node) (seen story : List Event) (count : ℕ) → BeginsWith story seen → halt_of node seen ≡ Some count → halt_of node story ≢ None
 halt_stays node seen story count begins is none =
     let told = λ (halt : Option ℕ) (event : Event). newer (halt_count node event.kind) halt in
-    let parts : halt_of node story ≡ last_told (halt_count node) (halt_of node seen) begins.0 = ap (halt_of node) begins.1 ∙ fold-append told None seen begins.0 in
+    let parts : halt_of node story ≡ last_told (halt_count node) (halt_of node seen) begins.0 = ap (halt_of node) begins.1
+    ∙ fold-append told None seen begins.0 in
     halt_kept node begins.0 (halt_of node seen) (λ (no : halt_of node seen ≡ None). absurd (cc (sym is ∙ no))) (sym parts ∙ none)
 
 -- ---- what is due
 
-module _ (Coherent : Type 0) (opening : Opening) (bytes : OpeningBytes) (script : Script) (line : Line) (dn : ℕ) (done : NodeCommand) (its : line.command ≡ Admin (admin_command dn done))
+module _ (Coherent : Type 0) (opening : Opening) (bytes : OpeningBytes) (script : Script) (line : Line) (dn : ℕ) (done : NodeCommand)
+    (its : line.command ≡ Admin (admin_command dn done))
     (coherent : Coherent) (there : dn < length opening.nodes) where
   has_been : (runs : Bool) (before seen story : List Event) → HasStarted before line → HasBeen Coherent dn runs before seen → BeginsWith story seen
       → HeldSince story line (IsAsCommanded dn runs)
@@ -127,12 +166,14 @@ module _ (Coherent : Type 0) (opening : Opening) (bytes : OpeningBytes) (script 
         held = been.held coherent;
       }
 
-  was_wiped : (before seen story : List Event) → HasStarted before line → HasTold Coherent dn (Wipe dn) before seen → BeginsWith story seen → WasWiped story line dn
+  was_wiped : (before seen story : List Event) → HasStarted before line → HasTold Coherent dn (Wipe dn) before seen → BeginsWith story seen
+      → WasWiped story line dn
   was_wiped before seen story started told begins =
       let from = starts line before started in
       let since = told.front ++ by_node dn (Wipe dn) ∷ told.behind in
       let whole = through story seen (before ++ since) begins told.within in
-      let here : before ++ since ≡ from.start ++ (from.behind ++ since) = ap (λ (l : List Event). l ++ since) from.parts ∙ append_assoc from.start from.behind since in
+      let here : before ++ since ≡ from.start ++ (from.behind ++ since) = ap (λ (l : List Event). l ++ since) from.parts
+      ∙ append_assoc from.start from.behind since in
       record {
         start = from.start;
         is_start = record {
@@ -157,20 +198,23 @@ module _ (Coherent : Type 0) (opening : Opening) (bytes : OpeningBytes) (script 
       first_true false b is = absurd (false≢true is)
 
       has_later : (first rest : List Event) → has_event (wipes dn) rest ≡ true → has_event (wipes dn) (first ++ rest) ≡ true
-      has_later first rest has = list_any-append (λ (event : Event). wipes dn event.kind) first rest ∙ either_true (has_event (wipes dn) first) (has_event (wipes dn) rest) has
+      has_later first rest has = list_any-append (λ (event : Event). wipes dn event.kind) first rest
+          ∙ either_true (has_event (wipes dn) first) (has_event (wipes dn) rest) has
 
       wipe_in : (first front rest : List Event) → has_event (wipes dn) (first ++ (front ++ by_node dn (Wipe dn) ∷ rest)) ≡ true
       wipe_in first front rest =
           has_later first (front ++ by_node dn (Wipe dn) ∷ rest) (has_later front (by_node dn (Wipe dn) ∷ rest)
           (first_true (wipes dn (Wipe dn)) (has_event (wipes dn) rest) (eq-eqb dn dn refl)))
 
-  done_as : (d : NodeCommand) (before seen story : List Event) → HasStarted before line → WasDone Coherent dn d before seen → BeginsWith story seen → IsUnhalted opening story dn
+  done_as : (d : NodeCommand) (before seen story : List Event) → HasStarted before line → WasDone Coherent dn d before seen → BeginsWith story seen
+      → IsUnhalted opening story dn
       → AdminIsDone opening story line (admin_command dn d) values.Done
   done_as command.Stop before seen story started was begins unhalted = (unhalted, has_been false before seen story started was begins, refl)
   done_as command.Start before seen story started was begins unhalted = (unhalted, has_been true before seen story started was begins, refl)
   done_as command.Wipe before seen story started was begins unhalted = (unhalted, was_wiped before seen story started was begins, refl)
 
-  pub done_due : (before seen story : List Event) → HasStarted before line → WasDone Coherent dn done before seen → BeginsWith story seen → halt_of (Datanode dn) story ≡ None
+  pub done_due : (before seen story : List Event) → HasStarted before line → WasDone Coherent dn done before seen → BeginsWith story seen
+      → halt_of (Datanode dn) story ≡ None
       → IsDue opening bytes script story line (answers.Ok values.Done)
   done_due before seen story started was begins none =
       subst (λ (c : Command). LineIsDone opening bytes script story line c values.Done) (sym its)
@@ -186,7 +230,8 @@ pub names_its : (line : Line) (dn : ℕ) (done : NodeCommand) → line.command �
 names_its line dn done its = subst (λ (c : Command). NamesNode c dn) (sym its) (names_as dn done)
 
 pub halted_due : (opening : Opening) (bytes : OpeningBytes) (script : Script) (line : Line) (dn : ℕ) (done : NodeCommand) (count : ℕ) (story : List Event)
-    → line.command ≡ Admin (admin_command dn done) → halt_of (Datanode dn) story ≡ Some count → IsDue opening bytes script story line (answers.NodeHalted dn count)
+    → line.command ≡ Admin (admin_command dn done) → halt_of (Datanode dn) story ≡ Some count
+    → IsDue opening bytes script story line (answers.NodeHalted dn count)
 halted_due opening bytes script line dn done count story its is = (names_its line dn done its, is)
 
 pub no_node_due : (opening : Opening) (bytes : OpeningBytes) (script : Script) (line : Line) (dn : ℕ) (done : NodeCommand) (story : List Event)

@@ -48,7 +48,8 @@ or-right : (a b : Bool) → b ≡ true → (a || b) ≡ true
 or-right true b h = refl
 or-right false b h = h
 
-gave-go : (c s : Bool) (was : Bool) → newer (cond (c && s) (Some true) None) was ≡ true → (was ≡ true) ⊎ (option_map_or (λ (b : Bool). b) (cond c (Some s) None) false ≡ true)
+gave-go : (c s : Bool) (was : Bool) → newer (cond (c && s) (Some true) None) was ≡ true → (was ≡ true)
+    ⊎ (option_map_or (λ (b : Bool). b) (cond c (Some s) None) false ≡ true)
 gave-go true true was h = inr refl
 gave-go true false was h = inl h
 gave-go false s was h = inl h
@@ -57,42 +58,59 @@ took-go : (c was : Bool) → newer (cond c (Some false) None) was ≡ true → w
 took-go true was h = false-true h
 took-go false was h = h
 
-same-test : (block other : Block) (c : Bool) → option_map_or (is_block block) (cond c (Some other) None) false ≡ option_map_or (λ (b : Bool). b) (cond c (Some (is_block block other)) None) false
+same-test : (block other : Block) (c : Bool)
+    → option_map_or (is_block block) (cond c (Some other) None) false ≡ option_map_or (λ (b : Bool). b) (cond c (Some (is_block block other)) None) false
 same-test block other true = refl
 same-test block other false = refl
 
-gave-one : (block other : Block) (c was : Bool) → newer (cond (c && is_block block other) (Some true) None) was ≡ true → (was ≡ true) ⊎ (option_map_or (is_block block) (cond c (Some other) None) false ≡ true)
+gave-one : (block other : Block) (c was : Bool) → newer (cond (c && is_block block other) (Some true) None) was ≡ true → (was ≡ true)
+    ⊎ (option_map_or (is_block block) (cond c (Some other) None) false ≡ true)
 gave-one block other c was h =
-    elim (gave-go c (is_block block other) was h) as (λ r. (was ≡ true) ⊎ (option_map_or (is_block block) (cond c (Some other) None) false ≡ true)) [ inl w ↦ inl w | inr g ↦ inr (same-test block other c ∙ g) ]
+    elim (gave-go c (is_block block other) was h) as
+    (λ r. (was ≡ true) ⊎ (option_map_or (is_block block) (cond c (Some other) None) false ≡ true)) [
+      | inl w ↦ inl w
+      | inr g ↦ inr
+          (same-test block other c ∙ g)
+    ]
 
-held-step : (txns : List Txn) (dn : ℕ) (block : Block) (was : Bool) (kind : EventKind) → newer (held_after txns dn block kind) was ≡ true → (was ≡ true) ⊎ (option_map_or (is_block block) (given dn kind) false ≡ true)
+held-step : (txns : List Txn) (dn : ℕ) (block : Block) (was : Bool) (kind : EventKind) → newer (held_after txns dn block kind) was ≡ true → (was ≡ true)
+    ⊎ (option_map_or (is_block block) (given dn kind) false ≡ true)
 held-step txns dn block was (kind.Put other put id first count) h = gave-one block put (other == dn) was h
 held-step txns dn block was (kind.Copy source target copied) h = gave-one block copied (target == dn) was h
 held-step txns dn block was (kind.Delete other number locals) h = inl (took-go (other == dn && deletes txns number locals block) was h)
 held-step txns dn block was (kind.Wipe other) h = inl (took-go (other == dn) was h)
 held-step txns dn block was _ h = inl h
 
-held-story : (txns : List Txn) (dn : ℕ) (block : Block) (was : Bool) (story : List Event) → last_told (held_after txns dn block) was story ≡ true → (was ≡ true) ⊎ (list_any (λ (event : Event). option_map_or (is_block block) (given dn event.kind) false) story ≡ true)
+held-story : (txns : List Txn) (dn : ℕ) (block : Block) (was : Bool) (story : List Event) → last_told (held_after txns dn block) was story ≡ true
+    → (was ≡ true) ⊎ (list_any (λ (event : Event). option_map_or (is_block block) (given dn event.kind) false) story ≡ true)
 held-story txns dn block was [] h = inl h
 held-story txns dn block was (event ∷ story) h =
-    elim (held-story txns dn block (newer (held_after txns dn block event.kind) was) story h) as (λ r. (was ≡ true) ⊎ (list_any (λ (e : Event). option_map_or (is_block block) (given dn e.kind) false) (event ∷ story) ≡ true)) [
-      | inl now ↦ elim (held-step txns dn block was event.kind now) as (λ r. (was ≡ true) ⊎ (list_any (λ (e : Event). option_map_or (is_block block) (given dn e.kind) false) (event ∷ story) ≡ true)) [
-        | inl w ↦ inl w
-        | inr g ↦ inr (or-left (option_map_or (is_block block) (given dn event.kind) false) (list_any (λ (e : Event). option_map_or (is_block block) (given dn e.kind) false) story) g)
-      ]
-      | inr later ↦ inr (or-right (option_map_or (is_block block) (given dn event.kind) false) (list_any (λ (e : Event). option_map_or (is_block block) (given dn e.kind) false) story) later)
+    elim (held-story txns dn block (newer (held_after txns dn block event.kind) was) story h) as
+    (λ r. (was ≡ true) ⊎ (list_any (λ (e : Event). option_map_or (is_block block) (given dn e.kind) false) (event ∷ story) ≡ true)) [
+      | inl now ↦ elim (held-step txns dn block was event.kind now) as
+          (λ r. (was ≡ true) ⊎ (list_any (λ (e : Event). option_map_or (is_block block) (given dn e.kind) false) (event ∷ story) ≡ true)) [
+            | inl w ↦ inl w
+            | inr g ↦ inr (or-left (option_map_or (is_block block) (given dn event.kind) false)
+                (list_any (λ (e : Event). option_map_or (is_block block) (given dn e.kind) false) story) g)
+          ]
+      | inr later ↦ inr (or-right (option_map_or (is_block block) (given dn event.kind) false)
+          (list_any (λ (e : Event). option_map_or (is_block block) (given dn e.kind) false) story) later)
     ]
 
-had-go : (block : Block) (o : Option NodeOpening) → option_map_or (has_piece block) o false ≡ has block (option_map_or (λ (node : NodeOpening). blocks_of node.held) o [])
+had-go : (block : Block) (o : Option NodeOpening)
+    → option_map_or (has_piece block) o false ≡ has block (option_map_or (λ (node : NodeOpening). blocks_of node.held) o [])
 had-go block None = refl
 had-go block (Some node) = sym (any_map (is_block block) (λ (piece : Piece). piece.block) node.held)
 
-pub held_among : (opening : Opening) (story : List Event) (dn : ℕ) (block : Block) → holds opening story dn block ≡ true → has block (had_or_given opening story dn) ≡ true
+pub held_among : (opening : Opening) (story : List Event) (dn : ℕ) (block : Block) → holds opening story dn block ≡ true
+    → has block (had_or_given opening story dn) ≡ true
 held_among opening story dn block h =
     list_any-append (is_block block) (had_blocks opening dn) (all_told (given dn) story)
-    ∙ (elim (held-story (logs opening story) dn block (was_held opening dn block) story h) as (λ r. (has block (had_blocks opening dn) || has block (all_told (given dn) story)) ≡ true) [
+    ∙ (elim (held-story (logs opening story) dn block (was_held opening dn block) story h) as
+    (λ r. (has block (had_blocks opening dn) || has block (all_told (given dn) story)) ≡ true) [
       | inl was ↦ or-left (has block (had_blocks opening dn)) (has block (all_told (given dn) story)) (sym (had-go block (slice_get opening.nodes dn)) ∙ was)
-      | inr came ↦ or-right (has block (had_blocks opening dn)) (has block (all_told (given dn) story)) (any_told (is_block block) (λ (event : Event). given dn event.kind) story ∙ came)
+      | inr came ↦ or-right (has block (had_blocks opening dn)) (has block (all_told (given dn) story))
+          (any_told (is_block block) (λ (event : Event). given dn event.kind) story ∙ came)
     ])
 
 -- ---- blocks that a test takes for one are one
@@ -107,9 +125,11 @@ a_block container local = record { container = container; local = local }
 
 same_block : (block other : Block) → is_block block other ≡ true → block ≡ other
 same_block block other h =
-    let two : ((other.container == block.container) ≡ true) × ((other.local == block.local) ≡ true) = both (other.container == block.container) (other.local == block.local) h in
+    let two : ((other.container == block.container) ≡ true)
+    × ((other.local == block.local) ≡ true) = both (other.container == block.container) (other.local == block.local) h in
     ap (λ (n : ℕ). a_block n block.local) (sym (eqb-true other.container block.container two.0))
     ∙ ap (λ (n : ℕ). a_block other.container n) (sym (eqb-true other.local block.local two.1))
 
-pub may_hold : (opening : Opening) (story : List Event) (dn : ℕ) (block : Block) → holds opening story dn block ≡ true → Contains (had_or_given opening story dn) block
+pub may_hold : (opening : Opening) (story : List Event) (dn : ℕ) (block : Block) → holds opening story dn block ≡ true
+    → Contains (had_or_given opening story dn) block
 may_hold opening story dn block h = Contains-from_any same_block block (had_or_given opening story dn) (held_among opening story dn block h)

@@ -30,7 +30,8 @@ pub(crate) fn delete_key<M: RowMap>(
     requires { name_fault (Request.DeleteKey volume.now bucket.now key.now) ≡ None }
     ensures reply { IfOk result (λ decision. IsReply (M.rows rows.now) (Request.DeleteKey volume.now bucket.now key.now) decision.reply) }
     ensures allowed { IfOk result (λ decision. MayRecordChange (M.rows rows.now) (Request.DeleteKey volume.now bucket.now key.now) decision.reply) }
-    ensures changes { IfOk result (λ decision. decision.changes ≡ recorded_change (M.rows rows.now) (Request.DeleteKey volume.now bucket.now key.now) decision.reply) }
+    ensures changes { IfOk result (λ decision. decision.changes
+        ≡ recorded_change (M.rows rows.now) (Request.DeleteKey volume.now bucket.now key.now) decision.reply) }
     ensures operations { IfOk result (λ decision. decision.bytes ≡ batch_bytes (row_by_row decision.changes)) }
 {
     let of_key = RowKey::of_key(alloc, volume, bucket, key)?;
@@ -53,7 +54,8 @@ fn delete_row<M: RowMap>(
     requires key { KeyFits of_key }
     requires named { name_fault (Request.DeleteKey volume.now bucket.now key.now) ≡ None }
     requires blocks { AreItems IsBlock (version_at (M.rows rows.now of_key)) }
-    ensures bytes { IfOk result (λ draft. draft.bytes ≡ batch_bytes (row_by_row (gone of_key ∷ deleted volume.now bucket.now key.now (version_at (M.rows rows.now of_key))))) }
+    ensures bytes { IfOk result (λ draft. draft.bytes
+        ≡ batch_bytes (row_by_row (gone of_key ∷ deleted volume.now bucket.now key.now (version_at (M.rows rows.now of_key))))) }
     ensures changes { IfOk result (λ draft. draft.changes ≡ gone of_key ∷ deleted volume.now bucket.now key.now (version_at (M.rows rows.now of_key))) }
 {
     let blocks = version_blocks(alloc, rows, &of_key)?;

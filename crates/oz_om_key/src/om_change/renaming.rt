@@ -34,7 +34,8 @@ pub(crate) fn rename_key<M: RowMap>(
     requires { name_fault (Request.RenameKey volume.now bucket.now key.now to.now) ≡ None }
     ensures reply { IfOk result (λ decision. IsReply (M.rows rows.now) (Request.RenameKey volume.now bucket.now key.now to.now) decision.reply) }
     ensures allowed { IfOk result (λ decision. MayRecordChange (M.rows rows.now) (Request.RenameKey volume.now bucket.now key.now to.now) decision.reply) }
-    ensures changes { IfOk result (λ decision. decision.changes ≡ recorded_change (M.rows rows.now) (Request.RenameKey volume.now bucket.now key.now to.now) decision.reply) }
+    ensures changes { IfOk result (λ decision. decision.changes
+        ≡ recorded_change (M.rows rows.now) (Request.RenameKey volume.now bucket.now key.now to.now) decision.reply) }
     ensures operations { IfOk result (λ decision. decision.bytes ≡ batch_bytes (row_by_row decision.changes)) }
 {
     let of_key = RowKey::of_key(alloc, volume, bucket, key)?;
@@ -60,7 +61,8 @@ fn not_renamed<M: RowMap>(
     requires named { name_fault (Request.RenameKey volume.now bucket.now key.now to.now) ≡ None }
     requires key { of_key.now ≡ RowKey.Key volume.now bucket.now key.now }
     requires new { of_new.now ≡ RowKey.Key volume.now bucket.now to.now }
-    ensures code { IfOk result (λ code. ShowsThat (M.rows rows.now) (λ namespace. code ≡ refusal (scope_of namespace volume.now) (Request.RenameKey volume.now bucket.now key.now to.now))) }
+    ensures code { IfOk result (λ code. ShowsThat (M.rows rows.now)
+        (λ namespace. code ≡ refusal (scope_of namespace volume.now) (Request.RenameKey volume.now bucket.now key.now to.now))) }
     ensures none { IfOk result (λ code. code ≡ None → MayRename (M.rows rows.now) volume.now bucket.now key.now to.now) }
 {
     if let Some(code) = missing_key(alloc, rows, volume, bucket, key, of_key)? {

@@ -31,8 +31,10 @@ pub(crate) fn create_key<M: RowMap>(
     requires { name_fault (Request.CreateKey volume.now bucket.now key.now) ≡ None }
     ensures reply { IfOk result (λ decision. IsReply (M.rows rows.now) (Request.CreateKey volume.now bucket.now key.now) decision.reply) }
     ensures allowed { IfOk result (λ decision. MayRecord (M.rows rows.now) (Request.CreateKey volume.now bucket.now key.now) decision.reply) }
-    ensures changes { IfOk result (λ decision. AreRecorded (M.rows rows.now) (Request.CreateKey volume.now bucket.now key.now) decision.reply decision.changes) }
-    ensures operations { IfOk result (λ decision. decision.bytes ≡ batch_bytes (operations_for (Request.CreateKey volume.now bucket.now key.now) decision.changes)) }
+    ensures changes { IfOk result (λ decision. AreRecorded (M.rows rows.now)
+        (Request.CreateKey volume.now bucket.now key.now) decision.reply decision.changes) }
+    ensures operations { IfOk result (λ decision. decision.bytes
+        ≡ batch_bytes (operations_for (Request.CreateKey volume.now bucket.now key.now) decision.changes)) }
 {
     let drawn = drawn_numbers(rows, volume);
     if let Some(code) = not_opened(alloc, rows, volume, bucket, key, drawn)? {
@@ -66,7 +68,8 @@ fn not_opened<M: RowMap>(
 ) -> Result<Option<Code>, OutOfMemory>
     requires named { name_fault (Request.CreateKey volume.now bucket.now key.now) ≡ None }
     requires drawn { drawn ≡ drawn_in (M.rows rows.now (RowKey.Stripe (stripe_number volume.now))) }
-    ensures code { IfOk result (λ code. ShowsThat (M.rows rows.now) (λ namespace. code ≡ refusal (scope_of namespace volume.now) (Request.CreateKey volume.now bucket.now key.now))) }
+    ensures code { IfOk result (λ code. ShowsThat (M.rows rows.now)
+        (λ namespace. code ≡ refusal (scope_of namespace volume.now) (Request.CreateKey volume.now bucket.now key.now))) }
     ensures there { IfOk result (λ code. code ≡ None → IsSome (M.rows rows.now (RowKey.Bucket volume.now bucket.now))) }
     ensures few { IfOk result (λ code. code ≡ None → drawn < MOST_NUMBERS) }
 {

@@ -1,5 +1,35 @@
 -- The pass down a bucket's snapshots tells whether a live one has a block of a key.
-use Rattle.std.proofs.Common.{◌≡◌, ◌≢◌, ◌⊎◌, ◌↔◌, inl, inr, ⊎_elim, ℕ, ◌<◌, ◌==◌, ◌&&◌, ◌||◌, Bool, true, false, List, [], ◌∷◌, Option, None, Some, IsSome, is_some, refl, sym, ◌∙◌, ap, subst, arith}
+use Rattle.std.proofs.Common.{
+  ◌≡◌,
+  ◌≢◌,
+  ◌⊎◌,
+  ◌↔◌,
+  inl,
+  inr,
+  ⊎_elim,
+  ℕ,
+  ◌<◌,
+  ◌==◌,
+  ◌&&◌,
+  ◌||◌,
+  Bool,
+  true,
+  false,
+  List,
+  [],
+  ◌∷◌,
+  Option,
+  None,
+  Some,
+  IsSome,
+  is_some,
+  refl,
+  sym,
+  ◌∙◌,
+  ap,
+  subst,
+  arith,
+}
 use mathlib.Core.Bool.{false≢true}
 use Rattle.std.proofs.lemmas.Bool.Decides.{nat_tests}
 use Rattle.std.specs.Cmp.Lexicographic.{same_text, other_text}
@@ -92,7 +122,12 @@ module _ (all : Rows) (fit : AreInGrammar all) (sound : NumbersAreSound all) (v 
   none_some none some = absurd (false≢true (sym (ap is_some none) ∙ some))
 
   at_end : (m : ℕ) → AreBehind m [] → (o : Option Row) → row_at 0 ≡ o → IsCarried m (name_or o k)
-  at_end m behind None e = inr ((λ owner behind_it some. ⊎_elim (λ zero. none_some (ap row_at zero ∙ e) some) (λ above. false≢true (behind owner above (owner_there m owner above some))) behind_it), refl)
+  at_end m behind None e =
+      inr (
+        (λ owner behind_it some. ⊎_elim (λ zero. none_some (ap row_at zero ∙ e) some)
+            (λ above. false≢true (behind owner above (owner_there m owner above some))) behind_it),
+        refl,
+      )
   at_end m behind (Some row) e =
       let its = named 0 row e in
       subst (λ (r : Row). IsCarried m (name_or (Some r) k)) (sym its.1) (inl (
@@ -100,12 +135,14 @@ module _ (all : Rows) (fit : AreInGrammar all) (sound : NumbersAreSound all) (v 
         record {
           row = e ∙ ap Some its.1;
           behind = inl refl;
-          first = λ other behind_it some apart. ⊎_elim (λ same. absurd (apart same)) (λ above. absurd (false≢true (behind other above (owner_there m other above some)))) behind_it;
+          first = λ other behind_it some apart. ⊎_elim (λ same. absurd (apart same))
+              (λ above. absurd (false≢true (behind other above (owner_there m other above some)))) behind_it;
         },
       ))
 
   -- what is behind m and isn't x is behind x, where x is the first number behind m
-  past : (m x : ℕ) (numbers : List ℕ) → AllByRecursion (λ other. x < other) numbers → AreBehind m (x ∷ numbers) → (owner : ℕ) → ComesBehind m owner → IsSome (row_at owner) → owner ≢ x → ComesBehind x owner
+  past : (m x : ℕ) (numbers : List ℕ) → AllByRecursion (λ other. x < other) numbers → AreBehind m (x ∷ numbers) → (owner : ℕ) → ComesBehind m owner
+      → IsSome (row_at owner) → owner ≢ x → ComesBehind x owner
   past m x numbers rise behind owner (inl none) some apart = inl none
   past m x numbers rise behind owner (inr above) some apart = inr (by (x == owner) refl (behind owner above (owner_there m owner above some)))
     where
@@ -113,7 +150,8 @@ module _ (all : Rows) (fit : AreInGrammar all) (sound : NumbersAreSound all) (v 
       by true e among = absurd (apart (sym (one_number x owner e)))
       by false e among = above_each x owner numbers rise among
 
-  step : (m x : ℕ) (numbers : List ℕ) → m < x → AllByRecursion (λ other. x < other) numbers → AreBehind m (x ∷ numbers) → IsCarried x (carried numbers) → (o : Option Row) → row_at x ≡ o → IsCarried m (name_or o (carried numbers))
+  step : (m x : ℕ) (numbers : List ℕ) → m < x → AllByRecursion (λ other. x < other) numbers → AreBehind m (x ∷ numbers) → IsCarried x (carried numbers)
+      → (o : Option Row) → row_at x ≡ o → IsCarried m (name_or o (carried numbers))
   step m x numbers lt rise behind is (Some row) e =
       let its = named x row e in
       subst (λ (r : Row). IsCarried m (name_or (Some r) (carried numbers))) (sym its.1) (inl (
@@ -129,7 +167,8 @@ module _ (all : Rows) (fit : AreInGrammar all) (sound : NumbersAreSound all) (v 
     record {
       row = rename.row;
       behind = ⊎_elim (λ none. inl none) (λ above. inr (omega (arith, lt, above))) rename.behind;
-      first = λ other behind_it some apart. rename.first other (past m x numbers rise behind other behind_it some (λ same. none_some (ap row_at same ∙ e) some)) some apart;
+      first = λ other behind_it some apart. rename.first other
+          (past m x numbers rise behind other behind_it some (λ same. none_some (ap row_at same ∙ e) some)) some apart;
     },
   )
   step m x numbers lt rise behind (inr (none, same)) None e =
@@ -142,7 +181,8 @@ module _ (all : Rows) (fit : AreInGrammar all) (sound : NumbersAreSound all) (v 
       by true e among = absurd (let same = one_number x number e in omega (arith, same, above))
       by false e among = among
 
-  is_carried : (m : ℕ) (numbers : List ℕ) → AllByRecursion (λ other. m < other) numbers → NumbersRise numbers → AreBehind m numbers → IsCarried m (carried numbers)
+  is_carried : (m : ℕ) (numbers : List ℕ) → AllByRecursion (λ other. m < other) numbers → NumbersRise numbers → AreBehind m numbers
+      → IsCarried m (carried numbers)
   is_carried m [] above rise behind = at_end m behind (row_at 0) refl
   is_carried m (x ∷ numbers) above rise behind =
       step m x numbers above.0 rise.0 behind (is_carried x numbers rise.0 rise.1 (behind_later m x numbers above.0 behind)) (row_at x) refl
@@ -170,18 +210,22 @@ module _ (all : Rows) (fit : AreInGrammar all) (sound : NumbersAreSound all) (v 
       where
         by : (t : Bool) → is_same_name k name ≡ t → k ≡ name
         by true e = same_text k name (sym e)
-        by false e = let noted = renames.noted v b name x block has (inr (k, stands, other_text k name (sym e))) in absurd (none noted.0 noted.2.behind (ap is_some noted.2.row))
+        by false e = let noted =
+            renames.noted v b name x block has (inr (k, stands, other_text k name (sym e))) in absurd (none noted.0 noted.2.behind (ap is_some noted.2.row))
 
-    here : (x : ℕ) (name other : List ℕ) → SnapshotHas all v b x block name → other ≡ name → is_live (all (keys.Snapshot v b x)) && has_there block (all (keys.SnapshotKey v b x other)) ≡ true
+    here : (x : ℕ) (name other : List ℕ) → SnapshotHas all v b x block name → other ≡ name
+        → is_live (all (keys.Snapshot v b x)) && has_there block (all (keys.SnapshotKey v b x other)) ≡ true
     here x name other has same =
         (λ i. is_live (has.live.2 i) && has_there block (all (keys.SnapshotKey v b x (same i)))) ∙ ap (has_there block) has.stands.there ∙ has.stands.has
 
     -- a snapshot's number is one of these, or below all of them
     abbrev AreKnown : List ℕ → Type 0
-    AreKnown numbers = (number : ℕ) → IsSome (all (keys.Snapshot v b number)) → (is_among number numbers ≡ true) ⊎ AllByRecursion (λ other. number < other) numbers
+    AreKnown numbers = (number : ℕ) → IsSome (all (keys.Snapshot v b number)) → (is_among number numbers ≡ true)
+        ⊎ AllByRecursion (λ other. number < other) numbers
 
     behind_first : (x : ℕ) (numbers : List ℕ) → AreKnown (x ∷ numbers) → AreBehind x numbers
-    behind_first x numbers known number above some = ⊎_elim (by (x == number) refl) (λ low. absurd (let under = low.0 in omega (arith, under, above))) (known number some)
+    behind_first x numbers known number above some =
+        ⊎_elim (by (x == number) refl) (λ low. absurd (let under = low.0 in omega (arith, under, above))) (known number some)
       where
         by : (t : Bool) → (x == number) ≡ t → t || is_among number numbers ≡ true → is_among number numbers ≡ true
         by true e among = absurd (let same = one_number x number e in omega (arith, same, above))
@@ -190,20 +234,31 @@ module _ (all : Rows) (fit : AreInGrammar all) (sound : NumbersAreSound all) (v 
     known_later : (x : ℕ) (numbers : List ℕ) → AllByRecursion (λ other. x < other) numbers → AreKnown (x ∷ numbers) → AreKnown numbers
     known_later x numbers rise known number some = ⊎_elim (by (x == number) refl) (λ low. inr low.1) (known number some)
       where
-        by : (t : Bool) → (x == number) ≡ t → t || is_among number numbers ≡ true → (is_among number numbers ≡ true) ⊎ AllByRecursion (λ other. number < other) numbers
+        by : (t : Bool) → (x == number) ≡ t → t || is_among number numbers ≡ true → (is_among number numbers ≡ true)
+            ⊎ AllByRecursion (λ other. number < other) numbers
         by true e among = inr (subst (λ y. AllByRecursion (λ other. y < other) numbers) (one_number x number e) rise)
         by false e among = inl among
 
-    holds : (numbers : List ℕ) → NumbersRise numbers → AreKnown numbers → (n : ℕ) (name : List ℕ) → is_among n numbers ≡ true → SnapshotHas all v b n block name → is_held all v b block k numbers ≡ true
+    holds : (numbers : List ℕ) → NumbersRise numbers → AreKnown numbers → (n : ℕ) (name : List ℕ) → is_among n numbers ≡ true
+        → SnapshotHas all v b n block name → is_held all v b block k numbers ≡ true
     holds [] rise known n name among has = absurd (false≢true among)
-    holds (x ∷ numbers) rise known n name among has = by (x == n) refl among (λ later. holds numbers rise.1 (known_later x numbers rise.0 known) n name later has)
+    holds (x ∷ numbers) rise known n name among has =
+        by (x == n) refl among (λ later. holds numbers rise.1 (known_later x numbers rise.0 known) n name later has)
       where
-        by : (t : Bool) → (x == n) ≡ t → t || is_among n numbers ≡ true → (is_among n numbers ≡ true → is_held all v b block k numbers ≡ true) → is_held all v b block k (x ∷ numbers) ≡ true
+        by : (t : Bool) → (x == n) ≡ t → t || is_among n numbers ≡ true → (is_among n numbers ≡ true → is_held all v b block k numbers ≡ true)
+            → is_held all v b block k (x ∷ numbers) ≡ true
         by true e among later =
             let its = subst (λ y. SnapshotHas all v b y block name) (sym (one_number x n e)) has in
-            or_right (is_held all v b block k numbers) _ (here x name (carried numbers) its (its_name x name (carried numbers) its (is_carried x numbers rise.0 rise.1 (behind_first x numbers known))))
+            or_right (is_held all v b block k numbers) _
+            (here x name (carried numbers) its (its_name x name (carried numbers) its
+            (is_carried x numbers rise.0 rise.1 (behind_first x numbers known))))
         by false e among later = or_left (is_held all v b block k numbers) _ (later among)
 
     -- the pass tells exactly whether a live snapshot has a block of the key
-    pub held_by_pass : (numbers : List ℕ) → AreNumbers all v b numbers → (is_held all v b block k numbers ≡ true) ↔ ((number : ℕ) × (name : List ℕ) × SnapshotHas all v b number block name)
-    held_by_pass numbers are = (found numbers, λ held. holds numbers are.rise (λ number some. inl (are.every number some)) held.0 held.1 (are.every held.0 (ap is_some held.2.live.2)) held.2)
+    pub held_by_pass : (numbers : List ℕ) → AreNumbers all v b numbers
+        → (is_held all v b block k numbers ≡ true) ↔ ((number : ℕ) × (name : List ℕ) × SnapshotHas all v b number block name)
+    held_by_pass numbers are = (
+      found numbers,
+      λ held. holds numbers are.rise (λ number some. inl (are.every number some)) held.0 held.1
+          (are.every held.0 (ap is_some held.2.live.2)) held.2,
+    )

@@ -1,5 +1,34 @@
 -- Rows stay sound as a snapshot is made.
-use Rattle.std.proofs.Common.{◌≡◌, ◌≢◌, ◌⊎◌, inl, inr, ℕ, ◌<◌, ◌≤◌, Bool, true, false, List, [], Option, None, Some, IsSome, is_some, refl, sym, ◌∙◌, ap, subst, arith, ◌||◌, ◌==◌, ◌++◌, ◌∷◌}
+use Rattle.std.proofs.Common.{
+  ◌≡◌,
+  ◌≢◌,
+  ◌⊎◌,
+  inl,
+  inr,
+  ℕ,
+  ◌<◌,
+  ◌≤◌,
+  Bool,
+  true,
+  false,
+  List,
+  [],
+  Option,
+  None,
+  Some,
+  IsSome,
+  is_some,
+  refl,
+  sym,
+  ◌∙◌,
+  ap,
+  subst,
+  arith,
+  ◌||◌,
+  ◌==◌,
+  ◌++◌,
+  ◌∷◌,
+}
 use mathlib.Core.Bool.{false≢true}
 use Rattle.std.proofs.lemmas.Option.{same_Some}
 use Rattle.std.proofs.lemmas.Bool.Decides.{nat_tests}
@@ -21,7 +50,26 @@ use Rattle.oz_rows.specs.Rows.{ValueFits, kind_of}
 use Rattle.oz_rows.specs.RowMaps.{Rows, is_block, is_same}
 use Rattle.oz_rows.specs.laws.Same.{same_is_one}
 use Rattle.oz_sound.specs.Kept.{HasHome, KeepsBlocks}
-use Rattle.oz_sound.specs.Sound.{StandsIn, blocks_of, bucket_of_row, IsKeeper, IsHome, SnapshotHas, AreTogether, ComesBehind, IsRename, IsNamedAnew, IsUsing, AtMost, BlocksAreSound, NamesAreSound, RenamesAreSound, NumbersAreSound, CountsAreSound, IsSoundButRenames}
+use Rattle.oz_sound.specs.Sound.{
+  StandsIn,
+  blocks_of,
+  bucket_of_row,
+  IsKeeper,
+  IsHome,
+  SnapshotHas,
+  AreTogether,
+  ComesBehind,
+  IsRename,
+  IsNamedAnew,
+  IsUsing,
+  AtMost,
+  BlocksAreSound,
+  NamesAreSound,
+  RenamesAreSound,
+  NumbersAreSound,
+  CountsAreSound,
+  IsSoundButRenames,
+}
 use Rattle.oz_sound.specs.StandsFor.{AreSnapshots, IsLive, NumbersRise, SnapshotsStand, drawn_in, is_among, pieces_in}
 use Rattle.oz_sound.specs.frames.laws.Moving.{at_most}
 use Rattle.oz_reclaim.specs.Makes.{IsOfBucket, SnapshotMade, copy_of}
@@ -62,7 +110,8 @@ snapshot_name : Option Row → List ℕ
 snapshot_name (Some (rows.Snapshot name previous state)) = name
 snapshot_name row = []
 
-module _ (all now : Rows) (v b name : List ℕ) (n : ℕ) (is : SnapshotMade all now v b name n) (fit_before : AreInGrammar all) (fit : AreInGrammar now) (sound : IsSoundButRenames all) where
+module _ (all now : Rows) (v b name : List ℕ) (n : ℕ) (is : SnapshotMade all now v b name n) (fit_before : AreInGrammar all) (fit : AreInGrammar now)
+    (sound : IsSoundButRenames all) where
   abbrev is_new : List ℕ → List ℕ → ℕ → Bool
   is_new w c m = is_same (keys.Snapshot v b n) (keys.Snapshot w c m)
 
@@ -87,7 +136,8 @@ module _ (all now : Rows) (v b name : List ℕ) (n : ℕ) (is : SnapshotMade all
   under w c m x there e =
       let same = place w c x e in
       let most = sound.numbers.snapshots w c m there in
-      let drawn : drawn_in (all (keys.Stripe (stripe_of w))) ≡ drawn_in (all (keys.Stripe (stripe_of v))) = ap (λ y. drawn_in (all (keys.Stripe (stripe_of y)))) (sym same.0) in
+      let drawn : drawn_in (all (keys.Stripe (stripe_of w))) ≡ drawn_in (all (keys.Stripe (stripe_of v))) =
+      ap (λ y. drawn_in (all (keys.Stripe (stripe_of y)))) (sym same.0) in
       let fresh = is.fresh in
       let number = same.2 in
       omega (arith, most, drawn, fresh, number)
@@ -129,7 +179,11 @@ module _ (all now : Rows) (v b name : List ℕ) (n : ℕ) (is : SnapshotMade all
   has_still : (w c : List ℕ) (m : ℕ) (block : Block) (k : List ℕ) → SnapshotHas all w c m block k → SnapshotHas now w c m block k
   has_still w c m block k has = record {
     live = live_still w c m has.live;
-    stands = record { row = has.stands.row; there = is.snapshot_keys w c k m (not_new w c m (is_live w c m has.live)) ∙ has.stands.there; has = has.stands.has };
+    stands = record {
+      row = has.stands.row;
+      there = is.snapshot_keys w c k m (not_new w c m (is_live w c m has.live)) ∙ has.stands.there;
+      has = has.stands.has;
+    };
   }
 
   has_copy : (block : Block) (k : List ℕ) (w c : List ℕ) (m : ℕ) → is_new w c m ≡ true → StandsIn all block (keys.Key w c k) → SnapshotHas now w c m block k
@@ -139,7 +193,11 @@ module _ (all now : Rows) (v b name : List ℕ) (n : ℕ) (is : SnapshotMade all
       let to = copied_to v b k stands.row (fit_before (keys.Key v b k) stands.row stands.there).1 in
       record {
         live = (name, is.previous, is.made);
-        stands = record { row = to.0; there = is.copies k ∙ ap copy_of stands.there ∙ to.1; has = subst (λ (l : List Block). list_any (is_block block) l ≡ true) (sym to.2) stands.has };
+        stands = record {
+          row = to.0;
+          there = is.copies k ∙ ap copy_of stands.there ∙ to.1;
+          has = subst (λ (l : List Block). list_any (is_block block) l ≡ true) (sym to.2) stands.has;
+        };
       })
 
   -- ---- where blocks stood
@@ -158,27 +216,43 @@ module _ (all now : Rows) (v b name : List ℕ) (n : ℕ) (is : SnapshotMade all
   still : (key : RowKey) (block : Block) → IsOfBucket key → StandsIn now block key → Origin block key
   still key block steady stands = record { old = key; stood = steady_before key block steady stands; same_bucket = refl }
 
-  deleted_before : (w c k : List ℕ) (o l : ℕ) (block : Block) → StandsIn now block (keys.Deleted w c o k l) → (before : ℕ) × (is.owner_now w c before ≡ o) × StandsIn all block (keys.Deleted w c before k l)
+  deleted_before : (w c k : List ℕ) (o l : ℕ) (block : Block) → StandsIn now block (keys.Deleted w c o k l) → (before : ℕ) × (is.owner_now w c before ≡ o)
+      × StandsIn all block (keys.Deleted w c before k l)
   deleted_before w c k o l block stands =
       let from = is.came w c k o l stands.row stands.there in
       (from.0, from.1, record { row = stands.row; there = from.2; has = stands.has })
 
   key_origin : (block : Block) (k : List ℕ) (w c : List ℕ) (m : ℕ) → StandsIn now block (keys.SnapshotKey w c m k) → Origin block (keys.SnapshotKey w c m k)
   key_origin block k = by_number (λ w c m. StandsIn now block (keys.SnapshotKey w c m k) → Origin block (keys.SnapshotKey w c m k))
-      (λ w c m other stands. record { old = keys.SnapshotKey w c m k; stood = record { row = stands.row; there = sym (is.snapshot_keys w c k m other) ∙ stands.there; has = stands.has }; same_bucket = refl })
+      (λ w c m other stands. record {
+        old = keys.SnapshotKey w c m k;
+        stood = record { row = stands.row; there = sym (is.snapshot_keys w c k m other) ∙ stands.there; has = stands.has };
+        same_bucket = refl;
+      })
       (λ stands.
       let from = copied_from (all (keys.Key v b k)) stands.row (sym (is.copies k) ∙ stands.there) in
-      record { old = keys.Key v b k; stood = record { row = from.0; there = from.1; has = subst (λ (l : List Block). list_any (is_block block) l ≡ true) (sym from.2) stands.has }; same_bucket = refl })
+      record {
+        old = keys.Key v b k;
+        stood = record {
+          row = from.0;
+          there = from.1;
+          has = subst (λ (l : List Block). list_any (is_block block) l ≡ true) (sym from.2) stands.has;
+        };
+        same_bucket = refl;
+      })
 
   origin : (block : Block) (key : RowKey) → StandsIn now block key → Origin block key
   origin block (keys.Volume w) stands = still (keys.Volume w) block tt stands
   origin block (keys.Bucket w c) stands = still (keys.Bucket w c) block tt stands
   origin block (keys.Key w c k) stands = still (keys.Key w c k) block tt stands
   origin block (keys.Open w c k m) stands = still (keys.Open w c k m) block tt stands
-  origin block (keys.Deleted w c o k l) stands = let from = deleted_before w c k o l block stands in record { old = keys.Deleted w c from.0 k l; stood = from.2; same_bucket = refl }
+  origin block (keys.Deleted w c o k l) stands = let from =
+      deleted_before w c k o l block stands in record { old = keys.Deleted w c from.0 k l; stood = from.2; same_bucket = refl }
   origin block (keys.SnapshotKey w c m k) stands = key_origin block k w c m stands
-  origin block (keys.Snapshot w c m) stands = no_blocks stands.row block (snapshot_bare w c m stands.row (fit (keys.Snapshot w c m) stands.row stands.there).1) stands.has
-  origin block (keys.Renamed w c o l) stands = no_blocks stands.row block (renamed_bare w c o l stands.row (fit (keys.Renamed w c o l) stands.row stands.there).1) stands.has
+  origin block (keys.Snapshot w c m) stands =
+      no_blocks stands.row block (snapshot_bare w c m stands.row (fit (keys.Snapshot w c m) stands.row stands.there).1) stands.has
+  origin block (keys.Renamed w c o l) stands =
+      no_blocks stands.row block (renamed_bare w c o l stands.row (fit (keys.Renamed w c o l) stands.row stands.there).1) stands.has
   origin block (keys.Stripe s) stands = no_blocks stands.row block (stripe_bare s stands.row (fit (keys.Stripe s) stands.row stands.there).1) stands.has
 
   pub key_now : RowKey → RowKey
@@ -194,7 +268,8 @@ module _ (all now : Rows) (v b name : List ℕ) (n : ℕ) (is : SnapshotMade all
   old_home : (block : Block) (key : RowKey) → IsHome key → StandsIn now block key → OldHome block key
   unfolding key_now
   old_home block (keys.Key w c k) home stands = record { old = keys.Key w c k; home = tt; stood = steady_before (keys.Key w c k) block tt stands; same = refl }
-  old_home block (keys.Open w c k m) home stands = record { old = keys.Open w c k m; home = tt; stood = steady_before (keys.Open w c k m) block tt stands; same = refl }
+  old_home block (keys.Open w c k m) home stands =
+      record { old = keys.Open w c k m; home = tt; stood = steady_before (keys.Open w c k m) block tt stands; same = refl }
   old_home block (keys.Deleted w c o k l) home stands =
       let from = deleted_before w c k o l block stands in
       record { old = keys.Deleted w c from.0 k l; home = tt; stood = from.2; same = ap (λ owner. keys.Deleted w c owner k l) from.1 }
@@ -205,10 +280,12 @@ module _ (all now : Rows) (v b name : List ℕ) (n : ℕ) (is : SnapshotMade all
 
   kept_now : (block : Block) (key : RowKey) → IsKeeper key → StandsIn all block key → (new : RowKey) × IsKeeper new × StandsIn now block new
   kept_now block (keys.Key w c k) keeper stands = (keys.Key w c k, tt, steady_after (keys.Key w c k) block tt stands)
-  kept_now block (keys.Deleted w c o k l) keeper stands = (keys.Deleted w c (is.owner_now w c o) k l, tt, record { row = stands.row; there = is.stays w c k o l stands.row stands.there; has = stands.has })
+  kept_now block (keys.Deleted w c o k l) keeper stands =
+      (keys.Deleted w c (is.owner_now w c o) k l, tt, record { row = stands.row; there = is.stays w c k o l stands.row stands.there; has = stands.has })
   kept_now block key keeper stands = absurd keeper
 
-  together_now : (w c : List ℕ) (block other : Block) → AreTogether all w c block other → ((k : List ℕ) → StandsIn all block (keys.Key w c k) → StandsIn all other (keys.Key w c k)) → AreTogether now w c block other
+  together_now : (w c : List ℕ) (block other : Block) → AreTogether all w c block other
+      → ((k : List ℕ) → StandsIn all block (keys.Key w c k) → StandsIn all other (keys.Key w c k)) → AreTogether now w c block other
   together_now w c block other are both m k has = elim (had block k w c m has) [
     | inl old ↦ (let found = are m k old in (found.0, has_still w c m other found.0 found.1))
     | inr new ↦ (k, has_copy other k w c m new.0 (both k new.1))
@@ -225,7 +302,8 @@ module _ (all now : Rows) (v b name : List ℕ) (n : ℕ) (is : SnapshotMade all
         let two = old_home block other home_too there in
         sym one.same ∙ ap key_now (one_home block one.old two.old one.home two.home one.stood two.stood) ∙ two.same;
     one_local = λ block twin key other here there same.
-        sound.blocks.one_local block twin (origin block key here).old (origin twin other there).old (origin block key here).stood (origin twin other there).stood same;
+        sound.blocks.one_local block twin (origin block key here).old (origin twin other there).old (origin block key here).stood
+        (origin twin other there).stood same;
     kept = λ w c k m block has. elim (had block k w c m has) [
       | inl old ↦ (let keeper = sound.blocks.kept w c k m block old in kept_now block keeper.0 keeper.1 keeper.2)
       | inr new ↦ kept_now block (keys.Key w c k) tt new.1
@@ -233,7 +311,13 @@ module _ (all now : Rows) (v b name : List ℕ) (n : ℕ) (is : SnapshotMade all
     deleted_together = λ w c k o l block other here there.
         let from = is.came w c k o l here.row here.there in
         let mine : StandsIn all block (keys.Deleted w c from.0 k l) = record { row = here.row; there = from.2; has = here.has } in
-        let its : StandsIn all other (keys.Deleted w c from.0 k l) = record { row = here.row; there = from.2; has = subst (λ (row : Row). list_any (is_block other) (blocks_of row) ≡ true) (same_Some there.row here.row (sym there.there ∙ here.there)) there.has } in
+        let its : StandsIn all other (keys.Deleted w c from.0 k l) =
+        record {
+          row = here.row;
+          there = from.2;
+          has = subst (λ (row : Row). list_any (is_block other) (blocks_of row) ≡ true)
+              (same_Some there.row here.row (sym there.there ∙ here.there)) there.has;
+        } in
         together_now w c block other (sound.blocks.deleted_together w c k from.0 l block other mine its)
         (λ q stands. absurd (let kinds = ap kind_of (one_home block (keys.Key w c q) (keys.Deleted w c from.0 k l) tt tt stands mine) in omega (arith, kinds)));
     key_together = λ w c k block other here there.
@@ -253,7 +337,12 @@ module _ (all now : Rows) (v b name : List ℕ) (n : ℕ) (is : SnapshotMade all
       home_now : (block : Block) (key : RowKey) → IsHome key → StandsIn all block key → HasHome now block
       home_now block (keys.Key w c k) home stands = record { key = keys.Key w c k; home = tt; here = steady_after (keys.Key w c k) block tt stands }
       home_now block (keys.Open w c k m) home stands = record { key = keys.Open w c k m; home = tt; here = steady_after (keys.Open w c k m) block tt stands }
-      home_now block (keys.Deleted w c o k l) home stands = record { key = keys.Deleted w c (is.owner_now w c o) k l; home = tt; here = record { row = stands.row; there = is.stays w c k o l stands.row stands.there; has = stands.has } }
+      home_now block (keys.Deleted w c o k l) home stands =
+          record {
+            key = keys.Deleted w c (is.owner_now w c o) k l;
+            home = tt;
+            here = record { row = stands.row; there = is.stays w c k o l stands.row stands.there; has = stands.has };
+          }
       home_now block key home stands = absurd home
 
   -- ---- names
@@ -267,7 +356,8 @@ module _ (all now : Rows) (v b name : List ℕ) (n : ℕ) (is : SnapshotMade all
   live_before : (w c : List ℕ) (m : ℕ) → IsLive now w c m → is_new w c m ≡ false → IsLive all w c m
   live_before w c m live other = (live.0, live.1, sym (is.snapshots w c m other) ∙ live.2)
 
-  other_number : (m p : ℕ) (x : List ℕ) → now (keys.Snapshot v b n) ≡ Some (rows.Snapshot x p Live) → (q : ℕ) → all (keys.Snapshot v b m) ≡ Some (rows.Snapshot x q Live) → ⊥
+  other_number : (m p : ℕ) (x : List ℕ) → now (keys.Snapshot v b n) ≡ Some (rows.Snapshot x p Live) → (q : ℕ)
+      → all (keys.Snapshot v b m) ≡ Some (rows.Snapshot x q Live) → ⊥
   unfolding snapshot_name
   other_number m p x row q there =
       let same : x ≡ name = ap snapshot_name (sym row ∙ is.made) in
@@ -288,17 +378,22 @@ module _ (all now : Rows) (v b name : List ℕ) (n : ℕ) (is : SnapshotMade all
     ];
     open_name = λ w c k q session m block stands has. elim (had block q w c m has) [
       | inl old ↦ sound.names.open_name w c k q session m block (steady_before (keys.Open w c k session) block tt stands) old
-      | inr new ↦ absurd (let kinds = ap kind_of (one_home block (keys.Key w c q) (keys.Open w c k session) tt tt new.1 (steady_before (keys.Open w c k session) block tt stands)) in omega (arith, kinds))
+      | inr new ↦ absurd (let kinds = ap kind_of
+          (one_home block (keys.Key w c q) (keys.Open w c k session) tt tt new.1 (steady_before (keys.Open w c k session) block tt stands)) in omega
+          (arith, kinds))
     ];
   }
     where
-      one_snapshot : (x : List ℕ) (w c : List ℕ) (m p r q : ℕ) → now (keys.Snapshot w c m) ≡ Some (rows.Snapshot x p Live) → now (keys.Snapshot w c r) ≡ Some (rows.Snapshot x q Live) → m ≡ r
+      one_snapshot : (x : List ℕ) (w c : List ℕ) (m p r q : ℕ) → now (keys.Snapshot w c m) ≡ Some (rows.Snapshot x p Live)
+          → now (keys.Snapshot w c r) ≡ Some (rows.Snapshot x q Live) → m ≡ r
       one_snapshot x w c m p r q row other = by (is_new w c m) (is_new w c r) refl refl
         where
-          at : (y : ℕ) (z : ℕ) → is_new w c y ≡ true → now (keys.Snapshot w c y) ≡ Some (rows.Snapshot x z Live) → now (keys.Snapshot v b n) ≡ Some (rows.Snapshot x z Live)
+          at : (y : ℕ) (z : ℕ) → is_new w c y ≡ true → now (keys.Snapshot w c y) ≡ Some (rows.Snapshot x z Live)
+              → now (keys.Snapshot v b n) ≡ Some (rows.Snapshot x z Live)
           at y z e there = let same = place w c y e in (λ i. now (keys.Snapshot (same.0 i) (same.1 i) (same.2 i))) ∙ there
 
-          there : (y : ℕ) (z : ℕ) (u : ℕ) → is_new w c u ≡ true → is_new w c y ≡ false → now (keys.Snapshot w c y) ≡ Some (rows.Snapshot x z Live) → all (keys.Snapshot v b y) ≡ Some (rows.Snapshot x z Live)
+          there : (y : ℕ) (z : ℕ) (u : ℕ) → is_new w c u ≡ true → is_new w c y ≡ false → now (keys.Snapshot w c y) ≡ Some (rows.Snapshot x z Live)
+              → all (keys.Snapshot v b y) ≡ Some (rows.Snapshot x z Live)
           there y z u e f row = let same = place w c u e in (λ i. all (keys.Snapshot (same.0 i) (same.1 i) y)) ∙ sym (is.snapshots w c y f) ∙ row
 
           by : (t u : Bool) → is_new w c m ≡ t → is_new w c r ≡ u → m ≡ r
@@ -309,7 +404,8 @@ module _ (all now : Rows) (v b name : List ℕ) (n : ℕ) (is : SnapshotMade all
 
   -- ---- numbers and counts
 
-  owned : (w c : List ℕ) (before o : ℕ) → is.owner_now w c before ≡ o → o ≢ 0 → (before ≢ 0 → IsSome (all (keys.Snapshot w c before))) → IsSome (now (keys.Snapshot w c o))
+  owned : (w c : List ℕ) (before o : ℕ) → is.owner_now w c before ≡ o → o ≢ 0 → (before ≢ 0 → IsSome (all (keys.Snapshot w c before)))
+      → IsSome (now (keys.Snapshot w c o))
   owned w c before o same apart there = elim (is.owner w c before) [
     | inl stays ↦ subst (λ x. IsSome (now (keys.Snapshot w c x))) (sym stays ∙ same) (some_still w c before (there (λ zero. apart (sym same ∙ stays ∙ zero))))
     | inr new ↦ subst (λ x. IsSome (now (keys.Snapshot w c x))) same (new_there w c (is.owner_now w c before) new.1)
@@ -353,7 +449,8 @@ module _ (all now : Rows) (v b name : List ℕ) (n : ℕ) (is : SnapshotMade all
     keys_and_sessions = λ w c. at_most _ _ _ (using_before w c) (sound.counts.keys_and_sessions w c);
     snapshots = is.few;
     snapshot_keys = by_number (λ w c m. IsLive now w c m → AtMost 4096 (λ k. IsSome (now (keys.SnapshotKey w c m k))))
-        (λ w c m other live. at_most _ _ _ (λ k there. subst IsSome (is.snapshot_keys w c k m other) there) (sound.counts.snapshot_keys w c m (live_before w c m live other)))
+        (λ w c m other live. at_most _ _ _ (λ k there. subst IsSome (is.snapshot_keys w c k m other) there)
+        (sound.counts.snapshot_keys w c m (live_before w c m live other)))
         (λ live. is.few_keys);
   }
 
@@ -383,7 +480,8 @@ module _ (all now : Rows) (v b name : List ℕ) (n : ℕ) (is : SnapshotMade all
   ]
 
   -- two owners of renamed rows don't come together
-  owners_apart : (w c : List ℕ) (o x l : ℕ) (row other : Row) → all (keys.Renamed w c o l) ≡ Some row → all (keys.Renamed w c x l) ≡ Some other → is.owner_now w c o ≡ is.owner_now w c x → o ≡ x
+  owners_apart : (w c : List ℕ) (o x l : ℕ) (row other : Row) → all (keys.Renamed w c o l) ≡ Some row → all (keys.Renamed w c x l) ≡ Some other
+      → is.owner_now w c o ≡ is.owner_now w c x → o ≡ x
   owners_apart w c o x l row other here there same = elim (is.owner w c o) [
     | inl stays ↦ elim (is.owner w c x) [
       | inl stays_too ↦ sym stays ∙ same ∙ stays_too
@@ -404,7 +502,8 @@ module _ (all now : Rows) (v b name : List ℕ) (n : ℕ) (is : SnapshotMade all
           omega (arith, less, same)
 
   -- an owner is above a snapshot's number, or another one
-  first_before : (w c : List ℕ) (m l owner before : ℕ) (another : List ℕ) → IsSome (all (keys.Snapshot w c m)) → is.owner_now w c before ≡ owner → all (keys.Renamed w c before l) ≡ Some (rows.Renamed another) → IsRename now w c m l owner another → IsRename all w c m l before another
+  first_before : (w c : List ℕ) (m l owner before : ℕ) (another : List ℕ) → IsSome (all (keys.Snapshot w c m)) → is.owner_now w c before ≡ owner
+      → all (keys.Renamed w c before l) ≡ Some (rows.Renamed another) → IsRename now w c m l owner another → IsRename all w c m l before another
   first_before w c m l owner before another there same row rename = record {
     row = row;
     behind = behind_before w c m before owner same rename.behind;
@@ -414,13 +513,15 @@ module _ (all now : Rows) (v b name : List ℕ) (n : ℕ) (is : SnapshotMade all
         let first = rename.first moved (behind_now w c m other there behind) (ap is_some (is.renamed_stays w c other l found.0 found.1))
         (λ e. apart (owners_apart w c other before l found.0 (rows.Renamed another) found.1 row (e ∙ sym same))) in
         elim (is.owner w c before) [
-          | inl stays ↦ (let it : before ≡ owner = sym stays ∙ same in ((λ zero. first.0 (sym it ∙ zero)), behind_before w c before other moved refl (subst (λ x. ComesBehind x moved) (sym it) first.1)))
+          | inl stays ↦ (let it : before ≡ owner = sym stays
+              ∙ same in ((λ zero. first.0 (sym it ∙ zero)), behind_before w c before other moved refl (subst (λ x. ComesBehind x moved) (sym it) first.1)))
           | inr new ↦ absurd (above w c owner other l found.0 found.1 (subst (λ x. is_new w c x ≡ true) same new.1) (λ zero. apart (zero ∙ sym new.0)) first.1)
         ];
   }
     where
       -- nothing comes behind the new snapshot
-      above : (w c : List ℕ) (o other l : ℕ) (row : Row) → all (keys.Renamed w c other l) ≡ Some row → is_new w c o ≡ true → other ≢ 0 → ComesBehind o (is.owner_now w c other) → ⊥
+      above : (w c : List ℕ) (o other l : ℕ) (row : Row) → all (keys.Renamed w c other l) ≡ Some row → is_new w c o ≡ true → other ≢ 0
+          → ComesBehind o (is.owner_now w c other) → ⊥
       above w c o other l row here new some behind =
           let less = under w c other o (has_owner w c other l row here some) new in
           elim (is.owner w c other) [
@@ -431,17 +532,22 @@ module _ (all now : Rows) (v b name : List ℕ) (n : ℕ) (is : SnapshotMade all
             | inr moved ↦ some moved.0
           ]
 
-  first_now : (w c : List ℕ) (m l owner : ℕ) (another : List ℕ) → IsSome (all (keys.Snapshot w c m)) → IsRename all w c m l owner another → IsRename now w c m l (is.owner_now w c owner) another
+  first_now : (w c : List ℕ) (m l owner : ℕ) (another : List ℕ) → IsSome (all (keys.Snapshot w c m)) → IsRename all w c m l owner another
+      → IsRename now w c m l (is.owner_now w c owner) another
   first_now w c m l owner another there rename = record {
     row = is.renamed_stays w c owner l (rows.Renamed another) rename.row;
     behind = behind_now w c m owner there rename.behind;
     first = λ other behind some apart.
         let found = some_row (now (keys.Renamed w c other l)) some in
         let from = is.renamed_came w c other l found.0 found.1 in
-        let first = rename.first from.0 (behind_before w c m from.0 other from.1 behind) (ap is_some from.2) (λ e. apart (sym from.1 ∙ ap (is.owner_now w c) e)) in
+        let first = rename.first from.0 (behind_before w c m from.0 other from.1 behind) (ap is_some from.2)
+        (λ e. apart (sym from.1 ∙ ap (is.owner_now w c) e)) in
         let owner_there = has_owner w c owner l (rows.Renamed another) rename.row first.0 in
         elim (is.owner w c owner) [
-          | inl stays ↦ ((λ zero. first.0 (sym stays ∙ zero)), subst (λ x. ComesBehind x other) (sym stays) (subst (ComesBehind owner) from.1 (behind_now w c owner from.0 owner_there first.1)))
+          | inl stays ↦ (
+            (λ zero. first.0 (sym stays ∙ zero)),
+            subst (λ x. ComesBehind x other) (sym stays) (subst (ComesBehind owner) from.1 (behind_now w c owner from.0 owner_there first.1)),
+          )
           | inr new ↦ absurd (first.0 new.0)
         ];
   }
@@ -484,7 +590,8 @@ module _ (all now : Rows) (v b name : List ℕ) (n : ℕ) (is : SnapshotMade all
     | inl old ↦ (let less = under w c later m (is_live w c later old.live) new in omega (arith, less, above))
     | inr too ↦ (let one = (place w c m new).2 in let two = (place w c later too.0).2 in omega (arith, one, two, above))
   ]
-  not_anew w c k m block new stands (inr (another, here, apart)) = apart (one_key w c another k block (steady_before (keys.Key w c another) block tt here) stands)
+  not_anew w c k m block new stands (inr (another, here, apart)) =
+      apart (one_key w c another k block (steady_before (keys.Key w c another) block tt here) stands)
 
   pub renames_now : RenamesAreSound all → RenamesAreSound now
   renames_now renames = record {
@@ -528,7 +635,8 @@ module _ (all now : Rows) (v b name : List ℕ) (n : ℕ) (is : SnapshotMade all
   among_front m [] among = absurd (false≢true among)
   among_front m (x ∷ numbers) among = by (x == m) among (among_front m numbers)
     where
-      by : (t : Bool) → t || is_among m numbers ≡ true → (is_among m numbers ≡ true → is_among m (numbers ++ n ∷ []) ≡ true) → t || is_among m (numbers ++ n ∷ []) ≡ true
+      by : (t : Bool) → t || is_among m numbers ≡ true → (is_among m numbers ≡ true → is_among m (numbers ++ n ∷ []) ≡ true)
+          → t || is_among m (numbers ++ n ∷ []) ≡ true
       by true among later = refl
       by false among later = later among
 
@@ -545,12 +653,25 @@ module _ (all now : Rows) (v b name : List ℕ) (n : ℕ) (is : SnapshotMade all
     with_copy = record { name = name; keys = copied }
 
     each_with : (numbers : List ℕ) (l : List Snapshot) → AreSnapshots all v b numbers l → AreSnapshots now v b (numbers ++ n ∷ []) (l ++ with_copy ∷ [])
-    each_with [] [] are = (record { previous = is.previous; row = is.made; pieces = λ k. agree k ∙ copied_pieces k (all (keys.Key v b k)) refl ∙ ap pieces_in (sym (is.copies k)) }, tt)
+    each_with [] [] are = (
+      record {
+        previous = is.previous;
+        row = is.made;
+        pieces = λ k. agree k ∙ copied_pieces k (all (keys.Key v b k)) refl ∙ ap pieces_in (sym (is.copies k));
+      },
+      tt,
+    )
     each_with [] (s ∷ l) are = absurd are
     each_with (m ∷ numbers) [] are = absurd are
     each_with (m ∷ numbers) (s ∷ l) are =
-        let other = not_new v b m (ap is_some are.0.row) in
-        (record { previous = are.0.previous; row = is.snapshots v b m other ∙ are.0.row; pieces = λ k. are.0.pieces k ∙ ap pieces_in (sym (is.snapshot_keys v b k m other)) }, each_with numbers l are.1)
+        let other = not_new v b m (ap is_some are.0.row) in (
+          record {
+            previous = are.0.previous;
+            row = is.snapshots v b m other ∙ are.0.row;
+            pieces = λ k. are.0.pieces k ∙ ap pieces_in (sym (is.snapshot_keys v b k m other));
+          },
+          each_with numbers l are.1,
+        )
 
     pub snapshots_now : (l : List Snapshot) → SnapshotsStand all v b l → SnapshotsStand now v b (l ++ with_copy ∷ [])
     snapshots_now l stand = record {

@@ -16,7 +16,24 @@ use Rattle.oz_rows.specs.declared.row.Row.TheVariants as rows
 use Rattle.oz_rows.specs.RowMaps.{Rows, is_block}
 use Rattle.oz_rows.specs.Rows.{ValueFits}
 use Rattle.oz_sound.specs.Kept.{HasHome, KeepsBlocks}
-use Rattle.oz_sound.specs.Sound.{StandsIn, blocks_of, bucket_of_row, IsKeeper, IsHome, SnapshotHas, AreTogether, IsRename, IsNamedAnew, IsUsing, BlocksAreSound, NamesAreSound, RenamesAreSound, NumbersAreSound, CountsAreSound, IsSoundButRenames}
+use Rattle.oz_sound.specs.Sound.{
+  StandsIn,
+  blocks_of,
+  bucket_of_row,
+  IsKeeper,
+  IsHome,
+  SnapshotHas,
+  AreTogether,
+  IsRename,
+  IsNamedAnew,
+  IsUsing,
+  BlocksAreSound,
+  NamesAreSound,
+  RenamesAreSound,
+  NumbersAreSound,
+  CountsAreSound,
+  IsSoundButRenames,
+}
 use Rattle.oz_sound.specs.StandsFor.{IsLive, drawn_in, pieces_in, StandsFor, IsSnapshot, AreSnapshots}
 use Rattle.oz_sound.specs.frames.laws.Moving.{at_most}
 use Rattle.oz_reclaim.specs.Moves.{DeletedMove, IsSteady, RenamesStay}
@@ -68,7 +85,8 @@ module _ (all now : Rows) (moved : DeletedMove all now) where
   still : (key : RowKey) (block : Block) → IsSteady key → StandsIn now block key → Origin block key
   still key block steady stands = record { old = key; stood = steady_before key block steady stands; same_bucket = refl }
 
-  deleted_before : (v b k : List ℕ) (o l : ℕ) (block : Block) → StandsIn now block (keys.Deleted v b o k l) → (before : ℕ) × (moved.owner_now v b before ≡ o) × StandsIn all block (keys.Deleted v b before k l)
+  deleted_before : (v b k : List ℕ) (o l : ℕ) (block : Block) → StandsIn now block (keys.Deleted v b o k l) → (before : ℕ)
+      × (moved.owner_now v b before ≡ o) × StandsIn all block (keys.Deleted v b before k l)
   deleted_before v b k o l block stands =
       let from = moved.came v b k o l stands.row stands.there in
       (from.0, from.1, record { row = stands.row; there = from.2; has = stands.has })
@@ -80,10 +98,18 @@ module _ (all now : Rows) (moved : DeletedMove all now) where
     origin block (keys.Key v b k) stands = still (keys.Key v b k) block tt stands
     origin block (keys.Open v b k n) stands = still (keys.Open v b k n) block tt stands
     origin block (keys.Stripe s) stands = still (keys.Stripe s) block tt stands
-    origin block (keys.Deleted v b o k l) stands = let from = deleted_before v b k o l block stands in record { old = keys.Deleted v b from.0 k l; stood = from.2; same_bucket = refl }
-    origin block (keys.SnapshotKey v b n k) stands = record { old = keys.SnapshotKey v b n k; stood = record { row = stands.row; there = (moved.snapshot_keys v b k n stands.row stands.there).0; has = stands.has }; same_bucket = refl }
-    origin block (keys.Snapshot v b n) stands = no_blocks stands.row block (snapshot_bare v b n stands.row (fit (keys.Snapshot v b n) stands.row stands.there).1) stands.has
-    origin block (keys.Renamed v b o l) stands = no_blocks stands.row block (renamed_bare v b o l stands.row (fit (keys.Renamed v b o l) stands.row stands.there).1) stands.has
+    origin block (keys.Deleted v b o k l) stands = let from =
+        deleted_before v b k o l block stands in record { old = keys.Deleted v b from.0 k l; stood = from.2; same_bucket = refl }
+    origin block (keys.SnapshotKey v b n k) stands =
+        record {
+          old = keys.SnapshotKey v b n k;
+          stood = record { row = stands.row; there = (moved.snapshot_keys v b k n stands.row stands.there).0; has = stands.has };
+          same_bucket = refl;
+        }
+    origin block (keys.Snapshot v b n) stands =
+        no_blocks stands.row block (snapshot_bare v b n stands.row (fit (keys.Snapshot v b n) stands.row stands.there).1) stands.has
+    origin block (keys.Renamed v b o l) stands =
+        no_blocks stands.row block (renamed_bare v b o l stands.row (fit (keys.Renamed v b o l) stands.row stands.there).1) stands.has
 
     -- the key of a home after the move
     pub key_now : RowKey → RowKey
@@ -98,15 +124,18 @@ module _ (all now : Rows) (moved : DeletedMove all now) where
 
     old_home : (block : Block) (key : RowKey) → IsHome key → StandsIn now block key → OldHome block key
     unfolding key_now
-    old_home block (keys.Key v b k) home stands = record { old = keys.Key v b k; home = tt; stood = steady_before (keys.Key v b k) block tt stands; same = refl }
-    old_home block (keys.Open v b k n) home stands = record { old = keys.Open v b k n; home = tt; stood = steady_before (keys.Open v b k n) block tt stands; same = refl }
+    old_home block (keys.Key v b k) home stands =
+        record { old = keys.Key v b k; home = tt; stood = steady_before (keys.Key v b k) block tt stands; same = refl }
+    old_home block (keys.Open v b k n) home stands =
+        record { old = keys.Open v b k n; home = tt; stood = steady_before (keys.Open v b k n) block tt stands; same = refl }
     old_home block (keys.Deleted v b o k l) home stands =
         let from = deleted_before v b k o l block stands in
         record { old = keys.Deleted v b from.0 k l; home = tt; stood = from.2; same = ap (λ owner. keys.Deleted v b owner k l) from.1 }
     old_home block key home stands = absurd home
 
     module _ (sound : IsSoundButRenames all) where
-      kept_now : (v b name : List ℕ) (n : ℕ) (block : Block) → SnapshotHas now v b n block name → (key : RowKey) → IsKeeper key → StandsIn all block key → (new : RowKey) × IsKeeper new × StandsIn now block new
+      kept_now : (v b name : List ℕ) (n : ℕ) (block : Block) → SnapshotHas now v b n block name → (key : RowKey) → IsKeeper key → StandsIn all block key
+          → (new : RowKey) × IsKeeper new × StandsIn now block new
       kept_now v b name n block has (keys.Key w c k) keeper stands = (keys.Key w c k, tt, steady_after (keys.Key w c k) block tt stands)
       kept_now v b name n block has (keys.Deleted w c o k l) keeper stands = elim (moved.stays w c k o l stands.row stands.there) [
         | inl there ↦ (keys.Deleted w c (moved.owner_now w c o) k l, tt, record { row = stands.row; there = there; has = stands.has })
@@ -130,16 +159,26 @@ module _ (all now : Rows) (moved : DeletedMove all now) where
             let two = old_home block other home_too there in
             sym one.same ∙ ap key_now (sound.blocks.one_home block one.old two.old one.home two.home one.stood two.stood) ∙ two.same;
         one_local = λ block twin key other here there same.
-            sound.blocks.one_local block twin (origin block key here).old (origin twin other there).old (origin block key here).stood (origin twin other there).stood same;
+            sound.blocks.one_local block twin (origin block key here).old (origin twin other there).old (origin block key here).stood
+            (origin twin other there).stood same;
         kept = λ v b name n block has.
             let keeper = sound.blocks.kept v b name n block (has_before v b n block name has) in
             kept_now v b name n block has keeper.0 keeper.1 keeper.2;
         deleted_together = λ v b k o l block other here there.
             let from = moved.came v b k o l here.row here.there in
-            let its : StandsIn all other (keys.Deleted v b from.0 k l) = record { row = here.row; there = from.2; has = subst (λ (row : Row). list_any (is_block other) (blocks_of row) ≡ true) (same_Some there.row here.row (sym there.there ∙ here.there)) there.has } in
-            together_now v b block other (sound.blocks.deleted_together v b k from.0 l block other (record { row = here.row; there = from.2; has = here.has }) its);
+            let its : StandsIn all other (keys.Deleted v b from.0 k l) =
+            record {
+              row = here.row;
+              there = from.2;
+              has = subst (λ (row : Row). list_any (is_block other) (blocks_of row) ≡ true)
+                  (same_Some there.row here.row (sym there.there ∙ here.there)) there.has;
+            } in
+            together_now v b block other
+            (sound.blocks.deleted_together v b k from.0 l block other (record { row = here.row; there = from.2; has = here.has }) its);
         key_together = λ v b k block other here there.
-            together_now v b block other (sound.blocks.key_together v b k block other (steady_before (keys.Key v b k) block tt here) (steady_before (keys.Key v b k) other tt there));
+            together_now v b block other
+            (sound.blocks.key_together v b k block other (steady_before (keys.Key v b k) block tt here)
+            (steady_before (keys.Key v b k) other tt there));
       }
 
       names_now : NamesAreSound now
@@ -158,7 +197,8 @@ module _ (all now : Rows) (moved : DeletedMove all now) where
 
       numbers_now : NumbersAreSound now
       numbers_now = record {
-        sessions = λ v b k n there. subst (λ m. n ≤ m) (sym (drawn v)) (sound.numbers.sessions v b k n (subst IsSome (moved.steady (keys.Open v b k n) tt) there));
+        sessions = λ v b k n there. subst (λ m. n ≤ m) (sym (drawn v))
+            (sound.numbers.sessions v b k n (subst IsSome (moved.steady (keys.Open v b k n) tt) there));
         snapshots = λ v b n there. subst (λ m. n ≤ m) (sym (drawn v)) (sound.numbers.snapshots v b n (moved.snapshots v b n there));
         deleted = moved.deleted_owners;
         renamed = moved.renamed_owners;
@@ -174,7 +214,8 @@ module _ (all now : Rows) (moved : DeletedMove all now) where
         buckets = λ v. at_most _ _ _ (λ b there. subst IsSome (moved.steady (keys.Bucket v b) tt) there) (sound.counts.buckets v);
         keys_and_sessions = λ v b. at_most _ _ _ (using_before v b) (sound.counts.keys_and_sessions v b);
         snapshots = λ v b. at_most _ _ _ (live_before v b) (sound.counts.snapshots v b);
-        snapshot_keys = λ v b n live. at_most _ _ _ (λ k there. subst IsSome (moved.live_keys v b k n live) there) (sound.counts.snapshot_keys v b n (live_before v b n live));
+        snapshot_keys = λ v b n live. at_most _ _ _ (λ k there. subst IsSome (moved.live_keys v b k n live) there)
+            (sound.counts.snapshot_keys v b n (live_before v b n live));
       }
 
       pub sound_now : IsSoundButRenames now
@@ -257,7 +298,8 @@ module _ (all now : Rows) (moved : DeletedMove all now) where
   -- ---- blocks stay in homes
 
   pub keeps : (granted : Option Block) (MayGo : Block → Type 0)
-      → ((v b k : List ℕ) (o l : ℕ) (row : Row) (block : Block) → all (keys.Deleted v b o k l) ≡ Some row → list_any (is_block block) (blocks_of row) ≡ true → ((after : ℕ) × (now (keys.Deleted v b after k l) ≡ Some row)) ⊎ MayGo block)
+      → ((v b k : List ℕ) (o l : ℕ) (row : Row) (block : Block) → all (keys.Deleted v b o k l) ≡ Some row → list_any (is_block block) (blocks_of row) ≡ true
+      → ((after : ℕ) × (now (keys.Deleted v b after k l) ≡ Some row)) ⊎ MayGo block)
       → KeepsBlocks all now granted MayGo
   keeps granted MayGo stay = record {
     none_lost = λ block had. lost block had.key had.home had.here;
@@ -276,5 +318,6 @@ module _ (all now : Rows) (moved : DeletedMove all now) where
       made : (block : Block) (key : RowKey) → IsHome key → StandsIn now block key → HasHome all block
       made block (keys.Key v b k) home here = record { key = keys.Key v b k; home = tt; here = steady_before (keys.Key v b k) block tt here }
       made block (keys.Open v b k n) home here = record { key = keys.Open v b k n; home = tt; here = steady_before (keys.Open v b k n) block tt here }
-      made block (keys.Deleted v b o k l) home here = let from = deleted_before v b k o l block here in record { key = keys.Deleted v b from.0 k l; home = tt; here = from.2 }
+      made block (keys.Deleted v b o k l) home here = let from =
+          deleted_before v b k o l block here in record { key = keys.Deleted v b from.0 k l; home = tt; here = from.2 }
       made block key home here = absurd home

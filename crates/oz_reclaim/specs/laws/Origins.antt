@@ -14,9 +14,11 @@ abbrev pub Gives : (RowKey → Row → Type 0) → Change → Type 0
 Gives P change = (row : Row) → change.row ≡ Some row → P change.key row
 
 -- a row was there, or one of the changes gave it
-pub was_or_given : (P : RowKey → Row → Type 0) (changes : List Change) → AllByRecursion (Gives P) changes → (q : RowKey) (before : Option Row) (row : Row) → row_after changes q before ≡ Some row → (before ≡ Some row) ⊎ P q row
+pub was_or_given : (P : RowKey → Row → Type 0) (changes : List Change) → AllByRecursion (Gives P) changes → (q : RowKey) (before : Option Row) (row : Row)
+    → row_after changes q before ≡ Some row → (before ≡ Some row) ⊎ P q row
 was_or_given P [] each q before row e = inl e
-was_or_given P (change ∷ changes) each q before row e = ⊎_elim (λ was. by (is_same change.key q) refl was) inr (was_or_given P changes each.1 q (cond (is_same change.key q) change.row before) row e)
+was_or_given P (change ∷ changes) each q before row e =
+    ⊎_elim (λ was. by (is_same change.key q) refl was) inr (was_or_given P changes each.1 q (cond (is_same change.key q) change.row before) row e)
   where
     by : (t : Bool) → is_same change.key q ≡ t → cond (is_same change.key q) change.row before ≡ Some row → (before ≡ Some row) ⊎ P q row
     by true same was = inr (subst (λ k. P k row) (same_is_one change.key q same) (each.0 row (sym (ap (λ (t : Bool). cond t change.row before) same) ∙ was)))
@@ -29,7 +31,8 @@ module _ (changes : List Change) (v b k : List ℕ) (n : ℕ) (stays : ChangesSn
 
   none_is : (l : List Change) → AllByRecursion (λ (change : Change). IsTidy changes change.key) l → (row : Option Row) → row_after l place row ≡ row
   none_is [] each row = refl
-  none_is (change ∷ l) each row = none_is l each.1 (cond (is_same change.key place) change.row row) ∙ ap (λ (t : Bool). cond t change.row row) (other (is_same change.key place) refl)
+  none_is (change ∷ l) each row = none_is l each.1 (cond (is_same change.key place) change.row row)
+      ∙ ap (λ (t : Bool). cond t change.row row) (other (is_same change.key place) refl)
     where
       other : (t : Bool) → is_same change.key place ≡ t → is_same change.key place ≡ false
       other false e = e

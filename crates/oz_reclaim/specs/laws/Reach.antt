@@ -1,5 +1,35 @@
 -- What rows show is what the namespace reaches for which they stand.
-use Rattle.std.proofs.Common.{◌≡◌, ⊎_elim, inl, inr, ℕ, zero, suc, ◌<◌, ◌==◌, ◌||◌, Bool, true, false, List, [], ◌∷◌, length, map, Option, None, Some, is_some, Contains, refl, sym, ◌∙◌, ap, subst, arith}
+use Rattle.std.proofs.Common.{
+  ◌≡◌,
+  ⊎_elim,
+  inl,
+  inr,
+  ℕ,
+  zero,
+  suc,
+  ◌<◌,
+  ◌==◌,
+  ◌||◌,
+  Bool,
+  true,
+  false,
+  List,
+  [],
+  ◌∷◌,
+  length,
+  map,
+  Option,
+  None,
+  Some,
+  is_some,
+  Contains,
+  refl,
+  sym,
+  ◌∙◌,
+  ap,
+  subst,
+  arith,
+}
 use mathlib.Core.Bool.{false≢true}
 use Rattle.std.proofs.lemmas.Bool.{eqb-true}
 use Rattle.std.proofs.lemmas.List.Folds.{list_any-from_Any, Any-from_list_any}
@@ -42,16 +72,26 @@ contains block blocks has =
 -- ---- rows with pieces
 
 -- the row that has pieces has their blocks
-with_pieces : (row : Option Row) (pieces : List Piece) → pieces_in row ≡ Some pieces → (block : Block) → Contains (map (λ (piece : Piece). piece.block) pieces) block
+with_pieces : (row : Option Row) (pieces : List Piece) → pieces_in row ≡ Some pieces → (block : Block)
+    → Contains (map (λ (piece : Piece). piece.block) pieces) block
     → (found : Row) × (row ≡ Some found) × (list_any (is_block block) (blocks_of found) ≡ true)
 with_pieces None pieces is block has = absurd (false≢true (ap is_some is))
-with_pieces (Some (rows.Key number own)) pieces is block has =
-    (rows.Key number own, refl, among block (blocks_of (rows.Key number own)) (subst (λ (l : List Piece). Contains (map (λ (piece : Piece). piece.block) l) block) (sym (same_Some own pieces is)) has))
-with_pieces (Some (rows.SnapshotKey number own)) pieces is block has =
-    (rows.SnapshotKey number own, refl, among block (blocks_of (rows.SnapshotKey number own)) (subst (λ (l : List Piece). Contains (map (λ (piece : Piece). piece.block) l) block) (sym (same_Some own pieces is)) has))
+with_pieces (Some (rows.Key number own)) pieces is block has = (
+  rows.Key number own,
+  refl,
+  among block (blocks_of (rows.Key number own))
+      (subst (λ (l : List Piece). Contains (map (λ (piece : Piece). piece.block) l) block) (sym (same_Some own pieces is)) has),
+)
+with_pieces (Some (rows.SnapshotKey number own)) pieces is block has = (
+  rows.SnapshotKey number own,
+  refl,
+  among block (blocks_of (rows.SnapshotKey number own))
+      (subst (λ (l : List Piece). Contains (map (λ (piece : Piece). piece.block) l) block) (sym (same_Some own pieces is)) has),
+)
 with_pieces (Some row) pieces is block has = absurd (false≢true (ap is_some is))
 
-pieces_stand : (all : Rows) (key : RowKey) (pieces : List Piece) → pieces_in (all key) ≡ Some pieces → (block : Block) → Contains (map (λ (piece : Piece). piece.block) pieces) block → StandsIn all block key
+pieces_stand : (all : Rows) (key : RowKey) (pieces : List Piece) → pieces_in (all key) ≡ Some pieces → (block : Block)
+    → Contains (map (λ (piece : Piece). piece.block) pieces) block → StandsIn all block key
 pieces_stand all key pieces is block has = let found = with_pieces (all key) pieces is block has in record { row = found.0; there = found.1; has = found.2 }
 
 -- what a row of a key has, whether it is the bucket's or a snapshot's
@@ -64,8 +104,10 @@ key_pieces : (v b k : List ℕ) (row : Row) (block : Block) → ValueFits (keys.
 key_pieces v b k (rows.Key number pieces) block fits has = record { pieces = pieces; are = refl; has = contains block (blocks_of (rows.Key number pieces)) has }
 key_pieces v b k row block fits has = absurd fits
 
-snapshot_pieces : (v b k : List ℕ) (n : ℕ) (row : Row) (block : Block) → ValueFits (keys.SnapshotKey v b n k) row → list_any (is_block block) (blocks_of row) ≡ true → Pieces row block
-snapshot_pieces v b k n (rows.SnapshotKey number pieces) block fits has = record { pieces = pieces; are = refl; has = contains block (blocks_of (rows.SnapshotKey number pieces)) has }
+snapshot_pieces : (v b k : List ℕ) (n : ℕ) (row : Row) (block : Block) → ValueFits (keys.SnapshotKey v b n k) row
+    → list_any (is_block block) (blocks_of row) ≡ true → Pieces row block
+snapshot_pieces v b k n (rows.SnapshotKey number pieces) block fits has =
+    record { pieces = pieces; are = refl; has = contains block (blocks_of (rows.SnapshotKey number pieces)) has }
 snapshot_pieces v b k n row block fits has = absurd fits
 
 session_blocks : (v b k : List ℕ) (n : ℕ) (row : Row) → ValueFits (keys.Open v b k n) row → row ≡ rows.Open (blocks_of row)
@@ -79,21 +121,26 @@ live_row (Some (rows.Snapshot name previous Live)) e = (name, previous, refl)
 live_row row e = absurd (false≢true e)
 
 -- one of the snapshots in order has a number
-its_number : (all : Rows) (v b numbers : List ℕ) (snapshots : List Snapshot) → AreSnapshots all v b numbers snapshots → (snapshot : Snapshot) (k : ℕ) → k < length snapshots → slice_index_or snapshots k snapshot ≡ snapshot → (number : ℕ) × IsSnapshot all v b number snapshot
+its_number : (all : Rows) (v b numbers : List ℕ) (snapshots : List Snapshot) → AreSnapshots all v b numbers snapshots → (snapshot : Snapshot) (k : ℕ)
+    → k < length snapshots → slice_index_or snapshots k snapshot ≡ snapshot → (number : ℕ) × IsSnapshot all v b number snapshot
 its_number all v b [] [] are snapshot k within is = absurd (omega (arith, within))
 its_number all v b (n ∷ numbers) [] are snapshot k within is = absurd are
 its_number all v b [] (s ∷ snapshots) are snapshot k within is = absurd are
 its_number all v b (n ∷ numbers) (s ∷ snapshots) are snapshot zero within is = (n, subst (IsSnapshot all v b n) is are.0)
-its_number all v b (n ∷ numbers) (s ∷ snapshots) are snapshot (suc k) within is = its_number all v b numbers snapshots are.1 snapshot k (omega (arith, within)) is
+its_number all v b (n ∷ numbers) (s ∷ snapshots) are snapshot (suc k) within is =
+    its_number all v b numbers snapshots are.1 snapshot k (omega (arith, within)) is
 
 -- and the number of one is that of a snapshot among them
-its_snapshot : (all : Rows) (v b numbers : List ℕ) (snapshots : List Snapshot) → AreSnapshots all v b numbers snapshots → (number : ℕ) → is_among number numbers ≡ true → (snapshot : Snapshot) × Contains snapshots snapshot × IsSnapshot all v b number snapshot
+its_snapshot : (all : Rows) (v b numbers : List ℕ) (snapshots : List Snapshot) → AreSnapshots all v b numbers snapshots → (number : ℕ)
+    → is_among number numbers ≡ true → (snapshot : Snapshot) × Contains snapshots snapshot × IsSnapshot all v b number snapshot
 its_snapshot all v b [] [] are number e = absurd (false≢true e)
 its_snapshot all v b (n ∷ numbers) [] are number e = absurd are
 its_snapshot all v b [] (s ∷ snapshots) are number e = absurd are
 its_snapshot all v b (n ∷ numbers) (s ∷ snapshots) are number e = by (n == number) refl (its_snapshot all v b numbers snapshots are.1 number)
   where
-    by : (t : Bool) → (n == number) ≡ t → (is_among number numbers ≡ true → (snapshot : Snapshot) × Contains snapshots snapshot × IsSnapshot all v b number snapshot) → (snapshot : Snapshot) × Contains (s ∷ snapshots) snapshot × IsSnapshot all v b number snapshot
+    by : (t : Bool) → (n == number) ≡ t
+        → (is_among number numbers ≡ true → (snapshot : Snapshot) × Contains snapshots snapshot × IsSnapshot all v b number snapshot)
+        → (snapshot : Snapshot) × Contains (s ∷ snapshots) snapshot × IsSnapshot all v b number snapshot
     by true same later = (s, (zero, omega arith, refl), subst (λ m. IsSnapshot all v b m s) (eqb-true n number same) are.0)
     by false same later =
         let rest = later (subst (λ (t : Bool). t || is_among number numbers ≡ true) same e) in
@@ -111,7 +158,8 @@ module _ (all : Rows) (namespace : Namespace) (stands : StandsFor all namespace)
     in_keys it = record {
       key = keys.Key v b it.key;
       shown = refl;
-      stands = pieces_stand all (keys.Key v b it.key) it.pieces (sym (stands.pieces v b it.key) ∙ ap (option_and_then (λ (x : Bucket). get x.keys it.key)) there ∙ it.is_there) block it.has;
+      stands = pieces_stand all (keys.Key v b it.key) it.pieces
+          (sym (stands.pieces v b it.key) ∙ ap (option_and_then (λ (x : Bucket). get x.keys it.key)) there ∙ it.is_there) block it.has;
     }
 
     in_sessions : InSessions bucket block → IsShown all block
@@ -128,12 +176,14 @@ module _ (all : Rows) (namespace : Namespace) (stands : StandsFor all namespace)
     in_snapshots : InSnapshots bucket block → IsShown all block
     in_snapshots it =
         let of_bucket = stands.snapshots v b in
-        let found : Contains (snapshots_of namespace v b) it.snapshot = subst (λ (o : Option Bucket). Contains (snapshots_in o) it.snapshot) (sym there) it.is_there in
+        let found : Contains (snapshots_of namespace v b) it.snapshot =
+        subst (λ (o : Option Bucket). Contains (snapshots_in o) it.snapshot) (sym there) it.is_there in
         let own = its_number all v b of_bucket.numbers (snapshots_of namespace v b) of_bucket.each it.snapshot found.0 found.1 found.2 in
         record {
           key = keys.SnapshotKey v b own.0 it.in_keys.key;
           shown = ap is_live own.1.row;
-          stands = pieces_stand all (keys.SnapshotKey v b own.0 it.in_keys.key) it.in_keys.pieces (sym (own.1.pieces it.in_keys.key) ∙ it.in_keys.is_there) block it.in_keys.has;
+          stands = pieces_stand all (keys.SnapshotKey v b own.0 it.in_keys.key) it.in_keys.pieces
+              (sym (own.1.pieces it.in_keys.key) ∙ it.in_keys.is_there) block it.in_keys.has;
         }
 
   pub reached_is_shown : IsReached namespace block → IsShown all block
@@ -147,25 +197,49 @@ module _ (all : Rows) (namespace : Namespace) (stands : StandsFor all namespace)
     of_key v b k it =
         let row = key_pieces v b k it.row block (fit (keys.Key v b k) it.row it.there).1 it.has in
         let found = some_is (λ (x : Bucket). get x.keys k) (bucket_of namespace v b) row.pieces (stands.pieces v b k ∙ ap pieces_in it.there ∙ row.are) in
-        record { volume = v; name = b; bucket = found.0; is_there = found.1; has = inl (record { key = k; pieces = row.pieces; is_there = found.2; has = row.has }) }
+        record {
+          volume = v;
+          name = b;
+          bucket = found.0;
+          is_there = found.1;
+          has = inl (record { key = k; pieces = row.pieces; is_there = found.2; has = row.has });
+        }
 
     of_session : (v b k : List ℕ) (n : ℕ) → StandsIn all block (keys.Open v b k n) → IsReached namespace block
     of_session v b k n it =
         let session : Session = record { key = k; blocks = blocks_of it.row } in
-        let row : all (keys.Open v b k n) ≡ Some (rows.Open (blocks_of it.row)) = it.there ∙ ap Some (session_blocks v b k n it.row (fit (keys.Open v b k n) it.row it.there).1) in
+        let row : all (keys.Open v b k n) ≡ Some (rows.Open (blocks_of it.row)) = it.there
+        ∙ ap Some (session_blocks v b k n it.row (fit (keys.Open v b k n) it.row it.there).1) in
         let found = some_is (λ (x : Bucket). get x.sessions n) (bucket_of namespace v b) session ((stands.sessions v b n session).1 row) in
-        record { volume = v; name = b; bucket = found.0; is_there = found.1; has = inr (inl (record { number = n; session = session; is_there = found.2; has = contains block (blocks_of it.row) it.has })) }
+        record {
+          volume = v;
+          name = b;
+          bucket = found.0;
+          is_there = found.1;
+          has = inr (inl (record { number = n; session = session; is_there = found.2; has = contains block (blocks_of it.row) it.has }));
+        }
 
-    of_snapshot : (v b k : List ℕ) (n : ℕ) → is_live (all (keys.Snapshot v b n)) ≡ true → StandsIn all block (keys.SnapshotKey v b n k) → IsReached namespace block
+    of_snapshot : (v b k : List ℕ) (n : ℕ) → is_live (all (keys.Snapshot v b n)) ≡ true → StandsIn all block (keys.SnapshotKey v b n k)
+        → IsReached namespace block
     of_snapshot v b k n live it =
         let of_bucket = stands.snapshots v b in
-        let own = its_snapshot all v b of_bucket.numbers (snapshots_of namespace v b) of_bucket.each n (of_bucket.every n (live_row (all (keys.Snapshot v b n)) live)) in
+        let own = its_snapshot all v b of_bucket.numbers (snapshots_of namespace v b) of_bucket.each n
+        (of_bucket.every n (live_row (all (keys.Snapshot v b n)) live)) in
         let row = snapshot_pieces v b k n it.row block (fit (keys.SnapshotKey v b n k) it.row it.there).1 it.has in
-        by (bucket_of namespace v b) refl own.1 (record { key = k; pieces = row.pieces; is_there = own.2.pieces k ∙ ap pieces_in it.there ∙ row.are; has = row.has })
+        by (bucket_of namespace v b) refl own.1
+        (record { key = k; pieces = row.pieces; is_there = own.2.pieces k ∙ ap pieces_in it.there ∙ row.are; has = row.has })
       where
-        by : (o : Option Bucket) → bucket_of namespace v b ≡ o → {snapshot : Snapshot} → Contains (snapshots_in o) snapshot → InKeys snapshot.keys block → IsReached namespace block
+        by : (o : Option Bucket) → bucket_of namespace v b ≡ o → {snapshot : Snapshot} → Contains (snapshots_in o) snapshot → InKeys snapshot.keys block
+            → IsReached namespace block
         by None e there has = absurd (omega (arith, there.1))
-        by (Some bucket) e {snapshot} there has = record { volume = v; name = b; bucket = bucket; is_there = e; has = inr (inr (record { snapshot = snapshot; is_there = there; in_keys = has })) }
+        by (Some bucket) e {snapshot} there has =
+            record {
+              volume = v;
+              name = b;
+              bucket = bucket;
+              is_there = e;
+              has = inr (inr (record { snapshot = snapshot; is_there = there; in_keys = has }));
+            }
 
     pub shown_is_reached : IsShown all block → IsReached namespace block
     shown_is_reached it = by_key it.key it.shown it.stands

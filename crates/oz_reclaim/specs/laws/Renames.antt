@@ -1,5 +1,33 @@
 -- What renamed rows say stays so as a key gets another name.
-use Rattle.std.proofs.Common.{◌≡◌, ◌≢◌, ◌⊎◌, inl, inr, ⊎_elim, ℕ, zero, suc, ◌+◌, ◌<◌, ◌≤◌, Bool, true, false, List, Option, None, Some, IsSome, is_some, refl, sym, ◌∙◌, ap, subst, arith}
+use Rattle.std.proofs.Common.{
+  ◌≡◌,
+  ◌≢◌,
+  ◌⊎◌,
+  inl,
+  inr,
+  ⊎_elim,
+  ℕ,
+  zero,
+  suc,
+  ◌+◌,
+  ◌<◌,
+  ◌≤◌,
+  Bool,
+  true,
+  false,
+  List,
+  Option,
+  None,
+  Some,
+  IsSome,
+  is_some,
+  refl,
+  sym,
+  ◌∙◌,
+  ap,
+  subst,
+  arith,
+}
 use mathlib.Core.Bool.{false≢true}
 use Rattle.std.proofs.lemmas.Bool.{cases_lt}
 use Rattle.std.specs.Cmp.Lexicographic.{same_text, other_text}
@@ -35,8 +63,19 @@ first_above test (suc room) n = by (test (suc n)) refl (first_above test room (s
     by : (t : Bool) → test (suc n) ≡ t → ((m : ℕ) × IsFirstAbove test (suc n) m) ⊎ ((other : ℕ) → suc n < other → other ≤ suc n + room → test other ≡ true → ⊥)
         → ((m : ℕ) × IsFirstAbove test n m) ⊎ ((other : ℕ) → n < other → other ≤ n + suc room → test other ≡ true → ⊥)
     by true e later = inl (suc n, (omega arith, e, λ other above is. omega (arith, above)))
-    by false e (inl (m, (above, is, least))) = inl (m, (omega (arith, above), is, λ other lt passes. ⊎_elim (λ same. absurd (false≢true (sym e ∙ ap test (sym same) ∙ passes))) (λ gt. least other gt passes) (apart other lt)))
-    by false e (inr none) = inr (λ other lt most passes. ⊎_elim (λ same. absurd (false≢true (sym e ∙ ap test (sym same) ∙ passes))) (λ gt. none other gt (omega (arith, most)) passes) (apart other lt))
+    by false e (inl (m, (above, is, least))) =
+        inl (
+          m,
+          (
+            omega (arith, above),
+            is,
+            λ other lt passes. ⊎_elim (λ same. absurd (false≢true (sym e ∙ ap test (sym same) ∙ passes)))
+                (λ gt. least other gt passes) (apart other lt),
+          ),
+        )
+    by false e (inr none) =
+        inr (λ other lt most passes. ⊎_elim (λ same. absurd (false≢true (sym e ∙ ap test (sym same) ∙ passes)))
+        (λ gt. none other gt (omega (arith, most)) passes) (apart other lt))
 
 -- ---- where a renamed row is behind a snapshot, there is a first one
 
@@ -44,15 +83,18 @@ name_of : (v b : List ℕ) (o l : ℕ) (row : Row) → ValueFits (keys.Renamed v
 name_of v b o l (rows.Renamed name) fits = (name, refl)
 name_of v b o l row fits = absurd fits
 
-module _ (all : Rows) (fit : AreInGrammar all) (v b : List ℕ) (n l most : ℕ) (under : (owner : ℕ) → IsSome (all (keys.Renamed v b owner l)) → owner ≤ most) where
+module _ (all : Rows) (fit : AreInGrammar all) (v b : List ℕ) (n l most : ℕ)
+    (under : (owner : ℕ) → IsSome (all (keys.Renamed v b owner l)) → owner ≤ most) where
   abbrev has : ℕ → Bool
   has owner = is_some (all (keys.Renamed v b owner l))
 
-  named : (owner : ℕ) (o : Option Row) → all (keys.Renamed v b owner l) ≡ o → is_some o ≡ true → (name : List ℕ) × (all (keys.Renamed v b owner l) ≡ Some (rows.Renamed name))
+  named : (owner : ℕ) (o : Option Row) → all (keys.Renamed v b owner l) ≡ o → is_some o ≡ true → (name : List ℕ)
+      × (all (keys.Renamed v b owner l) ≡ Some (rows.Renamed name))
   named owner None e some = absurd (false≢true some)
   named owner (Some row) e some = let its = name_of v b owner l row (fit (keys.Renamed v b owner l) row e).1 in (its.0, e ∙ ap Some its.1)
 
-  pub first_rename : (owner : ℕ) → ComesBehind n owner → IsSome (all (keys.Renamed v b owner l)) → (first : ℕ) × (name : List ℕ) × IsRename all v b n l first name
+  pub first_rename : (owner : ℕ) → ComesBehind n owner → IsSome (all (keys.Renamed v b owner l)) → (first : ℕ) × (name : List ℕ)
+      × IsRename all v b n l first name
   first_rename owner behind some = ⊎_elim later last (first_above has most n)
     where
       later : ((m : ℕ) × IsFirstAbove has n m) → (first : ℕ) × (name : List ℕ) × IsRename all v b n l first name
@@ -65,7 +107,9 @@ module _ (all : Rows) (fit : AreInGrammar all) (v b : List ℕ) (n l most : ℕ)
               behind = inr above;
               first = λ other behind_too there apart. (
                 (λ none. omega (arith, above, none)),
-                ⊎_elim (λ none. inl none) (λ gt. inr (⊎_elim (λ lt. lt) (λ le. absurd (apart (let no_less = least other gt there in omega (arith, no_less, le)))) (cases_lt m other))) behind_too,
+                ⊎_elim (λ none. inl none)
+                    (λ gt. inr (⊎_elim (λ lt. lt) (λ le. absurd (apart (let no_less = least other gt there in omega (arith, no_less, le))))
+                    (cases_lt m other))) behind_too,
               );
             },
           )
@@ -89,13 +133,15 @@ module _ (all : Rows) (fit : AreInGrammar all) (v b : List ℕ) (n l most : ℕ)
           behind
 
 -- each owner of a renamed row was drawn
-pub under_drawn : (all : Rows) → NumbersAreSound all → (v b : List ℕ) (l owner : ℕ) → IsSome (all (keys.Renamed v b owner l)) → owner ≤ drawn_in (all (keys.Stripe (stripe_of v)))
+pub under_drawn : (all : Rows) → NumbersAreSound all → (v b : List ℕ) (l owner : ℕ) → IsSome (all (keys.Renamed v b owner l))
+    → owner ≤ drawn_in (all (keys.Stripe (stripe_of v)))
 under_drawn all numbers v b l zero some = omega arith
 under_drawn all numbers v b l (suc owner) some = numbers.snapshots v b (suc owner) (numbers.renamed v b (suc owner) l some (λ e. omega (arith, e)))
 
 -- ---- a key gets another name
 
-module _ (all now : Rows) (v b k to : List ℕ) (is : KeyRenamed all now v b k to) (fit : AreInGrammar now) (blocks : BlocksAreSound all) (numbers : NumbersAreSound all) where
+module _ (all now : Rows) (v b k to : List ℕ) (is : KeyRenamed all now v b k to) (fit : AreInGrammar now) (blocks : BlocksAreSound all)
+    (numbers : NumbersAreSound all) where
   has_before : (w c name : List ℕ) (n : ℕ) (block : Block) → SnapshotHas now w c n block name → SnapshotHas all w c n block name
   has_before w c name n block has = record {
     live = (has.live.0, has.live.1, sym (is.beside (keys.Snapshot w c n) tt) ∙ has.live.2);
@@ -114,11 +160,14 @@ module _ (all now : Rows) (v b k to : List ℕ) (is : KeyRenamed all now v b k t
       (λ notes. let place = notes.its_place in let owner : o ≡ 0 = cc in omega (arith, owner))
       (is.renamed w c o l)
 
-  first_now : (w c : List ℕ) (n l owner : ℕ) → ComesBehind n owner → IsSome (now (keys.Renamed w c owner l)) → (first : ℕ) × (name : List ℕ) × IsRename now w c n l first name
-  first_now w c n l owner behind some = first_rename now fit w c n l (drawn_in (all (keys.Stripe (stripe_of w)))) (λ o there. under w c l o there) owner behind some
+  first_now : (w c : List ℕ) (n l owner : ℕ) → ComesBehind n owner → IsSome (now (keys.Renamed w c owner l)) → (first : ℕ) × (name : List ℕ)
+      × IsRename now w c n l first name
+  first_now w c n l owner behind some =
+      first_rename now fit w c n l (drawn_in (all (keys.Stripe (stripe_of w)))) (λ o there. under w c l o there) owner behind some
 
   module _ (renames : RenamesAreSound all) where
-    renamed_now : (w c name another : List ℕ) (n owner : ℕ) (block : Block) → SnapshotHas now w c n block name → IsRename now w c n block.local owner another → another ≡ name
+    renamed_now : (w c name another : List ℕ) (n owner : ℕ) (block : Block) → SnapshotHas now w c n block name
+        → IsRename now w c n block.local owner another → another ≡ name
     renamed_now w c name another n owner block has rename = ⊎_elim as_before as_noted (is.renamed w c owner block.local)
       where
         its : SnapshotHas all w c n block name
@@ -153,7 +202,8 @@ module _ (all now : Rows) (v b k to : List ℕ) (is : KeyRenamed all now v b k t
             same_block = blocks.one_local block notes.block (keys.SnapshotKey w c n name) (keys.Key v b k) its.stands notes.stands local
 
             in_key : StandsIn all block (keys.Key w c k)
-            in_key = subst (λ x. StandsIn all x (keys.Key w c k)) (sym same_block) (subst (λ (x : List ℕ × List ℕ). StandsIn all notes.block (keys.Key x.0 x.1 k)) (λ i. (sym volume i, sym bucket i)) notes.stands)
+            in_key = subst (λ x. StandsIn all x (keys.Key w c k)) (sym same_block)
+                (subst (λ (x : List ℕ × List ℕ). StandsIn all notes.block (keys.Key x.0 x.1 k)) (λ i. (sym volume i, sym bucket i)) notes.stands)
 
             old_name : another ≡ k
             old_name = let rows_are = sym rename.row ∙ notes.row in cc
@@ -176,25 +226,38 @@ module _ (all now : Rows) (v b k to : List ℕ) (is : KeyRenamed all now v b k t
                 absurd (none found.0 found.2.behind (ap is_some found.2.row))
 
     -- a rename that was behind a snapshot is, or one before it
-    still_noted : (w c : List ℕ) (n l : ℕ) → ((owner : ℕ) × (another : List ℕ) × IsRename all w c n l owner another) → (owner : ℕ) × (another : List ℕ) × IsRename now w c n l owner another
+    still_noted : (w c : List ℕ) (n l : ℕ) → ((owner : ℕ) × (another : List ℕ) × IsRename all w c n l owner another) → (owner : ℕ) × (another : List ℕ)
+        × IsRename now w c n l owner another
     still_noted w c n l (owner, another, rename) = first_now w c n l owner rename.behind (still w c owner l (ap is_some rename.row))
 
-    noted_now : (w c name : List ℕ) (n : ℕ) (block : Block) → SnapshotHas now w c n block name → IsNamedAnew now w c n block name → (owner : ℕ) × (another : List ℕ) × IsRename now w c n block.local owner another
+    noted_now : (w c name : List ℕ) (n : ℕ) (block : Block) → SnapshotHas now w c n block name → IsNamedAnew now w c n block name → (owner : ℕ)
+        × (another : List ℕ) × IsRename now w c n block.local owner another
     noted_now w c name n block has (inl (later, another, above, has_later, apart)) =
-        still_noted w c n block.local (renames.noted w c name n block (has_before w c name n block has) (inl (later, another, above, has_before w c another later block has_later, apart)))
-    noted_now w c name n block has (inr (another, stands, apart)) = by (is_same (keys.Key v b k) (keys.Key w c another)) refl (is_same (keys.Key v b to) (keys.Key w c another)) refl
+        still_noted w c n block.local
+        (renames.noted w c name n block (has_before w c name n block has)
+        (inl (later, another, above, has_before w c another later block has_later, apart)))
+    noted_now w c name n block has (inr (another, stands, apart)) =
+        by (is_same (keys.Key v b k) (keys.Key w c another)) refl (is_same (keys.Key v b to) (keys.Key w c another)) refl
       where
-        by : (s : Bool) → is_same (keys.Key v b k) (keys.Key w c another) ≡ s → (t : Bool) → is_same (keys.Key v b to) (keys.Key w c another) ≡ t → (owner : ℕ) × (name : List ℕ) × IsRename now w c n block.local owner name
+        by : (s : Bool) → is_same (keys.Key v b k) (keys.Key w c another) ≡ s → (t : Bool) → is_same (keys.Key v b to) (keys.Key w c another) ≡ t
+            → (owner : ℕ) × (name : List ℕ) × IsRename now w c n block.local owner name
         by true e t f = none_some (ap now (sym (same_is_one (keys.Key v b k) (keys.Key w c another) e)) ∙ is.gone) (ap is_some stands.there)
         by false e true f =
             let same = same_is_one (keys.Key v b to) (keys.Key w c another) f in
             let volume : v ≡ w = cc in
             let bucket : b ≡ c = cc in
-            let in_key : StandsIn all block (keys.Key v b k) = record { row = stands.row; there = sym is.moved ∙ ap now same ∙ stands.there; has = stands.has } in
-            let its : SnapshotHas all v b n block name = subst (λ (x : List ℕ × List ℕ). SnapshotHas all x.0 x.1 n block name) (λ i. (sym volume i, sym bucket i)) (has_before w c name n block has) in
-            first_now w c n block.local 0 (inl refl) (subst (λ (x : List ℕ × List ℕ). IsSome (now (keys.Renamed x.0 x.1 0 block.local))) (λ i. (volume i, bucket i)) (is.noted block n name in_key its))
+            let in_key : StandsIn all block (keys.Key v b k) =
+            record { row = stands.row; there = sym is.moved ∙ ap now same ∙ stands.there; has = stands.has } in
+            let its : SnapshotHas all v b n block name =
+            subst (λ (x : List ℕ × List ℕ). SnapshotHas all x.0 x.1 n block name) (λ i. (sym volume i, sym bucket i))
+            (has_before w c name n block has) in
+            first_now w c n block.local 0 (inl refl)
+            (subst (λ (x : List ℕ × List ℕ). IsSome (now (keys.Renamed x.0 x.1 0 block.local))) (λ i. (volume i, bucket i))
+            (is.noted block n name in_key its))
         by false e false f =
-            still_noted w c n block.local (renames.noted w c name n block (has_before w c name n block has) (inr (another, record { row = stands.row; there = sym (is.others w c another e f) ∙ stands.there; has = stands.has }, apart)))
+            still_noted w c n block.local
+            (renames.noted w c name n block (has_before w c name n block has)
+            (inr (another, record { row = stands.row; there = sym (is.others w c another e f) ∙ stands.there; has = stands.has }, apart)))
 
     pub rename_keeps : RenamesAreSound now
     rename_keeps = record { renamed = renamed_now; noted = noted_now }
@@ -207,22 +270,40 @@ module _ (all now : Rows) (v b k to : List ℕ) (is : KeyRenamed all now v b k t
     sources = λ block has. inl (source block has.0 has.1 has.2);
   }
     where
-      noted_block : (w c : List ℕ) (o l : ℕ) → NotesName all now v b k (keys.Renamed w c o l) → (block : Block) × (key : List ℕ) × (block.local ≡ l) × StandsIn all block (keys.Key w c key)
+      noted_block : (w c : List ℕ) (o l : ℕ) → NotesName all now v b k (keys.Renamed w c o l) → (block : Block) × (key : List ℕ) × (block.local ≡ l)
+          × StandsIn all block (keys.Key w c key)
       noted_block w c o l notes =
           let place = notes.its_place in
           let volume : w ≡ v = cc in
           let bucket : c ≡ b = cc in
-          let local : l ≡ notes.block.local = cc in
-          (notes.block, k, sym local, subst (λ (x : List ℕ × List ℕ). StandsIn all notes.block (keys.Key x.0 x.1 k)) (λ i. (sym volume i, sym bucket i)) notes.stands)
+          let local : l ≡ notes.block.local = cc in (
+            notes.block,
+            k,
+            sym local,
+            subst (λ (x : List ℕ × List ℕ). StandsIn all notes.block (keys.Key x.0 x.1 k))
+                (λ i. (sym volume i, sym bucket i)) notes.stands,
+          )
 
-      of_key : (block : Block) (w c q : List ℕ) → StandsIn now block (keys.Key w c q) → (s : Bool) → is_same (keys.Key v b k) (keys.Key w c q) ≡ s → (t : Bool) → is_same (keys.Key v b to) (keys.Key w c q) ≡ t → HasSource all block
+      of_key : (block : Block) (w c q : List ℕ) → StandsIn now block (keys.Key w c q) → (s : Bool) → is_same (keys.Key v b k) (keys.Key w c q) ≡ s
+          → (t : Bool) → is_same (keys.Key v b to) (keys.Key w c q) ≡ t → HasSource all block
       of_key block w c q stands true e t f = none_some (ap now (sym (same_is_one (keys.Key v b k) (keys.Key w c q) e)) ∙ is.gone) (ap is_some stands.there)
-      of_key block w c q stands false e true f = (keys.Key v b k, tt, record { row = stands.row; there = sym is.moved ∙ ap now (same_is_one (keys.Key v b to) (keys.Key w c q) f) ∙ stands.there; has = stands.has })
-      of_key block w c q stands false e false f = (keys.Key w c q, tt, record { row = stands.row; there = sym (is.others w c q e f) ∙ stands.there; has = stands.has })
+      of_key block w c q stands false e true f = (
+        keys.Key v b k,
+        tt,
+        record {
+          row = stands.row;
+          there = sym is.moved ∙ ap now (same_is_one (keys.Key v b to) (keys.Key w c q) f) ∙ stands.there;
+          has = stands.has;
+        },
+      )
+      of_key block w c q stands false e false f =
+          (keys.Key w c q, tt, record { row = stands.row; there = sym (is.others w c q e f) ∙ stands.there; has = stands.has })
 
       source : (block : Block) (key : RowKey) → IsSource key → StandsIn now block key → HasSource all block
-      source block (keys.Key w c q) of stands = of_key block w c q stands (is_same (keys.Key v b k) (keys.Key w c q)) refl (is_same (keys.Key v b to) (keys.Key w c q)) refl
-      source block (keys.Open w c q n) of stands = (keys.Open w c q n, tt, record { row = stands.row; there = sym (is.beside (keys.Open w c q n) tt) ∙ stands.there; has = stands.has })
+      source block (keys.Key w c q) of stands =
+          of_key block w c q stands (is_same (keys.Key v b k) (keys.Key w c q)) refl (is_same (keys.Key v b to) (keys.Key w c q)) refl
+      source block (keys.Open w c q n) of stands =
+          (keys.Open w c q n, tt, record { row = stands.row; there = sym (is.beside (keys.Open w c q n) tt) ∙ stands.there; has = stands.has })
       source block key of stands = absurd of
 
 -- ---- names are noted
@@ -240,8 +321,10 @@ noting_moves all now noted sound = record {
   owner_now = λ w c owner. owner;
   came = λ w c k o l row there. (o, refl, sym (noted.others (keys.Deleted w c o k l) (λ e. omega (arith, e))) ∙ there);
   stays = λ w c k o l row there. inl (noted.others (keys.Deleted w c o k l) (λ e. omega (arith, e)) ∙ there);
-  deleted_owners = λ w c k o l some apart. snapshot_there w c o (sound.numbers.deleted w c k o l (subst IsSome (noted.others (keys.Deleted w c o k l) (λ e. omega (arith, e))) some) apart);
-  renamed_owners = λ w c o l some apart. ⊎_elim (λ had. snapshot_there w c o (sound.numbers.renamed w c o l had apart)) (λ none. absurd (apart none)) (noted.owners w c o l some);
+  deleted_owners = λ w c k o l some apart. snapshot_there w c o
+      (sound.numbers.deleted w c k o l (subst IsSome (noted.others (keys.Deleted w c o k l) (λ e. omega (arith, e))) some) apart);
+  renamed_owners = λ w c o l some apart. ⊎_elim (λ had. snapshot_there w c o (sound.numbers.renamed w c o l had apart)) (λ none. absurd (apart none))
+      (noted.owners w c o l some);
 }
   where
     snapshot_there : (w c : List ℕ) (n : ℕ) → IsSome (all (keys.Snapshot w c n)) → IsSome (now (keys.Snapshot w c n))

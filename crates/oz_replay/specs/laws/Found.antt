@@ -41,7 +41,8 @@ an_id client line step = record { client = client; line = line; step = step }
 
 pub same_id : (id other : AskId) → is_id id other ≡ true → other ≡ id
 same_id id other h =
-    let front : ((other.client == id.client && other.line == id.line) ≡ true) × ((other.step == id.step) ≡ true) = both (other.client == id.client && other.line == id.line) (other.step == id.step) h in
+    let front : ((other.client == id.client && other.line == id.line) ≡ true)
+    × ((other.step == id.step) ≡ true) = both (other.client == id.client && other.line == id.line) (other.step == id.step) h in
     let two : ((other.client == id.client) ≡ true) × ((other.line == id.line) ≡ true) = both (other.client == id.client) (other.line == id.line) front.0 in
     ap (λ (n : ℕ). an_id n other.line other.step) (eqb-true other.client id.client two.0)
     ∙ (ap (λ (n : ℕ). an_id id.client n other.step) (eqb-true other.line id.line two.1)
@@ -52,7 +53,8 @@ a_block container local = record { container = container; local = local }
 
 pub same_block : (block other : Block) → is_block block other ≡ true → block ≡ other
 same_block block other h =
-    let two : ((other.container == block.container) ≡ true) × ((other.local == block.local) ≡ true) = both (other.container == block.container) (other.local == block.local) h in
+    let two : ((other.container == block.container) ≡ true)
+    × ((other.local == block.local) ≡ true) = both (other.container == block.container) (other.local == block.local) h in
     ap (λ (n : ℕ). a_block n block.local) (sym (eqb-true other.container block.container two.0))
     ∙ ap (λ (n : ℕ). a_block other.container n) (sym (eqb-true other.local block.local two.1))
 
@@ -88,7 +90,8 @@ module _ {X : Type 0} (block : Block) where
   pub given : (h : X → Option Block) (xs : List X) → list_any (λ x. option_map_or (is_block block) (h x) false) xs ≡ true → Contains (filter_map h xs) block
   given h xs is = among block (filter_map h xs) (any-filter_map (is_block block) h xs ∙ is)
 
-  pub given-finds : (h : X → Option Block) (xs : List X) → Contains (filter_map h xs) block → list_any (λ x. option_map_or (is_block block) (h x) false) xs ≡ true
+  pub given-finds : (h : X → Option Block) (xs : List X) → Contains (filter_map h xs) block
+      → list_any (λ x. option_map_or (is_block block) (h x) false) xs ≡ true
   given-finds h xs there = sym (any-filter_map (is_block block) h xs) ∙ among-finds block (filter_map h xs) there
 
   pub listed : (f : X → List Block) (xs : List X) → list_any (λ x. list_any (is_block block) (f x)) xs ≡ true → Contains (flat_map f xs) block

@@ -39,23 +39,27 @@ pub head_fault : (bytes : List ℕ) (fault : ReadFault) → ReadFails fault (hea
 head_fault bytes reads.OutOfMemory fails = tt
 head_fault bytes (reads.Left left) fails = inl (left, fails, refl)
 
-pub no_head_fails : (bytes : List ℕ) (fault : ReadFault) → ReadFails fault (head_at bytes) → (body : Operations) → IsBody bytes body → place_in bytes fault ≡ faults.OutOfMemory
+pub no_head_fails : (bytes : List ℕ) (fault : ReadFault) → ReadFails fault (head_at bytes) → (body : Operations) → IsBody bytes body
+    → place_in bytes fault ≡ faults.OutOfMemory
 no_head_fails bytes reads.OutOfMemory fails body is = refl
 no_head_fails bytes (reads.Left left) fails body is = let again = head_again bytes body is in absurd cc
 
-pub batch_fault : (bytes : List ℕ) (head : Head) (rest : List ℕ) (fault : ReadFault) → AreBytes bytes → head_at bytes ≡ read_as head rest → BatchFails rest fault → IsBodyFault bytes (place_in bytes fault)
+pub batch_fault : (bytes : List ℕ) (head : Head) (rest : List ℕ) (fault : ReadFault) → AreBytes bytes → head_at bytes ≡ read_as head rest
+    → BatchFails rest fault → IsBodyFault bytes (place_in bytes fault)
 batch_fault bytes head rest reads.OutOfMemory fit read fails = tt
 batch_fault bytes head rest (reads.Left left) fit read fails =
     let spelled = head_reads.one_spelling bytes head rest fit read in
     inr (record { head = head; batch = rest; left = left; head_fits = spelled.0; parts = spelled.1; batch_ends = fails; is_left = refl })
 
-pub no_operation_fails : (bytes : List ℕ) (head : Head) (rest : List ℕ) (fault : ReadFault) → head_at bytes ≡ read_as head rest → BatchFails rest fault → (body : Operations) → IsBody bytes body → place_in bytes fault ≡ faults.OutOfMemory
+pub no_operation_fails : (bytes : List ℕ) (head : Head) (rest : List ℕ) (fault : ReadFault) → head_at bytes ≡ read_as head rest → BatchFails rest fault
+    → (body : Operations) → IsBody bytes body → place_in bytes fault ≡ faults.OutOfMemory
 no_operation_fails bytes head rest reads.OutOfMemory read fails body is = refl
 no_operation_fails bytes head rest (reads.Left left) read fails body is =
     let same = same_read head (head_in body) rest (batch_bytes body.items) (sym read ∙ head_again bytes body is) in
     absurd (no_batch_fails body.items rest left is.1 same.1 fails)
 
-pub body_found : (bytes : List ℕ) (head : Head) (rest : List ℕ) (items : List Operation) → AreBytes bytes → head_at bytes ≡ read_as head rest → AreOperations items × (rest ≡ batch_bytes items) → IsBody bytes (record { layout = head.layout; index = head.index; items = items })
+pub body_found : (bytes : List ℕ) (head : Head) (rest : List ℕ) (items : List Operation) → AreBytes bytes → head_at bytes ≡ read_as head rest
+    → AreOperations items × (rest ≡ batch_bytes items) → IsBody bytes (record { layout = head.layout; index = head.index; items = items })
 body_found bytes head rest items fit read all =
     let spelled = head_reads.one_spelling bytes head rest fit read in
     (spelled.0, all.0, spelled.1 ∙ ap (λ (batch : List ℕ). head_bytes head ++ batch) all.1)
@@ -66,7 +70,8 @@ made head items = record { layout = head.layout; index = head.index; items = ite
 same_made : (head other : Head) (items other_items : List Operation) → head ≡ other → items ≡ other_items → made head items ≡ made other other_items
 same_made head other items other_items a b = ap (λ (h : Head). made h items) a ∙ ap (made other) b
 
-pub body_is : (bytes : List ℕ) (head : Head) (rest : List ℕ) (items : List Operation) → head_at bytes ≡ read_as head rest → AreOperations items × (rest ≡ batch_bytes items) → (body : Operations) → IsBody bytes body → record { layout = head.layout; index = head.index; items = items } ≡ body
+pub body_is : (bytes : List ℕ) (head : Head) (rest : List ℕ) (items : List Operation) → head_at bytes ≡ read_as head rest → AreOperations items
+    × (rest ≡ batch_bytes items) → (body : Operations) → IsBody bytes body → record { layout = head.layout; index = head.index; items = items } ≡ body
 unfolding made
 body_is bytes head rest items read all body is =
     let same = same_read head (head_in body) rest (batch_bytes body.items) (sym read ∙ head_again bytes body is) in

@@ -31,7 +31,8 @@ spot key (x ∷ l) rise = by_order (key_order x.key key) refl (spot key l rise.1
     by_order Equal e later = at [] l x e
     by_order Greater e later = between [] (x ∷ l) tt (e, over_lower entry_key x key l (above_below x.key key e) rise.0)
 
-one_put : (key : RowKey) (row : Row) (l : List RowEntry) → KeysRise l → Spot key l → (after : List RowEntry) × KeysRise after × ((q : RowKey) → row_of after q ≡ cond (is_same key q) (Some row) (row_of l q))
+one_put : (key : RowKey) (row : Row) (l : List RowEntry) → KeysRise l → Spot key l → (after : List RowEntry) × KeysRise after
+    × ((q : RowKey) → row_of after q ≡ cond (is_same key q) (Some row) (row_of l q))
 one_put key row _ rise (at a b x same) =
     let new : RowEntry = record { key = key; row = row } in
     (a ++ new ∷ b, rise_replaced entry_key a b x new same rise, row_replaced a b x new same (before_at entry_key a b x key same rise))
@@ -39,16 +40,27 @@ one_put key row _ rise (between a b below above) =
     let new : RowEntry = record { key = key; row = row } in
     (a ++ new ∷ b, rise_with entry_key a b new below above rise, row_added a b new below)
 
-one_gone : (key : RowKey) (l : List RowEntry) → KeysRise l → Spot key l → (after : List RowEntry) × KeysRise after × ((q : RowKey) → row_of after q ≡ cond (is_same key q) None (row_of l q))
-one_gone key _ rise (at a b x same) = (a ++ b, rise_without entry_key a b x rise, row_removed a b x key same (before_at entry_key a b x key same rise) (behind_at entry_key a b x key same rise))
+one_gone : (key : RowKey) (l : List RowEntry) → KeysRise l → Spot key l → (after : List RowEntry) × KeysRise after
+    × ((q : RowKey) → row_of after q ≡ cond (is_same key q) None (row_of l q))
+one_gone key _ rise (at a b x same) = (
+  a ++ b,
+  rise_without entry_key a b x rise,
+  row_removed a b x key same (before_at entry_key a b x key same rise) (behind_at entry_key a b x key same rise),
+)
 one_gone key _ rise (between a b below above) = (a ++ b, rise, row_absent a b key below above)
 
-one_change : (change : Change) (l : List RowEntry) → KeysRise l → (after : List RowEntry) × KeysRise after × ((q : RowKey) → row_of after q ≡ row_after_one change q (row_of l q))
+one_change : (change : Change) (l : List RowEntry) → KeysRise l → (after : List RowEntry) × KeysRise after
+    × ((q : RowKey) → row_of after q ≡ row_after_one change q (row_of l q))
 one_change change l rise = by_row change.row refl
   where
-    by_row : (row : Option Row) → change.row ≡ row → (after : List RowEntry) × KeysRise after × ((q : RowKey) → row_of after q ≡ row_after_one change q (row_of l q))
-    by_row (Some row) e = let made = one_put change.key row l rise (spot change.key l rise) in (made.0, made.1, λ q. made.2 q ∙ ap (λ (r : Option Row). cond (is_same change.key q) r (row_of l q)) (sym e))
-    by_row None e = let made = one_gone change.key l rise (spot change.key l rise) in (made.0, made.1, λ q. made.2 q ∙ ap (λ (r : Option Row). cond (is_same change.key q) r (row_of l q)) (sym e))
+    by_row : (row : Option Row) → change.row ≡ row → (after : List RowEntry) × KeysRise after
+        × ((q : RowKey) → row_of after q ≡ row_after_one change q (row_of l q))
+    by_row (Some row) e = let made =
+        one_put change.key row l rise (spot change.key l rise) in
+        (made.0, made.1, λ q. made.2 q ∙ ap (λ (r : Option Row). cond (is_same change.key q) r (row_of l q)) (sym e))
+    by_row None e = let made =
+        one_gone change.key l rise (spot change.key l rise) in
+        (made.0, made.1, λ q. made.2 q ∙ ap (λ (r : Option Row). cond (is_same change.key q) r (row_of l q)) (sym e))
 
 -- rows in order have rows in order after any changes
 pub become : (changes : List Change) (l : List RowEntry) → KeysRise l → (after : List RowEntry) × Becomes l changes after

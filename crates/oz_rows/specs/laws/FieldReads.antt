@@ -65,7 +65,8 @@ block_number_reads = fits_as (λ n. (n < 2 ^ 64) × (is_block_number n ≡ true)
 
 pub same_local_reads : (local : ℕ) → IsRead (λ n. IsBlockNumber n × (n ≡ local)) u64_bytes (same_local_at local)
 unfolding same_local_at
-same_local_reads local = fits_as (λ n. (n < 2 ^ 64) × ((is_block_number n && eqb n local) ≡ true)) (λ n. IsBlockNumber n × (n ≡ local)) u64_bytes (same_local_at local)
+same_local_reads local =
+    fits_as (λ n. (n < 2 ^ 64) × ((is_block_number n && eqb n local) ≡ true)) (λ n. IsBlockNumber n × (n ≡ local)) u64_bytes (same_local_at local)
     (λ n fits. let parts = and_parts _ _ fits.1 in (block_number-passes n parts.0, eqb-true n local parts.1))
     (λ n is. (let high = is.0.1 in omega arith, and_from _ _ (block_number-from n is.0) (eq-eqb n local is.1)))
     (field_reads (λ n. n < 2 ^ 64) u64_bytes u64_at (λ n. is_block_number n && eqb n local) u64_field)
@@ -105,7 +106,8 @@ byte_of_state : (n : ℕ) → (one two : Bool) → (one ≡ true → n ≡ 1) �
 byte_of_state n true two is-one is-two e = is-one refl
 byte_of_state n false two is-one is-two e = is-two e
 
-state_finds : (n : ℕ) → (n < 2 ^ 8) × ((eqb n 1 || eqb n 2) ≡ true) → Finds (λ (state : SnapshotState). Unit {0}) (λ state. u8_bytes (state_number state)) (n ∷ []) (done (cond (eqb n 1) Live Marked))
+state_finds : (n : ℕ) → (n < 2 ^ 8) × ((eqb n 1 || eqb n 2) ≡ true)
+    → Finds (λ (state : SnapshotState). Unit {0}) (λ state. u8_bytes (state_number state)) (n ∷ []) (done (cond (eqb n 1) Live Marked))
 state_finds n fits = finds_done tt (ap (λ (k : ℕ). k ∷ []) (byte_of_state n (eqb n 1) (eqb n 2) (eqb-true n 1) (eqb-true n 2) fits.1))
 
 state_backs : (state : SnapshotState) → Unit {0} → Backs state_at (u8_bytes (state_number state)) state
@@ -120,38 +122,48 @@ state_reads = is_read (finds_then state_byte_reads state_finds) state_backs
 pub block_reads : IsRead IsBlock block_bytes block_at
 unfolding block_at
 block_reads = is_read
-    (finds_then block_number_reads (λ container container-fits. finds_then block_number_reads (λ local local-fits. finds_done (container-fits, local-fits) refl)))
-    (λ block fits. backs_as (simp append-nil) (backs_then _ block.container block_number_reads fits.0 (backs_then _ block.local block_number_reads fits.1 backs_done)))
+    (finds_then block_number_reads (λ container container-fits. finds_then block_number_reads
+    (λ local local-fits. finds_done (container-fits, local-fits) refl)))
+    (λ block fits. backs_as (simp append-nil)
+    (backs_then _ block.container block_number_reads fits.0 (backs_then _ block.local block_number_reads fits.1 backs_done)))
 
 pub piece_reads : IsRead IsPiece piece_bytes piece_at
 unfolding piece_at
 piece_reads = is_read
     (finds_then block_reads (λ block block-fits. finds_then length_reads (λ size size-fits. finds_done (block-fits, size-fits.0, size-fits.1) refl)))
-    (λ piece fits. backs_as (simp append-nil) (backs_then _ piece.block block_reads fits.0 (backs_then _ piece.length length_reads (fits.1, fits.2) backs_done)))
+    (λ piece fits. backs_as (simp append-nil)
+    (backs_then _ piece.block block_reads fits.0 (backs_then _ piece.length length_reads (fits.1, fits.2) backs_done)))
 
-none_reads : {A : Type 0} (Fits : A → Type 0) (spelling : A → List ℕ) (items : List A) → (length items ≡ 0) × AllByRecursion Fits items → Backs (done []) (flat_map spelling items) items
+none_reads : {A : Type 0} (Fits : A → Type 0) (spelling : A → List ℕ) (items : List A) → (length items ≡ 0) × AllByRecursion Fits items
+    → Backs (done []) (flat_map spelling items) items
 none_reads Fits spelling [] fits = backs_done
 none_reads Fits spelling (x ∷ items) fits = absurd (omega (arith, fits.0))
 
 -- one item more
-some_back : {A : Type 0} {Fits : A → Type 0} {spelling : A → List ℕ} {read : List ℕ → Result (A × List ℕ) ℕ} → IsRead Fits spelling read → (count : ℕ) → IsRead (λ items. (length items ≡ count) × AllByRecursion Fits items) (flat_map spelling) (items_at read count)
+some_back : {A : Type 0} {Fits : A → Type 0} {spelling : A → List ℕ} {read : List ℕ → Result (A × List ℕ) ℕ} → IsRead Fits spelling read → (count : ℕ)
+    → IsRead (λ items. (length items ≡ count) × AllByRecursion Fits items) (flat_map spelling) (items_at read count)
     → (items : List A) → (length items ≡ suc count) × AllByRecursion Fits items → Backs (items_at read (suc count)) (flat_map spelling items) items
 unfolding items_at
 some_back is count others [] fits = absurd (omega (arith, fits.0))
 some_back {spelling = spelling} is count others (x ∷ items) fits =
-    backs_as (ap (λ (text : List ℕ). spelling x ++ text) (append-nil (flat_map spelling items)) ∙ sym (flat_map-cons spelling x items)) (backs_then _ x is fits.1.0 (backs_then _ items others (omega (arith, fits.0), fits.1.1) backs_done))
+    backs_as (ap (λ (text : List ℕ). spelling x ++ text) (append-nil (flat_map spelling items)) ∙ sym (flat_map-cons spelling x items))
+    (backs_then _ x is fits.1.0 (backs_then _ items others (omega (arith, fits.0), fits.1.1) backs_done))
 
 -- so many items one behind the other
-pub items_reads : {A : Type 0} {Fits : A → Type 0} {spelling : A → List ℕ} {read : List ℕ → Result (A × List ℕ) ℕ} → IsRead Fits spelling read → (count : ℕ) → IsRead (λ items. (length items ≡ count) × AllByRecursion Fits items) (flat_map spelling) (items_at read count)
+pub items_reads : {A : Type 0} {Fits : A → Type 0} {spelling : A → List ℕ} {read : List ℕ → Result (A × List ℕ) ℕ} → IsRead Fits spelling read → (count : ℕ)
+    → IsRead (λ items. (length items ≡ count) × AllByRecursion Fits items) (flat_map spelling) (items_at read count)
 unfolding items_at
 items_reads {Fits = Fits} {spelling = spelling} is zero = is_read (finds_done (refl, tt) refl) (none_reads Fits spelling)
 items_reads {A = A} {Fits = Fits} {spelling = spelling} {read = read} is (suc count) = is_read
-    (finds_then is (λ x x-fits. finds_then (items_reads is count) (λ others fits. finds_done (ap suc fits.0, (x-fits, fits.1)) (sym (flat_map-cons spelling x others)))))
+    (finds_then is (λ x x-fits. finds_then (items_reads is count)
+    (λ others fits. finds_done (ap suc fits.0, (x-fits, fits.1)) (sym (flat_map-cons spelling x others)))))
     (some_back is count (items_reads is count))
 
 -- a count, and so many items
-pub list_reads : {A : Type 0} {Fits : A → Type 0} {spelling : A → List ℕ} {read : List ℕ → Result (A × List ℕ) ℕ} → IsRead Fits spelling read → IsRead (AreItems Fits) (list_bytes spelling) (list_at read)
+pub list_reads : {A : Type 0} {Fits : A → Type 0} {spelling : A → List ℕ} {read : List ℕ → Result (A × List ℕ) ℕ} → IsRead Fits spelling read
+    → IsRead (AreItems Fits) (list_bytes spelling) (list_at read)
 unfolding list_at
 list_reads {spelling = spelling} is = is_read
-    (finds_then (count_reads 0) (λ count few. finds_last (items_reads is count) (λ items fits. ((omega (arith, few.1, fits.0), fits.1), ap (λ (n : ℕ). u16_bytes n ++ flat_map spelling items) (sym fits.0)))))
+    (finds_then (count_reads 0) (λ count few. finds_last (items_reads is count)
+    (λ items fits. ((omega (arith, few.1, fits.0), fits.1), ap (λ (n : ℕ). u16_bytes n ++ flat_map spelling items) (sym fits.0)))))
     (λ items fits. backs_then _ (length items) (count_reads 0) (omega arith, fits.0) (backs_last items (items_reads is (length items)) (refl, fits.1)))

@@ -53,7 +53,8 @@ module _ {A : Type 0} (key_of : A → RowKey) where
         }
 
     module _ (Found Absent : ℕ → Type 0) (found : (at : ℕ) → StandsAt l key at → Found at) (absent : (at : ℕ) → WouldStandAt l key at → Absent at) where
-      pub halved : (r : Result ℕ ℕ) → IsSearchInRange r (length l) → IsBinarySearchResult (λ item. key_order (key_of item) key) l r → record { found : IfOk r Found; absent : IfErr r Absent }
+      pub halved : (r : Result ℕ ℕ) → IsSearchInRange r (length l) → IsBinarySearchResult (λ item. key_order (key_of item) key) l r
+          → record { found : IfOk r Found; absent : IfErr r Absent }
       halved (Ok at) in_range tied = record { found = found at (stands at in_range tied); absent = tt }
       halved (Err at) in_range parted = record {
         found = tt;

@@ -30,11 +30,14 @@ module _ {A : Type 0} (same : A → A → Bool) (one : (x y : A) → same x y �
       by_test false is = subst (λ (t : Bool). t || list_any (same x) b ≡ true) is e
   without x y apart (z ∷ a) b e = by_test (same x z) refl (without x y apart a b)
     where
-      by_test : (t : Bool) → same x z ≡ t → (list_any (same x) (a ++ y ∷ b) ≡ true → list_any (same x) (a ++ b) ≡ true) → same x z || list_any (same x) (a ++ b) ≡ true
+      by_test : (t : Bool) → same x z ≡ t → (list_any (same x) (a ++ y ∷ b) ≡ true → list_any (same x) (a ++ b) ≡ true)
+          → same x z || list_any (same x) (a ++ b) ≡ true
       by_test true is later = ap (λ (t : Bool). t || list_any (same x) (a ++ b)) is
-      by_test false is later = ap (λ (t : Bool). t || list_any (same x) (a ++ b)) is ∙ later (subst (λ (t : Bool). t || list_any (same x) (a ++ y ∷ b) ≡ true) is e)
+      by_test false is later = ap (λ (t : Bool). t || list_any (same x) (a ++ b)) is
+          ∙ later (subst (λ (t : Bool). t || list_any (same x) (a ++ y ∷ b) ≡ true) is e)
 
-  all_without : (y : A) (a b items : List A) → AllByRecursion (λ other. y ≢ other) items → AllByRecursion (λ x. list_any (same x) (a ++ y ∷ b) ≡ true) items → AllByRecursion (λ x. list_any (same x) (a ++ b) ≡ true) items
+  all_without : (y : A) (a b items : List A) → AllByRecursion (λ other. y ≢ other) items → AllByRecursion (λ x. list_any (same x) (a ++ y ∷ b) ≡ true) items
+      → AllByRecursion (λ x. list_any (same x) (a ++ b) ≡ true) items
   all_without y a b [] apart all = tt
   all_without y a b (x ∷ items) apart all = (without x y apart.0 a b all.0, all_without y a b items apart.1 all.1)
 

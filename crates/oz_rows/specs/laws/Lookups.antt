@@ -44,37 +44,45 @@ pub row_at : (a b : List RowEntry) (x : RowEntry) (q : RowKey) → AllBelow q a 
 row_at a b x q below same = row_behind a (x ∷ b) q below ∙ ap (λ o. cond (is_eq o) (Some x.row) (row_of b q)) same
 
 -- an entry between lower keys and others is found under its key, and the others as before
-pub row_added : (a b : List RowEntry) (x : RowEntry) → AllBelow x.key a → (q : RowKey) → row_of (a ++ x ∷ b) q ≡ cond (is_same x.key q) (Some x.row) (row_of (a ++ b) q)
+pub row_added : (a b : List RowEntry) (x : RowEntry) → AllBelow x.key a → (q : RowKey)
+    → row_of (a ++ x ∷ b) q ≡ cond (is_same x.key q) (Some x.row) (row_of (a ++ b) q)
 row_added a b x below q = by_test (is_same x.key q) refl
   where
     by_test : (t : Bool) → is_same x.key q ≡ t → row_of (a ++ x ∷ b) q ≡ cond (is_same x.key q) (Some x.row) (row_of (a ++ b) q)
-    by_test true e = let same = equal_from_test _ e in row_at a b x q (all_below_same x.key q same a below) same ∙ ap (λ (t : Bool). cond t (Some x.row) (row_of (a ++ b) q)) (sym e)
+    by_test true e = let same = equal_from_test _ e in row_at a b x q (all_below_same x.key q same a below) same
+        ∙ ap (λ (t : Bool). cond t (Some x.row) (row_of (a ++ b) q)) (sym e)
     by_test false e = row_beside a b x q e ∙ ap (λ (t : Bool). cond t (Some x.row) (row_of (a ++ b) q)) (sym e)
 
 -- so is one that stands in the place of another with its key
-pub row_replaced : (a b : List RowEntry) (old new : RowEntry) → key_order old.key new.key ≡ Equal → AllBelow new.key a → (q : RowKey) → row_of (a ++ new ∷ b) q ≡ cond (is_same new.key q) (Some new.row) (row_of (a ++ old ∷ b) q)
+pub row_replaced : (a b : List RowEntry) (old new : RowEntry) → key_order old.key new.key ≡ Equal → AllBelow new.key a → (q : RowKey)
+    → row_of (a ++ new ∷ b) q ≡ cond (is_same new.key q) (Some new.row) (row_of (a ++ old ∷ b) q)
 row_replaced a b old new same below q = row_added a b new below q ∙ by_test (is_same new.key q) refl
   where
-    by_test : (t : Bool) → is_same new.key q ≡ t → cond (is_same new.key q) (Some new.row) (row_of (a ++ b) q) ≡ cond (is_same new.key q) (Some new.row) (row_of (a ++ old ∷ b) q)
+    by_test : (t : Bool) → is_same new.key q ≡ t
+        → cond (is_same new.key q) (Some new.row) (row_of (a ++ b) q) ≡ cond (is_same new.key q) (Some new.row) (row_of (a ++ old ∷ b) q)
     by_test true e = ap (λ (t : Bool). cond t (Some new.row) (row_of (a ++ b) q)) e ∙ ap (λ (t : Bool). cond t (Some new.row) (row_of (a ++ old ∷ b) q)) (sym e)
     by_test false e = ap (cond (is_same new.key q) (Some new.row)) (sym (row_beside a b old q (ap is_eq (alike_left old.key new.key q same) ∙ e)))
 
 -- without the entry of a key the key has no row
-pub row_removed : (a b : List RowEntry) (x : RowEntry) (key : RowKey) → key_order x.key key ≡ Equal → AllBelow key a → AllAbove key b → (q : RowKey) → row_of (a ++ b) q ≡ cond (is_same key q) None (row_of (a ++ x ∷ b) q)
+pub row_removed : (a b : List RowEntry) (x : RowEntry) (key : RowKey) → key_order x.key key ≡ Equal → AllBelow key a → AllAbove key b → (q : RowKey)
+    → row_of (a ++ b) q ≡ cond (is_same key q) None (row_of (a ++ x ∷ b) q)
 row_removed a b x key same below above q = by_test (is_same key q) refl
   where
     by_test : (t : Bool) → is_same key q ≡ t → row_of (a ++ b) q ≡ cond (is_same key q) None (row_of (a ++ x ∷ b) q)
     by_test true e =
         let tied = equal_from_test _ e in
-        row_behind a b q (all_below_same key q tied a below) ∙ row_above b q (all_above_same key q tied b above) ∙ ap (λ (t : Bool). cond t None (row_of (a ++ x ∷ b) q)) (sym e)
+        row_behind a b q (all_below_same key q tied a below) ∙ row_above b q (all_above_same key q tied b above)
+        ∙ ap (λ (t : Bool). cond t None (row_of (a ++ x ∷ b) q)) (sym e)
     by_test false e = sym (row_beside a b x q (ap is_eq (alike_left x.key key q same) ∙ e)) ∙ ap (λ (t : Bool). cond t None (row_of (a ++ x ∷ b) q)) (sym e)
 
 -- taking away a key that has no entry changes nothing
-pub row_absent : (a b : List RowEntry) (key : RowKey) → AllBelow key a → AllAbove key b → (q : RowKey) → row_of (a ++ b) q ≡ cond (is_same key q) None (row_of (a ++ b) q)
+pub row_absent : (a b : List RowEntry) (key : RowKey) → AllBelow key a → AllAbove key b → (q : RowKey)
+    → row_of (a ++ b) q ≡ cond (is_same key q) None (row_of (a ++ b) q)
 row_absent a b key below above q = by_test (is_same key q) refl
   where
     by_test : (t : Bool) → is_same key q ≡ t → row_of (a ++ b) q ≡ cond (is_same key q) None (row_of (a ++ b) q)
     by_test true e =
         let tied = equal_from_test _ e in
-        row_behind a b q (all_below_same key q tied a below) ∙ row_above b q (all_above_same key q tied b above) ∙ ap (λ (t : Bool). cond t None (row_of (a ++ b) q)) (sym e)
+        row_behind a b q (all_below_same key q tied a below) ∙ row_above b q (all_above_same key q tied b above)
+        ∙ ap (λ (t : Bool). cond t None (row_of (a ++ b) q)) (sym e)
     by_test false e = ap (λ (t : Bool). cond t None (row_of (a ++ b) q)) (sym e)

@@ -40,44 +40,77 @@ remove_backs key fits = backs_as (append-nil (key_bytes key)) (backs_then _ key 
 
 copy_keys_finds : Finds OperationFits operation_bytes (3 ∷ []) copy_keys_at
 unfolding copy_keys_at
-copy_keys_finds = finds_then volume_name_reads (λ volume volume-fits. finds_then volume_name_reads (λ bucket bucket-fits. finds_then number_reads (λ number number-fits. finds_done (volume-fits, bucket-fits, number-fits) refl)))
+copy_keys_finds = finds_then volume_name_reads
+    (λ volume volume-fits. finds_then volume_name_reads
+    (λ bucket bucket-fits. finds_then number_reads (λ number number-fits. finds_done (volume-fits, bucket-fits, number-fits) refl)))
 
-copy_keys_backs : (volume : List ℕ) (bucket : List ℕ) (number : ℕ) → OperationFits (CopyKeys volume bucket number) → Backs copy_keys_at (text_bytes volume ++ text_bytes bucket ++ u64_bytes number) (CopyKeys volume bucket number)
+copy_keys_backs : (volume : List ℕ) (bucket : List ℕ) (number : ℕ) → OperationFits (CopyKeys volume bucket number)
+    → Backs copy_keys_at (text_bytes volume ++ text_bytes bucket ++ u64_bytes number) (CopyKeys volume bucket number)
 unfolding copy_keys_at
-copy_keys_backs volume bucket number fits = backs_as (simp (append_assoc, append-nil)) (backs_then _ volume volume_name_reads fits.0 (backs_then _ bucket volume_name_reads fits.1 (backs_then _ number number_reads fits.2 backs_done)))
+copy_keys_backs volume bucket number fits =
+    backs_as (simp (append_assoc, append-nil))
+    (backs_then _ volume volume_name_reads fits.0 (backs_then _ bucket volume_name_reads fits.1 (backs_then _ number number_reads fits.2 backs_done)))
 
 move_deleted_finds : Finds OperationFits operation_bytes (4 ∷ []) move_deleted_at
 unfolding move_deleted_at
-move_deleted_finds = finds_then volume_name_reads (λ volume volume-fits. finds_then volume_name_reads (λ bucket bucket-fits. finds_then owner_reads (λ from from-fits. finds_then owner_reads (λ to to-fits. finds_done (volume-fits, bucket-fits, from-fits, to-fits) refl))))
+move_deleted_finds =
+    finds_then volume_name_reads
+    (λ volume volume-fits. finds_then volume_name_reads
+    (λ bucket bucket-fits. finds_then owner_reads
+    (λ from from-fits. finds_then owner_reads (λ to to-fits. finds_done (volume-fits, bucket-fits, from-fits, to-fits) refl))))
 
-move_deleted_backs : (volume : List ℕ) (bucket : List ℕ) (from : ℕ) (to : ℕ) → OperationFits (MoveDeleted volume bucket from to) → Backs move_deleted_at (text_bytes volume ++ text_bytes bucket ++ u64_bytes from ++ u64_bytes to) (MoveDeleted volume bucket from to)
+move_deleted_backs : (volume : List ℕ) (bucket : List ℕ) (from : ℕ) (to : ℕ) → OperationFits (MoveDeleted volume bucket from to)
+    → Backs move_deleted_at (text_bytes volume ++ text_bytes bucket ++ u64_bytes from ++ u64_bytes to) (MoveDeleted volume bucket from to)
 unfolding move_deleted_at
-move_deleted_backs volume bucket from to fits = backs_as (simp (append_assoc, append-nil)) (backs_then _ volume volume_name_reads fits.0 (backs_then _ bucket volume_name_reads fits.1 (backs_then _ from owner_reads fits.2 (backs_then _ to owner_reads fits.3 backs_done))))
+move_deleted_backs volume bucket from to fits =
+    backs_as (simp (append_assoc, append-nil))
+    (backs_then _ volume volume_name_reads fits.0
+    (backs_then _ bucket volume_name_reads fits.1 (backs_then _ from owner_reads fits.2 (backs_then _ to owner_reads fits.3 backs_done))))
 
 drop_keys_finds : Finds OperationFits operation_bytes (5 ∷ []) drop_keys_at
 unfolding drop_keys_at
-drop_keys_finds = finds_then volume_name_reads (λ volume volume-fits. finds_then volume_name_reads (λ bucket bucket-fits. finds_then number_reads (λ number number-fits. finds_done (volume-fits, bucket-fits, number-fits) refl)))
+drop_keys_finds = finds_then volume_name_reads
+    (λ volume volume-fits. finds_then volume_name_reads
+    (λ bucket bucket-fits. finds_then number_reads (λ number number-fits. finds_done (volume-fits, bucket-fits, number-fits) refl)))
 
-drop_keys_backs : (volume : List ℕ) (bucket : List ℕ) (number : ℕ) → OperationFits (DropKeys volume bucket number) → Backs drop_keys_at (text_bytes volume ++ text_bytes bucket ++ u64_bytes number) (DropKeys volume bucket number)
+drop_keys_backs : (volume : List ℕ) (bucket : List ℕ) (number : ℕ) → OperationFits (DropKeys volume bucket number)
+    → Backs drop_keys_at (text_bytes volume ++ text_bytes bucket ++ u64_bytes number) (DropKeys volume bucket number)
 unfolding drop_keys_at
-drop_keys_backs volume bucket number fits = backs_as (simp (append_assoc, append-nil)) (backs_then _ volume volume_name_reads fits.0 (backs_then _ bucket volume_name_reads fits.1 (backs_then _ number number_reads fits.2 backs_done)))
+drop_keys_backs volume bucket number fits =
+    backs_as (simp (append_assoc, append-nil))
+    (backs_then _ volume volume_name_reads fits.0 (backs_then _ bucket volume_name_reads fits.1 (backs_then _ number number_reads fits.2 backs_done)))
 
 drop_open_finds : Finds OperationFits operation_bytes (6 ∷ []) drop_open_at
 unfolding drop_open_at
-drop_open_finds = finds_then volume_name_reads (λ volume volume-fits. finds_then volume_name_reads (λ bucket bucket-fits. finds_done (volume-fits, bucket-fits) refl))
+drop_open_finds = finds_then volume_name_reads
+    (λ volume volume-fits. finds_then volume_name_reads (λ bucket bucket-fits. finds_done (volume-fits, bucket-fits) refl))
 
-drop_open_backs : (volume : List ℕ) (bucket : List ℕ) → OperationFits (DropOpen volume bucket) → Backs drop_open_at (text_bytes volume ++ text_bytes bucket) (DropOpen volume bucket)
+drop_open_backs : (volume : List ℕ) (bucket : List ℕ) → OperationFits (DropOpen volume bucket)
+    → Backs drop_open_at (text_bytes volume ++ text_bytes bucket) (DropOpen volume bucket)
 unfolding drop_open_at
-drop_open_backs volume bucket fits = backs_as (simp append-nil) (backs_then _ volume volume_name_reads fits.0 (backs_then _ bucket volume_name_reads fits.1 backs_done))
+drop_open_backs volume bucket fits =
+    backs_as (simp append-nil) (backs_then _ volume volume_name_reads fits.0 (backs_then _ bucket volume_name_reads fits.1 backs_done))
 
 operation_of_tag_finds : (left tag : ℕ) → Finds OperationFits operation_bytes (tag ∷ []) (operation_of_tag_at left tag)
 operation_of_tag_finds left tag =
-    finds_either (eqb tag 1) (λ is. subst (λ (k : ℕ). Finds OperationFits operation_bytes (k ∷ []) put_at) (sym (eqb-true tag 1 is)) put_finds) (λ _. finds_either (eqb tag 2) (λ is. subst (λ (k : ℕ). Finds OperationFits operation_bytes (k ∷ []) remove_at) (sym (eqb-true tag 2 is)) remove_finds) (λ _. finds_either (eqb tag 3) (λ is. subst (λ (k : ℕ). Finds OperationFits operation_bytes (k ∷ []) copy_keys_at) (sym (eqb-true tag 3 is)) copy_keys_finds) (λ _. finds_either (eqb tag 4) (λ is. subst (λ (k : ℕ). Finds OperationFits operation_bytes (k ∷ []) move_deleted_at) (sym (eqb-true tag 4 is)) move_deleted_finds) (λ _. finds_either (eqb tag 5) (λ is. subst (λ (k : ℕ). Finds OperationFits operation_bytes (k ∷ []) drop_keys_at) (sym (eqb-true tag 5 is)) drop_keys_finds) (λ _. finds_either (eqb tag 6) (λ is. subst (λ (k : ℕ). Finds OperationFits operation_bytes (k ∷ []) drop_open_at) (sym (eqb-true tag 6 is)) drop_open_finds) (λ _. finds_none))))))
+    finds_either (eqb tag 1) (λ is. subst (λ (k : ℕ). Finds OperationFits operation_bytes (k ∷ []) put_at) (sym (eqb-true tag 1 is)) put_finds)
+    (λ _. finds_either (eqb tag 2) (λ is. subst (λ (k : ℕ). Finds OperationFits operation_bytes (k ∷ []) remove_at)
+    (sym (eqb-true tag 2 is)) remove_finds)
+    (λ _. finds_either (eqb tag 3) (λ is. subst (λ (k : ℕ). Finds OperationFits operation_bytes (k ∷ []) copy_keys_at)
+    (sym (eqb-true tag 3 is)) copy_keys_finds)
+    (λ _. finds_either (eqb tag 4) (λ is. subst (λ (k : ℕ). Finds OperationFits operation_bytes (k ∷ []) move_deleted_at)
+    (sym (eqb-true tag 4 is)) move_deleted_finds)
+    (λ _. finds_either (eqb tag 5) (λ is. subst (λ (k : ℕ). Finds OperationFits operation_bytes (k ∷ []) drop_keys_at)
+    (sym (eqb-true tag 5 is)) drop_keys_finds)
+    (λ _. finds_either (eqb tag 6) (λ is. subst (λ (k : ℕ). Finds OperationFits operation_bytes (k ∷ []) drop_open_at)
+    (sym (eqb-true tag 6 is)) drop_open_finds) (λ _. finds_none))))))
 
-operation_found : (bytes : List ℕ) (operation : Operation) (rest : List ℕ) → AreBytes bytes → operation_at bytes ≡ Ok (operation, rest) → OperationFits operation × (bytes ≡ operation_bytes operation ++ rest)
+operation_found : (bytes : List ℕ) (operation : Operation) (rest : List ℕ) → AreBytes bytes → operation_at bytes ≡ Ok (operation, rest)
+    → OperationFits operation × (bytes ≡ operation_bytes operation ++ rest)
 unfolding operation_at
 operation_found [] operation rest fit e = absurd cc
-operation_found (tag ∷ bytes) operation rest fit e = (operation_of_tag_finds (suc (length bytes)) tag).found bytes operation rest (AreBytes-behind (tag ∷ bytes) (tag ∷ []) bytes fit refl) e
+operation_found (tag ∷ bytes) operation rest fit e =
+    (operation_of_tag_finds (suc (length bytes)) tag).found bytes operation rest (AreBytes-behind (tag ∷ bytes) (tag ∷ []) bytes fit refl) e
 
 operation_back : (operation : Operation) (rest : List ℕ) → OperationFits operation → operation_at (operation_bytes operation ++ rest) ≡ Ok (operation, rest)
 unfolding operation_at

@@ -29,7 +29,10 @@ counted_anew n false false = n
 
 rising_differ : (ks : List RowKey) → AllRise ks → AllDiffer ks
 rising_differ [] rises = tt
-rising_differ (key ∷ ks) rises = (each_in_turn _ _ (λ other below e. false≢true (sym (ap is_eq below) ∙ ap (λ k. is_eq (key_order key k)) (sym e) ∙ ap is_eq (itself key))) ks rises.0, rising_differ ks rises.1)
+rising_differ (key ∷ ks) rises = (
+  each_in_turn _ _ (λ other below e. false≢true (sym (ap is_eq below) ∙ ap (λ k. is_eq (key_order key k)) (sym e) ∙ ap is_eq (itself key))) ks rises.0,
+  rising_differ ks rises.1,
+)
 
 -- the keys between two keys are so many, whoever counts them
 pub one_count : (all : Rows) (from to : RowKey) (m n : ℕ) → IsCount all from to m → IsCount all from to n → m ≡ n
@@ -39,13 +42,16 @@ one_count all from to m n (ks, are, size) (ls, are', size') =
     omega (arith, up, down, size, size')
 
 -- and whatever rows other keys have
-pub count_alike : (all other : Rows) (from to : RowKey) (n : ℕ) → ((key : RowKey) → (IsBelow key from → ⊥) → IsBelow key to → all key ≡ other key) → IsCount all from to n → IsCount other from to n
+pub count_alike : (all other : Rows) (from to : RowKey) (n : ℕ) → ((key : RowKey) → (IsBelow key from → ⊥) → IsBelow key to → all key ≡ other key)
+    → IsCount all from to n → IsCount other from to n
 count_alike all other from to n same (ks, are, size) = (
   ks,
   record {
     rise = are.rise;
-    each = each_in_turn _ _ (λ key is. record { has_row = subst IsSome (same key is.not_below is.below) is.has_row; not_below = is.not_below; below = is.below }) ks are.each;
-    every = λ key is. are.every key (record { has_row = subst IsSome (sym (same key is.not_below is.below)) is.has_row; not_below = is.not_below; below = is.below });
+    each = each_in_turn _ _
+        (λ key is. record { has_row = subst IsSome (same key is.not_below is.below) is.has_row; not_below = is.not_below; below = is.below }) ks are.each;
+    every = λ key is. are.every key
+        (record { has_row = subst IsSome (sym (same key is.not_below is.below)) is.has_row; not_below = is.not_below; below = is.below });
   },
   size,
 )
@@ -87,7 +93,8 @@ module _ (from to : RowKey) where
   under x [] all = tt
   under x (y ∷ l) all = by_test (in_range y.key) (under x l all.1)
     where
-      by_test : (t : Bool) → AllByRecursion (λ key. IsBelow x.key key) (keys_in l) → AllByRecursion (λ key. IsBelow x.key key) (cond t (y.key ∷ keys_in l) (keys_in l))
+      by_test : (t : Bool) → AllByRecursion (λ key. IsBelow x.key key) (keys_in l)
+          → AllByRecursion (λ key. IsBelow x.key key) (cond t (y.key ∷ keys_in l) (keys_in l))
       by_test true later = (all.0, later)
       by_test false later = later
 
@@ -107,9 +114,16 @@ module _ (from to : RowKey) where
   each_between : (l : List RowEntry) → AllByRecursion (IsBetween (row_of l) from to) (keys_in l)
   unfolding keys_in
   each_between [] = tt
-  each_between (x ∷ l) = by_test (in_range x.key) refl (each_in_turn _ _ (λ key is. record { has_row = stay_some (is_same x.key key) x.row (row_of l key) is.has_row; not_below = is.not_below; below = is.below }) (keys_in l) (each_between l))
+  each_between (x ∷ l) =
+      by_test (in_range x.key) refl
+      (each_in_turn _ _ (λ key is. record {
+        has_row = stay_some (is_same x.key key) x.row (row_of l key) is.has_row;
+        not_below = is.not_below;
+        below = is.below;
+      }) (keys_in l) (each_between l))
     where
-      by_test : (t : Bool) → in_range x.key ≡ t → AllByRecursion (IsBetween (row_of (x ∷ l)) from to) (keys_in l) → AllByRecursion (IsBetween (row_of (x ∷ l)) from to) (cond t (x.key ∷ keys_in l) (keys_in l))
+      by_test : (t : Bool) → in_range x.key ≡ t → AllByRecursion (IsBetween (row_of (x ∷ l)) from to) (keys_in l)
+          → AllByRecursion (IsBetween (row_of (x ∷ l)) from to) (cond t (x.key ∷ keys_in l) (keys_in l))
       by_test true e later =
           let tests = range_is (is_lt (key_order x.key from)) (is_lt (key_order x.key to)) e in (
             record {
@@ -134,13 +148,23 @@ module _ (from to : RowKey) where
           either false later = later
       head false later = later
 
-      by_test : (t : Bool) → is_same x.key key ≡ t → (s : Bool) → in_range x.key ≡ s → (IsSome (row_of l key) → list_any (is_same key) (keys_in l) ≡ true) → list_any (is_same key) (cond s (x.key ∷ keys_in l) (keys_in l)) ≡ true
-      by_test true is true in_it later = ap (λ (t : Bool). t || list_any (is_same key) (keys_in l)) (ap (λ k. is_same key k) (same_is_one x.key key is) ∙ ap is_eq (itself key))
+      by_test : (t : Bool) → is_same x.key key ≡ t → (s : Bool) → in_range x.key ≡ s → (IsSome (row_of l key) → list_any (is_same key) (keys_in l) ≡ true)
+          → list_any (is_same key) (cond s (x.key ∷ keys_in l) (keys_in l)) ≡ true
+      by_test true is true in_it later =
+          ap (λ (t : Bool). t || list_any (is_same key) (keys_in l)) (ap (λ k. is_same key k) (same_is_one x.key key is) ∙ ap is_eq (itself key))
       by_test true is false out later = absurd (false≢true (sym out ∙ ap in_range (same_is_one x.key key is) ∙ e))
       by_test false is s in_it later = head s (later (subst (λ (t : Bool). IsSome (cond t (Some x.row) (row_of l key))) is some))
 
   pub size_counts : (l : List RowEntry) → KeysRise l → IsCount (row_of l) from to (size l)
-  size_counts l rise = (keys_in l, record { rise = rises l rise; each = each_between l; every = λ key is. every_between l key is.has_row (range_from key is.not_below is.below) }, as_many l)
+  size_counts l rise = (
+    keys_in l,
+    record {
+      rise = rises l rise;
+      each = each_between l;
+      every = λ key is. every_between l key is.has_row (range_from key is.not_below is.below);
+    },
+    as_many l,
+  )
 
   size_append : (a b : List RowEntry) → size (a ++ b) ≡ size a + size b
   unfolding size

@@ -12,12 +12,14 @@ use Rattle.oz_script.specs.placed.Served.{later_index}
 use Rattle.oz_script.specs.Parsing.{IsFaultAt, Answers, AnswersRead, ParsesTo}
 use Rattle.oz_script.specs.Waiting.{WaitsFor}
 
-same_place : (placed : PlacedScript) (line : ℕ) (cause : Cause) (one other : Result Script ScriptFault) → IsFaultAt placed line cause one → IsFaultAt placed line cause other → one ≡ other
+same_place : (placed : PlacedScript) (line : ℕ) (cause : Cause) (one other : Result Script ScriptFault) → IsFaultAt placed line cause one
+    → IsFaultAt placed line cause other → one ≡ other
 same_place placed line cause one other a b =
     let same : a.0 ≡ b.0 = same_Some a.0 b.0 (sym a.1 ∙ b.1) in
     a.2 ∙ ap (λ (p : ℕ). let r : Result Script ScriptFault = Err (At p cause) in r) same ∙ sym b.2
 
-same_answer : (placed : PlacedScript) (circle later : Option ℕ) (one other : Result Script ScriptFault) → Answers placed circle later one → Answers placed circle later other → one ≡ other
+same_answer : (placed : PlacedScript) (circle later : Option ℕ) (one other : Result Script ScriptFault) → Answers placed circle later one
+    → Answers placed circle later other → one ≡ other
 same_answer placed (Some line) later one other a b = same_place placed line _ one other a b
 same_answer placed None (Some line) one other a b = same_place placed line _ one other a b
 same_answer placed None None one other a b = a ∙ sym b
@@ -41,7 +43,8 @@ same_read : (given : Result PlacedScript ScriptFault) (one other : Result Script
 same_read (Err fault) one other a b = a ∙ sym b
 same_read (Ok placed) one other a b =
     let same = same_first (WaitsFor placed.script.lines) a.0 b.0 a.1 b.1 in
-    same_answer placed b.0 (later_index placed.script.lines) one other (subst (λ (c : Option ℕ). Answers placed c (later_index placed.script.lines) one) same a.2) b.2
+    same_answer placed b.0 (later_index placed.script.lines) one other
+    (subst (λ (c : Option ℕ). Answers placed c (later_index placed.script.lines) one) same a.2) b.2
 
 pub one_answer : (bytes : List ℕ) (one other : Result Script ScriptFault) → ParsesTo bytes one → ParsesTo bytes other → one ≡ other
 one_answer bytes one other a b = same_read (read_of bytes) one other a b

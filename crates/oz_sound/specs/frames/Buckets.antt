@@ -24,7 +24,8 @@ pub record IsOutside (volume name : List ℕ) (key : RowKey) : Type 0 where
   pub no_stripe : kind_of key ≢ 9
 
 -- Rows of one bucket and of stripes changed, of whatever kinds, so that they show this bucket and these numbers.
-pub record BucketBecomes (all now : Rows) (namespace : Namespace) (volume : List ℕ) (buckets : ByName Bucket) (name : List ℕ) (bucket : Bucket) (stripes : List ℕ) : Type 0 where
+pub record BucketBecomes (all now : Rows) (namespace : Namespace) (volume : List ℕ) (buckets : ByName Bucket) (name : List ℕ) (bucket : Bucket)
+    (stripes : List ℕ) : Type 0 where
   pub volume_there : buckets_of namespace volume ≡ Some buckets
   pub outside : (key : RowKey) → IsOutside volume name key → now key ≡ all key
   pub there : IsSome (now (keys.Bucket volume name))

@@ -77,7 +77,9 @@ bucket_kept all v b row (keys.Renamed w c o l) kind = refl
 bucket_kept all v b row (keys.Stripe s) kind = refl
 
 -- a volume without buckets goes
-module _ (all now : Rows) (namespace : Namespace) (volume : List ℕ) (stands : StandsFor all namespace) (no_buckets : (bucket : List ℕ) → has_bucket namespace volume bucket ≡ false) (is : (key : RowKey) → now key ≡ replaced all (keys.Volume volume) None key) where
+module _ (all now : Rows) (namespace : Namespace) (volume : List ℕ) (stands : StandsFor all namespace)
+    (no_buckets : (bucket : List ℕ) → has_bucket namespace volume bucket ≡ false)
+    (is : (key : RowKey) → now key ≡ replaced all (keys.Volume volume) None key) where
   abbrev after : Namespace
   after = without_volume namespace volume
 
@@ -91,12 +93,14 @@ module _ (all now : Rows) (namespace : Namespace) (volume : List ℕ) (stands : 
   same_bucket_there : (other bucket : List ℕ) → bucket_of after other bucket ≡ bucket_of namespace other bucket
   same_bucket_there other bucket = ap (option_and_then (λ (bs : ByName Bucket). get bs bucket)) (gone_buckets other) ∙ by_test (is_name other volume) refl
     where
-      by_test : (t : Bool) → is_name other volume ≡ t → option_and_then (λ (bs : ByName Bucket). get bs bucket) (cond t None (buckets_of namespace other)) ≡ bucket_of namespace other bucket
+      by_test : (t : Bool) → is_name other volume ≡ t
+          → option_and_then (λ (bs : ByName Bucket). get bs bucket) (cond t None (buckets_of namespace other)) ≡ bucket_of namespace other bucket
       by_test true e = sym (ap (λ v. bucket_of namespace v bucket) (one_name other volume e) ∙ absent _ (no_buckets bucket))
       by_test false e = refl
 
   volume_row : (other : List ℕ) → has_volume after other ≡ is_some (now (keys.Volume other))
-  volume_row other = ap is_some (gone_buckets other) ∙ by_test (is_name other volume) ∙ ap (λ t. is_some (cond t None (all (keys.Volume other)))) (sym (same_volume volume other)) ∙ ap is_some (sym (is (keys.Volume other)))
+  volume_row other = ap is_some (gone_buckets other) ∙ by_test (is_name other volume)
+      ∙ ap (λ t. is_some (cond t None (all (keys.Volume other)))) (sym (same_volume volume other)) ∙ ap is_some (sym (is (keys.Volume other)))
     where
       by_test : (t : Bool) → is_some (cond t None (buckets_of namespace other)) ≡ is_some (cond t None (all (keys.Volume other)))
       by_test true = refl
@@ -109,8 +113,10 @@ module _ (all now : Rows) (namespace : Namespace) (volume : List ℕ) (stands : 
       stands
 
 -- a bucket in which nothing is seen comes or goes
-module _ (all now : Rows) (namespace : Namespace) (volume bucket : List ℕ) (row : Option Row) (stands : StandsFor all namespace) (is : (key : RowKey) → now key ≡ replaced all (keys.Bucket volume bucket) row key)
-    (buckets changed : ByName Bucket) (there : buckets_of namespace volume ≡ Some buckets) (new : Option Bucket) (gets : (q : List ℕ) → get changed q ≡ cond (is_name q bucket) new (get buckets q))
+module _ (all now : Rows) (namespace : Namespace) (volume bucket : List ℕ) (row : Option Row) (stands : StandsFor all namespace)
+    (is : (key : RowKey) → now key ≡ replaced all (keys.Bucket volume bucket) row key)
+    (buckets changed : ByName Bucket) (there : buckets_of namespace volume ≡ Some buckets) (new : Option Bucket)
+    (gets : (q : List ℕ) → get changed q ≡ cond (is_name q bucket) new (get buckets q))
     (seen : SeenAlike (get buckets bucket) new) (row_is : is_some new ≡ is_some row) where
   abbrev changed_namespace : Namespace
   changed_namespace = with_volume namespace volume changed
@@ -121,8 +127,12 @@ module _ (all now : Rows) (namespace : Namespace) (volume bucket : List ℕ) (ro
   bucket_now : (other q : List ℕ) → bucket_of changed_namespace other q ≡ cond (is_name other volume && is_name q bucket) new (bucket_of namespace other q)
   bucket_now other q = ap (option_and_then (λ (bs : ByName Bucket). get bs q)) (volumes_now other) ∙ by_test (is_name other volume) refl
     where
-      by_test : (t : Bool) → is_name other volume ≡ t → option_and_then (λ (bs : ByName Bucket). get bs q) (cond t (Some changed) (buckets_of namespace other)) ≡ cond (t && is_name q bucket) new (bucket_of namespace other q)
-      by_test true e = gets q ∙ ap (cond (is_name q bucket) new) (sym (ap (option_and_then (λ (bs : ByName Bucket). get bs q)) (ap (buckets_of namespace) (one_name other volume e) ∙ there)))
+      by_test : (t : Bool) → is_name other volume ≡ t
+          → option_and_then (λ (bs : ByName Bucket). get bs q) (cond t (Some changed) (buckets_of namespace other))
+          ≡ cond (t && is_name q bucket) new (bucket_of namespace other q)
+      by_test true e = gets q
+          ∙ ap (cond (is_name q bucket) new)
+          (sym (ap (option_and_then (λ (bs : ByName Bucket). get bs q)) (ap (buckets_of namespace) (one_name other volume e) ∙ there)))
       by_test false e = refl
 
   old_bucket : bucket_of namespace volume bucket ≡ get buckets bucket
@@ -134,10 +144,12 @@ module _ (all now : Rows) (namespace : Namespace) (volume bucket : List ℕ) (ro
       plain : is_name other volume && is_name q bucket ≡ false → SeenAlike (bucket_of namespace other q) (bucket_of changed_namespace other q)
       plain e = seen_again _ _ (bucket_now other q ∙ ap (λ t. cond t new (bucket_of namespace other q)) e)
 
-      by_test : (t : Bool) → is_name other volume ≡ t → (s : Bool) → is_name q bucket ≡ s → SeenAlike (bucket_of namespace other q) (bucket_of changed_namespace other q)
+      by_test : (t : Bool) → is_name other volume ≡ t → (s : Bool) → is_name q bucket ≡ s
+          → SeenAlike (bucket_of namespace other q) (bucket_of changed_namespace other q)
       by_test true e true f =
           let old = (λ i. bucket_of namespace (one_name other volume e i) (one_name q bucket f i)) ∙ old_bucket in
-          let now = bucket_now other q ∙ ap (λ t. cond (t && is_name q bucket) new (bucket_of namespace other q)) e ∙ ap (λ t. cond t new (bucket_of namespace other q)) f in
+          let now = bucket_now other q ∙ ap (λ t. cond (t && is_name q bucket) new (bucket_of namespace other q)) e
+          ∙ ap (λ t. cond t new (bucket_of namespace other q)) f in
           subst (λ o. SeenAlike o (bucket_of changed_namespace other q)) (sym old) (subst (SeenAlike (get buckets bucket)) (sym now) seen)
       by_test true e false f = plain (ap (λ t. t && is_name q bucket) e ∙ f)
       by_test false e s f = plain (ap (λ t. t && is_name q bucket) e)
@@ -158,4 +170,5 @@ module _ (all now : Rows) (namespace : Namespace) (volume bucket : List ℕ) (ro
       by_test false = stands.buckets other q
 
   pub bucket_changes : StandsFor now (with_volume namespace volume changed)
-  bucket_changes = stand_on all now (λ key kind. is key ∙ bucket_kept all volume bucket row key kind) namespace changed_namespace refl seen_now volume_there bucket_row stands
+  bucket_changes = stand_on all now
+      (λ key kind. is key ∙ bucket_kept all volume bucket row key kind) namespace changed_namespace refl seen_now volume_there bucket_row stands

@@ -47,16 +47,19 @@ seen_again before after e = record {
 
 -- rows that are the same but for those of volumes and buckets
 module _ (all now : Rows) (agree : (key : RowKey) → 2 < kind_of key → now key ≡ all key) where
-  snapshot_again : (volume bucket : List ℕ) (number : ℕ) (snapshot : Snapshot) → IsSnapshot all volume bucket number snapshot → IsSnapshot now volume bucket number snapshot
+  snapshot_again : (volume bucket : List ℕ) (number : ℕ) (snapshot : Snapshot) → IsSnapshot all volume bucket number snapshot
+      → IsSnapshot now volume bucket number snapshot
   snapshot_again volume bucket number snapshot is = record {
     previous = is.previous;
     row = agree (keys.Snapshot volume bucket number) (omega arith) ∙ is.row;
     pieces = λ key. is.pieces key ∙ ap pieces_in (sym (agree (keys.SnapshotKey volume bucket number key) (omega arith)));
   }
 
-  snapshots_again : (volume bucket numbers : List ℕ) (snapshots : List Snapshot) → AreSnapshots all volume bucket numbers snapshots → AreSnapshots now volume bucket numbers snapshots
+  snapshots_again : (volume bucket numbers : List ℕ) (snapshots : List Snapshot) → AreSnapshots all volume bucket numbers snapshots
+      → AreSnapshots now volume bucket numbers snapshots
   snapshots_again volume bucket [] [] are = tt
-  snapshots_again volume bucket (n ∷ numbers) (s ∷ snapshots) are = (snapshot_again volume bucket n s are.0, snapshots_again volume bucket numbers snapshots are.1)
+  snapshots_again volume bucket (n ∷ numbers) (s ∷ snapshots) are =
+      (snapshot_again volume bucket n s are.0, snapshots_again volume bucket numbers snapshots are.1)
   snapshots_again volume bucket [] (s ∷ snapshots) are = are
   snapshots_again volume bucket (n ∷ numbers) [] are = are
 
@@ -76,11 +79,14 @@ module _ (all now : Rows) (agree : (key : RowKey) → 2 < kind_of key → now ke
 
   stripes_again : (l : List ℕ) → map (λ stripe. drawn_in (all (keys.Stripe stripe))) l ≡ map (λ stripe. drawn_in (now (keys.Stripe stripe))) l
   stripes_again [] = refl
-  stripes_again (s ∷ l) = ap (λ n. n ∷ map (λ stripe. drawn_in (all (keys.Stripe stripe))) l) (ap drawn_in (sym (agree (keys.Stripe s) (omega arith)))) ∙ ap (λ l. drawn_in (now (keys.Stripe s)) ∷ l) (stripes_again l)
+  stripes_again (s ∷ l) = ap (λ n. n ∷ map (λ stripe. drawn_in (all (keys.Stripe stripe))) l) (ap drawn_in (sym (agree (keys.Stripe s) (omega arith))))
+      ∙ ap (λ l. drawn_in (now (keys.Stripe s)) ∷ l) (stripes_again l)
 
   -- a namespace in whose buckets the same is seen, with the volumes and buckets that the rows have
-  module _ (before after : Namespace) (numbers : after.stripes ≡ before.stripes) (seen : (v b : List ℕ) → SeenAlike (bucket_of before v b) (bucket_of after v b)) where
-    pub stand_on : ((v : List ℕ) → has_volume after v ≡ is_some (now (keys.Volume v))) → ((v b : List ℕ) → has_bucket after v b ≡ is_some (now (keys.Bucket v b))) → StandsFor all before → StandsFor now after
+  module _ (before after : Namespace) (numbers : after.stripes ≡ before.stripes)
+      (seen : (v b : List ℕ) → SeenAlike (bucket_of before v b) (bucket_of after v b)) where
+    pub stand_on : ((v : List ℕ) → has_volume after v ≡ is_some (now (keys.Volume v)))
+        → ((v b : List ℕ) → has_bucket after v b ≡ is_some (now (keys.Bucket v b))) → StandsFor all before → StandsFor now after
     stand_on volumes buckets stands = record {
       volumes = volumes;
       buckets = buckets;
@@ -94,7 +100,8 @@ module _ (all now : Rows) (agree : (key : RowKey) → 2 < kind_of key → now ke
     }
 
   -- where rows of volumes and buckets have no blocks, blocks stand where they stood
-  module _ (bare : (key : RowKey) (row : Row) → kind_of key ≤ 2 → all key ≡ Some row → blocks_of row ≡ []) (bare_now : (key : RowKey) (row : Row) → kind_of key ≤ 2 → now key ≡ Some row → blocks_of row ≡ []) where
+  module _ (bare : (key : RowKey) (row : Row) → kind_of key ≤ 2 → all key ≡ Some row → blocks_of row ≡ [])
+      (bare_now : (key : RowKey) (row : Row) → kind_of key ≤ 2 → now key ≡ Some row → blocks_of row ≡ []) where
     no_block : {P : Type 0} (block : Block) (row : Row) → blocks_of row ≡ [] → list_any (is_block block) (blocks_of row) ≡ true → P
     no_block block row e has = absurd (false≢true (sym (ap (list_any (is_block block)) e) ∙ has))
 
@@ -148,23 +155,31 @@ module _ (all now : Rows) (agree : (key : RowKey) → 2 < kind_of key → now ke
     blocks_again : BlocksAreSound all → BlocksAreSound now
     blocks_again sound = record {
       one_bucket = λ block key other here there. sound.one_bucket block key other (block_before block key here) (block_before block other there);
-      one_home = λ block key other home another here there. sound.one_home block key other home another (block_before block key here) (block_before block other there);
+      one_home = λ block key other home another here there. sound.one_home block key other home another (block_before block key here)
+          (block_before block other there);
       one_local = λ block twin key other here there e. sound.one_local block twin key other (block_before block key here) (block_before twin other there) e;
-      kept = λ v b name n block has. let found = sound.kept v b name n block (has_before v b n block name has) in (found.0, found.1, block_after block found.0 found.2);
-      deleted_together = λ v b key owner local block other here there. together v b block other (sound.deleted_together v b key owner local block other (block_before block _ here) (block_before other _ there));
-      key_together = λ v b key block other here there. together v b block other (sound.key_together v b key block other (block_before block _ here) (block_before other _ there));
+      kept = λ v b name n block has. let found =
+          sound.kept v b name n block (has_before v b n block name has) in (found.0, found.1, block_after block found.0 found.2);
+      deleted_together = λ v b key owner local block other here there. together v b block other
+          (sound.deleted_together v b key owner local block other (block_before block _ here) (block_before other _ there));
+      key_together = λ v b key block other here there. together v b block other
+          (sound.key_together v b key block other (block_before block _ here) (block_before other _ there));
     }
 
     names_again : NamesAreSound all → NamesAreSound now
     names_again sound = record {
-      one_snapshot = λ v b name n p m q here there. sound.one_snapshot v b name n p m q (sym (agree (keys.Snapshot v b n) (omega arith)) ∙ here) (sym (agree (keys.Snapshot v b m) (omega arith)) ∙ there);
-      one_name = λ v b name another n block here there. sound.one_name v b name another n block (has_before v b n block name here) (has_before v b n block another there);
-      open_name = λ v b key name session n block here there. sound.open_name v b key name session n block (block_before block _ here) (has_before v b n block name there);
+      one_snapshot = λ v b name n p m q here there. sound.one_snapshot v b name n p m q (sym (agree (keys.Snapshot v b n) (omega arith)) ∙ here)
+          (sym (agree (keys.Snapshot v b m) (omega arith)) ∙ there);
+      one_name = λ v b name another n block here there. sound.one_name v b name another n block (has_before v b n block name here)
+          (has_before v b n block another there);
+      open_name = λ v b key name session n block here there. sound.open_name v b key name session n block (block_before block _ here)
+          (has_before v b n block name there);
     }
 
     pub renames_again : RenamesAreSound all → RenamesAreSound now
     renames_again sound = record {
-      renamed = λ v b name another n owner block has is. sound.renamed v b name another n owner block (has_before v b n block name has) (rename_before v b n block.local owner another is);
+      renamed = λ v b name another n owner block has is. sound.renamed v b name another n owner block (has_before v b n block name has)
+          (rename_before v b n block.local owner another is);
       noted = λ v b name n block has anew.
           let found = sound.noted v b name n block (has_before v b n block name has) (named_before v b n block name anew) in
           (found.0, found.1, rename_after v b n block.local found.0 found.1 found.2);
@@ -198,7 +213,8 @@ module _ (all now : Rows) (agree : (key : RowKey) → 2 < kind_of key → now ke
       buckets = buckets;
       keys_and_sessions = λ v b. at_most _ _ MOST_KEYS (using_before v b) (sound.keys_and_sessions v b);
       snapshots = λ v b. at_most _ _ MOST_SNAPSHOTS (live_before v b) (sound.snapshots v b);
-      snapshot_keys = λ v b n live. at_most _ _ MOST_KEYS (λ key some. some_before (keys.SnapshotKey v b n key) (omega arith) some) (sound.snapshot_keys v b n (live_before v b n live));
+      snapshot_keys = λ v b n live. at_most _ _ MOST_KEYS (λ key some. some_before (keys.SnapshotKey v b n key) (omega arith) some)
+          (sound.snapshot_keys v b n (live_before v b n live));
     }
 
     pub but_renames_again : ((v : List ℕ) → AtMost MOST_BUCKETS (λ b. IsSome (now (keys.Bucket v b)))) → IsSoundButRenames all → IsSoundButRenames now

@@ -47,14 +47,17 @@ below_those x n [] all e = absurd (false≢true e)
 below_those x n (y ∷ l) all e = among_cases n y l e (λ same. subst (λ m. x < m) (sym same) all.0) (below_those x n l all.1)
 
 -- rising numbers are known by which are among them
-pub same_numbers : (a b : List ℕ) → NumbersRise a → NumbersRise b → ((n : ℕ) → is_among n a ≡ true → is_among n b ≡ true) → ((n : ℕ) → is_among n b ≡ true → is_among n a ≡ true) → a ≡ b
+pub same_numbers : (a b : List ℕ) → NumbersRise a → NumbersRise b → ((n : ℕ) → is_among n a ≡ true → is_among n b ≡ true)
+    → ((n : ℕ) → is_among n b ≡ true → is_among n a ≡ true) → a ≡ b
 same_numbers [] [] rise_a rise_b to from = refl
 same_numbers [] (y ∷ b) rise_a rise_b to from = absurd (false≢true (from y (among_head y b)))
 same_numbers (x ∷ a) [] rise_a rise_b to from = absurd (false≢true (to x (among_head x a)))
 same_numbers (x ∷ a) (y ∷ b) rise_a rise_b to from = both (same_numbers a b rise_a.1 rise_b.1 to_rest from_rest)
   where
     first : x ≡ y
-    first = among_cases x y b (to x (among_head x a)) (λ e. e) (λ in_b. among_cases y x a (from y (among_head y b)) sym (λ in_a. absurd (omega (arith, below_those y x b rise_b.0 in_b, below_those x y a rise_a.0 in_a))))
+    first = among_cases x y b (to x (among_head x a)) (λ e. e)
+        (λ in_b. among_cases y x a (from y (among_head y b)) sym
+        (λ in_a. absurd (omega (arith, below_those y x b rise_b.0 in_b, below_those x y a rise_a.0 in_a))))
 
     to_rest : (n : ℕ) → is_among n a ≡ true → is_among n b ≡ true
     to_rest n e = among_cases n y b (to n (among_later n x a e)) (λ same. absurd (omega (arith, below_those x n a rise_a.0 e, same, first))) (λ in_b. in_b)
@@ -86,7 +89,8 @@ each_says (Some x) p to from = sym (to x refl)
 
 module _ (all : Rows) where
   same_snapshot : (v b : List ℕ) (n : ℕ) (s t : Snapshot) → IsSnapshot all v b n s → IsSnapshot all v b n t → s ≡ t
-  same_snapshot v b n s t one two = both (ap name_in (sym one.row ∙ two.row)) (same_map nat_list_cmp_total names_apart s.keys t.keys (λ k. one.pieces k ∙ sym (two.pieces k)))
+  same_snapshot v b n s t one two =
+      both (ap name_in (sym one.row ∙ two.row)) (same_map nat_list_cmp_total names_apart s.keys t.keys (λ k. one.pieces k ∙ sym (two.pieces k)))
     where
       both : s.name ≡ t.name → s.keys ≡ t.keys → s ≡ t
       both names keys = λ i. record { name = names i; keys = keys i }
@@ -102,18 +106,21 @@ module _ (all : Rows) where
   pub alive : (v b : List ℕ) (numbers : List ℕ) (s : List Snapshot) → AreSnapshots all v b numbers s → (n : ℕ) → is_among n numbers ≡ true → IsLive all v b n
   alive v b [] s are n e = absurd (false≢true e)
   alive v b (m ∷ numbers) [] are n e = absurd are
-  alive v b (m ∷ numbers) (x ∷ s) are n e = among_cases n m numbers e (λ same. subst (IsLive all v b) (sym same) (x.name, are.0.previous, are.0.row)) (alive v b numbers s are.1 n)
+  alive v b (m ∷ numbers) (x ∷ s) are n e =
+      among_cases n m numbers e (λ same. subst (IsLive all v b) (sym same) (x.name, are.0.previous, are.0.row)) (alive v b numbers s are.1 n)
 
   stand_once : (v b : List ℕ) (s t : List Snapshot) → SnapshotsStand all v b s → SnapshotsStand all v b t → s ≡ t
   stand_once v b s t one two =
-      let numbers = same_numbers one.numbers two.numbers one.rise two.rise (λ n e. two.every n (alive v b one.numbers s one.each n e)) (λ n e. one.every n (alive v b two.numbers t two.each n e)) in
+      let numbers = same_numbers one.numbers two.numbers one.rise two.rise (λ n e. two.every n (alive v b one.numbers s one.each n e))
+      (λ n e. one.every n (alive v b two.numbers t two.each n e)) in
       same_snapshots v b two.numbers s t (subst (λ ns. AreSnapshots all v b ns s) numbers one.each) two.each
 
   module _ (a b : Namespace) (one : StandsFor all a) (two : StandsFor all b) where
     module _ (v k : List ℕ) (x y : Bucket) (there : bucket_of a v k ≡ Some x) (here : bucket_of b v k ≡ Some y) where
       same_pieces : x.keys ≡ y.keys
       same_pieces = same_map nat_list_cmp_total names_apart x.keys y.keys (λ q.
-          ap (option_and_then (λ (bucket : Bucket). get bucket.keys q)) (sym there) ∙ one.pieces v k q ∙ sym (two.pieces v k q) ∙ ap (option_and_then (λ (bucket : Bucket). get bucket.keys q)) here)
+          ap (option_and_then (λ (bucket : Bucket). get bucket.keys q)) (sym there) ∙ one.pieces v k q ∙ sym (two.pieces v k q)
+          ∙ ap (option_and_then (λ (bucket : Bucket). get bucket.keys q)) here)
 
       of_x : (n : ℕ) → session_of a v k n ≡ get x.sessions n
       of_x n = ap (option_and_then (λ (bucket : Bucket). get bucket.sessions n)) there
@@ -127,7 +134,8 @@ module _ (all : Rows) where
           (λ s e. sym (of_x n) ∙ (one.sessions v k n s).1 ((two.sessions v k n s).0 (of_y n ∙ e))))
 
       same_list : x.snapshots ≡ y.snapshots
-      same_list = stand_once v k x.snapshots y.snapshots (subst (SnapshotsStand all v k) (ap snapshots_in there) (one.snapshots v k)) (subst (SnapshotsStand all v k) (ap snapshots_in here) (two.snapshots v k))
+      same_list = stand_once v k x.snapshots y.snapshots (subst (SnapshotsStand all v k) (ap snapshots_in there) (one.snapshots v k))
+          (subst (SnapshotsStand all v k) (ap snapshots_in here) (two.snapshots v k))
 
       same_bucket : x ≡ y
       same_bucket = λ i. record { keys = same_pieces i; sessions = same_sessions i; snapshots = same_list i }
@@ -145,7 +153,8 @@ module _ (all : Rows) where
           (λ x y e f. same_bucket v q x y (in_m q ∙ e) (in_n q ∙ f)))
 
     same_volumes : a.volumes ≡ b.volumes
-    same_volumes = same_map nat_list_cmp_total names_apart a.volumes b.volumes (λ v. none_or (buckets_of a v) (buckets_of b v) (one.volumes v ∙ sym (two.volumes v)) (same_buckets v))
+    same_volumes = same_map nat_list_cmp_total names_apart a.volumes b.volumes
+        (λ v. none_or (buckets_of a v) (buckets_of b v) (one.volumes v ∙ sym (two.volumes v)) (same_buckets v))
 
     pub one_namespace : a ≡ b
     one_namespace = λ i. record { volumes = same_volumes i; stripes = (one.stripes ∙ sym two.stripes) i }

@@ -26,16 +26,19 @@ use Rattle.oz_sound.specs.StandsFor.{pieces_in, drawn_in}
 
 -- rows that are the same but for those of volumes
 module _ (all now : Rows) (agree : (key : RowKey) → kind_of key ≢ 1 → now key ≡ all key) where
-  snapshot_again : (volume bucket : List ℕ) (number : ℕ) (snapshot : Snapshot) → IsSnapshot all volume bucket number snapshot → IsSnapshot now volume bucket number snapshot
+  snapshot_again : (volume bucket : List ℕ) (number : ℕ) (snapshot : Snapshot) → IsSnapshot all volume bucket number snapshot
+      → IsSnapshot now volume bucket number snapshot
   snapshot_again volume bucket number snapshot is = record {
     previous = is.previous;
     row = agree (keys.Snapshot volume bucket number) (λ e. omega (arith, e)) ∙ is.row;
     pieces = λ key. is.pieces key ∙ ap pieces_in (sym (agree (keys.SnapshotKey volume bucket number key) (λ e. omega (arith, e))));
   }
 
-  snapshots_again : (volume bucket numbers : List ℕ) (snapshots : List Snapshot) → AreSnapshots all volume bucket numbers snapshots → AreSnapshots now volume bucket numbers snapshots
+  snapshots_again : (volume bucket numbers : List ℕ) (snapshots : List Snapshot) → AreSnapshots all volume bucket numbers snapshots
+      → AreSnapshots now volume bucket numbers snapshots
   snapshots_again volume bucket [] [] are = tt
-  snapshots_again volume bucket (n ∷ numbers) (s ∷ snapshots) are = (snapshot_again volume bucket n s are.0, snapshots_again volume bucket numbers snapshots are.1)
+  snapshots_again volume bucket (n ∷ numbers) (s ∷ snapshots) are =
+      (snapshot_again volume bucket n s are.0, snapshots_again volume bucket numbers snapshots are.1)
   snapshots_again volume bucket [] (s ∷ snapshots) are = are
   snapshots_again volume bucket (n ∷ numbers) [] are = are
 
@@ -51,7 +54,9 @@ module _ (all now : Rows) (agree : (key : RowKey) → kind_of key ≢ 1 → now 
   }
 
   -- a namespace with the same buckets and numbers, and the volumes that the rows have
-  module _ (before after : Namespace) (same : (volume bucket : List ℕ) → bucket_of after volume bucket ≡ bucket_of before volume bucket) (numbers : after.stripes ≡ before.stripes) (volumes : (volume : List ℕ) → has_volume after volume ≡ is_some (now (keys.Volume volume))) (stands : StandsFor all before) where
+  module _ (before after : Namespace) (same : (volume bucket : List ℕ) → bucket_of after volume bucket ≡ bucket_of before volume bucket)
+      (numbers : after.stripes ≡ before.stripes) (volumes : (volume : List ℕ) → has_volume after volume ≡ is_some (now (keys.Volume volume)))
+      (stands : StandsFor all before) where
     session_again : (volume bucket : List ℕ) (number : ℕ) (session : Session) → SessionStands now after volume bucket number session
     session_again volume bucket number session =
         let of_bucket = ap (option_and_then (λ (b : Bucket). get b.sessions number)) (same volume bucket) in
@@ -61,13 +66,16 @@ module _ (all now : Rows) (agree : (key : RowKey) → kind_of key ≢ 1 → now 
 
     stripes_again : (l : List ℕ) → map (λ stripe. drawn_in (all (keys.Stripe stripe))) l ≡ map (λ stripe. drawn_in (now (keys.Stripe stripe))) l
     stripes_again [] = refl
-    stripes_again (s ∷ l) = ap (λ n. n ∷ map (λ stripe. drawn_in (all (keys.Stripe stripe))) l) (ap drawn_in (sym (agree (keys.Stripe s) (λ e. omega (arith, e))))) ∙ ap (λ l. drawn_in (now (keys.Stripe s)) ∷ l) (stripes_again l)
+    stripes_again (s ∷ l) =
+        ap (λ n. n ∷ map (λ stripe. drawn_in (all (keys.Stripe stripe))) l) (ap drawn_in (sym (agree (keys.Stripe s) (λ e. omega (arith, e)))))
+        ∙ ap (λ l. drawn_in (now (keys.Stripe s)) ∷ l) (stripes_again l)
 
     pub stands_again : StandsFor now after
     stands_again = record {
       volumes = volumes;
       buckets = λ v b. ap is_some (same v b) ∙ stands.buckets v b ∙ ap is_some (sym (agree (keys.Bucket v b) (λ e. omega (arith, e))));
-      pieces = λ v b k. ap (option_and_then (λ (bucket : Bucket). get bucket.keys k)) (same v b) ∙ stands.pieces v b k ∙ ap pieces_in (sym (agree (keys.Key v b k) (λ e. omega (arith, e))));
+      pieces = λ v b k. ap (option_and_then (λ (bucket : Bucket). get bucket.keys k)) (same v b) ∙ stands.pieces v b k
+          ∙ ap pieces_in (sym (agree (keys.Key v b k) (λ e. omega (arith, e))));
       sessions = session_again;
       snapshots = λ v b. stand_again v b _ (subst (SnapshotsStand all v b) (ap snapshots_in (sym (same v b))) (stands.snapshots v b));
       stripes = numbers ∙ stands.stripes ∙ stripes_again sixteen;
@@ -86,10 +94,15 @@ same_volume : (a b : List ℕ) → is_same (keys.Volume a) (keys.Volume b) ≡ i
 same_volume a b = tied (slice_cmp nat_cmp a b) ∙ (eq_by_cmp_equiv nat_list_cmp_total).symm a b
 
 -- a volume without buckets has none, as one that isn't there
-bucket_made : (namespace : Namespace) (volume : List ℕ) → buckets_of namespace volume ≡ None → (other bucket : List ℕ) → bucket_of (with_volume namespace volume empty) other bucket ≡ bucket_of namespace other bucket
-bucket_made namespace volume absent other bucket = ap (option_and_then (λ (buckets : ByName Bucket). get buckets bucket)) (get-insert nat_list_cmp_total namespace.volumes volume empty other) ∙ by_test (is_name other volume) refl
+bucket_made : (namespace : Namespace) (volume : List ℕ) → buckets_of namespace volume ≡ None → (other bucket : List ℕ)
+    → bucket_of (with_volume namespace volume empty) other bucket ≡ bucket_of namespace other bucket
+bucket_made namespace volume absent other bucket =
+    ap (option_and_then (λ (buckets : ByName Bucket). get buckets bucket)) (get-insert nat_list_cmp_total namespace.volumes volume empty other)
+    ∙ by_test (is_name other volume) refl
   where
-    by_test : (t : Bool) → is_name other volume ≡ t → option_and_then (λ (buckets : ByName Bucket). get buckets bucket) (cond (is_name other volume) (Some empty) (buckets_of namespace other)) ≡ bucket_of namespace other bucket
+    by_test : (t : Bool) → is_name other volume ≡ t
+        → option_and_then (λ (buckets : ByName Bucket). get buckets bucket) (cond (is_name other volume) (Some empty) (buckets_of namespace other))
+        ≡ bucket_of namespace other bucket
     by_test true e =
         let there = get_tied nat_list_cmp_total namespace.volumes other volume (equal_from_test _ e) in
         ap (λ (t : Bool). option_and_then (λ (buckets : ByName Bucket). get buckets bucket) (cond t (Some empty) (buckets_of namespace other))) e
@@ -97,7 +110,8 @@ bucket_made namespace volume absent other bucket = ap (option_and_then (λ (buck
         ∙ ap (option_and_then (λ (buckets : ByName Bucket). get buckets bucket)) (sym absent ∙ there)
     by_test false e = ap (λ (t : Bool). option_and_then (λ (buckets : ByName Bucket). get buckets bucket) (cond t (Some empty) (buckets_of namespace other))) e
 
-volume_made : (namespace : Namespace) (volume other : List ℕ) → has_volume (with_volume namespace volume empty) other ≡ cond (is_name other volume) true (has_volume namespace other)
+volume_made : (namespace : Namespace) (volume other : List ℕ)
+    → has_volume (with_volume namespace volume empty) other ≡ cond (is_name other volume) true (has_volume namespace other)
 volume_made namespace volume other = ap is_some (get-insert nat_list_cmp_total namespace.volumes volume empty other) ∙ by_test (is_name other volume)
   where
     by_test : (t : Bool) → is_some (cond t (Some empty) (buckets_of namespace other)) ≡ cond t true (has_volume namespace other)
@@ -119,8 +133,10 @@ row_kept all volume (keys.SnapshotKey v b n k) kind = refl
 row_kept all volume (keys.Renamed v b o l) kind = refl
 row_kept all volume (keys.Stripe s) kind = refl
 
-row_put : (all : Rows) (volume other : List ℕ) → is_some (with_row all volume (keys.Volume other)) ≡ cond (is_name other volume) true (is_some (all (keys.Volume other)))
-row_put all volume other = by_test (is_same (keys.Volume volume) (keys.Volume other)) ∙ ap (λ (t : Bool). cond t true (is_some (all (keys.Volume other)))) (same_volume volume other)
+row_put : (all : Rows) (volume other : List ℕ)
+    → is_some (with_row all volume (keys.Volume other)) ≡ cond (is_name other volume) true (is_some (all (keys.Volume other)))
+row_put all volume other = by_test (is_same (keys.Volume volume) (keys.Volume other))
+    ∙ ap (λ (t : Bool). cond t true (is_some (all (keys.Volume other)))) (same_volume volume other)
   where
     by_test : (t : Bool) → is_some (cond t (Some rows.Volume) (all (keys.Volume other))) ≡ cond t true (is_some (all (keys.Volume other)))
     by_test true = refl
@@ -131,21 +147,28 @@ absent_from_test None e = refl
 absent_from_test (Some a) e = absurd (false≢true (sym e))
 
 -- a volume that wasn't there is made by its row
-pub makes_a_volume : (all now : Rows) (namespace : Namespace) (volume : List ℕ) → StandsFor all namespace → has_volume namespace volume ≡ false → ((key : RowKey) → now key ≡ with_row all volume key) → StandsFor now (with_volume namespace volume empty)
+pub makes_a_volume : (all now : Rows) (namespace : Namespace) (volume : List ℕ) → StandsFor all namespace → has_volume namespace volume ≡ false
+    → ((key : RowKey) → now key ≡ with_row all volume key) → StandsFor now (with_volume namespace volume empty)
 makes_a_volume all now namespace volume stands absent is =
     stands_again all now (λ key kind. is key ∙ row_kept all volume key kind) namespace (with_volume namespace volume empty)
     (bucket_made namespace volume (absent_from_test _ absent)) refl
-    (λ other. volume_made namespace volume other ∙ ap (cond (is_name other volume) true) (stands.volumes other) ∙ sym (row_put all volume other) ∙ ap is_some (sym (is (keys.Volume other))))
+    (λ other. volume_made namespace volume other ∙ ap (cond (is_name other volume) true) (stands.volumes other) ∙ sym (row_put all volume other)
+    ∙ ap is_some (sym (is (keys.Volume other))))
     stands
 
 -- no rows stand for the empty namespace
 pub nothing_stands : StandsFor (row_of []) nothing
 nothing_stands = record {
   volumes = λ v. ap is_some (get-empty (slice_cmp nat_cmp) v);
-  buckets = λ v b. ap (λ (o : Option (ByName Bucket)). is_some (option_and_then (λ (buckets : ByName Bucket). get buckets b) o)) (get-empty (slice_cmp nat_cmp) v);
+  buckets = λ v b. ap (λ (o : Option (ByName Bucket)). is_some (option_and_then (λ (buckets : ByName Bucket). get buckets b) o))
+      (get-empty (slice_cmp nat_cmp) v);
   pieces = λ v b k. ap (option_and_then (λ (bucket : Bucket). get bucket.keys k)) (no_bucket v b);
-  sessions = λ v b n s. (λ e. absurd (some_apart (sym e ∙ ap (option_and_then (λ (bucket : Bucket). get bucket.sessions n)) (no_bucket v b))), λ e. absurd (some_apart (sym e)));
-  snapshots = λ v b. subst (SnapshotsStand (row_of []) v b) (ap snapshots_in (sym (no_bucket v b))) (record { numbers = []; rise = tt; every = λ n live. absurd (some_apart (sym live.2)); each = tt });
+  sessions = λ v b n s. (
+    λ e. absurd (some_apart (sym e ∙ ap (option_and_then (λ (bucket : Bucket). get bucket.sessions n)) (no_bucket v b))),
+    λ e. absurd (some_apart (sym e)),
+  );
+  snapshots = λ v b. subst (SnapshotsStand (row_of []) v b) (ap snapshots_in (sym (no_bucket v b)))
+      (record { numbers = []; rise = tt; every = λ n live. absurd (some_apart (sym live.2)); each = tt });
   stripes = refl;
 }
   where

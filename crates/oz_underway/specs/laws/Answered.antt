@@ -1,5 +1,40 @@
 -- What the three members of a block answered, by what was said since it was granted.
-use Rattle.std.proofs.Common.{◌≡◌, ◌≢◌, ⊎_elim, ◌⊎◌, inl, inr, ℕ, ◌+◌, ◌≤◌, Bool, true, false, not, ◌||◌, ◌&&◌, ◌==◌, cond, List, [], ◌∷◌, length, take, drop, Option, None, Some, Contains, eq-eqb, refl, sym, ap, ◌∙◌, subst, arith}
+use Rattle.std.proofs.Common.{
+  ◌≡◌,
+  ◌≢◌,
+  ⊎_elim,
+  ◌⊎◌,
+  inl,
+  inr,
+  ℕ,
+  ◌+◌,
+  ◌≤◌,
+  Bool,
+  true,
+  false,
+  not,
+  ◌||◌,
+  ◌&&◌,
+  ◌==◌,
+  cond,
+  List,
+  [],
+  ◌∷◌,
+  length,
+  take,
+  drop,
+  Option,
+  None,
+  Some,
+  Contains,
+  eq-eqb,
+  refl,
+  sym,
+  ap,
+  ◌∙◌,
+  subst,
+  arith,
+}
 use Rattle.std.proofs.Math.Bool.{or-false}
 use Rattle.std.proofs.lemmas.Bool.{and_from, and_parts, eqb-true, false≢true, or_left, or_right}
 use Rattle.std.proofs.lemmas.List.{take-append-drop}
@@ -234,7 +269,8 @@ pub record AreCounted (client line a b c n : ℕ) (more : List Event) : Type 0 w
   pub written : length (all_told (wrote client line) more) ≡ n
 
 pub same_block : (block : Block) → is_block block block ≡ true
-same_block block = and_from (block.container == block.container) (block.local == block.local) (eq-eqb block.container block.container refl) (eq-eqb block.local block.local refl)
+same_block block = and_from (block.container == block.container) (block.local == block.local) (eq-eqb block.container block.container refl)
+    (eq-eqb block.local block.local refl)
 
 module _ (Coherent : Type 0) (opening : Opening) (bytes : OpeningBytes) (script : Script) where
   abbrev Follow : List Event → Event → Type 0
@@ -262,7 +298,8 @@ module _ (Coherent : Type 0) (opening : Opening) (bytes : OpeningBytes) (script 
         one_id opening later legal block id other (its_grant opening later legal id block before granted)
         (record { seat = was.stripe; index = was.index; pipeline = was.pipeline; batch = was.batch; there = there })
 
-    put_answer : (dn place seat : ℕ) (kind : EventKind) → Contains later (record { seat = seat; kind = kind }) → KindIsEnabled opening (take place later) seat kind
+    put_answer : (dn place seat : ℕ) (kind : EventKind) → Contains later (record { seat = seat; kind = kind })
+        → KindIsEnabled opening (take place later) seat kind
         → puts dn block kind ≡ true → IsAnswerIn id.client id.line id block begins.0 dn None
     put_answer dn place seat (Put other put asked first count) among enabled so =
         let parts = and_parts (other == dn) (is_block block put) so in
@@ -271,7 +308,8 @@ module _ (Coherent : Type 0) (opening : Opening) (bytes : OpeningBytes) (script 
         record {
           event = event;
           among = since_then event among (subst (λ (i : AskId). is_id id i ≡ true) ids (same_id id));
-          said = and_from (is_of_line id.client id.line asked) (other == dn) (its_line id.client id.line asked (ap (λ (i : AskId). i.client) (sym ids)) (ap (λ (i : AskId). i.line) (sym ids))) parts.0;
+          said = and_from (is_of_line id.client id.line asked) (other == dn)
+              (its_line id.client id.line asked (ap (λ (i : AskId). i.client) (sym ids)) (ap (λ (i : AskId). i.line) (sym ids))) parts.0;
           refused = λ counts grant one two. refl;
           apart = λ counts grant away. refl;
         }
@@ -280,7 +318,8 @@ module _ (Coherent : Type 0) (opening : Opening) (bytes : OpeningBytes) (script 
     pub its_answer : (dn : ℕ) (answer : Option PutRefusal) → HasAnswered later id block dn answer → IsAnswerIn id.client id.line id block begins.0 dn answer
     its_answer dn None put =
         let it = event_there (puts dn block) later put in
-        put_answer dn it.there.0 it.event.seat it.event.kind it.there (enabled_at opening later legal it.there.0 it.event (found_at later it.event it.there)) it.so
+        put_answer dn it.there.0 it.event.seat it.event.kind it.there
+        (enabled_at opening later legal it.there.0 it.event (found_at later it.event it.there)) it.so
     its_answer dn (Some refusal) among =
         let event : Event = record { seat = datanode_seat dn; kind = Refused dn block id refusal } in
         let its_dn : (dn == dn) ≡ true = eq-eqb dn dn refl in
@@ -315,7 +354,9 @@ module _ (Coherent : Type 0) (opening : Opening) (bytes : OpeningBytes) (script 
           }
 
       module _ (n : ℕ) (counted : AreCounted id.client id.line a b c n begins.0) (counts : PutRefusal → Bool) (grant : GrantedBlock) where
-        told_parts : (dn : ℕ) → has_event (refuses_so counts grant dn) later ≡ (has_event (refuses_so counts grant dn) since || has_event (refuses_so counts grant dn) begins.0)
+        told_parts : (dn : ℕ)
+            → has_event (refuses_so counts grant dn) later
+            ≡ (has_event (refuses_so counts grant dn) since || has_event (refuses_so counts grant dn) begins.0)
         told_parts dn = ap (has_event (refuses_so counts grant dn)) begins.1 ∙ list_any-append (λ (e : Event). refuses_so counts grant dn e.kind) since begins.0
 
         -- of the block itself they refused it as they answered
@@ -357,10 +398,12 @@ module _ (Coherent : Type 0) (opening : Opening) (bytes : OpeningBytes) (script 
           none_since : (dn : ℕ) → has_event (refuses_so counts grant dn) begins.0 ≡ false
           none_since dn = by (dn == a) refl (dn == b) refl (dn == c) refl
             where
-              moved : (other : ℕ) → (dn == other) ≡ true → has_event (refuses_so counts grant other) begins.0 ≡ false → has_event (refuses_so counts grant dn) begins.0 ≡ false
+              moved : (other : ℕ) → (dn == other) ≡ true → has_event (refuses_so counts grant other) begins.0 ≡ false
+                  → has_event (refuses_so counts grant dn) begins.0 ≡ false
               moved other is none = ap (λ (n : ℕ). has_event (refuses_so counts grant n) begins.0) (eqb-true dn other is) ∙ none
 
-              by : (t : Bool) → (dn == a) ≡ t → (u : Bool) → (dn == b) ≡ u → (v : Bool) → (dn == c) ≡ v → has_event (refuses_so counts grant dn) begins.0 ≡ false
+              by : (t : Bool) → (dn == a) ≡ t → (u : Bool) → (dn == b) ≡ u → (v : Bool) → (dn == c) ≡ v
+                  → has_event (refuses_so counts grant dn) begins.0 ≡ false
               by true is u of_b v of_c = moved a is (none_of_one a x counted.in_a in_a)
               by false not_a true is v of_c = moved b is (none_of_one b y counted.in_b in_b)
               by false not_a false not_b true is = moved c is (none_of_one c z counted.in_c in_c)

@@ -1,5 +1,33 @@
 -- How often a line asked: its Asks have the steps 1, 2 and so on.
-use Rattle.std.proofs.Common.{◌≡◌, ◌≢◌, ⊎_elim, ℕ, ◌+◌, ◌≤◌, ◌<◌, Bool, true, false, ◌||◌, ◌==◌, not, cond, List, [], ◌∷◌, length, Option, None, Some, eq-eqb, refl, sym, ap, ◌∙◌, arith}
+use Rattle.std.proofs.Common.{
+  ◌≡◌,
+  ◌≢◌,
+  ⊎_elim,
+  ℕ,
+  ◌+◌,
+  ◌≤◌,
+  ◌<◌,
+  Bool,
+  true,
+  false,
+  ◌||◌,
+  ◌==◌,
+  not,
+  cond,
+  List,
+  [],
+  ◌∷◌,
+  length,
+  Option,
+  None,
+  Some,
+  eq-eqb,
+  refl,
+  sym,
+  ap,
+  ◌∙◌,
+  arith,
+}
 use Rattle.std.proofs.Math.Bool.{or-false, or-true}
 use Rattle.std.proofs.lemmas.Bool.{cases_lt, eqb-true, ne_eqb, and_parts, and_from, false≢true}
 use Rattle.std.proofs.lemmas.Option.{none-some, same_Some}
@@ -78,7 +106,8 @@ module _ (Coherent : Type 0) (opening : Opening) (bytes : OpeningBytes) (script 
   abbrev Follow : List Event → Event → Type 0
   Follow = Follows Coherent opening bytes script
 
-  pub pending_was_asked : (id : AskId) (story : List Event) → AllFollow Follow [] story → (request : Request) → pending id story ≡ Some request → is_asked id story ≡ true
+  pub pending_was_asked : (id : AskId) (story : List Event) → AllFollow Follow [] story → (request : Request) → pending id story ≡ Some request
+      → is_asked id story ≡ true
   pending_was_asked id story all =
       kept_always Follow (λ front. (request : Request) → pending id front ≡ Some request → is_asked id front ≡ true) story all
       (λ front event begins follow follows was request is.
@@ -107,7 +136,8 @@ module _ (Coherent : Type 0) (opening : Opening) (bytes : OpeningBytes) (script 
       by true same is =
           let line = id_of_line id other same in
           let turn = turn_of id.client id.line front other request script_client fits line in
-          let one : length (cons_option (ask_id id.client id.line (Ask other request)) []) ≡ 1 = ap (λ (t : Bool). length (cons_option (cond t (Some other) None) [])) line in
+          let one : length (cons_option (ask_id id.client id.line (Ask other request)) []) ≡ 1 =
+          ap (λ (t : Bool). length (cons_option (cond t (Some other) None) [])) line in
           omega (arith, turn, one, ap (λ (i : AskId). i.step) (one_ask_id id other same))
       by false apart is = omega (arith, was (sym (or-false asked) ∙ is))
   no_greater front id kind script_client fits asked was is = omega (arith, was (sym (or-false asked) ∙ is))
@@ -136,14 +166,17 @@ module _ (Coherent : Type 0) (opening : Opening) (bytes : OpeningBytes) (script 
       by true line = ⊎_elim
           (λ (above : asks_count id.client id.line front < id.step).
           let turn = turn_of id.client id.line front other request script_client fits line in
-          let one : length (cons_option (ask_id id.client id.line (Ask other request)) []) ≡ 1 = ap (λ (t : Bool). length (cons_option (cond t (Some other) None) [])) line in
+          let one : length (cons_option (ask_id id.client id.line (Ask other request)) []) ≡ 1 =
+          ap (λ (t : Bool). length (cons_option (cond t (Some other) None) [])) line in
           let same : other.step ≡ id.step = omega (arith, turn, one, above, le) in
-          ap (λ (b : Bool). is_asked id front || b) (and_from (is_of_line id.client id.line other) (other.step == id.step) line (eq-eqb other.step id.step same))
+          ap (λ (b : Bool). is_asked id front || b)
+          (and_from (is_of_line id.client id.line other) (other.step == id.step) line (eq-eqb other.step id.step same))
           ∙ or-true (is_asked id front))
           asked_before
           (cases_lt (asks_count id.client id.line front) id.step)
       by false apart =
-          let none : length (cons_option (ask_id id.client id.line (Ask other request)) []) ≡ 0 = ap (λ (t : Bool). length (cons_option (cond t (Some other) None) [])) apart in
+          let none : length (cons_option (ask_id id.client id.line (Ask other request)) []) ≡ 0 =
+          ap (λ (t : Bool). length (cons_option (cond t (Some other) None) [])) apart in
           asked_before (omega (arith, le, none))
   now_asked front id kind script_client fits was le = ap (λ (b : Bool). b || false) (was (omega (arith, le)))
 

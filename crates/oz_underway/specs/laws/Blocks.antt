@@ -1,5 +1,29 @@
 -- The blocks that a line was granted, and those that were written for it.
-use Rattle.std.proofs.Common.{◌≡◌, ◌≢◌, ⊎_elim, ℕ, Bool, true, false, ◌||◌, cond, List, [], ◌∷◌, length, Option, None, Some, Contains, refl, sym, ap, ◌∙◌, subst, arith}
+use Rattle.std.proofs.Common.{
+  ◌≡◌,
+  ◌≢◌,
+  ⊎_elim,
+  ℕ,
+  Bool,
+  true,
+  false,
+  ◌||◌,
+  cond,
+  List,
+  [],
+  ◌∷◌,
+  length,
+  Option,
+  None,
+  Some,
+  Contains,
+  refl,
+  sym,
+  ap,
+  ◌∙◌,
+  subst,
+  arith,
+}
 use Rattle.std.proofs.lemmas.Bool.{and_parts, false≢true}
 use Rattle.std.proofs.lemmas.List.Elements.{Contains-append_right}
 use Rattle.std.proofs.lemmas.List.Folds.{list_any-append}
@@ -179,7 +203,8 @@ attempt_written : (opening : Opening) (seen : List Event) (grant : GrantedBlock)
     → IsAttempt opening seen grant attempt → is_written seen grant ≡ true
 attempt_written opening seen grant attempt is at = subst (IsFate opening seen grant) (fate_is attempt.fate is) at.fate
 
-pub attempts_written : (opening : Opening) (seen : List Event) (attempts : List Attempt) (grants : List GrantedBlock) → list_all has_fate_written attempts ≡ true
+pub attempts_written : (opening : Opening) (seen : List Event) (attempts : List Attempt) (grants : List GrantedBlock)
+    → list_all has_fate_written attempts ≡ true
     → AreGrants opening seen attempts None grants → (grant : GrantedBlock) → Contains grants grant → is_written seen grant ≡ true
 attempts_written opening seen [] grants each are grant among =
     let none = subst (λ (l : List GrantedBlock). Contains l grant) are among in absurd (omega (arith, none.1))
@@ -190,7 +215,8 @@ attempts_written opening seen (attempt ∷ attempts) grants each (first, others,
     (λ later. attempts_written opening seen attempts others parts.1 rest grant later)
     (first_or_later first grant others (subst (λ (l : List GrantedBlock). Contains l grant) is among))
 
-still_attempt : (opening : Opening) (story seen : List Event) (grant : GrantedBlock) (attempt : Attempt) → BeginsWith story seen → has_fate_written attempt ≡ true
+still_attempt : (opening : Opening) (story seen : List Event) (grant : GrantedBlock) (attempt : Attempt) → BeginsWith story seen
+    → has_fate_written attempt ≡ true
     → IsAttempt opening seen grant attempt → IsAttempt opening story grant attempt
 still_attempt opening story seen grant attempt begins is at = record {
   block = at.block;

@@ -1,5 +1,40 @@
 -- What a line that opened a label wrote stays, once the line was told OK; so what the label stands for stays.
-use Rattle.std.proofs.Common.{◌≡◌, ◌≢◌, ◌⊎◌, ⊎_elim, inl, inr, ℕ, suc, ◌-◌, ◌<◌, Bool, true, false, ◌||◌, ◌&&◌, ◌==◌, cond, List, [], ◌∷◌, ◌++◌, length, filter, Option, None, Some, is_some, Contains, refl, sym, ap, ◌∙◌, subst, arith}
+use Rattle.std.proofs.Common.{
+  ◌≡◌,
+  ◌≢◌,
+  ◌⊎◌,
+  ⊎_elim,
+  inl,
+  inr,
+  ℕ,
+  suc,
+  ◌-◌,
+  ◌<◌,
+  Bool,
+  true,
+  false,
+  ◌||◌,
+  ◌&&◌,
+  ◌==◌,
+  cond,
+  List,
+  [],
+  ◌∷◌,
+  ◌++◌,
+  length,
+  filter,
+  Option,
+  None,
+  Some,
+  is_some,
+  Contains,
+  refl,
+  sym,
+  ap,
+  ◌∙◌,
+  subst,
+  arith,
+}
 use Rattle.std.proofs.Math.Bool.{or-true}
 use Rattle.std.proofs.lemmas.Bool.{and_parts, eqb-true, false≢true, ltb-true}
 use Rattle.std.proofs.lemmas.List.Elements.{All-contains, All-contains_itself, All-filter, Contains-append_right, filter_passes}
@@ -37,7 +72,26 @@ use Rattle.oz_core.specs.Contents.{OpeningBytes, WasGranted, wrote, written_for}
 use Rattle.oz_core.specs.Due.{IsDone, IsDue, LineIsDone}
 use Rattle.oz_core.specs.Fits.{AskFits, EventFits, ToldFits}
 use Rattle.oz_core.specs.Lines.{HasStarted}
-use Rattle.oz_core.specs.Steps.{Target, block_step, commit_if, commit_step, is_code, is_open_at, is_opened_as, next_step, opening_line, opens_before, pieces_from, pieces_needed, put_step, session_in, step_of, target, target_of, was_told_ok}
+use Rattle.oz_core.specs.Steps.{
+  Target,
+  block_step,
+  commit_if,
+  commit_step,
+  is_code,
+  is_open_at,
+  is_opened_as,
+  next_step,
+  opening_line,
+  opens_before,
+  pieces_from,
+  pieces_needed,
+  put_step,
+  session_in,
+  step_of,
+  target,
+  target_of,
+  was_told_ok,
+}
 use Rattle.oz_core.specs.Manager.{namespace_at}
 use Rattle.oz_core.specs.Stories.{last_in}
 use Rattle.oz_steps.specs.declared.label.Label.{Label}
@@ -52,7 +106,19 @@ use Rattle.oz_kept.specs.laws.Lines.{lines_apart}
 use Rattle.oz_turn.specs.Told.{BeginsWith}
 use Rattle.oz_underway.specs.UnderWay.{LabelStays}
 use Rattle.oz_underway.specs.laws.Asks.{asks_count, of_line, script_of_line}
-use Rattle.oz_underway.specs.laws.Going.{begins_itself, begins_push, follow_before, follow_behind, follow_first, kept_always, kept_on, no_fewer, none_more, same_by_count, told_more}
+use Rattle.oz_underway.specs.laws.Going.{
+  begins_itself,
+  begins_push,
+  follow_before,
+  follow_behind,
+  follow_first,
+  kept_always,
+  kept_on,
+  no_fewer,
+  none_more,
+  same_by_count,
+  told_more,
+}
 use Rattle.oz_underway.specs.laws.Labels.{never_opened, none_told, open_still}
 use Rattle.oz_underway.specs.laws.Order.{has_number, in_order}
 use Rattle.oz_underway.specs.laws.Replies.{few_replies}
@@ -64,7 +130,8 @@ no_block : (namespace : Namespace) (volume bucket key : List ℕ) (block : Block
 unfolding Answers
 no_block namespace volume bucket key block pipeline answers =
     let request : Request = requests.CreateKey volume bucket key in
-    let none = grants_none (refusal (scope_of namespace (volume_in request)) request) (scope_of namespace (volume_in request)) request (replies.Granted block pipeline) (λ e. absurd cc) answers in
+    let none = grants_none (refusal (scope_of namespace (volume_in request)) request) (scope_of namespace (volume_in request)) request
+    (replies.Granted block pipeline) (λ e. absurd cc) answers in
     absurd cc
 
 -- the first entry behind a front
@@ -137,7 +204,8 @@ module _ (Coherent : Type 0) (opening : Opening) (bytes : OpeningBytes) (script 
       let parts = subst (λ (l : List Event). AllFollow Follow [] l) was.asked all in
       let here : Follow before ask = follow_first Follow before ask was.behind (follow_behind Follow [] before (ask ∷ was.behind) parts) in
       let next = its_fit before id was.request of (here.fits coherent) in
-      let asked : slice_get front (length before) ≡ Some ask = ap (λ (l : List Event). slice_get l (length before)) was.asked ∙ behind_front before was.behind ask in
+      let asked : slice_get front (length before) ≡ Some ask = ap (λ (l : List Event). slice_get l (length before)) was.asked
+      ∙ behind_front before was.behind ask in
       let among : Contains front decide = subst (λ (l : List Event). Contains l decide) (sym was.asked)
       (Contains-append_right before (ask ∷ was.behind) decide (Contains-append_right (ask ∷ []) was.behind decide was.decided)) in
       let legal = legal_of_follow Coherent opening bytes script front coherent all in
@@ -303,7 +371,8 @@ opening_is : (script : Script) (line opened : Line) (name : List ℕ) → openin
 opening_is script line opened name is =
     let test : Line → Bool = λ (l : Line). opens_before line name l in
     let among = last_among (filter (opens_before line name) script.lines) opened is in
-    let passes : opens_before line name opened ≡ true = All-contains (λ (l : Line). opens_before line name l ≡ true) (filter (opens_before line name) script.lines) opened
+    let passes : opens_before line name opened ≡ true =
+    All-contains (λ (l : Line). opens_before line name l ≡ true) (filter (opens_before line name) script.lines) opened
     (filter_passes (opens_before line name) script.lines) among in
     let outer = and_parts (opened.client == line.client && nat_lt opened.number line.number) (is_opened_as name opened.command) passes in
     let inner = and_parts (opened.client == line.client) (nat_lt opened.number line.number) outer.0 in
@@ -331,15 +400,18 @@ module _ (Coherent : Type 0) (opening : Opening) (bytes : OpeningBytes) (script 
       subst (λ (c : ℕ). is_told c opened.number story ≡ true) (sym is.of_client)
       (order.each opened.number has.some (omega (arith, few, is.earlier)))
 
-  module _ (since seen : List Event) (coherent : Coherent) (all : AllFollow MayFollow [] seen) (goes : BeginsWith seen since) (started : HasStarted since line) where
+  module _ (since seen : List Event) (coherent : Coherent) (all : AllFollow MayFollow [] seen) (goes : BeginsWith seen since)
+      (started : HasStarted since line) where
     commit_then : (name : List ℕ) (opened : Line) → opening_line script line name ≡ Some opened
         → (story : List Event) → AllFollow MayFollow [] story → BeginsWith story since → commit_step story (Some opened) ≡ commit_step since (Some opened)
     commit_then name opened is story follow begins =
         let its = opening_is script line opened name is in
         let was_told = opening_told since opened coherent (follow_before MayFollow story since begins follow) started its in
-        commit_same Coherent opening bytes script numbered opened its.there (λ service. other (sym its.of_client ∙ service)) its.opens story since coherent follow begins was_told
+        commit_same Coherent opening bytes script numbered opened its.there
+        (λ service. other (sym its.of_client ∙ service)) its.opens story since coherent follow begins was_told
 
-    label_of_name : (name : List ℕ) (label : Option Label) (o : Option Line) → opening_line script line name ≡ o → IsLabel script seen line (commands.KeyCommit name) label
+    label_of_name : (name : List ℕ) (label : Option Label) (o : Option Line) → opening_line script line name ≡ o
+        → IsLabel script seen line (commands.KeyCommit name) label
         → LabelStays Coherent opening bytes script since line (commands.KeyCommit name) label
     label_of_name name label None none is = absurd (never_opened script seen line name label none is)
     label_of_name name None (Some opened) its (first, is, shut) = λ story begins follow.
@@ -357,6 +429,7 @@ module _ (Coherent : Type 0) (opening : Opening) (bytes : OpeningBytes) (script 
         ∙ (sym (ap (commit_step seen) its) ∙ is)))
 
     -- what the label stands for is the same in each story from the line's start on
-    pub label_stays : (command : Command) (label : Option Label) → IsLabel script seen line command label → LabelStays Coherent opening bytes script since line command label
+    pub label_stays : (command : Command) (label : Option Label) → IsLabel script seen line command label
+        → LabelStays Coherent opening bytes script since line command label
     label_stays (commands.KeyCommit name) label is = label_of_name name label (opening_line script line name) refl is
     label_stays command label is = λ story begins follow. tt

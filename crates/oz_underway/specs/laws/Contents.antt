@@ -1,5 +1,29 @@
 -- What a block has stays so, and what was read of a key.
-use Rattle.std.proofs.Common.{◌≡◌, ◌≢◌, inl, inr, ℕ, Bool, true, false, ◌||◌, not, List, [], ◌∷◌, ◌++◌, length, take, Some, refl, sym, ap, ◌∙◌, subst, append_assoc}
+use Rattle.std.proofs.Common.{
+  ◌≡◌,
+  ◌≢◌,
+  inl,
+  inr,
+  ℕ,
+  Bool,
+  true,
+  false,
+  ◌||◌,
+  not,
+  List,
+  [],
+  ◌∷◌,
+  ◌++◌,
+  length,
+  take,
+  Some,
+  refl,
+  sym,
+  ap,
+  ◌∙◌,
+  subst,
+  append_assoc,
+}
 use Rattle.std.proofs.Math.Bool.{or-true}
 use Rattle.std.proofs.lemmas.Bool.{false≢true, ne_eqb}
 use Rattle.std.proofs.lemmas.List.Elements.{Contains-append_left}
@@ -44,7 +68,8 @@ not_again opening front seat id kind of_script enabled asked = refl
 was_asked : (front : List Event) (id : AskId) (block : Block) (before : List Event) → WasGranted front id block before → is_asked id front ≡ true
 was_asked front id block before was =
     let ask : Event = record { seat = was.asker; kind = Ask id was.request } in
-    let now : is_asked id (before ++ ask ∷ []) ≡ true = asked-push id before ask ∙ (ap (λ (t : Bool). is_asked id before || t) (same_id id) ∙ or-true (is_asked id before)) in
+    let now : is_asked id (before ++ ask ∷ []) ≡ true = asked-push id before ask
+    ∙ (ap (λ (t : Bool). is_asked id before || t) (same_id id) ∙ or-true (is_asked id before)) in
     happened_still (asks id) front (before ++ ask ∷ []) (was.behind, was.asked ∙ sym (append_assoc before (ask ∷ []) was.behind)) now
 
 module _ (Coherent : Type 0) (opening : Opening) (bytes : OpeningBytes) (script : Script) where
@@ -91,7 +116,8 @@ module _ (Coherent : Type 0) (opening : Opening) (bytes : OpeningBytes) (script 
 
 -- ---- a piece more
 
-pub contents_more : (opening : Opening) (bytes : OpeningBytes) (script : Script) (story : List Event) (pieces : List Piece) (read : List (List ℕ)) (piece : Piece) (content : List ℕ)
+pub contents_more : (opening : Opening) (bytes : OpeningBytes) (script : Script) (story : List Event) (pieces : List Piece) (read : List (List ℕ))
+    (piece : Piece) (content : List ℕ)
     → slice_get pieces (length read) ≡ Some piece → AreContents opening bytes script story (take (length read) pieces) read
     → HasContent opening bytes script story piece.block content
     → AreContents opening bytes script story (take (length (read ++ content ∷ [])) pieces) (read ++ content ∷ [])

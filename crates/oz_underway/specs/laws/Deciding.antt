@@ -39,9 +39,11 @@ module _ (Coherent : Type 0) (opening : Opening) (bytes : OpeningBytes) (script 
       let parts : later ≡ front ++ event ∷ rest = split_at later place event is in
       let follow = subst (λ (l : List Event). AllFollow (Follows Coherent opening bytes script) [] l) parts all in
       let before = follow_front (Follows Coherent opening bytes script) [] front (event ∷ rest) follow in
-      let here = follow_first (Follows Coherent opening bytes script) front event rest (follow_behind (Follows Coherent opening bytes script) [] front (event ∷ rest) follow) in
+      let here = follow_first (Follows Coherent opening bytes script) front event rest
+      (follow_behind (Follows Coherent opening bytes script) [] front (event ∷ rest) follow) in
       let enabled : DecideIsEnabled opening front seat id index reply batch = here.enabled coherent in
-      let last = pending_is_last Coherent opening bytes script id.client id.line front other coherent before id (its_line id.client id.line id refl refl) enabled.request enabled.undecided in
+      let last = pending_is_last Coherent opening bytes script id.client id.line front other coherent before id
+      (its_line id.client id.line id refl refl) enabled.request enabled.undecided in
       let step = step_of_last Coherent opening bytes script id.client id.line other front coherent before id last in
       record {
         front = front;

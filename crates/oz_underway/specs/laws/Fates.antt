@@ -1,5 +1,35 @@
 -- What became of the blocks that a line was granted stays so, as long as no more is said of them.
-use Rattle.std.proofs.Common.{◌≡◌, ◌⊎◌, inl, inr, ℕ, suc, Bool, true, false, not, ◌&&◌, ◌||◌, is_none, cond, List, [], ◌∷◌, ◌++◌, length, Option, None, Some, Contains, refl, sym, ap, ◌∙◌, subst, arith}
+use Rattle.std.proofs.Common.{
+  ◌≡◌,
+  ◌⊎◌,
+  inl,
+  inr,
+  ℕ,
+  suc,
+  Bool,
+  true,
+  false,
+  not,
+  ◌&&◌,
+  ◌||◌,
+  is_none,
+  cond,
+  List,
+  [],
+  ◌∷◌,
+  ◌++◌,
+  length,
+  Option,
+  None,
+  Some,
+  Contains,
+  refl,
+  sym,
+  ap,
+  ◌∙◌,
+  subst,
+  arith,
+}
 use Rattle.std.proofs.lemmas.Option.{none-some, same_Some}
 use Rattle.std.proofs.lemmas.List.Elements.{Contains-append_left}
 use Rattle.std.specs.Prelude.{count_by, nat_le}
@@ -17,7 +47,19 @@ use Rattle.oz_core.specs.Asks.{is_of_line}
 use Rattle.oz_core.specs.Contents.{OpeningBytes, written_for}
 use Rattle.oz_core.specs.Nodes.{is_block}
 use Rattle.oz_core.specs.Scm.{members}
-use Rattle.oz_core.specs.Steps.{GrantedBlock, grant_in, grant_to, granted_to, is_abandoned, is_any, is_of_node, is_off, is_settled, is_written, refusing_members}
+use Rattle.oz_core.specs.Steps.{
+  GrantedBlock,
+  grant_in,
+  grant_to,
+  granted_to,
+  is_abandoned,
+  is_any,
+  is_of_node,
+  is_off,
+  is_settled,
+  is_written,
+  refusing_members,
+}
 use Rattle.oz_steps.specs.declared.came.Attempt.{Attempt}
 use Rattle.oz_steps.specs.declared.came.Granted.{Granted}
 use Rattle.oz_steps.specs.declared.fate.Fate.{Fate}
@@ -49,7 +91,8 @@ grant_is client line story seat (Decide id index reply batch) grant among is = b
   where
     made : is_of_line client line id ≡ true → (given : Reply) → given ≡ reply → grant_in id given ≡ Some grant → IsGrantOf client line story grant
     made of (replies.Granted block pipeline) same it =
-        let grants : ◌≡◌ {A = GrantedBlock} (record { id = id; block = block; pipeline = pipeline }) grant = same_Some (record { id = id; block = block; pipeline = pipeline }) grant it in
+        let grants : ◌≡◌ {A = GrantedBlock} (record { id = id; block = block; pipeline = pipeline }) grant =
+        same_Some (record { id = id; block = block; pipeline = pipeline }) grant it in
         subst (IsGrantOf client line story) grants
         (record {
           of = of;
@@ -86,12 +129,14 @@ module _ (opening : Opening) (seen story : List Event) where
   pub settled_still : (grant : GrantedBlock) → StandsAsBefore opening seen story grant → is_settled opening story grant ≡ is_settled opening seen grant
   settled_still grant alike = λ i. alike.written i || abandoned_still grant alike i
 
-  fate_still : (grant : GrantedBlock) → StandsAsBefore opening seen story grant → (fate : Fate) → IsFate opening seen grant fate → IsFate opening story grant fate
+  fate_still : (grant : GrantedBlock) → StandsAsBefore opening seen story grant → (fate : Fate) → IsFate opening seen grant fate
+      → IsFate opening story grant fate
   fate_still grant alike fates.Written is = alike.written ∙ is
   fate_still grant alike fates.ContainerRefused is = (abandoned_still grant alike ∙ is.0, off_still grant alike ∙ is.1)
   fate_still grant alike fates.PipelineRefused is = (abandoned_still grant alike ∙ is.0, off_still grant alike ∙ is.1)
 
-  pub grants_still : (attempts : List Attempt) (grants : List GrantedBlock) → ((grant : GrantedBlock) → Contains grants grant → StandsAsBefore opening seen story grant)
+  pub grants_still : (attempts : List Attempt) (grants : List GrantedBlock)
+      → ((grant : GrantedBlock) → Contains grants grant → StandsAsBefore opening seen story grant)
       → AreGrants opening seen attempts None grants → AreGrants opening story attempts None grants
   grants_still [] grants alike are = are
   grants_still (attempt ∷ attempts) grants alike (first, others, is, at, rest) =
@@ -122,10 +167,12 @@ module _ (Coherent : Type 0) (opening : Opening) (bytes : OpeningBytes) (script 
       → members opening story grant.block.container ≡ members_of (length opening.nodes) grant.pipeline
   grant_members client line story grant coherent all its =
       let event : Event = record { seat = its.seat; kind = Decide grant.id its.index (replies.Granted grant.block grant.pipeline) its.batch } in
-      its_members Coherent opening bytes script story coherent all its.there.0 its.seat its.index grant.pipeline grant.id grant.block its.batch (found_at story event its.there)
+      its_members Coherent opening bytes script story coherent all its.there.0 its.seat its.index grant.pipeline grant.id grant.block its.batch
+      (found_at story event its.there)
 
   -- nothing was said of it since
-  pub quiet_stands : (client line : ℕ) (seen story : List Event) (grant : GrantedBlock) → Coherent → AllFollow Follow [] seen → AllFollow Follow [] story → BeginsWith story seen
+  pub quiet_stands : (client line : ℕ) (seen story : List Event) (grant : GrantedBlock) → Coherent → AllFollow Follow [] seen → AllFollow Follow [] story
+      → BeginsWith story seen
       → times_said client line story ≡ times_said client line seen → Contains (granted_to client line seen) grant → StandsAsBefore opening seen story grant
   quiet_stands client line seen story grant coherent before all begins same among =
       let its = grant_of client line seen grant among in
@@ -133,7 +180,8 @@ module _ (Coherent : Type 0) (opening : Opening) (bytes : OpeningBytes) (script 
       let later : Contains (granted_to client line story) grant =
       subst (λ (l : List GrantedBlock). Contains l grant) (sym (told_longer (grant_to client line) story seen begins))
       (Contains-append_left (granted_to client line seen) (granted_to client line begins.0) grant among) in
-      let moved = grant_members client line story grant coherent all (grant_of client line story grant later) ∙ sym (grant_members client line seen grant coherent before its) in
+      let moved = grant_members client line story grant coherent all (grant_of client line story grant later)
+      ∙ sym (grant_members client line seen grant coherent before its) in
       record {
         written =
             ap (list_any (is_block grant.block))
@@ -147,9 +195,11 @@ module _ (Coherent : Type 0) (opening : Opening) (bytes : OpeningBytes) (script 
     pub grants : AreGrants opening story attempts None (granted_to client line story)
     pub written : written_for client line story ≡ written_for client line seen
 
-  pub stays_settled : (client line : ℕ) (seen story : List Event) (attempts : List Attempt) → Coherent → AllFollow Follow [] seen → AllFollow Follow [] story → BeginsWith story seen
+  pub stays_settled : (client line : ℕ) (seen story : List Event) (attempts : List Attempt) → Coherent → AllFollow Follow [] seen
+      → AllFollow Follow [] story → BeginsWith story seen
       → AreGrants opening seen attempts None (granted_to client line seen) → granted_to client line story ≡ granted_to client line seen
-      → (list_all has_fate_written attempts ≡ true) ⊎ (times_said client line story ≡ times_said client line seen) → StillSettled client line seen story attempts
+      → (list_all has_fate_written attempts ≡ true) ⊎ (times_said client line story ≡ times_said client line seen)
+      → StillSettled client line seen story attempts
   stays_settled client line seen story attempts coherent before all begins are same (inl each) = record {
     grants = subst (AreGrants opening story attempts None) (sym same) (still_grants opening story seen attempts (granted_to client line seen) begins each are);
     written =
@@ -177,7 +227,8 @@ two_of_three (Some a) None (Some c) few = refl
 two_of_three (Some a) (Some b) None few = refl
 two_of_three (Some a) (Some b) (Some c) few = refl
 
-module _ (opening : Opening) (story : List Event) (grant : GrantedBlock) (one two three : Option PutRefusal) (are : AreAnswers opening story grant (one ∷ two ∷ three ∷ [])) where
+module _ (opening : Opening) (story : List Event) (grant : GrantedBlock) (one two three : Option PutRefusal)
+    (are : AreAnswers opening story grant (one ∷ two ∷ three ∷ [])) where
   given_up : nat_le 2 (count_by is_none (one ∷ two ∷ three ∷ [])) ≡ false → is_abandoned opening story grant ≡ true
   given_up few =
       let refused = ap (nat_le 2) (are.refused is_any) ∙ two_of_three one two three few in
@@ -197,7 +248,8 @@ module _ (opening : Opening) (story : List Event) (grant : GrantedBlock) (one tw
 pub written_by_two : (answers : List (Option PutRefusal)) (two : Bool) → nat_le 2 (count_by is_none answers) ≡ two → is_fate_written (fate_of answers) ≡ two
 written_by_two answers two is = by (nat_le 2 (count_by is_none answers)) refl (nat_le 2 (count_by (refused_so is_of_node) answers)) ∙ is
   where
-    by : (puts : Bool) → nat_le 2 (count_by is_none answers) ≡ puts → (off : Bool) → is_fate_written (cond puts fates.Written (cond off fates.PipelineRefused fates.ContainerRefused)) ≡ puts
+    by : (puts : Bool) → nat_le 2 (count_by is_none answers) ≡ puts → (off : Bool)
+        → is_fate_written (cond puts fates.Written (cond off fates.PipelineRefused fates.ContainerRefused)) ≡ puts
     by true put off = refl
     by false put true = refl
     by false put false = refl

@@ -1,5 +1,46 @@
 -- A reply that comes where no more was said of a line's blocks, and what it grants.
-use Rattle.std.proofs.Common.{◌≡◌, ◌≢◌, ◌⊎◌, ⊎_elim, inl, inr, ℕ, suc, ◌+◌, ◌-◌, ◌≤◌, Bool, true, false, ◌||◌, ◌&&◌, ◌==◌, not, is_none, cond, List, [], ◌∷◌, ◌++◌, length, take, drop, Option, None, Some, Contains, refl, sym, ap, ◌∙◌, subst, length-append, append_assoc, append-nil, arith}
+use Rattle.std.proofs.Common.{
+  ◌≡◌,
+  ◌≢◌,
+  ◌⊎◌,
+  ⊎_elim,
+  inl,
+  inr,
+  ℕ,
+  suc,
+  ◌+◌,
+  ◌-◌,
+  ◌≤◌,
+  Bool,
+  true,
+  false,
+  ◌||◌,
+  ◌&&◌,
+  ◌==◌,
+  not,
+  is_none,
+  cond,
+  List,
+  [],
+  ◌∷◌,
+  ◌++◌,
+  length,
+  take,
+  drop,
+  Option,
+  None,
+  Some,
+  Contains,
+  refl,
+  sym,
+  ap,
+  ◌∙◌,
+  subst,
+  length-append,
+  append_assoc,
+  append-nil,
+  arith,
+}
 use Rattle.std.proofs.Math.Bool.{or-true}
 use Rattle.std.proofs.Math.Seq.{take-append-add}
 use Rattle.std.proofs.lemmas.Bool.{and_parts, false≢true}
@@ -52,7 +93,22 @@ use Rattle.oz_underway.specs.UnderWay.{IsToBeWritten, IsUnderWay, IsUnwritten, a
 use Rattle.oz_underway.specs.laws.Asks.{its_line, scripted, step_of_asked, step_of_last}
 use Rattle.oz_underway.specs.laws.Blocks.{none_granted, written_once}
 use Rattle.oz_underway.specs.laws.Fates.{StillSettled, grants_still, one_granted, quiet_stands, stays_settled}
-use Rattle.oz_underway.specs.laws.Going.{begins_itself, begins_push, begins_through, count_more, either_way, follow_before, follow_behind, follow_first, happened_still, no_fewer, none_more, same_by_count, told_longer, told_more}
+use Rattle.oz_underway.specs.laws.Going.{
+  begins_itself,
+  begins_push,
+  begins_through,
+  count_more,
+  either_way,
+  follow_before,
+  follow_behind,
+  follow_first,
+  happened_still,
+  no_fewer,
+  none_more,
+  same_by_count,
+  told_longer,
+  told_more,
+}
 use Rattle.oz_underway.specs.laws.Grants.{IsLastAsked, granted_now, last_asked, unused_before}
 use Rattle.oz_underway.specs.laws.Replies.{few_replies, none_more_replied, pending_is_last}
 use Rattle.oz_underway.specs.laws.Said.{no_fewer_said, refused_stay, written_stay}
@@ -87,7 +143,8 @@ count_none is none (n ∷ l) =
     omega (arith, parts, here, count_none is none l)
 
 -- who refuses so says something for the ask
-pub refuses_for : (counts : PutRefusal → Bool) (grant : GrantedBlock) (dn : ℕ) (kind : EventKind) → refuses_so counts grant dn kind ≡ true → says_for grant.id kind ≡ true
+pub refuses_for : (counts : PutRefusal → Bool) (grant : GrantedBlock) (dn : ℕ) (kind : EventKind) → refuses_so counts grant dn kind ≡ true
+    → says_for grant.id kind ≡ true
 refuses_for counts grant dn (Refused other block id refusal) is =
     (and_parts (other == dn && is_block grant.block block) (is_id grant.id id)
     (and_parts (other == dn && is_block grant.block block && is_id grant.id id) (counts refusal) is).0).1
@@ -95,7 +152,8 @@ refuses_for counts grant dn kind is = absurd (false≢true is)
 
 -- a block that was written was granted before
 module _ (opening : Opening) (story : List Event) (legal : IsLegal opening story) (block : Block) where
-  used_of_grant : (front more : List Event) → front ++ more ≡ story → (id : AskId) (before : List Event) → WasGranted front id block before → IsUsed opening story block
+  used_of_grant : (front more : List Event) → front ++ more ≡ story → (id : AskId) (before : List Event) → WasGranted front id block before
+      → IsUsed opening story block
   used_of_grant front more parts id before was =
       let ask : Event = record { seat = was.asker; kind = Ask id was.request } in
       let event : Event = record { seat = was.stripe; kind = Decide id was.index (replies.Granted block was.pipeline) was.batch } in
@@ -104,7 +162,8 @@ module _ (opening : Opening) (story : List Event) (legal : IsLegal opening story
       let there : Contains story event = subst (λ (l : List Event). Contains l event) parts (Contains-append_left front more event among) in
       inr (inr (inr (told_among granted_block story event block there refl)))
 
-  used_of_write : (seat : ℕ) (kind : EventKind) (front more : List Event) → front ++ more ≡ story → KindIsEnabled opening front seat kind → writes block kind ≡ true → IsUsed opening story block
+  used_of_write : (seat : ℕ) (kind : EventKind) (front more : List Event) → front ++ more ≡ story → KindIsEnabled opening front seat kind
+      → writes block kind ≡ true → IsUsed opening story block
   used_of_write seat (Wrote other id) front more parts enabled is =
       let same = one_block block other is in
       used_of_grant front more parts id enabled.before (subst (λ (b : Block). WasGranted front id b enabled.before) (sym same) enabled.granted)
@@ -124,7 +183,8 @@ module _ (Coherent : Type 0) (opening : Opening) (bytes : OpeningBytes) (script 
   UnderWay = IsUnderWay Coherent opening bytes script
 
   -- a line that had asked so often hadn't asked again before that Ask
-  before_asked : (line : Line) (asked : ℕ) (since front : List Event) (last : List Event) (behind : List Event) (ask : Event) → line.client ≢ SERVICE_CLIENT → Coherent
+  before_asked : (line : Line) (asked : ℕ) (since front : List Event) (last : List Event) (behind : List Event) (ask : Event) → line.client ≢ SERVICE_CLIENT
+      → Coherent
       → AllFollow Follow [] since → times_asked since line ≡ asked → asks (ask_of line (asked + 1)) ask.kind ≡ true
       → front ≡ last ++ ask ∷ behind → BeginsWith front since → BeginsWith last since
   before_asked line asked since front last behind ask other coherent all so is parts begins =
@@ -146,23 +206,29 @@ module _ (Coherent : Type 0) (opening : Opening) (bytes : OpeningBytes) (script 
           let few : asked + 1 ≤ times_asked since line = step_of_asked Coherent opening bytes script id other since coherent all there in
           absurd (omega (arith, few, so))
 
-  its_reply : (line : Line) (step index : ℕ) (reply : Reply) (batch : List ℕ) → reply_to line.client line.number (Decide (ask_of line step) index reply batch) ≡ Some reply
+  its_reply : (line : Line) (step index : ℕ) (reply : Reply) (batch : List ℕ)
+      → reply_to line.client line.number (Decide (ask_of line step) index reply batch) ≡ Some reply
   its_reply line step index reply batch = ap (λ (t : Bool). cond t (Some reply) None) (its_line line.client line.number (ask_of line step) refl refl)
 
-  its_grant : (line : Line) (step index : ℕ) (reply : Reply) (batch : List ℕ) → grant_to line.client line.number (Decide (ask_of line step) index reply batch) ≡ grant_in (ask_of line step) reply
-  its_grant line step index reply batch = ap (λ (t : Bool). cond t (grant_in (ask_of line step) reply) None) (its_line line.client line.number (ask_of line step) refl refl)
+  its_grant : (line : Line) (step index : ℕ) (reply : Reply) (batch : List ℕ)
+      → grant_to line.client line.number (Decide (ask_of line step) index reply batch) ≡ grant_in (ask_of line step) reply
+  its_grant line step index reply batch =
+      ap (λ (t : Bool). cond t (grant_in (ask_of line step) reply) None) (its_line line.client line.number (ask_of line step) refl refl)
 
   -- the same replies grant the same
-  pub same_granted : (client line : ℕ) (story seen : List Event) (begins : BeginsWith story seen) → length (replies_to client line story) ≤ length (replies_to client line seen)
+  pub same_granted : (client line : ℕ) (story seen : List Event) (begins : BeginsWith story seen)
+      → length (replies_to client line story) ≤ length (replies_to client line seen)
       → granted_to client line story ≡ granted_to client line seen
   same_granted client line story seen begins few =
-      let parts = ap length (told_longer (reply_to client line) story seen begins) ∙ length-append (replies_to client line seen) (replies_to client line begins.0) in
+      let parts = ap length (told_longer (reply_to client line) story seen begins)
+      ∙ length-append (replies_to client line seen) (replies_to client line begins.0) in
       let none : replies_to client line begins.0 ≡ [] = none_more_replied client line begins.0 (omega (arith, parts, few)) in
       told_longer (grant_to client line) story seen begins
       ∙ (ap (λ (gs : List GrantedBlock). granted_to client line seen ++ gs) (none_granted client line begins.0 (ap (filter_map granted_by) none))
       ∙ append-nil (granted_to client line seen))
 
-  module _ (seen later base : List Event) (line : Line) (asked said place seat index : ℕ) (batch : List ℕ) (command : Command) (progress : Progress) (reply : Reply)
+  module _ (seen later base : List Event) (line : Line) (asked said place seat index : ℕ) (batch : List ℕ) (command : Command) (progress : Progress)
+      (reply : Reply)
       (coherent : Coherent) (way : UnderWay seen line asked said command progress) (idle : progress.came.writing ≡ None) (unread : progress.read ≡ [])
       (follow : AllFollow Follow [] later) (goes : BeginsWith later seen) (from : BeginsWith seen base)
       (first : times_said line.client line.number base ≡ said) (last : times_said line.client line.number later ≡ said) (behind : length seen ≤ place)
@@ -228,7 +294,8 @@ module _ (Coherent : Type 0) (opening : Opening) (bytes : OpeningBytes) (script 
     asked_front : times_asked front line ≡ asked + 1
     asked_front =
         sym (step_of_last Coherent opening bytes script line.client line.number way.of_client front coherent all_front id
-        (pending_is_last Coherent opening bytes script line.client line.number front way.of_client coherent all_front id (its_line line.client line.number id refl refl) enabled.request enabled.undecided))
+        (pending_is_last Coherent opening bytes script line.client line.number front way.of_client coherent all_front id
+        (its_line line.client line.number id refl refl) enabled.request enabled.undecided))
 
     asked_now : times_asked now line ≡ asked + 1
     asked_now = ap length (none_more (ask_id line.client line.number) front event (asks_of line.client line.number front) refl refl) ∙ asked_front
@@ -239,7 +306,9 @@ module _ (Coherent : Type 0) (opening : Opening) (bytes : OpeningBytes) (script 
     at_since = way.has way.since (begins_itself way.since) all_since way.asked_so way.said_so
 
     grants_since : AreGrants opening way.since progress.came.attempts None (granted_to line.client line.number way.since)
-    grants_since = subst (λ (w : Option Granted). AreGrants opening way.since progress.came.attempts w (granted_to line.client line.number way.since)) idle at_since.of_line.grants
+    grants_since = subst
+        (λ (w : Option Granted). AreGrants opening way.since progress.came.attempts w
+        (granted_to line.client line.number way.since)) idle at_since.of_line.grants
 
     replied_since : length (replies_to line.client line.number way.since) ≡ asked
     replied_since = at_since.decided ∙ way.asked_so
@@ -247,7 +316,8 @@ module _ (Coherent : Type 0) (opening : Opening) (bytes : OpeningBytes) (script 
     replied_now : length (replies_to line.client line.number now) ≡ length (replies_to line.client line.number front) + 1
     replied_now =
         count_more (reply_to line.client line.number) front event
-        ∙ ap (λ (o : Option Reply). length (replies_to line.client line.number front) + length (cons_option o [])) (its_reply line (asked + 1) index reply batch)
+        ∙ ap (λ (o : Option Reply). length (replies_to line.client line.number front) + length (cons_option o []))
+        (its_reply line (asked + 1) index reply batch)
 
     replied_front : length (replies_to line.client line.number front) ≡ asked
     replied_front =
@@ -263,11 +333,13 @@ module _ (Coherent : Type 0) (opening : Opening) (bytes : OpeningBytes) (script 
 
     as_since : StillSettled Coherent opening bytes script line.client line.number way.since front progress.came.attempts
     as_since =
-        stays_settled Coherent opening bytes script line.client line.number way.since front progress.came.attempts coherent all_since all_front front_since grants_since granted_front
+        stays_settled Coherent opening bytes script line.client line.number way.since front progress.came.attempts coherent all_since all_front front_since
+        grants_since granted_front
         (by (list_all has_fate_written progress.came.attempts) refl)
       where
         by : (t : Bool) → list_all has_fate_written progress.came.attempts ≡ t
-            → (list_all has_fate_written progress.came.attempts ≡ true) ⊎ (times_said line.client line.number front ≡ times_said line.client line.number way.since)
+            → (list_all has_fate_written progress.came.attempts ≡ true)
+            ⊎ (times_said line.client line.number front ≡ times_said line.client line.number way.since)
         by true each = inl each
         by false some =
             let unwritten : is_all_written progress ≡ false = λ i. is_none (idle i) && some i in
@@ -285,7 +357,8 @@ module _ (Coherent : Type 0) (opening : Opening) (bytes : OpeningBytes) (script 
       its_turn : (asker : IsLastAsked front id grants_it.request) → length (written_for line.client line.number front) ≡ piece_number id asker.before
       its_turn asker =
           let ask : Event = record { seat = asker.asker; kind = Ask id grants_it.request } in
-          let since = before_asked line asked way.since front asker.before asker.behind ask way.of_client coherent all_since way.asked_so (same_id id) asker.parts front_since in
+          let since = before_asked line asked way.since front asker.before asker.behind ask way.of_client coherent all_since way.asked_so
+          (same_id id) asker.parts front_since in
           let few = no_fewer (wrote line.client line.number) asker.before way.since since in
           let more = no_fewer (wrote line.client line.number) front asker.before (ask ∷ asker.behind, asker.parts) in
           omega (arith, few, more, ap length as_since.written)
@@ -294,7 +367,8 @@ module _ (Coherent : Type 0) (opening : Opening) (bytes : OpeningBytes) (script 
       to_be_written =
           let asker = last_asked Coherent opening bytes script id grants_it.request front all_front grants_it.undecided in
           let grant : Event = record { seat = seat; kind = Decide id index (replies.Granted block pipeline) batch } in
-          subst (λ (r : Reply). IsToBeWritten (front ++ record { seat = seat; kind = Decide id index r batch } ∷ []) line (asked + 1) (record { block = block; pipeline = pipeline })) (sym granted)
+          subst (λ (r : Reply). IsToBeWritten (front ++ record { seat = seat; kind = Decide id index r batch } ∷ []) line (asked + 1)
+          (record { block = block; pipeline = pipeline })) (sym granted)
           (record {
             before = asker.before;
             its = granted_now Coherent opening bytes script front seat index pipeline id block batch grants_it asker;
@@ -312,11 +386,13 @@ module _ (Coherent : Type 0) (opening : Opening) (bytes : OpeningBytes) (script 
           by : (t : Bool) → is_written front its ≡ t → t ≡ false
           by false none = refl
           by true some =
-              let used = used_of_written opening front (legal_of_follow Coherent opening bytes script front coherent all_front) block (written_once block line.client line.number front some) in
+              let used = used_of_written opening front (legal_of_follow Coherent opening bytes script front coherent all_front) block
+              (written_once block line.client line.number front some) in
               absurd (unused_before Coherent opening bytes script front seat index pipeline id block batch grants_it used)
 
       unsettled : (story : List Event) → BeginsWith story front → times_said line.client line.number story ≡ said
-          → IsUnsettled opening story (record { id = ask_of line (asked + 1); block = block; pipeline = pipeline }) (record { block = block; pipeline = pipeline })
+          → IsUnsettled opening story (record { id = ask_of line (asked + 1); block = block; pipeline = pipeline })
+          (record { block = block; pipeline = pipeline })
       unsettled story begins still =
           let same : times_said line.client line.number story ≡ times_said line.client line.number front = still ∙ sym said_front in
           let unwritten : is_written story its ≡ false =
@@ -324,7 +400,8 @@ module _ (Coherent : Type 0) (opening : Opening) (bytes : OpeningBytes) (script 
           let none : (dn : ℕ) → has_event (refuses_so is_any its dn) story ≡ false =
           λ dn. refused_stay line.client line.number dn is_any its (its_line line.client line.number id refl refl) front story begins same
           ∙ fewer_has (refuses_so is_any its dn) (says_for id) (refuses_for is_any its dn) front unsaid_front in
-          let few : refusing_members opening story is_any its ≡ 0 = count_none (λ dn. has_event (refuses_so is_any its dn) story) none (members opening story block.container) in
+          let few : refusing_members opening story is_any its ≡ 0 =
+          count_none (λ dn. has_event (refuses_so is_any its dn) story) none (members opening story block.container) in
           record {
             block = refl;
             pipeline = refl;
@@ -372,7 +449,8 @@ module _ (Coherent : Type 0) (opening : Opening) (bytes : OpeningBytes) (script 
       old_grants =
           subst (AreGrants opening story progress.came.attempts None) granted_front
           (grants_still opening front story progress.came.attempts (granted_to line.client line.number front)
-          (λ grant among. quiet_stands Coherent opening bytes script line.client line.number front story grant coherent all_front all story_front same_said among)
+          (λ grant among. quiet_stands Coherent opening bytes script line.client line.number front story grant coherent all_front all story_front same_said
+          among)
           as_since.grants)
 
       grants_story : AreGrants opening story progress.came.attempts (granted_by reply) (granted_to line.client line.number story)
@@ -380,10 +458,12 @@ module _ (Coherent : Type 0) (opening : Opening) (bytes : OpeningBytes) (script 
           subst (λ (gs : List GrantedBlock). AreGrants opening story progress.came.attempts (granted_by reply) gs) (sym granted_story) (by reply refl)
         where
           none : AreGrants opening story progress.came.attempts None (granted_to line.client line.number way.since ++ [])
-          none = subst (λ (gs : List GrantedBlock). AreGrants opening story progress.came.attempts None gs) (sym (append-nil (granted_to line.client line.number way.since))) old_grants
+          none = subst (λ (gs : List GrantedBlock). AreGrants opening story progress.came.attempts None gs)
+              (sym (append-nil (granted_to line.client line.number way.since))) old_grants
 
           by : (given : Reply) → reply ≡ given
-              → AreGrants opening story progress.came.attempts (granted_by given) (granted_to line.client line.number way.since ++ cons_option (grant_in id given) [])
+              → AreGrants opening story progress.came.attempts (granted_by given)
+              (granted_to line.client line.number way.since ++ cons_option (grant_in id given) [])
           by (replies.Granted block pipeline) same =
               one_granted opening story progress.came.attempts (granted_to line.client line.number way.since)
               (record { id = ask_of line (asked + 1); block = block; pipeline = pipeline }) (record { block = block; pipeline = pipeline })
@@ -402,7 +482,8 @@ module _ (Coherent : Type 0) (opening : Opening) (bytes : OpeningBytes) (script 
         decided =
             let some = no_fewer (reply_to line.client line.number) story now begins in
             omega (arith, few_now, some, replied_now, replied_front, so);
-        read = subst (λ (read : List (List ℕ)). AreContents opening bytes script story (take (length read) (pieces_in (progress.came.replies ++ reply ∷ []))) read) (sym unread) tt;
+        read = subst (λ (read : List (List ℕ)). AreContents opening bytes script story
+            (take (length read) (pieces_in (progress.came.replies ++ reply ∷ []))) read) (sym unread) tt;
       }
 
     pub granted_reply : UnderWay later line (asked + 1) said command (progress_after progress (gots.Reply reply))
@@ -412,10 +493,12 @@ module _ (Coherent : Type 0) (opening : Opening) (bytes : OpeningBytes) (script 
         none_of None is = refl
         none_of (Some granted) is = absurd (false≢true is)
 
-        by : (t : Bool) → is_all_written (progress_after progress (gots.Reply reply)) ≡ t → UnderWay later line (asked + 1) said command (progress_after progress (gots.Reply reply))
+        by : (t : Bool) → is_all_written (progress_after progress (gots.Reply reply)) ≡ t
+            → UnderWay later line (asked + 1) said command (progress_after progress (gots.Reply reply))
         by true each =
             let both = and_parts (is_none (granted_by reply)) (list_all has_fate_written progress.came.attempts) each in
-            reply_comes Coherent opening bytes script seen later line asked said command progress reply coherent way idle unread both.1 (none_of (granted_by reply) both.0) follow goes
+            reply_comes Coherent opening bytes script seen later line asked said command progress reply coherent way idle unread both.1
+            (none_of (granted_by reply) both.0) follow goes
             place said (seat, index, batch, is)
         by false some = record {
           there = way.there;
@@ -431,8 +514,11 @@ module _ (Coherent : Type 0) (opening : Opening) (bytes : OpeningBytes) (script 
         }
 
   pub decided_reply : (seen later base : List Event) (line : Line) (asked said place : ℕ) (command : Command) (progress : Progress) (reply : Reply) → Coherent
-      → UnderWay seen line asked said command progress → progress.came.writing ≡ None → progress.read ≡ [] → AllFollow Follow [] later → BeginsWith later seen → BeginsWith seen base
-      → times_said line.client line.number base ≡ said → times_said line.client line.number later ≡ said → length seen ≤ place → IsDecideAt later place (ask_of line (asked + 1)) reply
+      → UnderWay seen line asked said command progress → progress.came.writing ≡ None → progress.read ≡ [] → AllFollow Follow [] later
+      → BeginsWith later seen → BeginsWith seen base
+      → times_said line.client line.number base ≡ said → times_said line.client line.number later ≡ said → length seen ≤ place
+      → IsDecideAt later place (ask_of line (asked + 1)) reply
       → UnderWay later line (asked + 1) said command (progress_after progress (gots.Reply reply))
-  decided_reply seen later base line asked said place command progress reply coherent way idle unread follow goes from first last behind (seat, index, batch, is) =
+  decided_reply seen later base line asked said place command progress reply coherent way idle unread follow goes from first last behind
+      (seat, index, batch, is) =
       granted_reply seen later base line asked said place seat index batch command progress reply coherent way idle unread follow goes from first last behind is

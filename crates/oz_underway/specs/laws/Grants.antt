@@ -1,5 +1,34 @@
 -- A Decide that grants a block.
-use Rattle.std.proofs.Common.{◌≡◌, ℕ, zero, suc, ◌≤◌, ◌<◌, Bool, true, false, ◌||◌, cond, List, [], ◌∷◌, ◌++◌, length, take, drop, None, Some, Contains, refl, sym, ap, ◌∙◌, subst, append_assoc, arith}
+use Rattle.std.proofs.Common.{
+  ◌≡◌,
+  ℕ,
+  zero,
+  suc,
+  ◌≤◌,
+  ◌<◌,
+  Bool,
+  true,
+  false,
+  ◌||◌,
+  cond,
+  List,
+  [],
+  ◌∷◌,
+  ◌++◌,
+  length,
+  take,
+  drop,
+  None,
+  Some,
+  Contains,
+  refl,
+  sym,
+  ap,
+  ◌∙◌,
+  subst,
+  append_assoc,
+  arith,
+}
 use Rattle.std.proofs.lemmas.List.Elements.{Contains-push}
 use Rattle.std.proofs.lemmas.Option.{none-some, same_Some}
 use Rattle.std.specs.List.{slice_get}
@@ -49,7 +78,8 @@ module _ (id : AskId) (request : Request) where
     before = was.before;
     behind = was.behind ++ event ∷ [];
     asker = was.asker;
-    parts = ap (λ (l : List Event). l ++ event ∷ []) was.parts ∙ append_assoc was.before (record { seat = was.asker; kind = Ask id request } ∷ was.behind) (event ∷ []);
+    parts = ap (λ (l : List Event). l ++ event ∷ []) was.parts
+        ∙ append_assoc was.before (record { seat = was.asker; kind = Ask id request } ∷ was.behind) (event ∷ []);
     last = asked-push id was.behind event ∙ (ap (λ (t : Bool). t || asks id event.kind) was.last ∙ none);
   }
 
@@ -88,7 +118,8 @@ module _ (Coherent : Type 0) (opening : Opening) (bytes : OpeningBytes) (script 
   abbrev Follow : List Event → Event → Type 0
   Follow = Follows Coherent opening bytes script
 
-  pub last_asked : (id : AskId) (request : Request) (story : List Event) → AllFollow Follow [] story → pending id story ≡ Some request → IsLastAsked story id request
+  pub last_asked : (id : AskId) (request : Request) (story : List Event) → AllFollow Follow [] story → pending id story ≡ Some request
+      → IsLastAsked story id request
   last_asked id request story all =
       kept_always Follow (λ front. pending id front ≡ Some request → IsLastAsked front id request) story all
       (λ front event begins follow follows was is. last_step id request front event.seat event.kind was (sym (pending-push id front event) ∙ is))
@@ -106,7 +137,8 @@ module _ (Coherent : Type 0) (opening : Opening) (bytes : OpeningBytes) (script 
           behind = last.behind ++ event ∷ [];
           asker = last.asker;
           request = enabled.request;
-          asked = ap (λ (l : List Event). l ++ event ∷ []) last.parts ∙ append_assoc last.before (record { seat = last.asker; kind = Ask id enabled.request } ∷ last.behind) (event ∷ []);
+          asked = ap (λ (l : List Event). l ++ event ∷ []) last.parts
+              ∙ append_assoc last.before (record { seat = last.asker; kind = Ask id enabled.request } ∷ last.behind) (event ∷ []);
           last = asked-push id last.behind event ∙ ap (λ (t : Bool). t || false) last.last;
           stripe = seat;
           index = index;
@@ -117,11 +149,13 @@ module _ (Coherent : Type 0) (opening : Opening) (bytes : OpeningBytes) (script 
 
     pub unused_before : IsUsed opening front block → ⊥
     unused_before used =
-        granted_anew opening front (namespace_of opening front) enabled.request (replies.Granted block pipeline) block enabled.one_thread enabled.granted used (0, omega arith, refl)
+        granted_anew opening front (namespace_of opening front) enabled.request
+        (replies.Granted block pipeline) block enabled.one_thread enabled.granted used (0, omega arith, refl)
 
   -- ---- anywhere in a story
 
-  module _ (story : List Event) (coherent : Coherent) (all : AllFollow Follow [] story) (place seat index pipeline : ℕ) (id : AskId) (block : Block) (batch : List ℕ)
+  module _ (story : List Event) (coherent : Coherent) (all : AllFollow Follow [] story) (place seat index pipeline : ℕ) (id : AskId) (block : Block)
+      (batch : List ℕ)
       (is : slice_get story place ≡ Some (record { seat = seat; kind = Decide id index (replies.Granted block pipeline) batch })) where
     legal : IsLegal opening story
     legal = legal_of_follow Coherent opening bytes script story coherent all

@@ -28,7 +28,8 @@ use Rattle.oz_underway.specs.laws.Going.{begins_through}
 use Rattle.oz_underway.specs.laws.Told.{answers_now, asks_stop, told_once}
 
 -- who wasn't told has no answer
-pub none_told : {X : Type 0} (tells : EventKind → Option X) (story : List Event) → has_event (λ kind. is_some (tells kind)) story ≡ false → all_told tells story ≡ []
+pub none_told : {X : Type 0} (tells : EventKind → Option X) (story : List Event) → has_event (λ kind. is_some (tells kind)) story ≡ false
+    → all_told tells story ≡ []
 none_told tells [] none = refl
 none_told {X} tells (event ∷ story) none = by (tells event.kind) (none_told tells story) none
   where

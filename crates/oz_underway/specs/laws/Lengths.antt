@@ -1,5 +1,34 @@
 -- A piece that is read is as long as its block.
-use Rattle.std.proofs.Common.{◌≡◌, ⊎_elim, inl, inr, ℕ, suc, Bool, true, false, cond, List, [], ◌∷◌, ◌++◌, length, take, drop, Option, None, Some, IsSome, Contains, refl, sym, ap, ◌∙◌, subst, arith}
+use Rattle.std.proofs.Common.{
+  ◌≡◌,
+  ⊎_elim,
+  inl,
+  inr,
+  ℕ,
+  suc,
+  Bool,
+  true,
+  false,
+  cond,
+  List,
+  [],
+  ◌∷◌,
+  ◌++◌,
+  length,
+  take,
+  drop,
+  Option,
+  None,
+  Some,
+  IsSome,
+  Contains,
+  refl,
+  sym,
+  ap,
+  ◌∙◌,
+  subst,
+  arith,
+}
 use Rattle.std.proofs.lemmas.List.{take-append-drop}
 use Rattle.std.proofs.lemmas.List.Elements.{Contains-append_cases, Contains-append_left, Contains-append_right}
 use Rattle.std.proofs.lemmas.Option.{none-some, same_Some}
@@ -83,7 +112,8 @@ module _ (opening : Opening) (bytes : OpeningBytes) (script : Script) (story : L
 
   in_all : (block : Block) → IsOfManager opening (last_index opening story) story block → Contains all_blocks block
   in_all block (inl it) =
-      Contains-append_left (in_namespace opening.namespace) (opening.left ++ all_told (kept_block (last_index opening story)) story) block (met block opening.namespace it)
+      Contains-append_left (in_namespace opening.namespace) (opening.left ++ all_told (kept_block (last_index opening story)) story) block
+      (met block opening.namespace it)
   in_all block (inr (inl it)) =
       Contains-append_right (in_namespace opening.namespace) (opening.left ++ all_told (kept_block (last_index opening story)) story) block
       (Contains-append_left opening.left (all_told (kept_block (last_index opening story)) story) block it)
@@ -99,7 +129,8 @@ module _ (opening : Opening) (bytes : OpeningBytes) (script : Script) (story : L
     kept = λ block of. inr (inl (in_all block of));
   }
 
-  pub key_whole : (it : Piece) (content : List ℕ) → IsPieceIn (namespace_of opening story) it → HasContent opening bytes script story it.block content → length content ≡ it.length
+  pub key_whole : (it : Piece) (content : List ℕ) → IsPieceIn (namespace_of opening story) it → HasContent opening bytes script story it.block content
+      → length content ≡ it.length
   unfolding namespace_from
   key_whole it content has its =
       let count = all_count opening (last_index opening story) story [] legal (omega arith) in
@@ -116,7 +147,8 @@ held_there block (node ∷ nodes) count among = ⊎_elim
     (λ later. let rest = held_there block nodes count later in (suc rest.0, rest.1))
     (Contains-append_cases (length_in block node) (flat_map (length_in block) nodes) count among)
   where
-    by : (t : Bool) → has_piece block node ≡ t → Contains (length_in block node) count → (dn : ℕ) × (option_map_or (has_piece block) (slice_get (node ∷ nodes) dn) false ≡ true)
+    by : (t : Bool) → has_piece block node ≡ t → Contains (length_in block node) count → (dn : ℕ)
+        × (option_map_or (has_piece block) (slice_get (node ∷ nodes) dn) false ≡ true)
     by true is here = (0, is)
     by false none here = absurd (in_none count (subst (λ (l : List ℕ). Contains l count) (none_in block node.held none) here))
 
@@ -124,7 +156,8 @@ some_bytes : (o : Option (List ℕ)) → IsSome o → (content : List ℕ) × (o
 some_bytes None some = absurd cc
 some_bytes (Some content) some = (content, refl)
 
-module _ (Coherent : Type 0) (opening : Opening) (bytes : OpeningBytes) (script : Script) (coherent : Coherent) (whole : IsCoherent opening bytes) (numbered : IsNumbered script)
+module _ (Coherent : Type 0) (opening : Opening) (bytes : OpeningBytes) (script : Script) (coherent : Coherent) (whole : IsCoherent opening bytes)
+    (numbered : IsNumbered script)
     (story front : List Event) (begins : BeginsWith story front) (all : AllFollow (Follows Coherent opening bytes script) [] story)
     (it : Piece) (has : IsPieceIn (namespace_of opening front) it) where
   abbrev Follow : List Event → Event → Type 0
@@ -141,7 +174,8 @@ module _ (Coherent : Type 0) (opening : Opening) (bytes : OpeningBytes) (script 
 
   whole_front : (content : List ℕ) → HasContent opening bytes script front it.block content → length content ≡ it.length
   whole_front content its =
-      key_whole opening bytes script front whole (lines_apart script numbered) legal_front (fits_from Coherent opening bytes script [] front coherent all_front) it content has its
+      key_whole opening bytes script front whole (lines_apart script numbered) legal_front
+      (fits_from Coherent opening bytes script [] front coherent all_front) it content has its
 
   -- what was granted is for a line
   granted_content : (place seat : ℕ) (id : AskId) (index pipeline : ℕ) (batch : List ℕ)
@@ -151,7 +185,9 @@ module _ (Coherent : Type 0) (opening : Opening) (bytes : OpeningBytes) (script 
       let asked = its_ask Coherent opening bytes script front coherent all_front place seat index pipeline id it.block batch is in
       let of_script = its_script Coherent opening bytes script front coherent all_front place seat index pipeline id it.block batch is in
       let ask : Event = record { seat = asked.1.asker; kind = Ask id asked.1.request } in
-      let there : Contains front ask = subst (λ (l : List Event). Contains l ask) (sym asked.1.asked) (Contains-append_right asked.0 (ask ∷ asked.1.behind) ask (0, omega arith, refl)) in
+      let there : Contains front ask =
+      subst (λ (l : List Event). Contains l ask) (sym asked.1.asked)
+      (Contains-append_right asked.0 (ask ∷ asked.1.behind) ask (0, omega arith, refl)) in
       let fits : EventFits opening bytes script (take there.0 front) (Ask id asked.1.request) =
       fits_at opening bytes script front (fits_from Coherent opening bytes script [] front coherent all_front) there.0 ask (found_at front ask there) in
       for_line id asked.0 asked.1 (fits.0 of_script).line (fits.0 of_script).its
@@ -176,7 +212,8 @@ module _ (Coherent : Type 0) (opening : Opening) (bytes : OpeningBytes) (script 
       let told = told_event granted_block front it.block among in
       by told.there.0 told.event.seat told.event.kind (found_at front told.event told.there) told.told
     where
-      by_reply : (place seat : ℕ) (id : AskId) (index : ℕ) (reply : Reply) (batch : List ℕ) → slice_get front place ≡ Some (record { seat = seat; kind = Decide id index reply batch })
+      by_reply : (place seat : ℕ) (id : AskId) (index : ℕ) (reply : Reply) (batch : List ℕ)
+          → slice_get front place ≡ Some (record { seat = seat; kind = Decide id index reply batch })
           → block_of_reply reply ≡ Some it.block → (content : List ℕ) × HasContent opening bytes script front it.block content
       by_reply place seat id index (replies.Granted given pipeline) batch is tells =
           granted_content place seat id index pipeline batch
@@ -195,7 +232,8 @@ module _ (Coherent : Type 0) (opening : Opening) (bytes : OpeningBytes) (script 
       (λ granted.
       let made = told_content granted in
       let still = content_still Coherent opening bytes script numbered story front it.block made.0 coherent all begins made.1 in
-      ap length (one_content opening bytes script whole (lines_apart script numbered) story legal it.block content made.0 its still) ∙ whole_front made.0 made.1)
+      ap length (one_content opening bytes script whole (lines_apart script numbered) story legal it.block content made.0 its still)
+      ∙ whole_front made.0 made.1)
       (reached_named opening front it.block legal_front (piece_reached (namespace_of opening front) it has))
     where
       by_old : IsReached opening.namespace it.block → (content : List ℕ) → HasContent opening bytes script story it.block content → length content ≡ it.length
@@ -204,7 +242,8 @@ module _ (Coherent : Type 0) (opening : Opening) (bytes : OpeningBytes) (script 
           let granted = no_lower opening story legal it.block of.id (its_grant opening story legal of.id it.block of.before of.granted) in
           absurd (omega (arith, granted, whole.fresh it.block (inl old)))
 
-  put_whole : (place : ℕ) (kind : EventKind) → EventFits opening bytes script (take place story) kind → (count : ℕ) → put_length it.block kind ≡ Some count → count ≡ it.length
+  put_whole : (place : ℕ) (kind : EventKind) → EventFits opening bytes script (take place story) kind → (count : ℕ) → put_length it.block kind ≡ Some count
+      → count ≡ it.length
   put_whole place (Put dn put id first size) fits count is = by (is_block it.block put) refl is
     where
       by : (t : Bool) → is_block it.block put ≡ t → cond t (Some size) None ≡ Some count → count ≡ it.length
@@ -217,15 +256,18 @@ module _ (Coherent : Type 0) (opening : Opening) (bytes : OpeningBytes) (script 
   put_whole place kind fits count is = absurd (none-some count is)
 
   -- so is the block, where what disks had of it is as long as they say
-  pub block_whole : ((dn count : ℕ) (content : List ℕ) → was_held opening dn it.block ≡ true → bytes dn it.block ≡ Some content → length_of opening [] it.block ≡ Some count → count ≡ length content)
+  pub block_whole : ((dn count : ℕ) (content : List ℕ) → was_held opening dn it.block ≡ true → bytes dn it.block ≡ Some content
+      → length_of opening [] it.block ≡ Some count → count ≡ length content)
       → (count : ℕ) → length_of opening story it.block ≡ Some count → count ≡ it.length
   block_whole had count is = by (flat_map (length_in it.block) opening.nodes) refl is
     where
-      by : (l : List ℕ) → flat_map (length_in it.block) opening.nodes ≡ l → first_in (l ++ all_told (put_length it.block) story) ≡ Some count → count ≡ it.length
+      by : (l : List ℕ) → flat_map (length_in it.block) opening.nodes ≡ l → first_in (l ++ all_told (put_length it.block) story) ≡ Some count
+          → count ≡ it.length
       by [] none told =
           let put = told_event (put_length it.block) story count (is_first (all_told (put_length it.block) story) count told) in
           put_whole put.there.0 put.event.kind
-          (fits_at opening bytes script story (fits_from Coherent opening bytes script [] story coherent all) put.there.0 put.event (found_at story put.event put.there)) count put.told
+          (fits_at opening bytes script story (fits_from Coherent opening bytes script [] story coherent all) put.there.0 put.event
+          (found_at story put.event put.there)) count put.told
       by (first ∷ rest) some told =
           let dn = held_there it.block opening.nodes first (subst (λ (l : List ℕ). Contains l first) (sym some) (0, omega arith, refl)) in
           let content = some_bytes (bytes dn.0 it.block) (whole.blocks.digests_match it.block dn.0 dn.1) in
@@ -234,7 +276,8 @@ module _ (Coherent : Type 0) (opening : Opening) (bytes : OpeningBytes) (script 
 
 -- ---- of a line that reads it
 
-module _ (Coherent : Type 0) (opening : Opening) (bytes : OpeningBytes) (script : Script) (seen : List Event) (line : Line) (asked said : ℕ) (command : Command) (progress : Progress) (it : Piece)
+module _ (Coherent : Type 0) (opening : Opening) (bytes : OpeningBytes) (script : Script) (seen : List Event) (line : Line) (asked said : ℕ)
+    (command : Command) (progress : Progress) (it : Piece)
     (coherent : Coherent) (whole : IsCoherent opening bytes) (numbered : IsNumbered script)
     (way : IsUnderWay Coherent opening bytes script seen line asked said command progress) (reading : IsReading command progress it)
     (story : List Event) (begins : BeginsWith story seen) (all : AllFollow (Follows Coherent opening bytes script) [] story) where

@@ -22,7 +22,8 @@ apart a b n below near lt same =
     (λ (lb : b < n). let ea = mod-eq_of_lt la in let eb = mod-eq_of_lt lb in omega arith)
     (λ (lb : n ≤ b). let ea = mod-eq_of_lt la in let eb = goes_round b n lb lt in omega arith)
     (cases_lt b n))
-    (λ (la : n ≤ a). let small : a < n + n = omega arith in let ea = goes_round a n la small in let large : n ≤ b = omega arith in let eb = goes_round b n large lt in omega arith)
+    (λ (la : n ≤ a). let small : a < n + n = omega arith in let ea = goes_round a n la small in let large : n ≤ b = omega arith in let eb = goes_round b n
+    large lt in omega arith)
     (cases_lt a n)
 
 known_pipeline : (count pipeline : ℕ) → 3 ≤ count → pipeline < pipelines_of count → pipeline < count

@@ -1,5 +1,47 @@
 -- Each client's lines are told in order.
-use Rattle.std.proofs.Common.{◌≡◌, ⊎_elim, ◌⊎◌, inl, inr, ℕ, zero, suc, ◌+◌, ◌-◌, ◌≤◌, ◌<◌, Bool, true, false, ◌||◌, ◌&&◌, ◌==◌, cond, List, [], ◌∷◌, ◌++◌, map, filter, length, Option, None, Some, is_some, Contains, eq-eqb, refl, sym, ap, ◌∙◌, subst, append_assoc, append-nil, length-append, arith}
+use Rattle.std.proofs.Common.{
+  ◌≡◌,
+  ⊎_elim,
+  ◌⊎◌,
+  inl,
+  inr,
+  ℕ,
+  zero,
+  suc,
+  ◌+◌,
+  ◌-◌,
+  ◌≤◌,
+  ◌<◌,
+  Bool,
+  true,
+  false,
+  ◌||◌,
+  ◌&&◌,
+  ◌==◌,
+  cond,
+  List,
+  [],
+  ◌∷◌,
+  ◌++◌,
+  map,
+  filter,
+  length,
+  Option,
+  None,
+  Some,
+  is_some,
+  Contains,
+  eq-eqb,
+  refl,
+  sym,
+  ap,
+  ◌∙◌,
+  subst,
+  append_assoc,
+  append-nil,
+  length-append,
+  arith,
+}
 use Rattle.std.proofs.Math.Bool.{or-false}
 use Rattle.std.proofs.lemmas.Bool.{cases_lt, eqb-true, false≢true, or_left, or_right}
 use Rattle.std.proofs.lemmas.List.{map-append}
@@ -140,9 +182,11 @@ module _ (script : Script) (client : ℕ) (front : List Event) (was : AreToldInO
   told_others : (event : Event) → told_line client event.kind ≡ None → ((number : ℕ) → is_some (answer_to client number event.kind) ≡ false)
       → AreToldInOrder script client (front ++ event ∷ [])
   told_others event none untold =
-      let same : told_lines client (front ++ event ∷ []) ≡ told_lines client front = none_more (told_line client) front event (told_lines client front) none refl in
+      let same : told_lines client (front ++ event ∷ []) ≡ told_lines client front =
+      none_more (told_line client) front event (told_lines client front) none refl in
       let told : (number : ℕ) → is_told client number (front ++ event ∷ []) ≡ is_told client number front =
-      λ number. is_told-push client number front event ∙ (ap (λ (t : Bool). is_told client number front || t) (untold number) ∙ or-false (is_told client number front)) in
+      λ number. is_told-push client number front event
+      ∙ (ap (λ (t : Bool). is_told client number front || t) (untold number) ∙ or-false (is_told client number front)) in
       record {
         within = λ number is. omega (arith, ap length same, was.within number (sym (told number) ∙ is));
         each = λ number some le. told number ∙ was.each number some (omega (arith, ap length same, le));
@@ -168,7 +212,8 @@ module _ (script : Script) (client : ℕ) (front : List Event) (was : AreToldInO
             (λ here. omega (arith, one, next, eqb-true number other here))
             (or_of (is_told client other front) (number == other) (sym (now other) ∙ is));
         each = λ other some le. now other ∙ ⊎_elim
-            (λ (above : length (told_lines client front) < other). or_right (is_told client other front) (number == other) (eq-eqb number other (omega (arith, above, le, one, next))))
+            (λ (above : length (told_lines client front) < other). or_right (is_told client other front) (number == other)
+            (eq-eqb number other (omega (arith, above, le, one, next))))
             (λ few. or_left (is_told client other front) (number == other) (was.each other some few))
             (cases_lt (length (told_lines client front)) other);
         are = more ∙ (ap (λ l. l ++ number ∷ []) was.are ∙ (up_one (length (told_lines client front)) number next ∙ ap up_to (sym one)));
@@ -199,7 +244,9 @@ module _ (Coherent : Type 0) (opening : Opening) (bytes : OpeningBytes) (script 
       let before : 1 < number → number ≤ length (told_lines client front) + 1 =
       λ lt.
       let told = fits.started.before_it (omega (arith, lt, fits.its.of_number)) in
-      let same : is_told client (number - 1) front ≡ true = subst (λ (c : ℕ). is_told c (number - 1) front ≡ true) fits.its.of_client (subst (λ (n : ℕ). is_told line.client (n - 1) front ≡ true) fits.its.of_number told) in
+      let same : is_told client (number - 1) front ≡ true =
+      subst (λ (c : ℕ). is_told c (number - 1) front ≡ true) fits.its.of_client
+      (subst (λ (n : ℕ). is_told line.client (n - 1) front ≡ true) fits.its.of_number told) in
       omega (arith, was.within (number - 1) same, lt) in
       let next : number ≡ length (told_lines client front) + 1 = ⊎_elim
       (λ (lt : 1 < number). omega (arith, before lt, above))

@@ -1,5 +1,35 @@
 -- The piece that a block was granted for.
-use Rattle.std.proofs.Common.{◌≡◌, inr, ℕ, zero, suc, ◌*◌, ◌≤◌, Bool, true, false, ◌||◌, ◌&&◌, cond, List, [], ◌∷◌, ◌++◌, length, take, drop, None, Some, Contains, refl, sym, ap, ◌∙◌, subst, arith}
+use Rattle.std.proofs.Common.{
+  ◌≡◌,
+  inr,
+  ℕ,
+  zero,
+  suc,
+  ◌*◌,
+  ◌≤◌,
+  Bool,
+  true,
+  false,
+  ◌||◌,
+  ◌&&◌,
+  cond,
+  List,
+  [],
+  ◌∷◌,
+  ◌++◌,
+  length,
+  take,
+  drop,
+  None,
+  Some,
+  Contains,
+  refl,
+  sym,
+  ap,
+  ◌∙◌,
+  subst,
+  arith,
+}
 use Rattle.std.proofs.lemmas.Bool.{false≢true, ne_eqb}
 use Rattle.std.proofs.lemmas.List.{take-append-drop}
 use Rattle.std.proofs.lemmas.List.Elements.{Contains-append_left, Contains-append_right}
@@ -56,12 +86,14 @@ none_in block [] none = refl
 none_in block (first ∷ held) none = by (is_block block first.block) refl (λ rest. none_in block held rest) none
   where
     by : (t : Bool) → is_block block first.block ≡ t
-        → (list_any (λ (piece : Piece). is_block block piece.block) held ≡ false → filter_map (λ (piece : Piece). cond (is_block block piece.block) (Some piece.length) None) held ≡ [])
+        → (list_any (λ (piece : Piece). is_block block piece.block) held ≡ false
+        → filter_map (λ (piece : Piece). cond (is_block block piece.block) (Some piece.length) None) held ≡ [])
         → (t || list_any (λ (piece : Piece). is_block block piece.block) held) ≡ false
         → filter_map (λ (piece : Piece). cond (is_block block piece.block) (Some piece.length) None) (first ∷ held) ≡ []
     by true is later none = absurd (false≢true (sym none))
     by false away later none =
-        ap (λ (t : Bool). cons_option (cond t (Some first.length) None) (filter_map (λ (piece : Piece). cond (is_block block piece.block) (Some piece.length) None) held)) away
+        ap (λ (t : Bool). cons_option (cond t (Some first.length) None)
+        (filter_map (λ (piece : Piece). cond (is_block block piece.block) (Some piece.length) None) held)) away
         ∙ later none
 
 none_had : (block : Block) (nodes : List NodeOpening) → ((dn : ℕ) → option_map_or (has_piece block) (slice_get nodes dn) false ≡ true → ⊥)
@@ -106,7 +138,8 @@ module _ (Coherent : Type 0) (opening : Opening) (bytes : OpeningBytes) (script 
           (drop place story, sym (take-append-drop place story)) here in
           sym (same_Some size count is)
           ∙ (fits.whole ∙ ap length
-          (one_content opening bytes script whole (lines_apart script numbered) story (legal_of_follow Coherent opening bytes script story coherent all) block fits.content content still has))
+          (one_content opening bytes script whole (lines_apart script numbered) story
+          (legal_of_follow Coherent opening bytes script story coherent all) block fits.content content still has))
   put_whole story block content coherent whole numbered all has place kind fits count is = absurd (none-some count is)
 
   pub put_alike : (story : List Event) (block : Block) (content : List ℕ) → Coherent → IsCoherent opening bytes → IsNumbered script → AllFollow Follow [] story
@@ -114,9 +147,11 @@ module _ (Coherent : Type 0) (opening : Opening) (bytes : OpeningBytes) (script 
       → (count : ℕ) → length_of opening story block ≡ Some count → count ≡ length content
   put_alike story block content coherent whole numbered all new has count is =
       let none = none_had block opening.nodes (λ dn held. new (dn, held)) in
-      let told : first_in (all_told (put_length block) story) ≡ Some count = sym (ap (λ (l : List ℕ). first_in (l ++ all_told (put_length block) story)) none) ∙ is in
+      let told : first_in (all_told (put_length block) story) ≡ Some count =
+      sym (ap (λ (l : List ℕ). first_in (l ++ all_told (put_length block) story)) none) ∙ is in
       let it = told_event (put_length block) story count (is_first (all_told (put_length block) story) count told) in
-      let fits = fits_at opening bytes script story (fits_from Coherent opening bytes script [] story coherent all) it.there.0 it.event (found_at story it.event it.there) in
+      let fits = fits_at opening bytes script story (fits_from Coherent opening bytes script [] story coherent all) it.there.0 it.event
+      (found_at story it.event it.there) in
       put_whole story block content coherent whole numbered all has it.there.0 it.event.kind fits count it.told
 
   module _ (seen : List Event) (line : Line) (asked said : ℕ) (command : Command) (progress : Progress) (granted : Granted) (coherent : Coherent)
@@ -160,17 +195,22 @@ module _ (Coherent : Type 0) (opening : Opening) (bytes : OpeningBytes) (script 
 
     pub members_story : progress.nodes ≡ length opening.nodes → members opening story granted.block.container ≡ members_of progress.nodes granted.pipeline
     members_story same =
-        let event : Event = record { seat = new.its.stripe; kind = Decide (ask_of line asked) new.its.index (replies.Granted granted.block new.its.pipeline) new.its.batch } in
+        let event : Event = record {
+          seat = new.its.stripe;
+          kind = Decide (ask_of line asked) new.its.index (replies.Granted granted.block new.its.pipeline) new.its.batch;
+        } in
         let there : Contains story event = subst (λ (l : List Event). Contains l event) (sym story_since.1)
         (Contains-append_left way.since story_since.0 event (granting way.since (ask_of line asked) granted.block new.before new.its)) in
-        its_members Coherent opening bytes script story coherent all there.0 new.its.stripe new.its.index new.its.pipeline (ask_of line asked) granted.block new.its.batch (found_at story event there)
+        its_members Coherent opening bytes script story coherent all there.0 new.its.stripe new.its.index new.its.pipeline
+        (ask_of line asked) granted.block new.its.batch (found_at story event there)
         ∙ (ap (members_of (length opening.nodes)) new.on ∙ ap (λ (n : ℕ). members_of n granted.pipeline) (sym same))
 
     module _ (whole : IsCoherent opening bytes) (numbered : IsNumbered script) where
       nowhere : WasThere opening granted.block → ⊥
       nowhere =
           let legal = legal_of_follow Coherent opening bytes script story coherent all in
-          was_nowhere opening story legal granted.block (ask_of line asked) (its_grant opening story legal (ask_of line asked) granted.block new.before granted_story) whole.fresh
+          was_nowhere opening story legal granted.block (ask_of line asked)
+          (its_grant opening story legal (ask_of line asked) granted.block new.before granted_story) whole.fresh
 
       content : HasContent opening bytes script story granted.block (piece (length (written_blocks progress.came.attempts)) command)
       content = inr (record {
@@ -188,7 +228,8 @@ module _ (Coherent : Type 0) (opening : Opening) (bytes : OpeningBytes) (script 
       its_piece block members first count to_write =
           let same : granted ≡ to_write.granted = same_Some granted to_write.granted (sym writing ∙ to_write.its) in
           let block_is : granted.block ≡ block = ap (λ (g : Granted). g.block) same ∙ sym to_write.block_is in
-          subst (λ (b : Block). IsPieceFor opening bytes script story (ask_of line asked) b first (piece (length (written_blocks progress.came.attempts)) command)) block_is
+          subst (λ (b : Block). IsPieceFor opening bytes script story (ask_of line asked) b first
+          (piece (length (written_blocks progress.came.attempts)) command)) block_is
           (record {
             asked = not_own;
             named = record {

@@ -1,5 +1,36 @@
 -- The reply that a line got last is that to its last Ask: what it names is read for that one.
-use Rattle.std.proofs.Common.{◌≡◌, ◌≢◌, ℕ, zero, suc, ◌+◌, ◌≤◌, Bool, true, false, not, ◌&&◌, cond, List, [], ◌∷◌, ◌++◌, length, Option, None, Some, Contains, All, refl, sym, ap, ◌∙◌, subst, append_assoc, arith}
+use Rattle.std.proofs.Common.{
+  ◌≡◌,
+  ◌≢◌,
+  ℕ,
+  zero,
+  suc,
+  ◌+◌,
+  ◌≤◌,
+  Bool,
+  true,
+  false,
+  not,
+  ◌&&◌,
+  cond,
+  List,
+  [],
+  ◌∷◌,
+  ◌++◌,
+  length,
+  Option,
+  None,
+  Some,
+  Contains,
+  All,
+  refl,
+  sym,
+  ap,
+  ◌∙◌,
+  subst,
+  append_assoc,
+  arith,
+}
 use Rattle.std.proofs.lemmas.Bool.{ne_eqb}
 use Rattle.std.proofs.lemmas.List.Elements.{All-contains, Contains-append_right}
 use Rattle.std.proofs.lemmas.List.Sums.{fold_push}
@@ -39,7 +70,19 @@ use Rattle.oz_kept.specs.reopened.laws.Placed.{held_by_member}
 use Rattle.oz_turn.specs.Told.{BeginsWith}
 use Rattle.oz_underway.specs.UnderWay.{IsSaid, IsUnderWay, ask_of}
 use Rattle.oz_underway.specs.laws.Asks.{asks_count, last_id, scripted, step_of_last}
-use Rattle.oz_underway.specs.laws.Going.{begins_itself, begins_through, count_more, follow_before, follow_behind, follow_first, follow_front, kept_always, no_fewer, none_more, told_more}
+use Rattle.oz_underway.specs.laws.Going.{
+  begins_itself,
+  begins_through,
+  count_more,
+  follow_before,
+  follow_behind,
+  follow_first,
+  follow_front,
+  kept_always,
+  no_fewer,
+  none_more,
+  told_more,
+}
 use Rattle.oz_underway.specs.laws.Replied.{block_among}
 use Rattle.oz_underway.specs.laws.Replies.{few_replies, pending_is_last}
 
@@ -74,7 +117,8 @@ module _ {X : Type 0} (tells : EventKind → Option X) where
             all = ap length as_before ∙ it.all;
           }
       by (Some y) some =
-          let now : last_in (all_told tells (story ++ event ∷ [])) ≡ Some y = ap last_in (grown (Some y) some) ∙ fold_push (λ before z. Some z) None (all_told tells story) y in
+          let now : last_in (all_told tells (story ++ event ∷ [])) ≡ Some y = ap last_in (grown (Some y) some)
+          ∙ fold_push (λ before z. Some z) None (all_told tells story) y in
           record {
             front = story;
             event = event;
@@ -96,7 +140,8 @@ pub record IsDecidedSo (opening : Opening) (story : List Event) (id : AskId) (re
   pub parts : story ≡ front ++ record { seat = seat; kind = Decide id index reply batch } ∷ behind
   pub enabled : DecideIsEnabled opening front seat id index reply batch
 
-decided_later : (opening : Opening) (story seen : List Event) (id : AskId) (reply : Reply) → BeginsWith story seen → IsDecidedSo opening seen id reply → IsDecidedSo opening story id reply
+decided_later : (opening : Opening) (story seen : List Event) (id : AskId) (reply : Reply) → BeginsWith story seen → IsDecidedSo opening seen id reply
+    → IsDecidedSo opening story id reply
 decided_later opening story seen id reply begins was =
     let event : Event = record { seat = was.seat; kind = Decide id was.index reply was.batch } in
     record {
@@ -129,7 +174,8 @@ module _ (Coherent : Type 0) (opening : Opening) (bytes : OpeningBytes) (script 
   abbrev Follow : List Event → Event → Type 0
   Follow = Follows Coherent opening bytes script
 
-  pub told_at_last : {X : Type 0} (tells : EventKind → Option X) (story : List Event) → AllFollow Follow [] story → (x : X) → last_in (all_told tells story) ≡ Some x → IsToldLast tells story x
+  pub told_at_last : {X : Type 0} (tells : EventKind → Option X) (story : List Event) → AllFollow Follow [] story → (x : X)
+      → last_in (all_told tells story) ≡ Some x → IsToldLast tells story x
   told_at_last {X} tells story all =
       kept_always Follow (λ front. (x : X) → last_in (all_told tells front) ≡ Some x → IsToldLast tells front x) story all
       (λ front event begins follow follows was. one_more_event tells front event was)
@@ -142,21 +188,24 @@ module _ (Coherent : Type 0) (opening : Opening) (bytes : OpeningBytes) (script 
       let it = told_at_last (reply_to client line) story all reply last in
       let of = reply_of client line it.event.kind reply it.told in
       let event : Event = record { seat = it.event.seat; kind = Decide of.id of.index reply of.batch } in
-      let parts : story ≡ it.front ++ event ∷ it.behind = it.parts ∙ ap (λ (kind : EventKind). it.front ++ record { seat = it.event.seat; kind = kind } ∷ it.behind) of.is in
+      let parts : story ≡ it.front ++ event ∷ it.behind = it.parts
+      ∙ ap (λ (kind : EventKind). it.front ++ record { seat = it.event.seat; kind = kind } ∷ it.behind) of.is in
       let follow = subst (λ (l : List Event). AllFollow Follow [] l) parts all in
       let before = follow_front Follow [] it.front (event ∷ it.behind) follow in
       let here = follow_first Follow it.front event it.behind (follow_behind Follow [] it.front (event ∷ it.behind) follow) in
       let enabled : DecideIsEnabled opening it.front it.event.seat of.id of.index reply of.batch = here.enabled coherent in
       let with = follow_before Follow story (it.front ++ event ∷ []) (it.behind, parts ∙ sym (append_assoc it.front (event ∷ []) it.behind)) all in
       let few = few_replies Coherent opening bytes script client line (it.front ++ event ∷ []) other coherent with in
-      let replied = count_more (reply_to client line) it.front event ∙ ap (λ (o : Option Reply). length (replies_to client line it.front) + length (cons_option o []))
+      let replied = count_more (reply_to client line) it.front event
+      ∙ ap (λ (o : Option Reply). length (replies_to client line it.front) + length (cons_option o []))
       (sym (ap (reply_to client line) of.is) ∙ it.told) in
       let asked = ap length (none_more (ask_id client line) it.front event (all_told (ask_id client line) it.front) refl refl) in
       let no_more = no_fewer (ask_id client line) story it.front (event ∷ it.behind, parts) in
       let count : asks_count client line it.front ≡ asks_count client line story = omega (arith, few, replied, asked, no_more, it.all, decided) in
       let its = last_id Coherent opening bytes script client line other it.front coherent before of.id
       (pending_is_last Coherent opening bytes script client line it.front other coherent before of.id of.of enabled.request enabled.undecided) in
-      let id_is : of.id ≡ record { client = client; line = line; step = asks_count client line story } = its ∙ ap (λ (n : ℕ). record { client = client; line = line; step = n }) count in
+      let id_is : of.id ≡ record { client = client; line = line; step = asks_count client line story } = its
+      ∙ ap (λ (n : ℕ). record { client = client; line = line; step = n }) count in
       subst (λ (id : AskId). IsDecidedSo opening story id reply) id_is
       (record { front = it.front; behind = it.behind; seat = it.event.seat; index = of.index; batch = of.batch; parts = parts; enabled = enabled })
 
@@ -195,7 +244,8 @@ pub record IsReadFor (opening : Opening) (story : List Event) (id : AskId) (numb
   pub among : Contains pieces piece
   pub decided : IsDecidedSo opening story id (replies.Pieces pieces)
 
-module _ (Coherent : Type 0) (opening : Opening) (bytes : OpeningBytes) (script : Script) (seen : List Event) (line : Line) (asked said : ℕ) (command : Command) (progress : Progress) (piece : Piece)
+module _ (Coherent : Type 0) (opening : Opening) (bytes : OpeningBytes) (script : Script) (seen : List Event) (line : Line) (asked said : ℕ)
+    (command : Command) (progress : Progress) (piece : Piece)
     (coherent : Coherent) (way : IsUnderWay Coherent opening bytes script seen line asked said command progress) (reading : IsReading command progress piece)
     (story : List Event) (begins : BeginsWith story seen) (all : AllFollow (Follows Coherent opening bytes script) [] story) where
   story_since : BeginsWith story way.since
@@ -209,7 +259,8 @@ module _ (Coherent : Type 0) (opening : Opening) (bytes : OpeningBytes) (script 
       let next = among_replied progress.came.replies (length progress.read) piece
       (read_is_there command (pieces_in progress.came.replies) (length progress.read) piece reading.next) in
       let last : last_in (replies_to line.client line.number way.since) ≡ Some (replies.Pieces next.pieces) = ap last_in at.of_line.replies ∙ next.last in
-      let it = last_decided Coherent opening bytes script line.client line.number way.since way.of_client coherent all_since (replies.Pieces next.pieces) last at.decided in
+      let it = last_decided Coherent opening bytes script line.client line.number way.since way.of_client coherent all_since
+      (replies.Pieces next.pieces) last at.decided in
       let of : IsDecidedSo opening way.since (ask_of line asked) (replies.Pieces next.pieces) =
       subst (λ (n : ℕ). IsDecidedSo opening way.since (ask_of line n) (replies.Pieces next.pieces)) way.asked_so it in
       let some = none_told (replies_to line.client line.number way.since) (replies.Pieces next.pieces) last in
@@ -224,7 +275,10 @@ module _ (Coherent : Type 0) (opening : Opening) (bytes : OpeningBytes) (script 
   pub read_is_named : IsNamed story (ask_of line asked) piece.block × (is_own (ask_of line asked) ≡ false)
   read_is_named =
       let its = its_reply in
-      let event : Event = record { seat = its.decided.seat; kind = Decide (ask_of line asked) its.decided.index (replies.Pieces its.pieces) its.decided.batch } in
+      let event : Event = record {
+        seat = its.decided.seat;
+        kind = Decide (ask_of line asked) its.decided.index (replies.Pieces its.pieces) its.decided.batch;
+      } in
       let of_script = scripted line.client line.number asked way.of_client in
       let stepped = ne_eqb asked 0 (λ none. omega (arith, none, its.some)) in (
         record {

@@ -1,5 +1,30 @@
 -- The pieces that are replied are those of a key.
-use Rattle.std.proofs.Common.{◌≡◌, ◌⊎◌, ⊎_elim, inl, inr, ℕ, suc, Bool, true, false, List, [], ◌∷◌, cond, Option, None, Some, Contains, refl, sym, ap, ◌∙◌, subst, arith}
+use Rattle.std.proofs.Common.{
+  ◌≡◌,
+  ◌⊎◌,
+  ⊎_elim,
+  inl,
+  inr,
+  ℕ,
+  suc,
+  Bool,
+  true,
+  false,
+  List,
+  [],
+  ◌∷◌,
+  cond,
+  Option,
+  None,
+  Some,
+  Contains,
+  refl,
+  sym,
+  ap,
+  ◌∙◌,
+  subst,
+  arith,
+}
 use Rattle.std.proofs.lemmas.Bool.{false≢true}
 use Rattle.std.proofs.lemmas.Option.{none-some}
 use Rattle.std.specs.Cmp.Lexicographic.{slice_cmp}
@@ -51,7 +76,8 @@ module _ (piece : Piece) where
   in_snapshot (first ∷ snapshots) name key has = by (is_same_name first.name name) has (in_snapshot snapshots name key)
     where
       by : (t : Bool) → Contains (pieces_in (keys_or_none (cond t (Some first.keys) (snapshot_keys snapshots name))) key) piece
-          → (Contains (pieces_in (keys_or_none (snapshot_keys snapshots name)) key) piece → (snapshot : Snapshot) × Contains snapshots snapshot × IsPieceOfKey snapshot.keys piece)
+          → (Contains (pieces_in (keys_or_none (snapshot_keys snapshots name)) key) piece → (snapshot : Snapshot) × Contains snapshots snapshot
+          × IsPieceOfKey snapshot.keys piece)
           → (snapshot : Snapshot) × Contains (first ∷ snapshots) snapshot × IsPieceOfKey snapshot.keys piece
       by true has rest = (first, (0, omega arith, refl), in_key first.keys key has)
       by false has rest =
@@ -69,18 +95,21 @@ module _ (piece : Piece) where
       → Contains (pieces_in (keys_in (bucket_in (scope_of namespace volume) name) snapshot) key) piece → IsPieceIn namespace piece
   in_namespace namespace volume name snapshot key has = by (bucket_of namespace volume name) refl has
     where
-      by : (o : Option Bucket) → bucket_of namespace volume name ≡ o → Contains (pieces_in (keys_in (bucket_or_new o) snapshot) key) piece → IsPieceIn namespace piece
+      by : (o : Option Bucket) → bucket_of namespace volume name ≡ o → Contains (pieces_in (keys_in (bucket_or_new o) snapshot) key) piece
+          → IsPieceIn namespace piece
       by None is has = ⊎_elim
           (λ it. absurd (in_no_key it))
           (λ it. absurd (in_none it.snapshot it.is_there))
           (in_bucket new_bucket snapshot key has)
       by (Some bucket) is has = record { volume = volume; name = name; bucket = bucket; is_there = is; has = in_bucket bucket snapshot key has }
 
-  replied : (o : Option Code) (namespace : Namespace) (request : Request) (pieces : List Piece) → Replies o (scope_of namespace (volume_in request)) request (replies.Pieces pieces)
+  replied : (o : Option Code) (namespace : Namespace) (request : Request) (pieces : List Piece)
+      → Replies o (scope_of namespace (volume_in request)) request (replies.Pieces pieces)
       → Contains pieces piece → IsPieceIn namespace piece
   replied o namespace (LookupKey volume bucket snapshot key) pieces is among =
       in_namespace namespace volume bucket snapshot key
-      (subst (λ (l : List Piece). Contains l piece) (looked_up o (pieces_in (keys_in (bucket_in (scope_of namespace volume) bucket) snapshot) key) pieces is) among)
+      (subst (λ (l : List Piece). Contains l piece)
+      (looked_up o (pieces_in (keys_in (bucket_in (scope_of namespace volume) bucket) snapshot) key) pieces is) among)
   replied o namespace (AllocateBlock volume bucket key session exclude) pieces is among = absurd (not_pieces o _ pieces refl is.2)
   replied o namespace request pieces is among = absurd (not_pieces o _ pieces refl is)
 
@@ -119,7 +148,12 @@ piece_reached namespace piece it = record {
       (λ of. inr (inr (record {
         snapshot = of.snapshot;
         is_there = of.is_there;
-        in_keys = record { key = of.of_key.key; pieces = of.of_key.pieces; is_there = of.of_key.is_there; has = block_among of.of_key.pieces piece of.of_key.has };
+        in_keys = record {
+          key = of.of_key.key;
+          pieces = of.of_key.pieces;
+          is_there = of.of_key.is_there;
+          has = block_among of.of_key.pieces piece of.of_key.has;
+        };
       })))
       it.has;
 }

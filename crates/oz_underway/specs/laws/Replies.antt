@@ -1,5 +1,30 @@
 -- What a line is replied: no more than it asked.
-use Rattle.std.proofs.Common.{◌≡◌, ◌≢◌, ⊎_elim, ℕ, ◌+◌, ◌≤◌, Bool, true, false, cond, List, [], ◌∷◌, length, None, Some, Contains, refl, sym, ap, ◌∙◌, subst, length-append, arith}
+use Rattle.std.proofs.Common.{
+  ◌≡◌,
+  ◌≢◌,
+  ⊎_elim,
+  ℕ,
+  ◌+◌,
+  ◌≤◌,
+  Bool,
+  true,
+  false,
+  cond,
+  List,
+  [],
+  ◌∷◌,
+  length,
+  None,
+  Some,
+  Contains,
+  refl,
+  sym,
+  ap,
+  ◌∙◌,
+  subst,
+  length-append,
+  arith,
+}
 use Rattle.std.proofs.lemmas.Bool.{false≢true}
 use Rattle.std.proofs.lemmas.Option.{none-some, same_Some}
 use Rattle.std.specs.List.{cons_option}
@@ -47,10 +72,12 @@ module _ (opening : Opening) (client line : ℕ) (front : List Event) (seat : �
     where
       by : (t : Bool) → is_of_line client line other ≡ t → AreFewBehind client line front (Ask other made)
       by true its =
-          let more : length (cons_option (ask_id client line (Ask other made)) []) ≡ 1 = ap (λ (t : Bool). length (cons_option (cond t (Some other) None) [])) its in
+          let more : length (cons_option (ask_id client line (Ask other made)) []) ≡ 1 =
+          ap (λ (t : Bool). length (cons_option (cond t (Some other) None) [])) its in
           record { few = omega (arith, was.few, more); fewer = λ id of request is. omega (arith, was.few, more) }
       by false apart =
-          let more : length (cons_option (ask_id client line (Ask other made)) []) ≡ 0 = ap (λ (t : Bool). length (cons_option (cond t (Some other) None) [])) apart in
+          let more : length (cons_option (ask_id client line (Ask other made)) []) ≡ 0 =
+          ap (λ (t : Bool). length (cons_option (cond t (Some other) None) [])) apart in
           record {
             few = omega (arith, was.few, more);
             fewer = λ id of request is. omega (arith, more, was.fewer id of request (still id of request (is_id id other) refl is));
@@ -69,21 +96,25 @@ module _ (opening : Opening) (client line : ℕ) (front : List Event) (seat : �
       before id request true is = absurd (none-some request is)
       before id request false is = is
 
-      undecided : (id : AskId) (request : Request) → pending_after id (pending id front) (Decide other index reply batch) ≡ Some request → pending id front ≡ Some request
+      undecided : (id : AskId) (request : Request) → pending_after id (pending id front) (Decide other index reply batch) ≡ Some request
+          → pending id front ≡ Some request
       undecided id request is = before id request (is_id id other) is
 
       by : (t : Bool) → is_of_line client line other ≡ t → AreFewBehind client line front (Decide other index reply batch)
       by true its =
-          let more : length (cons_option (reply_to client line (Decide other index reply batch)) []) ≡ 1 = ap (λ (t : Bool). length (cons_option (cond t (Some reply) None) [])) its in
+          let more : length (cons_option (reply_to client line (Decide other index reply batch)) []) ≡ 1 =
+          ap (λ (t : Bool). length (cons_option (cond t (Some reply) None) [])) its in
           record {
             few = omega (arith, more, was.fewer other its enabled.request enabled.undecided);
             fewer = λ id of request is.
                 let same : id ≡ other = one id other of its request enabled.request (undecided id request is) enabled.undecided in
-                let gone : pending_after id (pending id front) (Decide other index reply batch) ≡ None = ap (λ (t : Bool). cond t None (pending id front)) (subst (λ (i : AskId). is_id i other ≡ true) (sym same) (same_id other)) in
+                let gone : pending_after id (pending id front) (Decide other index reply batch) ≡ None =
+                ap (λ (t : Bool). cond t None (pending id front)) (subst (λ (i : AskId). is_id i other ≡ true) (sym same) (same_id other)) in
                 absurd (none-some request (sym gone ∙ is));
           }
       by false apart =
-          let more : length (cons_option (reply_to client line (Decide other index reply batch)) []) ≡ 0 = ap (λ (t : Bool). length (cons_option (cond t (Some reply) None) [])) apart in
+          let more : length (cons_option (reply_to client line (Decide other index reply batch)) []) ≡ 0 =
+          ap (λ (t : Bool). length (cons_option (cond t (Some reply) None) [])) apart in
           record {
             few = omega (arith, was.few, more);
             fewer = λ id of request is. omega (arith, more, was.fewer id of request (undecided id request is));
@@ -142,7 +173,8 @@ pub one_more : (client line asked : ℕ) (story since : List Event) (begins : Be
     → Contains begins.0 event → reply_to client line event.kind ≡ Some reply
     → replies_to client line begins.0 ≡ reply ∷ []
 one_more client line asked story since begins event reply all few among is =
-    let parts = ap length (told_longer (reply_to client line) story since begins) ∙ length-append (replies_to client line since) (replies_to client line begins.0) in
+    let parts = ap length (told_longer (reply_to client line) story since begins)
+    ∙ length-append (replies_to client line since) (replies_to client line begins.0) in
     only_one (replies_to client line begins.0) reply (told_among (reply_to client line) begins.0 event reply among is)
     (omega (arith, parts, all, few))
 

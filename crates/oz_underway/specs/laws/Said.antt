@@ -1,5 +1,32 @@
 -- What was said of a line's blocks, and what stays as long as no more is said.
-use Rattle.std.proofs.Common.{◌≡◌, ◌≢◌, ℕ, ◌+◌, ◌≤◌, Bool, true, false, ◌||◌, ◌&&◌, ◌==◌, List, [], ◌∷◌, ◌++◌, Option, None, Some, cond, refl, sym, ap, ◌∙◌, subst, append-nil, arith}
+use Rattle.std.proofs.Common.{
+  ◌≡◌,
+  ◌≢◌,
+  ℕ,
+  ◌+◌,
+  ◌≤◌,
+  Bool,
+  true,
+  false,
+  ◌||◌,
+  ◌&&◌,
+  ◌==◌,
+  List,
+  [],
+  ◌∷◌,
+  ◌++◌,
+  Option,
+  None,
+  Some,
+  cond,
+  refl,
+  sym,
+  ap,
+  ◌∙◌,
+  subst,
+  append-nil,
+  arith,
+}
 use Rattle.std.proofs.Math.Bool.{or-false}
 use Rattle.std.proofs.lemmas.Bool.{and_parts, eqb-true, false≢true}
 use Rattle.std.proofs.lemmas.List.Folds.{list_any-append}
@@ -168,7 +195,8 @@ module _ (Coherent : Type 0) (opening : Opening) (bytes : OpeningBytes) (script 
       let there = granted_still Coherent opening bytes script front seen id block before (script_of_line client line id other of) coherent follow goes was in
       let quiet : says client line event.kind ≡ false = silent (says client line event.kind) none in
       list_any-append (λ (e : Event). puts dn block e.kind) front (event ∷ [])
-      ∙ (ap (λ (t : Bool). has_event (puts dn block) front || (t || false)) (no_put client line dn front before id block coherent follow of there event.seat event.kind (follows.enabled coherent) quiet)
+      ∙ (ap (λ (t : Bool). has_event (puts dn block) front || (t || false))
+      (no_put client line dn front before id block coherent follow of there event.seat event.kind (follows.enabled coherent) quiet)
       ∙ (or-false (has_event (puts dn block) front) ∙ so same)))
       (λ same. refl)
     where

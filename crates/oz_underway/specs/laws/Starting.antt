@@ -1,5 +1,30 @@
 -- What has started stays so, and nothing is asked before.
-use Rattle.std.proofs.Common.{◌≡◌, ◌≢◌, ◌⊎◌, ⊎_elim, inl, inr, ℕ, ◌-◌, ◌≤◌, length, Bool, true, false, cond, List, [], Option, None, Some, Contains, refl, ◌∙◌, subst, arith}
+use Rattle.std.proofs.Common.{
+  ◌≡◌,
+  ◌≢◌,
+  ◌⊎◌,
+  ⊎_elim,
+  inl,
+  inr,
+  ℕ,
+  ◌-◌,
+  ◌≤◌,
+  length,
+  Bool,
+  true,
+  false,
+  cond,
+  List,
+  [],
+  Option,
+  None,
+  Some,
+  Contains,
+  refl,
+  ◌∙◌,
+  subst,
+  arith,
+}
 use Rattle.std.proofs.lemmas.List.Elements.{All-contains}
 use Rattle.oz_script.specs.declared.lines.script.Line.{Line}
 use Rattle.oz_script.specs.declared.lines.script.Script.{Script}

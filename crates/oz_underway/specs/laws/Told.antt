@@ -1,5 +1,29 @@
 -- A line is told once, and asks nothing more then.
-use Rattle.std.proofs.Common.{◌≡◌, ◌≢◌, ℕ, Bool, true, false, ◌||◌, ◌&&◌, ◌==◌, cond, List, [], ◌∷◌, ◌++◌, Option, None, Some, is_some, eq-eqb, refl, sym, ap, ◌∙◌}
+use Rattle.std.proofs.Common.{
+  ◌≡◌,
+  ◌≢◌,
+  ℕ,
+  Bool,
+  true,
+  false,
+  ◌||◌,
+  ◌&&◌,
+  ◌==◌,
+  cond,
+  List,
+  [],
+  ◌∷◌,
+  ◌++◌,
+  Option,
+  None,
+  Some,
+  is_some,
+  eq-eqb,
+  refl,
+  sym,
+  ap,
+  ◌∙◌,
+}
 use Rattle.std.proofs.Math.Bool.{or-true}
 use Rattle.std.proofs.lemmas.Bool.{and_from, and_parts, eqb-true, false≢true}
 use Rattle.std.specs.List.{cons_option}
@@ -41,7 +65,8 @@ answers_now story seat client line answer =
     ∙ ap (λ (o : Option Answer). answers_to client line story ++ cons_option o []) (its_answer client line answer)
 
 -- a line that was told asks nothing, and is told nothing
-no_ask : (opening : Opening) (client line : ℕ) (front : List Event) (seat : ℕ) (kind : EventKind) → client ≢ SERVICE_CLIENT → KindIsEnabled opening front seat kind
+no_ask : (opening : Opening) (client line : ℕ) (front : List Event) (seat : ℕ) (kind : EventKind) → client ≢ SERVICE_CLIENT
+    → KindIsEnabled opening front seat kind
     → is_told client line front ≡ true → ask_id client line kind ≡ None
 no_ask opening client line front seat (Ask id request) other enabled told = by (is_of_line client line id) refl
   where
@@ -61,7 +86,8 @@ no_answer opening client line front seat (Told other number answer) enabled told
     by false apart = refl
     by true its =
         let parts = and_parts (other == client) (number == line) its in
-        absurd (false≢true (sym enabled.untold ∙ (ap (λ (c : ℕ). is_told c number front) (eqb-true other client parts.0) ∙ (ap (λ (l : ℕ). is_told client l front) (eqb-true number line parts.1) ∙ told))))
+        absurd (false≢true (sym enabled.untold ∙ (ap (λ (c : ℕ). is_told c number front) (eqb-true other client parts.0)
+        ∙ (ap (λ (l : ℕ). is_told client l front) (eqb-true number line parts.1) ∙ told))))
 no_answer opening client line front seat kind enabled told = refl
 
 module _ (Coherent : Type 0) (opening : Opening) (bytes : OpeningBytes) (script : Script) where

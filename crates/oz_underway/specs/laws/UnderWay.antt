@@ -1,5 +1,37 @@
 -- Lines that are under way.
-use Rattle.std.proofs.Common.{◌≡◌, ◌≢◌, ⊎_elim, ℕ, ◌+◌, ◌≤◌, ◌<◌, Bool, true, false, ◌&&◌, is_none, cond, List, [], ◌∷◌, ◌++◌, length, take, Option, None, Some, Contains, refl, sym, ap, ◌∙◌, subst, length-append, append-nil, arith}
+use Rattle.std.proofs.Common.{
+  ◌≡◌,
+  ◌≢◌,
+  ⊎_elim,
+  ℕ,
+  ◌+◌,
+  ◌≤◌,
+  ◌<◌,
+  Bool,
+  true,
+  false,
+  ◌&&◌,
+  is_none,
+  cond,
+  List,
+  [],
+  ◌∷◌,
+  ◌++◌,
+  length,
+  take,
+  Option,
+  None,
+  Some,
+  Contains,
+  refl,
+  sym,
+  ap,
+  ◌∙◌,
+  subst,
+  length-append,
+  append-nil,
+  arith,
+}
 use Rattle.std.proofs.lemmas.Bool.{cases_lt, false≢true}
 use Rattle.std.proofs.lemmas.Option.{none-some, same_Some}
 use Rattle.std.specs.List.{cons_option, filter_map, list_all}
@@ -107,7 +139,8 @@ module _ (Coherent : Type 0) (opening : Opening) (bytes : OpeningBytes) (script 
       let id = next_id line asked in
       let few : times_asked story line < asked + 1 = ⊎_elim
       (λ (lt : times_asked story line < asked + 1). lt)
-      (λ (le : asked + 1 ≤ times_asked story line). absurd (false≢true (sym unasked ∙ asked_of_step Coherent opening bytes script id other (omega arith) story coherent all le)))
+      (λ (le : asked + 1 ≤ times_asked story line). absurd
+      (false≢true (sym unasked ∙ asked_of_step Coherent opening bytes script id other (omega arith) story coherent all le)))
       (cases_lt (times_asked story line) (asked + 1)) in
       let many = no_fewer (ask_id line.client line.number) story since begins in
       omega (arith, few, many, so)
@@ -138,7 +171,8 @@ module _ (Coherent : Type 0) (opening : Opening) (bytes : OpeningBytes) (script 
         )
 
     -- what is pending of the id was asked since
-    asked_the_same : IsNumbered script → (front : List Event) → BeginsWith front way.since → AllFollow Follow [] front → IsSaid front line said progress → (kind : EventKind)
+    asked_the_same : IsNumbered script → (front : List Event) → BeginsWith front way.since → AllFollow Follow [] front → IsSaid front line said progress
+        → (kind : EventKind)
         → EventFits opening bytes script front kind
         → ((other : Request) → pending (next_id line asked) front ≡ Some other → other ≡ request)
         → (other : Request) → pending_after (next_id line asked) (pending (next_id line asked) front) kind ≡ Some other → other ≡ request
@@ -187,10 +221,12 @@ module _ (Coherent : Type 0) (opening : Opening) (bytes : OpeningBytes) (script 
       kept_on Follow (λ front. IsSaid front line said progress → times_asked front line ≡ asked) story way.since goes all
       (λ front event behind follow follows was after.
       let as_said = said_between (front ++ event ∷ []) front way.since line said progress (event ∷ [], refl) behind way.said_so after in
-      ap length (none_more (ask_id line.client line.number) front event (asks_of line.client line.number front) (no_ask front behind follow as_said event.kind (follows.fits coherent) (was as_said)) refl) ∙ was as_said)
+      ap length (none_more (ask_id line.client line.number) front event (asks_of line.client line.number front)
+      (no_ask front behind follow as_said event.kind (follows.fits coherent) (was as_said)) refl) ∙ was as_said)
       (λ as_said. way.asked_so)
     where
-      no_ask : (front : List Event) → BeginsWith front way.since → AllFollow Follow [] front → IsSaid front line said progress → (kind : EventKind) → EventFits opening bytes script front kind
+      no_ask : (front : List Event) → BeginsWith front way.since → AllFollow Follow [] front → IsSaid front line said progress → (kind : EventKind)
+          → EventFits opening bytes script front kind
           → times_asked front line ≡ asked → ask_id line.client line.number kind ≡ None
       no_ask front behind follow as_said (Ask id request) fits was = by (is_of_line line.client line.number id) refl
         where
@@ -199,8 +235,10 @@ module _ (Coherent : Type 0) (opening : Opening) (bytes : OpeningBytes) (script 
           by true of =
               let fit : AskFits opening script front id request = fits.0 (script_of_line line.client line.number id way.of_client of) in
               let same = of_line line.client line.number id of in
-              let its : fit.line ≡ line = lines_apart script numbered fit.line line fit.its.there way.there (fit.its.of_client ∙ same.0) (fit.its.of_number ∙ same.1) in
-              let next : next_step opening script front line ≡ Some request = subst (λ (l : Line). next_step opening script front l ≡ Some request) its fit.next in
+              let its : fit.line ≡ line =
+              lines_apart script numbered fit.line line fit.its.there way.there (fit.its.of_client ∙ same.0) (fit.its.of_number ∙ same.1) in
+              let next : next_step opening script front line ≡ Some request =
+              subst (λ (l : Line). next_step opening script front l ≡ Some request) its fit.next in
               let none : next_step opening script front line ≡ None =
               request-so opening script front line command progress.label progress.came (way.has front behind follow was as_said).of_line ∙ idle in
               absurd (none-some request (sym none ∙ next))
@@ -241,7 +279,8 @@ module _ (Coherent : Type 0) (opening : Opening) (bytes : OpeningBytes) (script 
   }
 
   -- from its start on
-  pub begins_started : IsNumbered script → (seen : List Event) (line : Line) (said : ℕ) (command : Command) (nodes : ℕ) (label : Option Label) → Coherent → Contains script.lines line
+  pub begins_started : IsNumbered script → (seen : List Event) (line : Line) (said : ℕ) (command : Command) (nodes : ℕ) (label : Option Label) → Coherent
+      → Contains script.lines line
       → AllFollow Follow [] seen → HasStarted seen line → line.command ≡ command → IsLabel script seen line command label
       → UnderWay seen line 0 said command (nothing_yet nodes label)
   begins_started numbered seen line said command nodes label coherent there all started does is =
@@ -265,7 +304,9 @@ module _ (Coherent : Type 0) (opening : Opening) (bytes : OpeningBytes) (script 
         way.asked_so way.said_so
 
     grants_since : AreGrants opening way.since progress.came.attempts None (granted_to line.client line.number way.since)
-    grants_since = subst (λ (w : Option Granted). AreGrants opening way.since progress.came.attempts w (granted_to line.client line.number way.since)) idle at_since.of_line.grants
+    grants_since = subst
+        (λ (w : Option Granted). AreGrants opening way.since progress.came.attempts w
+        (granted_to line.client line.number way.since)) idle at_since.of_line.grants
 
     module _ (event : Event) (is : reply_to line.client line.number event.kind ≡ Some reply) (story : List Event) (all : AllFollow Follow [] story)
         (since : BeginsWith story way.since) (among : Contains since.0 event) (so : times_asked story line ≡ asked + 1) where
@@ -314,7 +355,8 @@ module _ (Coherent : Type 0) (opening : Opening) (bytes : OpeningBytes) (script 
         decided =
             let before = ap length (sym at_since.of_line.replies) ∙ (at_since.decided ∙ way.asked_so) in
             omega (arith, ap length replies_now, length-append progress.came.replies (reply ∷ []), before, so);
-        read = subst (λ (read : List (List ℕ)). AreContents opening bytes script story (take (length read) (pieces_in (progress.came.replies ++ reply ∷ []))) read) (sym unread) tt;
+        read = subst (λ (read : List (List ℕ)). AreContents opening bytes script story
+            (take (length read) (pieces_in (progress.came.replies ++ reply ∷ []))) read) (sym unread) tt;
       }
 
     pub reply_comes : (place now : ℕ) → IsDecideAt later place (next_id line asked) reply
@@ -322,7 +364,8 @@ module _ (Coherent : Type 0) (opening : Opening) (bytes : OpeningBytes) (script 
     reply_comes place now decided =
         let id = next_id line asked in
         let since = begins_through later seen way.since goes way.goes_on in
-        let found = decided_since Coherent opening bytes script later way.since place id reply way.of_client coherent follow since (omega (arith, way.asked_so)) decided in
+        let found = decided_since Coherent opening bytes script later way.since place id reply way.of_client coherent follow since
+        (omega (arith, way.asked_so)) decided in
         let event : Event = record { seat = found.seat; kind = Decide id found.index reply found.batch } in
         let behind = begins_push found.front way.since event found.behind in
         record {
@@ -352,8 +395,10 @@ module _ (Coherent : Type 0) (opening : Opening) (bytes : OpeningBytes) (script 
 
   -- ---- a piece is read
 
-  pub piece_read : IsNumbered script → (seen later : List Event) (line : Line) (asked said : ℕ) (command : Command) (progress : Progress) (piece : Piece) (content : List ℕ) → Coherent
-      → UnderWay seen line asked said command progress → IsReading command progress piece → IsSaid later line said progress → BeginsWith later seen → AllFollow Follow [] later
+  pub piece_read : IsNumbered script
+      → (seen later : List Event) (line : Line) (asked said : ℕ) (command : Command) (progress : Progress) (piece : Piece) (content : List ℕ) → Coherent
+      → UnderWay seen line asked said command progress → IsReading command progress piece → IsSaid later line said progress → BeginsWith later seen
+      → AllFollow Follow [] later
       → HasContent opening bytes script later piece.block content
       → UnderWay later line asked said command (record progress { read = progress.read ++ content ∷ [] })
   piece_read numbered seen later line asked said command progress piece content coherent way reading as_said begins all has =
@@ -399,9 +444,11 @@ module _ (Coherent : Type 0) (opening : Opening) (bytes : OpeningBytes) (script 
     due = due;
   }
 
-  pub told_fits : (seen : List Event) (line : Line) (asked said : ℕ) (command : Command) (progress : Progress) (got : Got) (answer : Answer) (last : Option AskId) → Coherent
+  pub told_fits : (seen : List Event) (line : Line) (asked said : ℕ) (command : Command) (progress : Progress) (got : Got) (answer : Answer)
+      (last : Option AskId) → Coherent
       → UnderWay seen line asked said command progress → IsStepEverywhere command progress got (steps.Tell answer) → IsLast last asked
-      → (story : List Event) → BeginsWith story seen → AllFollow Follow [] story → last_ask line.client line.number story ≡ last → IsSaid story line said progress
+      → (story : List Event) → BeginsWith story seen → AllFollow Follow [] story → last_ask line.client line.number story ≡ last
+      → IsSaid story line said progress
       → HasIt opening bytes script story line command progress got
       → EventFits opening bytes script story (Told line.client line.number answer)
   told_fits seen line asked said command progress got answer last coherent way step of_last story begins all is as_said has_it =

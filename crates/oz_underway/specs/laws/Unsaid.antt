@@ -1,5 +1,29 @@
 -- Nothing is said for an Ask before it is decided.
-use Rattle.std.proofs.Common.{◌≡◌, inl, inr, ℕ, ◌≤◌, Bool, true, false, ◌||◌, ◌==◌, List, [], ◌∷◌, ◌++◌, Some, Contains, refl, sym, ap, ◌∙◌, subst, append-nil, arith}
+use Rattle.std.proofs.Common.{
+  ◌≡◌,
+  inl,
+  inr,
+  ℕ,
+  ◌≤◌,
+  Bool,
+  true,
+  false,
+  ◌||◌,
+  ◌==◌,
+  List,
+  [],
+  ◌∷◌,
+  ◌++◌,
+  Some,
+  Contains,
+  refl,
+  sym,
+  ap,
+  ◌∙◌,
+  subst,
+  append-nil,
+  arith,
+}
 use Rattle.std.proofs.lemmas.Bool.{and_parts, eqb-true, false≢true}
 use Rattle.std.proofs.lemmas.List.Elements.{Contains-append_left, Contains-append_right}
 use Rattle.std.proofs.lemmas.List.Folds.{list_any-append}
@@ -62,7 +86,8 @@ pub fewer_has : (is big : EventKind → Bool) → ((kind : EventKind) → is kin
 fewer_has is big within [] none = refl
 fewer_has is big within (event ∷ story) none = by (is event.kind) refl (big event.kind) refl (λ rest. fewer_has is big within story rest) none
   where
-    by : (t : Bool) → is event.kind ≡ t → (b : Bool) → big event.kind ≡ b → (has_event big story ≡ false → has_event is story ≡ false) → (b || has_event big story) ≡ false
+    by : (t : Bool) → is event.kind ≡ t → (b : Bool) → big event.kind ≡ b → (has_event big story ≡ false → has_event is story ≡ false)
+        → (b || has_event big story) ≡ false
         → (is event.kind || has_event is story) ≡ false
     by t so true large later none = absurd (false≢true (sym none))
     by true so false large later none = absurd (false≢true (sym large ∙ within event.kind so))
@@ -100,7 +125,8 @@ module _ (Coherent : Type 0) (opening : Opening) (bytes : OpeningBytes) (script 
         (sym (list_any-append (λ (e : Event). says_for id e.kind) front (event ∷ [])) ∙ is)))
         (λ is. absurd (false≢true is))
       where
-        by : (front : List Event) (t : Bool) → has_event (says_for id) front ≡ t → (now : Bool) → (has_event (says_for id) front ≡ true → IsDecided front id) → (now ≡ true → IsDecided front id)
+        by : (front : List Event) (t : Bool) → has_event (says_for id) front ≡ t → (now : Bool)
+            → (has_event (says_for id) front ≡ true → IsDecided front id) → (now ≡ true → IsDecided front id)
             → (has_event (says_for id) front || (now || false)) ≡ true → IsDecided front id
         by front true so now was here is = was so
         by front false so true was here is = here refl
@@ -118,5 +144,6 @@ module _ (Coherent : Type 0) (opening : Opening) (bytes : OpeningBytes) (script 
             let event : Event = record { seat = was.seat; kind = Decide id was.index was.reply was.batch } in
             let found : slice_get (story ++ []) was.there.0 ≡ Some event =
             ap (λ (l : List Event). slice_get l was.there.0) (append-nil story) ∙ found_at story event was.there in
-            let behind = decided_beyond opening id of_script story [] (legal_of_follow Coherent opening bytes script story coherent all) request waits was.there.0 was.seat was.index was.reply was.batch found in
+            let behind = decided_beyond opening id of_script story []
+            (legal_of_follow Coherent opening bytes script story coherent all) request waits was.there.0 was.seat was.index was.reply was.batch found in
             absurd (omega (arith, behind, was.there.1))

@@ -1,5 +1,45 @@
 -- A line whose block's members have answered.
-use Rattle.std.proofs.Common.{◌≡◌, ◌⊎◌, ⊎_elim, inl, inr, ℕ, ◌+◌, ◌%◌, ◌≤◌, ◌<◌, ◌==◌, Bool, true, false, ◌||◌, ◌&&◌, is_none, cond, List, [], ◌∷◌, ◌++◌, map, filter, length, take, Option, None, Some, All, Contains, eq-eqb, refl, sym, ap, ◌∙◌, subst, append-nil, arith}
+use Rattle.std.proofs.Common.{
+  ◌≡◌,
+  ◌⊎◌,
+  ⊎_elim,
+  inl,
+  inr,
+  ℕ,
+  ◌+◌,
+  ◌%◌,
+  ◌≤◌,
+  ◌<◌,
+  ◌==◌,
+  Bool,
+  true,
+  false,
+  ◌||◌,
+  ◌&&◌,
+  is_none,
+  cond,
+  List,
+  [],
+  ◌∷◌,
+  ◌++◌,
+  map,
+  filter,
+  length,
+  take,
+  Option,
+  None,
+  Some,
+  All,
+  Contains,
+  eq-eqb,
+  refl,
+  sym,
+  ap,
+  ◌∙◌,
+  subst,
+  append-nil,
+  arith,
+}
 use Rattle.std.proofs.Math.Bool.{or-false}
 use Rattle.std.proofs.lemmas.Bool.{and_from, and_parts, false≢true, leb-true, or_left, or_right}
 use Rattle.std.proofs.lemmas.List.{map-append}
@@ -51,10 +91,32 @@ use Rattle.oz_kept.specs.laws.Granted.{one_id, told_among}
 use Rattle.oz_kept.specs.reopened.laws.Placed.{event_there}
 use Rattle.oz_turn.specs.Told.{BeginsWith}
 use Rattle.oz_underway.specs.UnderWay.{HasAnswered, HaveAnswered, IsSaid, IsToBeWritten, IsUnderWay, ask_of, is_all_written, times_asked}
-use Rattle.oz_underway.specs.laws.Answered.{AreCounted, IsAnswerIn, are_counted, its_answer, its_id, refused_as_before, refusing_as_answered, same_block, since_then}
+use Rattle.oz_underway.specs.laws.Answered.{
+  AreCounted,
+  IsAnswerIn,
+  are_counted,
+  its_answer,
+  its_id,
+  refused_as_before,
+  refusing_as_answered,
+  same_block,
+  since_then,
+}
 use Rattle.oz_underway.specs.laws.Asks.{its_line, of_line}
 use Rattle.oz_underway.specs.laws.Contents.{content_still}
-use Rattle.oz_underway.specs.laws.Fates.{IsGrantOf, IsLastOf, StandsAsBefore, grant_members, grant_of, grants_still, its_fate, last_of, one_attempt, stays_settled, written_by_two}
+use Rattle.oz_underway.specs.laws.Fates.{
+  IsGrantOf,
+  IsLastOf,
+  StandsAsBefore,
+  grant_members,
+  grant_of,
+  grants_still,
+  its_fate,
+  last_of,
+  one_attempt,
+  stays_settled,
+  written_by_two,
+}
 use Rattle.oz_underway.specs.laws.Going.{begins_itself, begins_through, follow_before, no_fewer, same_by_count, told_longer}
 use Rattle.oz_underway.specs.laws.Granted.{same_granted}
 use Rattle.oz_underway.specs.laws.Grants.{its_pipeline}
@@ -101,7 +163,8 @@ record AreThreeAnswers (story : List Event) (id : AskId) (block : Block) (a b c 
   are : answers ≡ x ∷ y ∷ z ∷ []
   answered : HaveAnswered story id block (a ∷ b ∷ c ∷ []) (x ∷ y ∷ z ∷ [])
 
-three_answers : (story : List Event) (id : AskId) (block : Block) (a b c : ℕ) (answers : List (Option PutRefusal)) → HaveAnswered story id block (a ∷ b ∷ c ∷ []) answers
+three_answers : (story : List Event) (id : AskId) (block : Block) (a b c : ℕ) (answers : List (Option PutRefusal))
+    → HaveAnswered story id block (a ∷ b ∷ c ∷ []) answers
     → AreThreeAnswers story id block a b c answers
 three_answers story id block a b c [] have = absurd have
 three_answers story id block a b c (x ∷ []) have = absurd have.1
@@ -123,7 +186,8 @@ module _ (story : List Event) (id : AskId) (block : Block) where
       (λ (same : first ≡ record { seat = datanode_seat dn; kind = Refused dn block id refusal }).
       or_left (refuses dn block id first.kind) (has_event (refuses dn block id) l)
       (ap (λ (e : Event). refuses dn block id e.kind) same
-      ∙ and_from (dn == dn && is_block block block) (is_id id id) (and_from (dn == dn) (is_block block block) (eq-eqb dn dn refl) (same_block block)) (same_id id)))
+      ∙ and_from (dn == dn && is_block block block) (is_id id id) (and_from (dn == dn) (is_block block block) (eq-eqb dn dn refl) (same_block block))
+      (same_id id)))
       (λ later. or_right (refuses dn block id first.kind) (has_event (refuses dn block id) l) (refused_there dn refusal l later))
       (first_or_later first (record { seat = datanode_seat dn; kind = Refused dn block id refusal }) l there)
 
@@ -138,7 +202,8 @@ module _ (story : List Event) (id : AskId) (block : Block) where
   answered_each (dn ∷ dns) (answer ∷ answers) have =
       All-cons PutOrRefused dn dns (answered_one dn answer have.0) (answered_each dns answers have.1)
 
-  put_one : (dn : ℕ) (answer : Option PutRefusal) → HasAnswered story id block dn answer → cond (is_none answer) 1 0 ≤ cond (has_event (puts dn block) story) 1 0
+  put_one : (dn : ℕ) (answer : Option PutRefusal) → HasAnswered story id block dn answer
+      → cond (is_none answer) 1 0 ≤ cond (has_event (puts dn block) story) 1 0
   put_one dn None put = subst (λ (t : Bool). 1 ≤ cond t 1 0) (sym put) (omega arith)
   put_one dn (Some refusal) there = omega arith
 
@@ -193,21 +258,28 @@ module _ (Coherent : Type 0) (opening : Opening) (bytes : OpeningBytes) (script 
 
     apart : AreThree progress.nodes granted.pipeline
     apart =
-        let event : Event = record { seat = to_write.its.stripe; kind = Decide (ask_of line asked) to_write.its.index (replies.Granted granted.block to_write.its.pipeline) to_write.its.batch } in
+        let event : Event = record {
+          seat = to_write.its.stripe;
+          kind = Decide (ask_of line asked) to_write.its.index (replies.Granted granted.block to_write.its.pipeline) to_write.its.batch;
+        } in
         let there : Contains way.since event = granting way.since (ask_of line asked) granted.block to_write.before to_write.its in
-        let known = its_pipeline Coherent opening bytes script way.since coherent follow_since there.0 to_write.its.stripe to_write.its.index to_write.its.pipeline (ask_of line asked) granted.block to_write.its.batch
+        let known = its_pipeline Coherent opening bytes script way.since coherent follow_since there.0 to_write.its.stripe to_write.its.index
+        to_write.its.pipeline (ask_of line asked) granted.block to_write.its.batch
         (found_at way.since event there) in
         are_three progress.nodes granted.pipeline (omega (arith, least, nodes))
         (subst (λ (n : ℕ). granted.pipeline < pipelines_of n) (sym nodes) (subst (λ (p : ℕ). p < pipelines_of (length opening.nodes)) to_write.on known))
 
     in_a : IsAnswerIn line.client line.number id granted.block since.0 a x
-    in_a = its_answer Coherent opening bytes script later way.since since coherent all id granted.block to_write.before granted_later to_write.unsaid a x answered.0
+    in_a = its_answer Coherent opening bytes script later way.since since coherent all id granted.block to_write.before granted_later to_write.unsaid a x
+        answered.0
 
     in_b : IsAnswerIn line.client line.number id granted.block since.0 b y
-    in_b = its_answer Coherent opening bytes script later way.since since coherent all id granted.block to_write.before granted_later to_write.unsaid b y answered.1.0
+    in_b = its_answer Coherent opening bytes script later way.since since coherent all id granted.block to_write.before granted_later to_write.unsaid b y
+        answered.1.0
 
     in_c : IsAnswerIn line.client line.number id granted.block since.0 c z
-    in_c = its_answer Coherent opening bytes script later way.since since coherent all id granted.block to_write.before granted_later to_write.unsaid c z answered.1.1.0
+    in_c = its_answer Coherent opening bytes script later way.since since coherent all id granted.block to_write.before granted_later to_write.unsaid c z
+        answered.1.1.0
 
     said_then : (n : ℕ) → times_said line.client line.number later ≡ said + (3 + n) → times_said line.client line.number since.0 ≡ 3 + n
     said_then n now =
@@ -231,7 +303,8 @@ module _ (Coherent : Type 0) (opening : Opening) (bytes : OpeningBytes) (script 
       in_turn =
           ap length
           (told_longer (wrote line.client line.number) later way.since since
-          ∙ (ap (λ (bs : List Block). written_for line.client line.number way.since ++ bs) (none_written now) ∙ append-nil (written_for line.client line.number way.since)))
+          ∙ (ap (λ (bs : List Block). written_for line.client line.number way.since ++ bs) (none_written now)
+          ∙ append-nil (written_for line.client line.number way.since)))
           ∙ to_write.in_turn;
     }
 
@@ -243,13 +316,16 @@ module _ (Coherent : Type 0) (opening : Opening) (bytes : OpeningBytes) (script 
         let few = few_replies Coherent opening bytes script line.client line.number story way.of_client coherent follow in
         omega (arith, few, so, at.decided, way.asked_so)
 
-    module _ (numbered : IsNumbered script) (asked_so : times_asked later line ≡ asked) (two : Bool) (two_is : nat_le 2 (count_by is_none (x ∷ y ∷ z ∷ [])) ≡ two)
-        (wrote_is : all_told (wrote line.client line.number) since.0 ≡ cond two (granted.block ∷ []) []) (n : ℕ) (each : AreCounted line.client line.number a b c n since.0)
+    module _ (numbered : IsNumbered script) (asked_so : times_asked later line ≡ asked) (two : Bool)
+        (two_is : nat_le 2 (count_by is_none (x ∷ y ∷ z ∷ [])) ≡ two)
+        (wrote_is : all_told (wrote line.client line.number) since.0 ≡ cond two (granted.block ∷ []) []) (n : ℕ)
+        (each : AreCounted line.client line.number a b c n since.0)
         (now : ℕ) (said_now : times_said line.client line.number later ≡ now) where
       last : IsLastOf opening way.since progress.came.attempts granted (granted_to line.client line.number way.since)
       last =
           last_of opening way.since progress.came.attempts granted (granted_to line.client line.number way.since)
-          (subst (λ (w : Option Granted). AreGrants opening way.since progress.came.attempts w (granted_to line.client line.number way.since)) writing at.of_line.grants)
+          (subst (λ (w : Option Granted). AreGrants opening way.since progress.came.attempts w
+          (granted_to line.client line.number way.since)) writing at.of_line.grants)
 
       -- one that has the block was granted it by that Ask
       its_ask : (grant : GrantedBlock) → IsGrantOf line.client line.number way.since grant → grant.block ≡ granted.block → grant.id ≡ ask_of line asked
@@ -261,7 +337,8 @@ module _ (Coherent : Type 0) (opening : Opening) (bytes : OpeningBytes) (script 
             index = its.index;
             pipeline = grant.pipeline;
             batch = its.batch;
-            there = subst (λ (b : Block). Contains way.since (record { seat = its.seat; kind = Decide grant.id its.index (replies.Granted b grant.pipeline) its.batch })) same its.there;
+            there = subst (λ (b : Block). Contains way.since
+                (record { seat = its.seat; kind = Decide grant.id its.index (replies.Granted b grant.pipeline) its.batch })) same its.there;
           })
           (its_grant opening way.since legal (ask_of line asked) granted.block to_write.before to_write.its)
 
@@ -288,13 +365,15 @@ module _ (Coherent : Type 0) (opening : Opening) (bytes : OpeningBytes) (script 
               let block_is : grant.block ≡ granted.block = one_block grant.block granted.block is in
               let ids : grant.id ≡ last.grant.id = its_ask grant (of_earlier grant among) block_is ∙ sym last_id in
               let blocks : grant.block ≡ last.grant.block = block_is ∙ sym last.unsettled.block in
-              let settled = each_of_all (is_settled opening way.since) last.earlier grant (all-settled opening way.since progress.came.attempts last.earlier last.before) among in
+              let settled = each_of_all (is_settled opening way.since) last.earlier grant
+              (all-settled opening way.since progress.came.attempts last.earlier last.before) among in
               let same : is_settled opening way.since grant ≡ is_settled opening way.since last.grant =
               λ i. is_settled opening way.since (record { id = ids i; block = blocks i; pipeline = grant.pipeline }) in
               absurd (false≢true (sym last.unsettled.unsettled ∙ (sym same ∙ settled)))
 
       wrote_later : written_for line.client line.number later ≡ written_for line.client line.number way.since ++ cond two (granted.block ∷ []) []
-      wrote_later = told_longer (wrote line.client line.number) later way.since since ∙ ap (λ (bs : List Block). written_for line.client line.number way.since ++ bs) wrote_is
+      wrote_later = told_longer (wrote line.client line.number) later way.since since
+          ∙ ap (λ (bs : List Block). written_for line.client line.number way.since ++ bs) wrote_is
 
       written_any : (block : Block) → list_any (is_block block) (written_for line.client line.number later)
           ≡ (list_any (is_block block) (written_for line.client line.number way.since) || list_any (is_block block) (cond two (granted.block ∷ []) []))
@@ -318,7 +397,8 @@ module _ (Coherent : Type 0) (opening : Opening) (bytes : OpeningBytes) (script 
             seat = its.seat;
             index = its.index;
             batch = its.batch;
-            there = subst (λ (l : List Event). Contains l (record { seat = its.seat; kind = Decide grant.id its.index (replies.Granted grant.block grant.pipeline) its.batch })) (sym since.1)
+            there = subst (λ (l : List Event). Contains l
+                (record { seat = its.seat; kind = Decide grant.id its.index (replies.Granted grant.block grant.pipeline) its.batch })) (sym since.1)
                 (Contains-append_left way.since since.0 _ its.there);
           } in
           let moved = grant_members Coherent opening bytes script line.client line.number later grant coherent all later_too
@@ -332,7 +412,8 @@ module _ (Coherent : Type 0) (opening : Opening) (bytes : OpeningBytes) (script 
                 ∙ sym (in_line grant its.of way.since))));
             refusing = λ counts i.
                 count_by
-                (λ (dn : ℕ). refused_as_before Coherent opening bytes script later way.since since coherent all id granted.block to_write.before granted_later to_write.unsaid
+                (λ (dn : ℕ). refused_as_before Coherent opening bytes script later way.since since coherent all id granted.block to_write.before
+                granted_later to_write.unsaid
                 a b c apart.one apart.two apart.three x y z in_a in_b in_c n each counts grant its.of away dn i)
                 (moved i);
           }
@@ -362,7 +443,8 @@ module _ (Coherent : Type 0) (opening : Opening) (bytes : OpeningBytes) (script 
               ∙ first_not (is_written way.since last.grant) (is_abandoned opening way.since last.grant) last.unsettled.unsettled
 
           here : (t : Bool) → list_any (is_block last.grant.block) (cond t (granted.block ∷ []) []) ≡ t
-          here true = ap (λ (t : Bool). t || false) (subst (λ (block : Block). is_block last.grant.block block ≡ true) last.unsettled.block (same_block last.grant.block))
+          here true = ap (λ (t : Bool). t || false)
+              (subst (λ (block : Block). is_block last.grant.block block ≡ true) last.unsettled.block (same_block last.grant.block))
           here false = refl
 
       abbrev attempt : Attempt
@@ -388,7 +470,8 @@ module _ (Coherent : Type 0) (opening : Opening) (bytes : OpeningBytes) (script 
           block_of : Attempt → Block
           block_of attempt = attempt.granted.block
 
-          by : (t : Bool) → map (λ (a : Attempt). a.granted.block) (cond t (record { granted = granted; fate = fate_of (x ∷ y ∷ z ∷ []) } ∷ []) []) ≡ cond t (granted.block ∷ []) []
+          by : (t : Bool) → map (λ (a : Attempt). a.granted.block) (cond t (record { granted = granted; fate = fate_of (x ∷ y ∷ z ∷ []) } ∷ []) [])
+              ≡ cond t (granted.block ∷ []) []
           by true = refl
           by false = refl
 
@@ -408,7 +491,8 @@ module _ (Coherent : Type 0) (opening : Opening) (bytes : OpeningBytes) (script 
           let granted_same =
           same_granted Coherent opening bytes script line.client line.number story later goes
           (let some = no_fewer (reply_to line.client line.number) later way.since since in let few = few_replied story follow so in omega (arith, some, few)) in
-          let settled = stays_settled Coherent opening bytes script line.client line.number later story attempts coherent all follow goes grants_later granted_same
+          let settled = stays_settled Coherent opening bytes script line.client line.number later story attempts coherent all follow goes grants_later
+          granted_same
           (quiet (list_all has_fate_written attempts) refl) in
           let from = begins_through story later way.since goes since in
           let replied : replies_to line.client line.number story ≡ replies_to line.client line.number way.since =
@@ -423,7 +507,8 @@ module _ (Coherent : Type 0) (opening : Opening) (bytes : OpeningBytes) (script 
               written = settled.written ∙ written_later;
             };
             decided = ap length replied ∙ (at.decided ∙ (way.asked_so ∙ sym so));
-            read = contents_still Coherent opening bytes script numbered coherent story way.since follow from (take (length progress.read) (pieces_in progress.came.replies)) progress.read at.read;
+            read = contents_still Coherent opening bytes script numbered coherent story way.since follow from
+                (take (length progress.read) (pieces_in progress.came.replies)) progress.read at.read;
           }
         where
           quiet : (t : Bool) → list_all has_fate_written attempts ≡ t
@@ -456,19 +541,24 @@ module _ (Coherent : Type 0) (opening : Opening) (bytes : OpeningBytes) (script 
     wrote_there : has_event (writes granted.block) later ≡ true → Contains (all_told (wrote line.client line.number) since.0) granted.block
     wrote_there is =
         let it = event_there (writes granted.block) later is in
-        by it.there.0 it.event.seat it.event.kind it.there (enabled_at opening later (legal_of_follow Coherent opening bytes script later coherent all) it.there.0 it.event (found_at later it.event it.there)) it.so
+        by it.there.0 it.event.seat it.event.kind it.there
+        (enabled_at opening later (legal_of_follow Coherent opening bytes script later coherent all) it.there.0 it.event
+        (found_at later it.event it.there)) it.so
       where
         by : (place seat : ℕ) (kind : EventKind) → Contains later (record { seat = seat; kind = kind }) → KindIsEnabled opening (take place later) seat kind
             → writes granted.block kind ≡ true → Contains (all_told (wrote line.client line.number) since.0) granted.block
         by place seat (Wrote block other) among enabled so =
             let same : granted.block ≡ block = one_block granted.block block so in
             let ids : ask_of line asked ≡ other =
-            its_id Coherent opening bytes script later way.since since coherent all id granted.block to_write.before granted_later to_write.unsaid place other block enabled.before same enabled.granted in
+            its_id Coherent opening bytes script later way.since since coherent all id granted.block to_write.before granted_later to_write.unsaid place
+            other block enabled.before same enabled.granted in
             let event : Event = record { seat = seat; kind = Wrote block other } in
             let then : Contains since.0 event =
-            since_then Coherent opening bytes script later way.since since coherent all id granted.block to_write.before granted_later to_write.unsaid event among
+            since_then Coherent opening bytes script later way.since since coherent all id granted.block to_write.before granted_later to_write.unsaid event
+            among
             (subst (λ (i : AskId). is_id (ask_of line asked) i ≡ true) ids (same_id (ask_of line asked))) in
-            let of : is_of_line line.client line.number other ≡ true = subst (λ (i : AskId). is_of_line line.client line.number i ≡ true) ids (its_line line.client line.number (ask_of line asked) refl refl) in
+            let of : is_of_line line.client line.number other ≡ true =
+            subst (λ (i : AskId). is_of_line line.client line.number i ≡ true) ids (its_line line.client line.number (ask_of line asked) refl refl) in
             told_among (wrote line.client line.number) since.0 event granted.block then
             (ap (λ (t : Bool). cond t (Some block) None) of ∙ ap Some (sym same))
         by place seat kind among enabled so = absurd (false≢true so)
@@ -484,48 +574,60 @@ module _ (Coherent : Type 0) (opening : Opening) (bytes : OpeningBytes) (script 
             let none : ◌≡◌ {A = ℕ} (length (all_told (wrote line.client line.number) since.0)) 0 = ap length (none_written now) in
             absurd (omega (arith, there.1, none))
 
-    pub may_be_written : (seat : ℕ) → IsLineSeat seat → nat_le 2 (count_by is_none (x ∷ y ∷ z ∷ [])) ≡ true → times_said line.client line.number later ≡ said + 3
+    pub may_be_written : (seat : ℕ) → IsLineSeat seat → nat_le 2 (count_by is_none (x ∷ y ∷ z ∷ [])) ≡ true
+        → times_said line.client line.number later ≡ said + 3
         → WroteIsEnabled opening later seat granted.block (ask_of line asked)
     may_be_written seat of_line two now =
-        let its_members = members_story Coherent opening bytes script seen line asked said command progress granted coherent way writing later begins all nodes in
+        let its_members = members_story Coherent opening bytes script seen line asked said command progress granted coherent way writing later begins all
+        nodes in
         let many = put_by_as_many later (ask_of line asked) granted.block (members_of progress.nodes granted.pipeline) (x ∷ y ∷ z ∷ []) answered in
         let least_two : 2 ≤ count_by is_none (x ∷ y ∷ z ∷ []) = leb-true _ _ two in
-        let quorum : 2 ≤ count_by (λ (dn : ℕ). has_event (puts dn granted.block) later) (members_of progress.nodes granted.pipeline) = omega (arith, many, least_two) in
+        let quorum : 2 ≤ count_by (λ (dn : ℕ). has_event (puts dn granted.block) later) (members_of progress.nodes granted.pipeline) =
+        omega (arith, many, least_two) in
         record {
           of_line = of_line;
           before = to_write.before;
           granted = granted_later;
-          answered = subst (λ (l : List ℕ). All (λ (dn : ℕ). (has_event (puts dn granted.block) later ≡ true) ⊎ (has_event (refuses dn granted.block (ask_of line asked)) later ≡ true)) l)
+          answered = subst (λ (l : List ℕ). All (λ (dn : ℕ). (has_event (puts dn granted.block) later ≡ true)
+              ⊎ (has_event (refuses dn granted.block (ask_of line asked)) later ≡ true)) l)
               (sym its_members) (answered_each later (ask_of line asked) granted.block (members_of progress.nodes granted.pipeline) (x ∷ y ∷ z ∷ []) answered);
           quorum = subst (λ (l : List ℕ). 2 ≤ count_by (λ (dn : ℕ). has_event (puts dn granted.block) later) l) (sym its_members) quorum;
           unwritten = not_written now;
         }
 
-    pub written_way : IsNumbered script → times_asked later line ≡ asked → nat_le 2 (count_by is_none (x ∷ y ∷ z ∷ [])) ≡ true → has_event (writes granted.block) later ≡ true
+    pub written_way : IsNumbered script → times_asked later line ≡ asked → nat_le 2 (count_by is_none (x ∷ y ∷ z ∷ [])) ≡ true
+        → has_event (writes granted.block) later ≡ true
         → (now : ℕ) → now ≡ said + 4 → times_said line.client line.number later ≡ now
         → IsUnderWay Coherent opening bytes script later line asked now command (record progress { came = with_answers progress.came granted (x ∷ y ∷ z ∷ []) })
     written_way numbered asked_so two so now more said_now =
         let there = wrote_there so in
         let each = counted 1 (omega (arith, said_now, more)) (omega (arith, there.1)) in
-        has_answered numbered asked_so true two (only_one (all_told (wrote line.client line.number) since.0) granted.block there (omega (arith, each.written))) 1 each now said_now
+        has_answered numbered asked_so true two
+        (only_one (all_told (wrote line.client line.number) since.0) granted.block there (omega (arith, each.written))) 1 each now said_now
 
   -- whatever comes back
-  module _ (seen : List Event) (line : Line) (asked said : ℕ) (command : Command) (progress : Progress) (granted : Granted) (written : Written) (coherent : Coherent)
-      (numbered : IsNumbered script) (way : IsUnderWay Coherent opening bytes script seen line asked said command progress) (writing : progress.came.writing ≡ Some granted)
+  module _ (seen : List Event) (line : Line) (asked said : ℕ) (command : Command) (progress : Progress) (granted : Granted) (written : Written)
+      (coherent : Coherent)
+      (numbered : IsNumbered script) (way : IsUnderWay Coherent opening bytes script seen line asked said command progress)
+      (writing : progress.came.writing ≡ Some granted)
       (nodes : progress.nodes ≡ length opening.nodes) (least : 3 ≤ length opening.nodes)
       (later : List Event) (begins : BeginsWith later seen) (all : AllFollow Follow [] later) (asked_so : times_asked later line ≡ asked)
       (answered : HaveAnswered later (ask_of line asked) granted.block (members_of progress.nodes granted.pipeline) written.answers) where
-    they : AreThreeAnswers later (ask_of line asked) granted.block (granted.pipeline % progress.nodes) ((granted.pipeline + 1) % progress.nodes) ((granted.pipeline + 2) % progress.nodes) written.answers
+    they : AreThreeAnswers later (ask_of line asked) granted.block (granted.pipeline % progress.nodes) ((granted.pipeline + 1) % progress.nodes)
+        ((granted.pipeline + 2) % progress.nodes) written.answers
     they =
-        three_answers later (ask_of line asked) granted.block (granted.pipeline % progress.nodes) ((granted.pipeline + 1) % progress.nodes) ((granted.pipeline + 2) % progress.nodes)
+        three_answers later (ask_of line asked) granted.block (granted.pipeline % progress.nodes) ((granted.pipeline + 1) % progress.nodes)
+        ((granted.pipeline + 2) % progress.nodes)
         written.answers answered
 
     as_came : (now : ℕ) → IsUnderWay Coherent opening bytes script later line asked now command
         (record progress { came = with_answers progress.came granted (they.x ∷ they.y ∷ they.z ∷ []) })
         → IsUnderWay Coherent opening bytes script later line asked now command (progress_after progress (gots.Written written))
     as_came now is =
-        subst (λ (w : Option Granted). IsUnderWay Coherent opening bytes script later line asked now command (record progress { came = came_written progress.came w written.answers })) (sym writing)
-        (subst (λ (l : List (Option PutRefusal)). IsUnderWay Coherent opening bytes script later line asked now command (record progress { came = with_answers progress.came granted l })) (sym they.are) is)
+        subst (λ (w : Option Granted). IsUnderWay Coherent opening bytes script later line asked now command
+        (record progress { came = came_written progress.came w written.answers })) (sym writing)
+        (subst (λ (l : List (Option PutRefusal)). IsUnderWay Coherent opening bytes script later line asked now command
+        (record progress { came = with_answers progress.came granted l })) (sym they.are) is)
 
     pub given_up_way : nat_le 2 (count_by is_none written.answers) ≡ false → times_said line.client line.number later ≡ said + 3
         → IsUnderWay Coherent opening bytes script later line asked (said + 3) command (progress_after progress (gots.Written written))
@@ -534,7 +636,8 @@ module _ (Coherent : Type 0) (opening : Opening) (bytes : OpeningBytes) (script 
         (unwritten_way seen line asked said command progress granted coherent way writing nodes least later begins all they.x they.y they.z they.answered
         numbered asked_so (sym (ap (λ (l : List (Option PutRefusal)). nat_le 2 (count_by is_none l)) they.are) ∙ few) (said + 3) refl now)
 
-    pub quorum_way : nat_le 2 (count_by is_none written.answers) ≡ true → has_event (writes granted.block) later ≡ true → times_said line.client line.number later ≡ said + 4
+    pub quorum_way : nat_le 2 (count_by is_none written.answers) ≡ true → has_event (writes granted.block) later ≡ true
+        → times_said line.client line.number later ≡ said + 4
         → IsUnderWay Coherent opening bytes script later line asked (said + 4) command (progress_after progress (gots.Written written))
     quorum_way two wrote_it now =
         as_came (said + 4)
@@ -542,7 +645,8 @@ module _ (Coherent : Type 0) (opening : Opening) (bytes : OpeningBytes) (script 
         numbered asked_so (sym (ap (λ (l : List (Option PutRefusal)). nat_le 2 (count_by is_none l)) they.are) ∙ two) wrote_it (said + 4) refl now)
 
   -- the answers may be in a story of which it isn't known how often the line asked
-  pub quorum_may_fit : (seen : List Event) (line : Line) (asked said : ℕ) (command : Command) (progress : Progress) (granted : Granted) (answers : List (Option PutRefusal)) → Coherent
+  pub quorum_may_fit : (seen : List Event) (line : Line) (asked said : ℕ) (command : Command) (progress : Progress) (granted : Granted)
+      (answers : List (Option PutRefusal)) → Coherent
       → IsUnderWay Coherent opening bytes script seen line asked said command progress → progress.came.writing ≡ Some granted
       → progress.nodes ≡ length opening.nodes → 3 ≤ length opening.nodes
       → (story : List Event) → BeginsWith story seen → AllFollow Follow [] story
@@ -550,11 +654,13 @@ module _ (Coherent : Type 0) (opening : Opening) (bytes : OpeningBytes) (script 
       → times_said line.client line.number story ≡ said + 3
       → EventFits opening bytes script story (Wrote granted.block (ask_of line asked))
   quorum_may_fit seen line asked said command progress granted answers coherent way writing nodes least story begins all answered now =
-      let they = three_answers story (ask_of line asked) granted.block (granted.pipeline % progress.nodes) ((granted.pipeline + 1) % progress.nodes) ((granted.pipeline + 2) % progress.nodes)
+      let they = three_answers story (ask_of line asked) granted.block (granted.pipeline % progress.nodes) ((granted.pipeline + 1) % progress.nodes)
+      ((granted.pipeline + 2) % progress.nodes)
       answers answered in
       quorum_fits seen line asked said command progress granted coherent way writing nodes least story begins all they.x they.y they.z they.answered now
 
-  pub quorum_may_follow : (seen : List Event) (line : Line) (asked said seat : ℕ) (command : Command) (progress : Progress) (granted : Granted) (answers : List (Option PutRefusal))
+  pub quorum_may_follow : (seen : List Event) (line : Line) (asked said seat : ℕ) (command : Command) (progress : Progress) (granted : Granted)
+      (answers : List (Option PutRefusal))
       → IsUnderWay Coherent opening bytes script seen line asked said command progress → progress.came.writing ≡ Some granted
       → progress.nodes ≡ length opening.nodes → 3 ≤ length opening.nodes → IsLineSeat seat → nat_le 2 (count_by is_none answers) ≡ true
       → (story : List Event) → BeginsWith story seen → AllFollow Follow [] story
@@ -562,12 +668,14 @@ module _ (Coherent : Type 0) (opening : Opening) (bytes : OpeningBytes) (script 
       → times_said line.client line.number story ≡ said + 3
       → Follow story (record { seat = seat; kind = Wrote granted.block (ask_of line asked) })
   quorum_may_follow seen line asked said seat command progress granted answers way writing nodes least of_line two story begins all answered now =
-      let they = three_answers story (ask_of line asked) granted.block (granted.pipeline % progress.nodes) ((granted.pipeline + 1) % progress.nodes) ((granted.pipeline + 2) % progress.nodes)
+      let they = three_answers story (ask_of line asked) granted.block (granted.pipeline % progress.nodes) ((granted.pipeline + 1) % progress.nodes)
+      ((granted.pipeline + 2) % progress.nodes)
       answers answered in
       record {
         of_seat = tt;
         enabled = λ coherent.
-            may_be_written seen line asked said command progress granted coherent way writing nodes least story begins all they.x they.y they.z they.answered seat of_line
+            may_be_written seen line asked said command progress granted coherent way writing nodes least story begins all they.x they.y they.z
+            they.answered seat of_line
             (sym (ap (λ (l : List (Option PutRefusal)). nat_le 2 (count_by is_none l)) they.are) ∙ two) now;
         fits = λ coherent.
             quorum_fits seen line asked said command progress granted coherent way writing nodes least story begins all they.x they.y they.z they.answered now;

@@ -76,7 +76,8 @@ spans_then one two both a b c i j k from_one from_two from_both first second = r
 pub spans_still : (step : Step) (a b c : ℕ) (i j k : Images) → ((x : List ℕ) → step x x) → Spans step a b i j
     → Spans Same b c j k → Spans step a c i k
 spans_still step a b c i j k none first second =
-    spans_then step Same step a b c i j k (λ x y h. h) (λ x y same. subst (λ (l : List ℕ). step x l) (sym same) (none x)) (λ x y z h same. subst (λ (l : List ℕ). step x l) (sym same) h) first second
+    spans_then step Same step a b c i j k (λ x y h. h) (λ x y same. subst (λ (l : List ℕ). step x l) (sym same) (none x))
+    (λ x y z h same. subst (λ (l : List ℕ). step x l) (sym same) h) first second
 
 -- the images of a stretch that begins stable
 pub spans_leave : (step : Step) (a b : ℕ) (i j : Images) (bytes : List ℕ) → IsStable i a bytes → step bytes bytes

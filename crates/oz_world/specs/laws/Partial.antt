@@ -59,7 +59,9 @@ torn_wider pos count more before after le torn = record {
   back =
       let skip : pos + more ≡ (pos + count) + (more - count) = omega arith in
       ap (λ (k : ℕ). drop k after) skip
-      ∙ (sym (drop-drop (more - count) (pos + count) after) ∙ (ap (λ (l : List ℕ). drop (more - count) l) torn.back ∙ (drop-drop (more - count) (pos + count) before ∙ ap (λ (k : ℕ). drop k before) (sym skip))));
+      ∙ (sym (drop-drop (more - count) (pos + count) after)
+      ∙ (ap (λ (l : List ℕ). drop (more - count) l) torn.back
+      ∙ (drop-drop (more - count) (pos + count) before ∙ ap (λ (k : ℕ). drop k before) (sym skip))));
   no_shorter = torn.no_shorter;
   no_longer = omega (arith, torn.no_longer);
 }
@@ -74,7 +76,8 @@ torn_half pos count others bytes le = elim (cases_lt (length bytes) pos) [
       let none : drop (pos + length others) (padded pos bytes) ≡ [] = drop_all (pos + length others) (padded pos bytes) (omega arith) in
       let is : overwritten pos others (padded pos bytes) ≡ bytes ++ (replicate (pos - length bytes) 0 ++ others) =
       ap (λ (l : List ℕ). l ++ others ++ drop (pos + length others) (padded pos bytes)) front_all
-      ∙ (ap (λ (l : List ℕ). padded pos bytes ++ others ++ l) none ∙ (append-nil (padded pos bytes ++ others) ∙ append_assoc bytes (replicate (pos - length bytes) 0) others)) in
+      ∙ (ap (λ (l : List ℕ). padded pos bytes ++ others ++ l) none
+      ∙ (append-nil (padded pos bytes ++ others) ∙ append_assoc bytes (replicate (pos - length bytes) 0) others)) in
       let size = length-append bytes (replicate (pos - length bytes) 0 ++ others) in
       let behind_size = length-append (replicate (pos - length bytes) 0) others in
       subst (λ (l : List ℕ). Torn pos count bytes l) (sym is) (record {
@@ -86,7 +89,8 @@ torn_half pos count others bytes le = elim (cases_lt (length bytes) pos) [
   | inr within ↦
       let no_zeros : pos - length bytes ≡ 0 = omega arith in
       let same : padded pos bytes ≡ bytes = ap (λ (k : ℕ). bytes ++ replicate k 0) no_zeros ∙ append-nil bytes in
-      subst (λ (l : List ℕ). Torn pos count bytes (overwritten pos others l)) (sym same) (torn_wider pos (length others) count bytes (overwritten pos others bytes) le (torn_whole pos others bytes))
+      subst (λ (l : List ℕ). Torn pos count bytes (overwritten pos others l)) (sym same)
+      (torn_wider pos (length others) count bytes (overwritten pos others bytes) le (torn_whole pos others bytes))
 ]
 
 pub cut_whole : (size : ℕ) (bytes : List ℕ) → CutShort size bytes (take size bytes)
@@ -107,7 +111,8 @@ range_within from to least before after le same = elim (cases_lt to from) [
       ap (λ (n : ℕ). take n (drop from after)) count ∙ sym (ap (λ (n : ℕ). take n (drop from before)) count)
   | inr some ↦
       let prefix : take (from + (to - from)) after ≡ take (from + (to - from)) before =
-      sym (take-take (from + (to - from)) least after (omega arith)) ∙ (ap (λ (l : List ℕ). take (from + (to - from)) l) same ∙ take-take (from + (to - from)) least before (omega arith)) in
+      sym (take-take (from + (to - from)) least after (omega arith))
+      ∙ (ap (λ (l : List ℕ). take (from + (to - from)) l) same ∙ take-take (from + (to - from)) least before (omega arith)) in
       sym (drop-take from (to - from) after) ∙ (ap (λ (l : List ℕ). drop from l) prefix ∙ drop-take from (to - from) before)
 ]
 
@@ -118,7 +123,8 @@ range_past from to least before after le same =
     let skip : from ≡ least + (from - least) = omega arith in
     let rest : drop from after ≡ drop from before =
     ap (λ (n : ℕ). drop n after) skip
-    ∙ (sym (drop-drop (from - least) least after) ∙ (ap (λ (l : List ℕ). drop (from - least) l) same ∙ (drop-drop (from - least) least before ∙ sym (ap (λ (n : ℕ). drop n before) skip)))) in
+    ∙ (sym (drop-drop (from - least) least after)
+    ∙ (ap (λ (l : List ℕ). drop (from - least) l) same ∙ (drop-drop (from - least) least before ∙ sym (ap (λ (n : ℕ). drop n before) skip)))) in
     ap (λ (l : List ℕ). take (to - from) l) rest
 
 -- what stands before a write that was done in part stays

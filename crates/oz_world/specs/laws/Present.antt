@@ -40,7 +40,8 @@ pub present : (first : List ℕ) (entries : List TimedChange) (now : ℕ) (bytes
     → bytes ≡ contents first entries → images_since first entries now bytes
 present first entries now bytes by is =
     subst (λ (l : List ℕ). images_since first entries now l) (sym is)
-    (subst (λ (l : List TimedChange). images first (λ left. left ≡ first) l (contents first entries)) (sym (until_all now entries by)) (all_done first (λ left. left ≡ first) entries refl))
+    (subst (λ (l : List TimedChange). images first (λ left. left ≡ first) l (contents first entries)) (sym (until_all now entries by))
+    (all_done first (λ left. left ≡ first) entries refl))
 
 -- what a read gives is among what a stop at this moment may leave
 pub disk_present : (disk : MemoryDisk) (bytes : List ℕ) → Some (disk_bytes disk) ≡ Some bytes

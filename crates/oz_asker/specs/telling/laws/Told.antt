@@ -1,5 +1,30 @@
 -- What was told stays told.
-use Rattle.std.proofs.Common.{◌≡◌, ℕ, ◌-◌, Bool, true, false, ◌||◌, ◌&&◌, ◌==◌, List, [], ◌∷◌, ◌++◌, Option, None, Some, is_some, cond, eq-eqb, refl, sym, ap, ◌∙◌, subst}
+use Rattle.std.proofs.Common.{
+  ◌≡◌,
+  ℕ,
+  ◌-◌,
+  Bool,
+  true,
+  false,
+  ◌||◌,
+  ◌&&◌,
+  ◌==◌,
+  List,
+  [],
+  ◌∷◌,
+  ◌++◌,
+  Option,
+  None,
+  Some,
+  is_some,
+  cond,
+  eq-eqb,
+  refl,
+  sym,
+  ap,
+  ◌∙◌,
+  subst,
+}
 use Rattle.std.proofs.lemmas.Bool.{and_from}
 use Rattle.std.proofs.lemmas.List.Folds.{list_any-append}
 use Rattle.oz_core.specs.declared.event.Event.{Event}
@@ -28,7 +53,8 @@ told_behind client line story more told =
     ∙ ap (λ (b : Bool). b || is_told client line more) told
 
 pub told_later : (client line : ℕ) (story later : List Event) → BeginsWith later story → is_told client line story ≡ true → is_told client line later ≡ true
-told_later client line story later (more, parts) told = subst (λ (l : List Event). is_told client line l ≡ true) (sym parts) (told_behind client line story more told)
+told_later client line story later (more, parts) told =
+    subst (λ (l : List Event). is_told client line l ≡ true) (sym parts) (told_behind client line story more told)
 
 after_later : (story later : List Event) → BeginsWith later story → (after : Option (ℕ × ℕ)) → AfterIsTold story after → AfterIsTold later after
 after_later story later begins None told = tt

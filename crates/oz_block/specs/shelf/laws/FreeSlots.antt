@@ -21,10 +21,16 @@ or_slots_split used (chunk ∷ chunks) slot =
     or_slots_split (or_slot used chunk.slot) chunks slot ∙ or_assoc (used slot) (eqb chunk.slot slot) (any_in chunks slot)
 
 -- fewer slots are in use
-pub free_fewer : (used fewer : ℕ → Bool) (chunks : List Chunk) → ((slot : ℕ) → used slot ≡ false → fewer slot ≡ false) → HaveFreeSlots used chunks → HaveFreeSlots fewer chunks
+pub free_fewer : (used fewer : ℕ → Bool) (chunks : List Chunk) → ((slot : ℕ) → used slot ≡ false → fewer slot ≡ false) → HaveFreeSlots used chunks
+    → HaveFreeSlots fewer chunks
 free_fewer used fewer [] less free = tt
-free_fewer used fewer (chunk ∷ chunks) less free =
-    (free.0, less chunk.slot free.1, free.2, free_fewer (or_slot used chunk.slot) (or_slot fewer chunk.slot) chunks (λ slot none. both (used slot) (fewer slot) (eqb chunk.slot slot) (less slot) none) free.3)
+free_fewer used fewer (chunk ∷ chunks) less free = (
+  free.0,
+  less chunk.slot free.1,
+  free.2,
+  free_fewer (or_slot used chunk.slot) (or_slot fewer chunk.slot) chunks
+      (λ slot none. both (used slot) (fewer slot) (eqb chunk.slot slot) (less slot) none) free.3,
+)
   where
     both : (u f s : Bool) → (u ≡ false → f ≡ false) → (u || s) ≡ false → (f || s) ≡ false
     both true f s less none = absurd (false≢true (sym none))

@@ -67,7 +67,8 @@ module _ (all : List RowEntry) (volume bucket : List ℕ) (from to : ℕ) where
   not_here (keys.Renamed v b owner local) row e = cc
   not_here key row e = refl
 
-  behind : (key : RowKey) (row : Row) → part_order (in_bucket 5 volume bucket) key ≡ Less → moved all volume bucket from to key row ≡ renamed all volume bucket from to key row
+  behind : (key : RowKey) (row : Row) → part_order (in_bucket 5 volume bucket) key ≡ Less
+      → moved all volume bucket from to key row ≡ renamed all volume bucket from to key row
   unfolding renamed
   behind (keys.Deleted v b owner k local) row e = both_off _ _ _ (ap is_eq e)
   behind (keys.Renamed v b owner local) row e = refl
@@ -78,7 +79,8 @@ module _ (all : List RowEntry) (volume bucket : List ℕ) (from to : ℕ) where
   outside (keys.Renamed v b owner local) row e = both_off _ _ _ e
   outside key row e = refl
 
-  inside : (key : RowKey) (row : Row) → part_order (in_bucket 8 volume bucket) key ≡ Equal → moved all volume bucket from to key row ≡ renamed all volume bucket from to key row
+  inside : (key : RowKey) (row : Row) → part_order (in_bucket 8 volume bucket) key ≡ Equal
+      → moved all volume bucket from to key row ≡ renamed all volume bucket from to key row
   unfolding renamed
   inside (keys.Deleted v b owner k local) row e = cc
   inside (keys.Renamed v b owner local) row e = refl
@@ -86,29 +88,41 @@ module _ (all : List RowEntry) (volume bucket : List ℕ) (from to : ℕ) where
 
   pub moved_parts : (deleted others : List RowEntry) → IsPart all (in_bucket 5 volume bucket) deleted → IsPart all (in_bucket 8 volume bucket) others
       → flat_map (λ (entry : RowEntry). moved all volume bucket from to entry.key entry.row) all
-      ≡ flat_map (λ (entry : RowEntry). moved all volume bucket from to entry.key entry.row) deleted ++ flat_map (λ (entry : RowEntry). moved all volume bucket from to entry.key entry.row) others
+      ≡ flat_map (λ (entry : RowEntry). moved all volume bucket from to entry.key entry.row) deleted
+      ++ flat_map (λ (entry : RowEntry). moved all volume bucket from to entry.key entry.row) others
   moved_parts deleted others is is_later =
-      flat_parts (λ (entry : RowEntry). moved all volume bucket from to entry.key entry.row) (λ (entry : RowEntry). renamed all volume bucket from to entry.key entry.row)
+      flat_parts (λ (entry : RowEntry). moved all volume bucket from to entry.key entry.row)
+      (λ (entry : RowEntry). renamed all volume bucket from to entry.key entry.row)
       all (in_bucket 5 volume bucket) (in_bucket 8 volume bucket) deleted others is is_later
-      (λ entry e. none_before entry.key entry.row e) (λ entry e. not_before entry.key entry.row e) (λ entry e. not_here entry.key entry.row e) (λ entry e. behind entry.key entry.row e)
+      (λ entry e. none_before entry.key entry.row e) (λ entry e. not_before entry.key entry.row e) (λ entry e. not_here entry.key entry.row e)
+      (λ entry e. behind entry.key entry.row e)
       (λ entry e. outside entry.key entry.row e) (λ entry e. inside entry.key entry.row e)
 
 module _ (all part : List RowEntry) (volume bucket : List ℕ) where
   pub copied_part : (number : ℕ) → IsPart all (in_bucket 3 volume bucket) part
-      → flat_map (λ (entry : RowEntry). copied volume bucket number entry.key entry.row) all ≡ flat_map (λ (entry : RowEntry). copied volume bucket number entry.key entry.row) part
-  copied_part number is = flat_part (λ (entry : RowEntry). copied volume bucket number entry.key entry.row) all (in_bucket 3 volume bucket) part is (λ entry e. not_copied volume bucket number entry.key entry.row e)
+      → flat_map (λ (entry : RowEntry). copied volume bucket number entry.key entry.row) all
+      ≡ flat_map (λ (entry : RowEntry). copied volume bucket number entry.key entry.row) part
+  copied_part number is =
+      flat_part (λ (entry : RowEntry). copied volume bucket number entry.key entry.row) all (in_bucket 3 volume bucket) part is
+      (λ entry e. not_copied volume bucket number entry.key entry.row e)
 
   pub dropped_part : (number : ℕ) → IsPart all (in_bucket 7 volume bucket) part
-      → flat_map (λ (entry : RowEntry). dropped volume bucket number entry.key) all ≡ flat_map (λ (entry : RowEntry). dropped volume bucket number entry.key) part
-  dropped_part number is = flat_part (λ (entry : RowEntry). dropped volume bucket number entry.key) all (in_bucket 7 volume bucket) part is (λ entry e. not_dropped volume bucket number entry.key e)
+      → flat_map (λ (entry : RowEntry). dropped volume bucket number entry.key) all
+      ≡ flat_map (λ (entry : RowEntry). dropped volume bucket number entry.key) part
+  dropped_part number is =
+      flat_part (λ (entry : RowEntry). dropped volume bucket number entry.key) all (in_bucket 7 volume bucket) part is
+      (λ entry e. not_dropped volume bucket number entry.key e)
 
   pub closed_part : IsPart all (in_bucket 4 volume bucket) part
       → flat_map (λ (entry : RowEntry). closed volume bucket entry.key) all ≡ flat_map (λ (entry : RowEntry). closed volume bucket entry.key) part
-  closed_part is = flat_part (λ (entry : RowEntry). closed volume bucket entry.key) all (in_bucket 4 volume bucket) part is (λ entry e. not_closed volume bucket entry.key e)
+  closed_part is = flat_part (λ (entry : RowEntry). closed volume bucket entry.key) all (in_bucket 4 volume bucket) part is
+      (λ entry e. not_closed volume bucket entry.key e)
 
   pub freed_part : IsPart all (in_bucket 4 volume bucket) part
-      → flat_map (λ (entry : RowEntry). freed all volume bucket entry.key entry.row) all ≡ flat_map (λ (entry : RowEntry). freed all volume bucket entry.key entry.row) part
-  freed_part is = flat_part (λ (entry : RowEntry). freed all volume bucket entry.key entry.row) all (in_bucket 4 volume bucket) part is (λ entry e. not_freed all volume bucket entry.key entry.row e)
+      → flat_map (λ (entry : RowEntry). freed all volume bucket entry.key entry.row) all
+      ≡ flat_map (λ (entry : RowEntry). freed all volume bucket entry.key entry.row) part
+  freed_part is = flat_part (λ (entry : RowEntry). freed all volume bucket entry.key entry.row) all (in_bucket 4 volume bucket) part is
+      (λ entry e. not_freed all volume bucket entry.key entry.row e)
 
 -- ---- what a test of numbers tells
 
@@ -117,7 +131,8 @@ there_is : (key : RowKey) (l : List RowEntry) → list_any (λ (entry : RowEntry
 there_is key [] = refl
 there_is key (x ∷ l) = by (there_is key l) (is_same x.key key)
   where
-    by : list_any (λ (entry : RowEntry). is_same entry.key key) l ≡ is_some (row_of l key) → (t : Bool) → (t || list_any (λ (entry : RowEntry). is_same entry.key key) l) ≡ is_some (cond t (Some x.row) (row_of l key))
+    by : list_any (λ (entry : RowEntry). is_same entry.key key) l ≡ is_some (row_of l key) → (t : Bool)
+        → (t || list_any (λ (entry : RowEntry). is_same entry.key key) l) ≡ is_some (cond t (Some x.row) (row_of l key))
     by behind true = refl
     by behind false = behind
 
@@ -126,26 +141,35 @@ module _ (all : List RowEntry) (volume bucket : List ℕ) where
   apart owner local key outside = by (is_same key (keys.Renamed volume bucket owner local)) refl
     where
       by : (t : Bool) → is_same key (keys.Renamed volume bucket owner local) ≡ t → is_same key (keys.Renamed volume bucket owner local) ≡ false
-      by true same = absurd (false≢true (sym outside ∙ ap (λ (k : RowKey). is_eq (part_order (in_bucket 8 volume bucket) k)) (same_is_one key (keys.Renamed volume bucket owner local) same) ∙ ap is_eq (itself (keys.Bucket volume bucket))))
+      by true same = absurd
+          (false≢true (sym outside ∙ ap (λ (k : RowKey). is_eq (part_order (in_bucket 8 volume bucket) k))
+          (same_is_one key (keys.Renamed volume bucket owner local) same) ∙ ap is_eq (itself (keys.Bucket volume bucket))))
       by false same = same
 
   -- among the bucket's renamed rows, and so among all
   pub renamed_told : (renamed : List RowEntry) (owner local : ℕ) → IsPart all (in_bucket 8 volume bucket) renamed
-      → list_any (λ (entry : RowEntry). is_same entry.key (keys.Renamed volume bucket owner local)) renamed ≡ is_some (row_of all (keys.Renamed volume bucket owner local))
+      → list_any (λ (entry : RowEntry). is_same entry.key (keys.Renamed volume bucket owner local)) renamed
+      ≡ is_some (row_of all (keys.Renamed volume bucket owner local))
   renamed_told renamed owner local is =
       let key = keys.Renamed volume bucket owner local in
-      sym (any_part (λ (entry : RowEntry). is_same entry.key key) all (in_bucket 8 volume bucket) renamed is (λ entry outside. apart owner local entry.key outside)) ∙ there_is key all
+      sym (any_part (λ (entry : RowEntry). is_same entry.key key) all (in_bucket 8 volume bucket) renamed is
+      (λ entry outside. apart owner local entry.key outside)) ∙ there_is key all
 
-  moved_is : (from to : ℕ) (key : RowKey) (row : Row) → moved_but (λ local. is_some (row_of all (keys.Renamed volume bucket to local))) volume bucket from to key row ≡ moved all volume bucket from to key row
+  moved_is : (from to : ℕ) (key : RowKey) (row : Row)
+      → moved_but (λ local. is_some (row_of all (keys.Renamed volume bucket to local))) volume bucket from to key row
+      ≡ moved all volume bucket from to key row
   moved_is from to (keys.Deleted v b owner k local) row = refl
   moved_is from to (keys.Renamed v b owner local) row = refl
   moved_is from to key row = refl
 
   pub moved_told : (test : ℕ → Bool) (from to : ℕ) (l : List RowEntry) → ((local : ℕ) → test local ≡ is_some (row_of all (keys.Renamed volume bucket to local)))
-      → flat_map (λ (entry : RowEntry). moved_but test volume bucket from to entry.key entry.row) l ≡ flat_map (λ (entry : RowEntry). moved all volume bucket from to entry.key entry.row) l
+      → flat_map (λ (entry : RowEntry). moved_but test volume bucket from to entry.key entry.row) l
+      ≡ flat_map (λ (entry : RowEntry). moved all volume bucket from to entry.key entry.row) l
   moved_told test from to l same =
       ap (λ (test : ℕ → Bool). flat_map (λ (entry : RowEntry). moved_but test volume bucket from to entry.key entry.row) l) (λ i local. same local i)
-      ∙ flat_each (λ (entry : RowEntry). moved_but (λ local. is_some (row_of all (keys.Renamed volume bucket to local))) volume bucket from to entry.key entry.row) (λ (entry : RowEntry). moved all volume bucket from to entry.key entry.row) (λ entry. moved_is from to entry.key entry.row) l
+      ∙ flat_each (λ (entry : RowEntry). moved_but
+      (λ local. is_some (row_of all (keys.Renamed volume bucket to local))) volume bucket from to entry.key entry.row)
+      (λ (entry : RowEntry). moved all volume bucket from to entry.key entry.row) (λ entry. moved_is from to entry.key entry.row) l
 
 -- ---- what a test of blocks tells
 
@@ -155,21 +179,28 @@ not_kept block key row outside = refl
 
 -- the blocks of all key rows are those of all rows
 pub kept_part : (all part : List RowEntry) (block : Block) → IsPart all ((3 ∷ []) ∷ []) part → is_in_a_key all block ≡ is_in_a_key part block
-kept_part all part block is = any_part (λ (entry : RowEntry). has_block block entry.key entry.row) all ((3 ∷ []) ∷ []) part is (λ entry outside. not_kept block entry.key entry.row outside)
+kept_part all part block is =
+    any_part (λ (entry : RowEntry). has_block block entry.key entry.row) all ((3 ∷ []) ∷ []) part is
+    (λ entry outside. not_kept block entry.key entry.row outside)
 
 each_freed : (test : Block → Bool) (volume bucket key : List ℕ) (blocks : List Block)
-    → flat_map (freed_block test volume bucket key) blocks ≡ map (λ (block : Block). put (keys.Deleted volume bucket 0 key block.local) (rows.Deleted (block ∷ []))) (filter test blocks)
+    → flat_map (freed_block test volume bucket key) blocks
+    ≡ map (λ (block : Block). put (keys.Deleted volume bucket 0 key block.local) (rows.Deleted (block ∷ []))) (filter test blocks)
 each_freed test volume bucket key [] = refl
 each_freed test volume bucket key (block ∷ blocks) = by (each_freed test volume bucket key blocks) (test block) refl
   where
-    by : flat_map (freed_block test volume bucket key) blocks ≡ map (λ (block : Block). put (keys.Deleted volume bucket 0 key block.local) (rows.Deleted (block ∷ []))) (filter test blocks)
+    by : flat_map (freed_block test volume bucket key) blocks
+        ≡ map (λ (block : Block). put (keys.Deleted volume bucket 0 key block.local) (rows.Deleted (block ∷ []))) (filter test blocks)
         → (t : Bool) → test block ≡ t
-        → flat_map (freed_block test volume bucket key) (block ∷ blocks) ≡ map (λ (block : Block). put (keys.Deleted volume bucket 0 key block.local) (rows.Deleted (block ∷ []))) (filter test (block ∷ blocks))
+        → flat_map (freed_block test volume bucket key) (block ∷ blocks)
+        ≡ map (λ (block : Block). put (keys.Deleted volume bucket 0 key block.local) (rows.Deleted (block ∷ []))) (filter test (block ∷ blocks))
     by behind true e = rw e (ap (λ (changes : List Change). put (keys.Deleted volume bucket 0 key block.local) (rows.Deleted (block ∷ [])) ∷ changes) behind)
     by behind false e = rw e behind
 
-freed_is : (all : List RowEntry) (volume bucket : List ℕ) (key : RowKey) (row : Row) → freed_if (λ block. not (is_in_a_key all block)) volume bucket key row ≡ freed all volume bucket key row
-freed_is all volume bucket (keys.Open v b k n) (rows.Open blocks) = ap (λ (changes : List Change). cond (is_bucket volume bucket v b) changes []) (each_freed (λ block. not (is_in_a_key all block)) volume bucket k blocks)
+freed_is : (all : List RowEntry) (volume bucket : List ℕ) (key : RowKey) (row : Row)
+    → freed_if (λ block. not (is_in_a_key all block)) volume bucket key row ≡ freed all volume bucket key row
+freed_is all volume bucket (keys.Open v b k n) (rows.Open blocks) =
+    ap (λ (changes : List Change). cond (is_bucket volume bucket v b) changes []) (each_freed (λ block. not (is_in_a_key all block)) volume bucket k blocks)
 freed_is all volume bucket key row = refl
 
 same_block : (block : Block) → is_block block block ≡ true
@@ -185,18 +216,21 @@ module _ (test other : Block → Bool) (volume bucket : List ℕ) where
       → flat_map (freed_block test volume bucket key) blocks ≡ flat_map (freed_block other volume bucket key) blocks
   blocks_same key [] same = refl
   blocks_same key (block ∷ blocks) same =
-      ap (λ (t : Bool). cond t (put (keys.Deleted volume bucket 0 key block.local) (rows.Deleted (block ∷ [])) ∷ []) [] ++ flat_map (freed_block test volume bucket key) blocks)
+      ap (λ (t : Bool). cond t (put (keys.Deleted volume bucket 0 key block.local) (rows.Deleted (block ∷ [])) ∷ []) []
+      ++ flat_map (freed_block test volume bucket key) blocks)
       (same block (ap (λ (t : Bool). t || list_any (is_block block) blocks) (same_block block)))
       ∙ ap (λ (changes : List Change). freed_block other volume bucket key block ++ changes)
       (blocks_same key blocks (λ another there. same another (ap (λ (t : Bool). is_block another block || t) there ∙ or_true (is_block another block))))
 
   row_same : (key : RowKey) (row : Row) → ((block : Block) → has_open_block block row ≡ true → test block ≡ other block)
       → freed_if test volume bucket key row ≡ freed_if other volume bucket key row
-  row_same (keys.Open v b k n) (rows.Open blocks) same = ap (λ (changes : List Change). cond (is_bucket volume bucket v b) changes []) (blocks_same k blocks same)
+  row_same (keys.Open v b k n) (rows.Open blocks) same =
+      ap (λ (changes : List Change). cond (is_bucket volume bucket v b) changes []) (blocks_same k blocks same)
   row_same key row same = refl
 
   rows_same : (l : List RowEntry) → ((block : Block) → is_in_a_session l block ≡ true → test block ≡ other block)
-      → flat_map (λ (entry : RowEntry). freed_if test volume bucket entry.key entry.row) l ≡ flat_map (λ (entry : RowEntry). freed_if other volume bucket entry.key entry.row) l
+      → flat_map (λ (entry : RowEntry). freed_if test volume bucket entry.key entry.row) l
+      ≡ flat_map (λ (entry : RowEntry). freed_if other volume bucket entry.key entry.row) l
   rows_same [] same = refl
   rows_same (x ∷ l) same =
       ap (λ (changes : List Change). changes ++ flat_map (λ (entry : RowEntry). freed_if test volume bucket entry.key entry.row) l)
@@ -205,8 +239,12 @@ module _ (test other : Block → Bool) (volume bucket : List ℕ) where
       (rows_same l (λ block there. same block (ap (λ (t : Bool). has_open_block block x.row || t) there ∙ or_true (has_open_block block x.row))))
 
 -- a test that tells the sessions' blocks that no key row has
-pub freed_told : (test : Block → Bool) (all sessions : List RowEntry) (volume bucket : List ℕ) → ((block : Block) → test block ≡ (is_in_a_session sessions block && not (is_in_a_key all block)))
-    → flat_map (λ (entry : RowEntry). freed_if test volume bucket entry.key entry.row) sessions ≡ flat_map (λ (entry : RowEntry). freed all volume bucket entry.key entry.row) sessions
+pub freed_told : (test : Block → Bool) (all sessions : List RowEntry) (volume bucket : List ℕ)
+    → ((block : Block) → test block ≡ (is_in_a_session sessions block && not (is_in_a_key all block)))
+    → flat_map (λ (entry : RowEntry). freed_if test volume bucket entry.key entry.row) sessions
+    ≡ flat_map (λ (entry : RowEntry). freed all volume bucket entry.key entry.row) sessions
 freed_told test all sessions volume bucket told =
-    rows_same test (λ block. not (is_in_a_key all block)) volume bucket sessions (λ block there. told block ∙ ap (λ (t : Bool). t && not (is_in_a_key all block)) there)
-    ∙ flat_each (λ (entry : RowEntry). freed_if (λ block. not (is_in_a_key all block)) volume bucket entry.key entry.row) (λ (entry : RowEntry). freed all volume bucket entry.key entry.row) (λ entry. freed_is all volume bucket entry.key entry.row) sessions
+    rows_same test (λ block. not (is_in_a_key all block)) volume bucket sessions
+    (λ block there. told block ∙ ap (λ (t : Bool). t && not (is_in_a_key all block)) there)
+    ∙ flat_each (λ (entry : RowEntry). freed_if (λ block. not (is_in_a_key all block)) volume bucket entry.key entry.row)
+    (λ (entry : RowEntry). freed all volume bucket entry.key entry.row) (λ entry. freed_is all volume bucket entry.key entry.row) sessions

@@ -13,12 +13,14 @@ use Rattle.oz_effects.specs.Parts.{IsPart, part_order}
 
 pub flat_each : (f g : RowEntry → List Change) → ((entry : RowEntry) → f entry ≡ g entry) → (l : List RowEntry) → flat_map f l ≡ flat_map g l
 flat_each f g same [] = refl
-flat_each f g same (entry ∷ l) = flat_map-cons f entry l ∙ ap (λ (changes : List Change). changes ++ flat_map f l) (same entry) ∙ ap (λ (changes : List Change). g entry ++ changes) (flat_each f g same l) ∙ sym (flat_map-cons g entry l)
+flat_each f g same (entry ∷ l) = flat_map-cons f entry l ∙ ap (λ (changes : List Change). changes ++ flat_map f l) (same entry)
+    ∙ ap (λ (changes : List Change). g entry ++ changes) (flat_each f g same l) ∙ sym (flat_map-cons g entry l)
 
 module _ (P : RowEntry → Type 0) (f g : RowEntry → List Change) (same : (entry : RowEntry) → P entry → f entry ≡ g entry) where
   pub flat_same : (l : List RowEntry) → AllByRecursion P l → flat_map f l ≡ flat_map g l
   flat_same [] all = refl
-  flat_same (entry ∷ l) all = flat_map-cons f entry l ∙ ap (λ (changes : List Change). changes ++ flat_map f l) (same entry all.0) ∙ ap (λ (changes : List Change). g entry ++ changes) (flat_same l all.1) ∙ sym (flat_map-cons g entry l)
+  flat_same (entry ∷ l) all = flat_map-cons f entry l ∙ ap (λ (changes : List Change). changes ++ flat_map f l) (same entry all.0)
+      ∙ ap (λ (changes : List Change). g entry ++ changes) (flat_same l all.1) ∙ sym (flat_map-cons g entry l)
 
 module _ (P : RowEntry → Type 0) (f : RowEntry → List Change) (nothing : (entry : RowEntry) → P entry → f entry ≡ []) where
   pub flat_none : (l : List RowEntry) → AllByRecursion P l → flat_map f l ≡ []
@@ -42,7 +44,8 @@ pub flat_part : (f : RowEntry → List Change) (all : List RowEntry) (front : Li
 flat_part f all front part is outside =
     ap (flat_map f) is.parts
     ∙ three f is.lower part is.greater
-    ∙ ap (λ (changes : List Change). changes ++ (flat_map f part ++ flat_map f is.greater)) (flat_none (to_key front Greater) f (λ entry e. outside entry (ap is_eq e)) is.lower is.before)
+    ∙ ap (λ (changes : List Change). changes ++ (flat_map f part ++ flat_map f is.greater))
+    (flat_none (to_key front Greater) f (λ entry e. outside entry (ap is_eq e)) is.lower is.before)
     ∙ ap (λ (changes : List Change). flat_map f part ++ changes) (flat_none (to_key front Less) f (λ entry e. outside entry (ap is_eq e)) is.greater is.behind)
     ∙ append-nil (flat_map f part)
 
@@ -51,7 +54,8 @@ pub any_part : (test : RowEntry → Bool) (all : List RowEntry) (front : List (L
 any_part test all front part is outside =
     ap (list_any test) is.parts
     ∙ list_any-append test is.lower (part ++ is.greater)
-    ∙ ap (λ (t : Bool). t || list_any test (part ++ is.greater)) (any_none (to_key front Greater) test (λ entry e. outside entry (ap is_eq e)) is.lower is.before)
+    ∙ ap (λ (t : Bool). t || list_any test (part ++ is.greater))
+    (any_none (to_key front Greater) test (λ entry e. outside entry (ap is_eq e)) is.lower is.before)
     ∙ list_any-append test part is.greater
     ∙ ap (λ (t : Bool). list_any test part || t) (any_none (to_key front Less) test (λ entry e. outside entry (ap is_eq e)) is.greater is.behind)
     ∙ or_false (list_any test part)
@@ -61,22 +65,28 @@ any_part test all front part is outside =
     or_false false = refl
 
 -- Rows of two parts give something. Those of the first and before it give nothing of what the second gives.
-module _ (f second : RowEntry → List Change) (all : List RowEntry) (front later : List (List ℕ)) (part other : List RowEntry) (is : IsPart all front part) (is_later : IsPart all later other)
-    (none_before : (entry : RowEntry) → part_order front entry.key ≡ Greater → f entry ≡ []) (not_before : (entry : RowEntry) → part_order front entry.key ≡ Greater → second entry ≡ [])
-    (not_here : (entry : RowEntry) → part_order front entry.key ≡ Equal → second entry ≡ []) (behind : (entry : RowEntry) → part_order front entry.key ≡ Less → f entry ≡ second entry)
-    (outside : (entry : RowEntry) → is_eq (part_order later entry.key) ≡ false → second entry ≡ []) (inside : (entry : RowEntry) → part_order later entry.key ≡ Equal → f entry ≡ second entry) where
+module _ (f second : RowEntry → List Change) (all : List RowEntry) (front later : List (List ℕ)) (part other : List RowEntry) (is : IsPart all front part)
+    (is_later : IsPart all later other)
+    (none_before : (entry : RowEntry) → part_order front entry.key ≡ Greater → f entry ≡ [])
+    (not_before : (entry : RowEntry) → part_order front entry.key ≡ Greater → second entry ≡ [])
+    (not_here : (entry : RowEntry) → part_order front entry.key ≡ Equal → second entry ≡ [])
+    (behind : (entry : RowEntry) → part_order front entry.key ≡ Less → f entry ≡ second entry)
+    (outside : (entry : RowEntry) → is_eq (part_order later entry.key) ≡ false → second entry ≡ [])
+    (inside : (entry : RowEntry) → part_order later entry.key ≡ Equal → f entry ≡ second entry) where
   rest_second : flat_map second all ≡ flat_map second is.greater
   rest_second =
       ap (flat_map second) is.parts
       ∙ three second is.lower part is.greater
-      ∙ ap (λ (changes : List Change). changes ++ (flat_map second part ++ flat_map second is.greater)) (flat_none (to_key front Greater) second not_before is.lower is.before)
+      ∙ ap (λ (changes : List Change). changes ++ (flat_map second part ++ flat_map second is.greater))
+      (flat_none (to_key front Greater) second not_before is.lower is.before)
       ∙ ap (λ (changes : List Change). changes ++ flat_map second is.greater) (flat_none (to_key front Equal) second not_here part is.among)
 
   pub flat_parts : flat_map f all ≡ flat_map f part ++ flat_map f other
   flat_parts =
       ap (flat_map f) is.parts
       ∙ three f is.lower part is.greater
-      ∙ ap (λ (changes : List Change). changes ++ (flat_map f part ++ flat_map f is.greater)) (flat_none (to_key front Greater) f none_before is.lower is.before)
+      ∙ ap (λ (changes : List Change). changes ++ (flat_map f part ++ flat_map f is.greater))
+      (flat_none (to_key front Greater) f none_before is.lower is.before)
       ∙ ap (λ (changes : List Change). flat_map f part ++ changes)
       (flat_same (to_key front Less) f second behind is.greater is.behind
       ∙ sym rest_second

@@ -62,7 +62,8 @@ module _ (loaded : Rows) (fit : AreInGrammar loaded) (sound : IsSoundButRenames 
   loaded_in : (block : Block) (key : RowKey) → StandsIn loaded block key → IsOfBucket key
   loaded_in block key it = of_bucket block key it.row (fit key it.row it.there) it.has
 
-  loaded_apart : (stripe other : ℕ) (block twin : Block) → IsInARow (only stripe loaded) block → IsInARow (only other loaded) twin → block.local ≡ twin.local → stripe ≡ other
+  loaded_apart : (stripe other : ℕ) (block twin : Block) → IsInARow (only stripe loaded) block → IsInARow (only other loaded) twin
+      → block.local ≡ twin.local → stripe ≡ other
   loaded_apart stripe other block twin one two same =
       let here = stands_from loaded stripe block one.0 one.1 in
       let there = stands_from loaded other twin two.0 two.1 in
@@ -75,16 +76,19 @@ module _ (loaded : Rows) (fit : AreInGrammar loaded) (sound : IsSoundButRenames 
 
 -- ---- and those that were handed out
 
-module _ (opening : Opening) (loaded : Rows) (fit : AreInGrammar loaded) (sound : IsSoundButRenames loaded) (coherent : RowsAreCoherent loaded opening) (story : List Event) (legal : IsLegal opening story) where
+module _ (opening : Opening) (loaded : Rows) (fit : AreInGrammar loaded) (sound : IsSoundButRenames loaded) (coherent : RowsAreCoherent loaded opening)
+    (story : List Event) (legal : IsLegal opening story) where
   -- a block that was loaded has no id of one that was handed out
-  handed_new : (stripe other : ℕ) (block twin : Block) → IsInARow (only stripe loaded) block → Contains (handed_out other story) twin → block.local ≡ twin.local → ⊥
+  handed_new : (stripe other : ℕ) (block twin : Block) → IsInARow (only stripe loaded) block → Contains (handed_out other story) twin
+      → block.local ≡ twin.local → ⊥
   handed_new stripe other block twin row handed same =
       let of = handed_granted opening story legal other twin handed in
       let from = local_from opening story legal other twin of.0 of.1 in
       let below = coherent.fresh block (row.0, stands_from loaded stripe block row.0 row.1) in
       absurd (omega (arith, from, below, same))
 
-  handed_apart : (stripe other : ℕ) (block twin : Block) → Contains (handed_out stripe story) block → Contains (handed_out other story) twin → block.local ≡ twin.local → stripe ≡ other
+  handed_apart : (stripe other : ℕ) (block twin : Block) → Contains (handed_out stripe story) block → Contains (handed_out other story) twin
+      → block.local ≡ twin.local → stripe ≡ other
   handed_apart stripe other block twin one two same =
       let here = handed_granted opening story legal stripe block one in
       let there = handed_granted opening story legal other twin two in
@@ -101,6 +105,8 @@ module _ (opening : Opening) (loaded : Rows) (fit : AreInGrammar loaded) (sound 
       (λ beside. handed_apart stripe other block twin handed beside same) two)
       one
 
-  pub stripes_apart : (stripe other : ℕ) (now beside : Rows) → AreOld (only stripe loaded) (handed_out stripe story) now → AreOld (only other loaded) (handed_out other story) beside
+  pub stripes_apart : (stripe other : ℕ) (now beside : Rows) → AreOld (only stripe loaded) (handed_out stripe story) now
+      → AreOld (only other loaded) (handed_out other story) beside
       → (block twin : Block) (key place : RowKey) → StandsIn now block key → StandsIn beside twin place → block.local ≡ twin.local → stripe ≡ other
-  stripes_apart stripe other now beside old also block twin key place one two same = either stripe other block twin (old block key one) (also twin place two) same
+  stripes_apart stripe other now beside old also block twin key place one two same =
+      either stripe other block twin (old block key one) (also twin place two) same

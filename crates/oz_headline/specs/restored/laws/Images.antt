@@ -70,7 +70,8 @@ module _ (opening : Opening) (loaded : Rows) where
         none_leads all now next batch are based (enabled.recorded.1 (let same : index ≡ last_index opening before = omega (arith, rises, low) in same)) makes.0
     kind_stays before seat kind now next are enabled low makes = makes
 
-    rest_stays : (rest before : List Event) (now last : Rows) → AreRows all now → IsLegalFrom opening before rest → last_index opening (before ++ rest) ≤ last_index opening before
+    rest_stays : (rest before : List Event) (now last : Rows) → AreRows all now → IsLegalFrom opening before rest
+        → last_index opening (before ++ rest) ≤ last_index opening before
         → AllStoodFrom opening loaded before now rest last → last ≡ now
     unfolding AllStoodFrom
     rest_stays [] before now last are legal low stood = stood.1
@@ -79,18 +80,21 @@ module _ (opening : Opening) (loaded : Rows) where
         let behind = legal_rest opening before event rest legal in
         let enabled = legal_first opening before event rest legal in
         let pushed = told-push decided_index opening.last_index before event in
-        let low_end : last_index opening ((before ++ event ∷ []) ++ rest) ≤ last_index opening before = subst (λ (l : List Event). last_index opening l ≤ last_index opening before) (sym (moved_over before rest event)) low in
+        let low_end : last_index opening ((before ++ event ∷ []) ++ rest) ≤ last_index opening before =
+        subst (λ (l : List Event). last_index opening l ≤ last_index opening before) (sym (moved_over before rest event)) low in
         let rises = indexes_rise opening 0 rest (before ++ event ∷ []) behind in
         let first_rises = indexes_rise opening 0 (event ∷ []) before (legal_to opening before (event ∷ []) rest legal) in
         let same : next ≡ now = kind_stays before event.seat event.kind now next are enabled (omega (arith, low_end, rises, pushed)) stood.1.1 in
-        rest_stays rest (before ++ event ∷ []) next last (subst (λ (r : Rows). AreRows all r) (sym same) are) behind (omega (arith, low_end, first_rises)) stood.1.2 ∙ same
+        rest_stays rest (before ++ event ∷ []) next last (subst (λ (r : Rows). AreRows all r) (sym same) are) behind
+        (omega (arith, low_end, first_rises)) stood.1.2 ∙ same
 
   -- ---- rows of bodies, and the namespace
 
   module _ (bodies : List (List ℕ)) (all : List RowEntry) (builds : Builds bodies all opening.last_index) (same : row_of all ≡ loaded)
       (story : List Event) (legal : IsLegal opening story) (last : Rows) (stood : AllStood opening loaded story last) where
     -- at a place behind a Swap
-    at_swap : (place rest : List Event) → story ≡ place ++ rest → buffer_of place ≡ [] → swapped_index opening place ≡ last_index opening place → StandUpTo opening story (bodies ++ bodies_of place) (swapped_index opening place)
+    at_swap : (place rest : List Event) → story ≡ place ++ rest → buffer_of place ≡ [] → swapped_index opening place ≡ last_index opening place
+        → StandUpTo opening story (bodies ++ bodies_of place) (swapped_index opening place)
     at_swap place rest parts taken index =
         let legal_all : IsLegal opening (place ++ rest) = subst (IsLegal opening) parts legal in
         let legal_place = legal_to opening [] place rest legal_all in
@@ -106,7 +110,8 @@ module _ (opening : Opening) (loaded : Rows) where
         let further = front_stood opening loaded (take kept.size rest) place halves.0 (drop kept.size rest) last again in
         let low : last_index opening (place ++ take kept.size rest) ≤ last_index opening place =
         let within = kept.index (omega (arith, index)) in omega (arith, within, index) in
-        let legal_front = legal_to opening place (take kept.size rest) (drop kept.size rest) (subst (IsLegalFrom opening place) (sym (take-append-drop kept.size rest)) behind) in
+        let legal_front = legal_to opening place (take kept.size rest) (drop kept.size rest)
+        (subst (IsLegalFrom opening place) (sym (take-append-drop kept.size rest)) behind) in
         let still = rest_stays built.all based (take kept.size rest) place halves.0 further.0 are legal_front low further.1 in
         let stands = last_place opening loaded place halves.0 (take kept.size rest) further.0 further.1 in
         let namespace : kept_up_to opening most story ≡ namespace_of opening (place ++ take kept.size rest) =
@@ -115,29 +120,35 @@ module _ (opening : Opening) (loaded : Rows) where
           all = built.all;
           builds = built.builds;
           stand = subst (λ (n : Namespace). Stand IsSoundButRenames (row_of built.all) n) (sym namespace)
-              (subst (λ (r : Rows). Stand IsSoundButRenames r (namespace_of opening (place ++ take kept.size rest))) (still ∙ sym (same_rows built.all halves.0 are)) stands.whole);
+              (subst (λ (r : Rows). Stand IsSoundButRenames r (namespace_of opening (place ++ take kept.size rest)))
+              (still ∙ sym (same_rows built.all halves.0 are)) stands.whole);
         }
 
     pub front_opens : (taken behind : List Event) → story ≡ taken ++ behind → StandUpTo opening story (bodies ++ bodies_of taken) (swapped_index opening taken)
     front_opens taken behind parts =
         let legal_taken = legal_to opening [] taken behind (subst (IsLegal opening) parts legal) in
         let split = last_split opening taken legal_taken in
-        let whole : story ≡ split.front ++ (split.more ++ behind) = parts ∙ ap (λ (l : List Event). l ++ behind) split.parts ∙ append_assoc split.front split.more behind in
+        let whole : story ≡ split.front ++ (split.more ++ behind) = parts ∙ ap (λ (l : List Event). l ++ behind) split.parts
+        ∙ append_assoc split.front split.more behind in
         let stands = at_swap split.front (split.more ++ behind) whole split.all_taken split.index in
         let bodies_same : bodies_of taken ≡ bodies_of split.front = ap bodies_of split.parts ∙ same_bodies split.front split.more split.none_takes in
-        let index_same : swapped_index opening taken ≡ swapped_index opening split.front = ap (swapped_index opening) split.parts ∙ same_swapped opening split.front split.more split.none_takes in
+        let index_same : swapped_index opening taken ≡ swapped_index opening split.front = ap (swapped_index opening) split.parts
+        ∙ same_swapped opening split.front split.more split.none_takes in
         subst (λ (n : ℕ). StandUpTo opening story (bodies ++ bodies_of taken) n) (sym index_same)
         (subst (λ (l : List (List ℕ)). StandUpTo opening story (bodies ++ l) (swapped_index opening split.front)) (sym bodies_same) stands)
 
     -- ---- what a stop leaves
 
-    flushed_taken : (events : List Event) → IsLegal opening events → (seat index at : ℕ) → Contains events (record { seat = seat; kind = Flushed index at }) → index ≤ swapped_index opening events
+    flushed_taken : (events : List Event) → IsLegal opening events → (seat index at : ℕ) → Contains events (record { seat = seat; kind = Flushed index at })
+        → index ≤ swapped_index opening events
     flushed_taken events legal seat index at among =
         let place = among.0 in
         let enabled : FlushedIsEnabled opening (take place events) seat index at =
-        enabled_at opening events legal place (record { seat = seat; kind = Flushed index at }) (found_at events (record { seat = seat; kind = Flushed index at }) among) in
+        enabled_at opening events legal place (record { seat = seat; kind = Flushed index at })
+        (found_at events (record { seat = seat; kind = Flushed index at }) among) in
         let rises = swapped_rises opening (drop place events) (take place events) (legal_parts opening events place legal) in
-        let whole : swapped_index opening (take place events ++ drop place events) ≡ swapped_index opening events = ap (swapped_index opening) (take-append-drop place events) in
+        let whole : swapped_index opening (take place events ++ drop place events) ≡ swapped_index opening events =
+        ap (swapped_index opening) (take-append-drop place events) in
         omega (arith, enabled.swapped, rises, whole)
 
     pub image_opens : (moment : ℕ) (left : List ℕ) → IsPrefix bodies story moment left → OpensUpTo opening story moment left
@@ -156,7 +167,12 @@ module _ (opening : Opening) (loaded : Rows) where
           decided = omega (arith, within, rises, whole);
           stable = λ seat index at among early. ⊎_elim
               (λ here. flushed_taken prefix.front legal_front seat index at here)
-              (λ there. absurd (omega (arith, early, each_of (λ (event : Event). IsLater moment event.kind) prefix.behind (record { seat = seat; kind = Flushed index at }) prefix.later there)))
+              (λ there. absurd (omega (
+                arith,
+                early,
+                each_of (λ (event : Event). IsLater moment event.kind) prefix.behind
+                    (record { seat = seat; kind = Flushed index at }) prefix.later there,
+              )))
               (Contains-append_cases prefix.front prefix.behind (record { seat = seat; kind = Flushed index at })
               (subst (λ (l : List Event). Contains l (record { seat = seat; kind = Flushed index at })) prefix.parts among));
         }

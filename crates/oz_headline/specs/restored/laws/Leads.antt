@@ -41,21 +41,25 @@ leads_both rows middle next batch later one two = record {
 }
 
 -- one event more, which takes nothing
-pub one_more : (first : Rows) (buffer : List ℕ) (now next : Rows) (kind : EventKind) → taken_index kind ≡ None → LeadsOn first buffer now → Makes now kind next → LeadsOn first (buffer_after buffer kind) next
+pub one_more : (first : Rows) (buffer : List ℕ) (now next : Rows) (kind : EventKind) → taken_index kind ≡ None → LeadsOn first buffer now
+    → Makes now kind next → LeadsOn first (buffer_after buffer kind) next
 one_more first buffer now next (Decide id index reply batch) none leads makes = leads_both first now next buffer batch leads makes.0
 one_more first buffer now next (Swap index) none leads makes = absurd cc
 one_more first buffer now next kind none leads makes = subst (λ (r : Rows). LeadsOn first buffer r) (sym makes) leads
 
 module _ (opening : Opening) (loaded : Rows) where
-  leads_from : (more before : List Event) (first now last : Rows) (buffer : List ℕ) → NoneTakes more → LeadsOn first buffer now → AllStoodFrom opening loaded before now more last
+  leads_from : (more before : List Event) (first now last : Rows) (buffer : List ℕ) → NoneTakes more → LeadsOn first buffer now
+      → AllStoodFrom opening loaded before now more last
       → LeadsOn first (fold (λ buffer (event : Event). buffer_after buffer event.kind) buffer more) last
   unfolding AllStoodFrom
   leads_from [] before first now last buffer none leads stood = subst (λ (r : Rows). LeadsOn first buffer r) (sym stood.1) leads
   leads_from (event ∷ more) before first now last buffer none leads stood =
-      leads_from more (before ++ event ∷ []) first stood.1.0 last (buffer_after buffer event.kind) none.1 (one_more first buffer now stood.1.0 event.kind none.0 leads stood.1.1) stood.1.2
+      leads_from more (before ++ event ∷ []) first stood.1.0 last (buffer_after buffer event.kind) none.1
+      (one_more first buffer now stood.1.0 event.kind none.0 leads stood.1.1) stood.1.2
 
   -- from a place to a later one, with no Swap between
-  pub leads_between : (before more : List Event) (now last : Rows) → NoneTakes more → AllStoodFrom opening loaded before now more last → LeadsOn now (buffer_of more) last
+  pub leads_between : (before more : List Event) (now last : Rows) → NoneTakes more → AllStoodFrom opening loaded before now more last
+      → LeadsOn now (buffer_of more) last
   leads_between before more now last none stood = leads_from more before now now last [] none (leads_none now) stood
 
 -- ---- the last Swap of a story
@@ -77,7 +81,8 @@ nothing_left buffer (Swap index) other is = refl
 nothing_left buffer kind other is = absurd cc
 
 -- what a Swap takes is the last index
-taken_last : (opening : Opening) (before : List Event) (seat : ℕ) (kind : EventKind) (index : ℕ) → KindIsEnabled opening before seat kind → taken_index kind ≡ Some index
+taken_last : (opening : Opening) (before : List Event) (seat : ℕ) (kind : EventKind) (index : ℕ) → KindIsEnabled opening before seat kind
+    → taken_index kind ≡ Some index
     → (index ≡ last_index opening before) × (decided_index kind ≡ None)
 taken_last opening before seat (Swap index) other enabled is = (one index other is ∙ enabled.all_decided, refl)
   where
@@ -86,7 +91,8 @@ taken_last opening before seat (Swap index) other enabled is = (one index other 
 taken_last opening before seat kind other enabled is = absurd cc
 
 module _ (opening : Opening) where
-  next_split : (before : List Event) (event : Event) → KindIsEnabled opening before event.seat event.kind → Split opening before → Split opening (before ++ event ∷ [])
+  next_split : (before : List Event) (event : Event) → KindIsEnabled opening before event.seat event.kind → Split opening before
+      → Split opening (before ++ event ∷ [])
   next_split before event enabled split = by (taken_index event.kind) refl
     where
       by : (o : Option ℕ) → taken_index event.kind ≡ o → Split opening (before ++ event ∷ [])
@@ -113,16 +119,19 @@ module _ (opening : Opening) where
   rest_split : (rest before : List Event) → IsLegalFrom opening before rest → Split opening before → Split opening (before ++ rest)
   rest_split [] before legal split = subst (Split opening) (sym (append-nil before)) split
   rest_split (event ∷ rest) before legal split = subst (Split opening) (moved_over before rest event)
-      (rest_split rest (before ++ event ∷ []) (legal_rest opening before event rest legal) (next_split before event (legal_first opening before event rest legal) split))
+      (rest_split rest (before ++ event ∷ []) (legal_rest opening before event rest legal)
+      (next_split before event (legal_first opening before event rest legal) split))
 
   pub last_split : (story : List Event) → IsLegal opening story → Split opening story
   last_split story legal = rest_split story [] legal (record { front = []; more = []; parts = refl; all_taken = refl; none_takes = tt; index = refl })
 
   -- what was decided since leads on from there
-  pub since_swap : (loaded : Rows) (story : List Event) (last : Rows) → IsLegal opening story → AllStood opening loaded story last → IsSinceSwap opening loaded story last
+  pub since_swap : (loaded : Rows) (story : List Event) (last : Rows) → IsLegal opening story → AllStood opening loaded story last
+      → IsSinceSwap opening loaded story last
   since_swap loaded story last legal stood =
       let split = last_split story legal in
-      let halves = front_stood opening loaded split.front [] loaded split.more last (subst (λ (l : List Event). AllStood opening loaded l last) split.parts stood) in
+      let halves = front_stood opening loaded split.front [] loaded split.more last
+      (subst (λ (l : List Event). AllStood opening loaded l last) split.parts stood) in
       let same : buffer_of story ≡ buffer_of split.more =
       ap buffer_of split.parts ∙ fold-append (λ buffer (event : Event). buffer_after buffer event.kind) [] split.front split.more
       ∙ ap (λ (buffer : List ℕ). fold (λ buffer (event : Event). buffer_after buffer event.kind) buffer split.more) split.all_taken in
@@ -134,5 +143,6 @@ module _ (opening : Opening) where
         none_takes = split.none_takes;
         taken = halves.0;
         stood = halves.1;
-        leads = subst (λ (buffer : List ℕ). LeadsOn halves.0 buffer last) (sym same) (leads_between opening loaded split.front split.more halves.0 last split.none_takes halves.2);
+        leads = subst (λ (buffer : List ℕ). LeadsOn halves.0 buffer last) (sym same)
+            (leads_between opening loaded split.front split.more halves.0 last split.none_takes halves.2);
       }

@@ -1,5 +1,27 @@
 -- A stripe's rows that stood in a beginning of a story stood in all of it, where its seat gave nothing behind that.
-use Rattle.std.proofs.Common.{◌≡◌, ◌≢◌, ◌==◌, ℕ, Bool, true, false, cond, List, [], ◌∷◌, ◌++◌, append-nil, length, length-append, arith, refl, sym, ap, ◌∙◌, subst}
+use Rattle.std.proofs.Common.{
+  ◌≡◌,
+  ◌≢◌,
+  ◌==◌,
+  ℕ,
+  Bool,
+  true,
+  false,
+  cond,
+  List,
+  [],
+  ◌∷◌,
+  ◌++◌,
+  append-nil,
+  length,
+  length-append,
+  arith,
+  refl,
+  sym,
+  ap,
+  ◌∙◌,
+  subst,
+}
 use Rattle.std.proofs.lemmas.Bool.{eq-eqb}
 use Rattle.std.proofs.lemmas.List.Elements.{filter-append}
 use Rattle.oz_core.specs.declared.event.Event.{Event}
@@ -55,7 +77,8 @@ module _ (opening : Opening) (loaded : Rows) (stripe : ℕ) where
   stands_still before event rows legal same at =
       let next = before ++ event ∷ [] in
       let share = one_share stripe (namespace_of opening next) (share_of stripe (namespace_of opening before)) (share_of stripe (namespace_of opening next))
-      (share_of_seen stripe opening next before (event ∷ []) (share_of stripe (namespace_of opening before)) legal refl same (share_is_there stripe (namespace_of opening before)))
+      (share_of_seen stripe opening next before (event ∷ []) (share_of stripe (namespace_of opening before)) legal refl same
+      (share_is_there stripe (namespace_of opening before)))
       (share_is_there stripe (namespace_of opening next)) in
       record {
         stand = subst (λ (n : Namespace). Stand IsSoundButRenames rows n) share at.stand;
@@ -75,27 +98,39 @@ module _ (opening : Opening) (loaded : Rows) (stripe : ℕ) where
       let first = none_first event rest none in
       let over = moved_over before rest event in
       let legal_now : IsLegal opening ((before ++ event ∷ []) ++ rest) = subst (IsLegal opening) (sym over) legal in
-      let at_next = stands_still before event rows (legal_to opening [] (before ++ event ∷ []) rest legal_now) (same_ours before event first.alone) at in
-      (at, (rows, record { own = λ is. absurd (first.apart is); others = λ not. refl }, stood_still rest (before ++ event ∷ []) rows legal_now first.later at_next))
+      let at_next = stands_still before event rows (legal_to opening [] (before ++ event ∷ []) rest legal_now) (same_ours before event first.alone) at in (
+        at,
+        (
+          rows,
+          record { own = λ is. absurd (first.apart is); others = λ not. refl },
+          stood_still rest (before ++ event ∷ []) rows legal_now first.later at_next,
+        ),
+      )
 
   -- as they stand at the first place, and at the last
-  pub stood_first : (before : List Event) (rows : Rows) (story : List Event) (last : Rows) → HasStoodFrom opening loaded stripe before rows story last → StandAt opening loaded stripe before rows
+  pub stood_first : (before : List Event) (rows : Rows) (story : List Event) (last : Rows) → HasStoodFrom opening loaded stripe before rows story last
+      → StandAt opening loaded stripe before rows
   unfolding HasStoodFrom
   stood_first before rows [] last stood = stood.0
   stood_first before rows (event ∷ story) last stood = stood.0
 
-  stood_last : (before : List Event) (rows : Rows) (story : List Event) (last : Rows) → HasStoodFrom opening loaded stripe before rows story last → StandAt opening loaded stripe (before ++ story) last
+  stood_last : (before : List Event) (rows : Rows) (story : List Event) (last : Rows) → HasStoodFrom opening loaded stripe before rows story last
+      → StandAt opening loaded stripe (before ++ story) last
   unfolding HasStoodFrom
   stood_last before rows [] last stood =
-      subst (λ (l : List Event). StandAt opening loaded stripe l last) (sym (append-nil before)) (subst (λ (r : Rows). StandAt opening loaded stripe before r) (sym stood.1) stood.0)
+      subst (λ (l : List Event). StandAt opening loaded stripe l last) (sym (append-nil before))
+      (subst (λ (r : Rows). StandAt opening loaded stripe before r) (sym stood.1) stood.0)
   stood_last before rows (event ∷ story) last stood =
-      subst (λ (l : List Event). StandAt opening loaded stripe l last) (moved_over before story event) (stood_last (before ++ event ∷ []) stood.1.0 story last stood.1.2)
+      subst (λ (l : List Event). StandAt opening loaded stripe l last) (moved_over before story event)
+      (stood_last (before ++ event ∷ []) stood.1.0 story last stood.1.2)
 
-  joined : (before : List Event) (rows : Rows) (seen : List Event) (middle : Rows) (more : List Event) (last : Rows) → HasStoodFrom opening loaded stripe before rows seen middle
+  joined : (before : List Event) (rows : Rows) (seen : List Event) (middle : Rows) (more : List Event) (last : Rows)
+      → HasStoodFrom opening loaded stripe before rows seen middle
       → HasStoodFrom opening loaded stripe (before ++ seen) middle more last → HasStoodFrom opening loaded stripe before rows (seen ++ more) last
   unfolding HasStoodFrom
   joined before rows [] middle more last one two =
-      subst (λ (r : Rows). HasStoodFrom opening loaded stripe before r more last) one.1 (subst (λ (l : List Event). HasStoodFrom opening loaded stripe l middle more last) (append-nil before) two)
+      subst (λ (r : Rows). HasStoodFrom opening loaded stripe before r more last) one.1
+      (subst (λ (l : List Event). HasStoodFrom opening loaded stripe l middle more last) (append-nil before) two)
   joined before rows (event ∷ seen) middle more last one two = (
     one.0,
     (
@@ -106,7 +141,8 @@ module _ (opening : Opening) (loaded : Rows) (stripe : ℕ) where
     ),
   )
 
-  pub stood_all : (story : List Event) (rows : Rows) → IsLegal opening story → HasRun opening loaded story stripe rows → HasStood opening loaded stripe story rows
+  pub stood_all : (story : List Event) (rows : Rows) → IsLegal opening story → HasRun opening loaded story stripe rows
+      → HasStood opening loaded stripe story rows
   stood_all story rows legal run =
       let more = run.begins.0 in
       let parts = run.begins.1 in

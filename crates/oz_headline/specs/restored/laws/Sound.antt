@@ -10,7 +10,19 @@ use Rattle.oz_rows.specs.declared.key.RowKey.{RowKey}
 use Rattle.oz_rows.specs.declared.key.RowKey.TheVariants as keys
 use Rattle.oz_rows.specs.declared.row.Row.{Row}
 use Rattle.oz_rows.specs.RowMaps.{Rows}
-use Rattle.oz_sound.specs.Sound.{AreTogether, AtMost, BlocksAreSound, CountsAreSound, IsKeeper, IsSoundButRenames, IsUsing, NamesAreSound, NumbersAreSound, SnapshotHas, StandsIn}
+use Rattle.oz_sound.specs.Sound.{
+  AreTogether,
+  AtMost,
+  BlocksAreSound,
+  CountsAreSound,
+  IsKeeper,
+  IsSoundButRenames,
+  IsUsing,
+  NamesAreSound,
+  NumbersAreSound,
+  SnapshotHas,
+  StandsIn,
+}
 use Rattle.oz_sound.specs.StandsFor.{IsLive, drawn_in}
 use Rattle.oz_sound.specs.stripes.Stripes.{is_own, only, stripe_of_key}
 use Rattle.oz_store.specs.striped.laws.Shares.{one_of_sixteen}
@@ -57,7 +69,8 @@ module _ (all : Rows) (stripe : ℕ) where
 
 module _ (all : Rows) (few : (key : RowKey) → IsSome (all key) → stripe_of_key key < STRIPES)
     (parts : (stripe : ℕ) → stripe < STRIPES → IsSoundButRenames (only stripe all))
-    (apart : (block twin : Block) (key other : RowKey) → StandsIn all block key → StandsIn all twin other → block.local ≡ twin.local → stripe_of_key key ≡ stripe_of_key other) where
+    (apart : (block twin : Block) (key other : RowKey) → StandsIn all block key → StandsIn all twin other → block.local ≡ twin.local
+    → stripe_of_key key ≡ stripe_of_key other) where
   -- the part of a row that names a block
   part_there : (block : Block) (key : RowKey) → StandsIn all block key → IsSoundButRenames (only (stripe_of_key key) all)
   part_there block key it = parts (stripe_of_key key) (few key (subst IsSome (sym it.there) refl))
@@ -86,7 +99,8 @@ module _ (all : Rows) (few : (key : RowKey) → IsSome (all key) → stripe_of_k
         stands = stands_of all (stripe_of volume) block (keys.SnapshotKey volume bucket number name) refl it.stands;
       }
 
-      has_from : (number : ℕ) (block : Block) (name : List ℕ) → SnapshotHas own volume bucket number block name → SnapshotHas all volume bucket number block name
+      has_from : (number : ℕ) (block : Block) (name : List ℕ) → SnapshotHas own volume bucket number block name
+          → SnapshotHas all volume bucket number block name
       has_from number block name it = record {
         live = (it.live.0, it.live.1, sym (own_row all (stripe_of volume) (keys.Snapshot volume bucket number) refl) ∙ it.live.2);
         stands = stands_from all (stripe_of volume) block (keys.SnapshotKey volume bucket number name) it.stands;
@@ -97,7 +111,8 @@ module _ (all : Rows) (few : (key : RowKey) → IsSome (all key) → stripe_of_k
           let found = are number name (has_of number block name it) in
           (found.0, has_from number other found.0 found.1)
 
-      kept_block : (name : List ℕ) (number : ℕ) (block : Block) → SnapshotHas all volume bucket number block name → (key : RowKey) × IsKeeper key × StandsIn all block key
+      kept_block : (name : List ℕ) (number : ℕ) (block : Block) → SnapshotHas all volume bucket number block name → (key : RowKey) × IsKeeper key
+          × StandsIn all block key
       kept_block name number block it =
           let (key, keeper, stands) = sound.blocks.kept volume bucket name number block (has_of number block name it) in
           (key, keeper, stands_from all (stripe_of volume) block key stands)
@@ -124,13 +139,15 @@ module _ (all : Rows) (few : (key : RowKey) → IsSome (all key) → stripe_of_k
   blocks : BlocksAreSound all
   blocks = record {
     one_bucket = λ block key other one two. (part_there block key one).blocks.one_bucket block key other (here block key one) (alike block key other one two);
-    one_home = λ block key other home second one two. (part_there block key one).blocks.one_home block key other home second (here block key one) (alike block key other one two);
+    one_home = λ block key other home second one two. (part_there block key one).blocks.one_home block key other home second (here block key one)
+        (alike block key other one two);
     one_local = λ block twin key other one two same. (part_there block key one).blocks.one_local block twin key other (here block key one)
         (stands_of all (stripe_of_key key) twin other (sym (apart block twin key other one two same)) two) same;
     kept = λ volume bucket name number block it. kept_block volume bucket name number block it;
     deleted_together = λ volume bucket key owner local block other one two. together_from volume bucket block other
         ((sound volume).blocks.deleted_together volume bucket key owner local block other
-        (in_own volume bucket block (keys.Deleted volume bucket owner key local) refl one) (in_own volume bucket other (keys.Deleted volume bucket owner key local) refl two));
+        (in_own volume bucket block (keys.Deleted volume bucket owner key local) refl one)
+        (in_own volume bucket other (keys.Deleted volume bucket owner key local) refl two));
     key_together = λ volume bucket key block other one two. together_from volume bucket block other
         ((sound volume).blocks.key_together volume bucket key block other
         (in_own volume bucket block (keys.Key volume bucket key) refl one) (in_own volume bucket other (keys.Key volume bucket key) refl two));
@@ -164,7 +181,8 @@ module _ (all : Rows) (few : (key : RowKey) → IsSome (all key) → stripe_of_k
   counts = record {
     buckets = λ volume. at_most _ (λ (bucket : List ℕ). IsSome (own volume (keys.Bucket volume bucket))) _
         (λ bucket has. some_own volume bucket (keys.Bucket volume bucket) refl has) ((sound volume).counts.buckets volume);
-    keys_and_sessions = λ volume bucket. at_most _ (IsUsing (own volume) volume bucket) _ (using volume bucket) ((sound volume).counts.keys_and_sessions volume bucket);
+    keys_and_sessions = λ volume bucket. at_most _ (IsUsing (own volume) volume bucket) _ (using volume bucket)
+        ((sound volume).counts.keys_and_sessions volume bucket);
     snapshots = λ volume bucket. at_most _ (IsLive (own volume) volume bucket) _ (live_of volume bucket) ((sound volume).counts.snapshots volume bucket);
     snapshot_keys = λ volume bucket number live. at_most _ (λ (key : List ℕ). IsSome (own volume (keys.SnapshotKey volume bucket number key))) _
         (λ key has. some_own volume bucket (keys.SnapshotKey volume bucket number key) refl has)

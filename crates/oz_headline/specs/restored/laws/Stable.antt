@@ -26,14 +26,16 @@ module _ (most moment : ℕ) where
 
   one_more : (seat : ℕ) (kind : EventKind) (story : List Event) → IsWithin story → IsWithin (record { seat = seat; kind = kind } ∷ story)
   one_more seat (Flushed last at) story rest index before kept fits early =
-      rest last (Some at) (later (record { seat = seat; kind = Flushed last at }) story kept) (λ by_then. kept seat last at (0, omega arith, refl) by_then) early
+      rest last (Some at) (later (record { seat = seat; kind = Flushed last at }) story kept)
+      (λ by_then. kept seat last at (0, omega arith, refl) by_then) early
   one_more seat kind story rest index before kept fits early = rest index before (later (record { seat = seat; kind = kind }) story kept) fits early
 
   all_within : (story : List Event) → IsWithin story
   all_within [] = λ index before kept fits early. fits early
   all_within (event ∷ story) = one_more event.seat event.kind story (all_within story)
 
-pub within_stable : (opening : Opening) (story : List Event) (moment : ℕ) (left : List ℕ) (it : OpensUpTo opening story moment left) → IfSome (flushed_moment story) (λ at. at ≤ moment)
+pub within_stable : (opening : Opening) (story : List Event) (moment : ℕ) (left : List ℕ) (it : OpensUpTo opening story moment left)
+    → IfSome (flushed_moment story) (λ at. at ≤ moment)
     → MayBeLast opening story it.most
 within_stable opening story moment left it early = record {
   stable = all_within it.most moment story opening.last_index None it.stable (λ none. it.opened) early;

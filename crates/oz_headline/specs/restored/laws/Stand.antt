@@ -34,10 +34,12 @@ at_place f from (x ∷ l) counts (suc place) lt =
 
 at_each : (f : ℕ → ℕ) (stripe : ℕ) → stripe < 16 → get_or (map f sixteen) stripe 0 ≡ f stripe
 at_each f stripe few =
-    at_place f 0 sixteen (refl, (refl, (refl, (refl, (refl, (refl, (refl, (refl, (refl, (refl, (refl, (refl, (refl, (refl, (refl, (refl, tt)))))))))))))))) stripe few
+    at_place f 0 sixteen
+    (refl, (refl, (refl, (refl, (refl, (refl, (refl, (refl, (refl, (refl, (refl, (refl, (refl, (refl, (refl, (refl, tt)))))))))))))))) stripe few
     ∙ ap f (let same : 0 + stripe ≡ stripe = omega arith in same)
 
-module _ (all : Rows) (namespace : Namespace) (many : HasAllStripes namespace) (parts : (stripe : ℕ) → stripe < STRIPES → StandsFor (only stripe all) (share_of stripe namespace)) where
+module _ (all : Rows) (namespace : Namespace) (many : HasAllStripes namespace)
+    (parts : (stripe : ℕ) → stripe < STRIPES → StandsFor (only stripe all) (share_of stripe namespace)) where
   module _ (volume : List ℕ) where
     abbrev part : Namespace
     part = share_of (stripe_of volume) namespace
@@ -49,7 +51,8 @@ module _ (all : Rows) (namespace : Namespace) (many : HasAllStripes namespace) (
     stand = parts (stripe_of volume) (one_of_sixteen volume)
 
     same_buckets : buckets_of part volume ≡ buckets_of namespace volume
-    same_buckets = its_buckets (stripe_of volume) namespace (share_of (stripe_of volume) namespace) (share_is_there (stripe_of volume) namespace) volume (eq-eqb (stripe_of volume) (stripe_of volume) refl)
+    same_buckets = its_buckets (stripe_of volume) namespace (share_of (stripe_of volume) namespace) (share_is_there (stripe_of volume) namespace) volume
+        (eq-eqb (stripe_of volume) (stripe_of volume) refl)
 
     same_bucket : (bucket : List ℕ) → bucket_of part volume bucket ≡ bucket_of namespace volume bucket
     same_bucket bucket = ap (λ (o : Option (ByName Bucket)). option_and_then (λ (buckets : ByName Bucket). get buckets bucket) o) same_buckets
@@ -57,12 +60,16 @@ module _ (all : Rows) (namespace : Namespace) (many : HasAllStripes namespace) (
     same_row : (key : RowKey) → stripe_of_key key ≡ stripe_of volume → own key ≡ all key
     same_row key its = own_row all (stripe_of volume) key its
 
-    session_stands : (bucket : List ℕ) (number : ℕ) (session : Session) → SessionStands own part volume bucket number session → SessionStands all namespace volume bucket number session
+    session_stands : (bucket : List ℕ) (number : ℕ) (session : Session) → SessionStands own part volume bucket number session
+        → SessionStands all namespace volume bucket number session
     session_stands bucket number session is =
-        subst (λ (row : Option Row). (session_of namespace volume bucket number ≡ Some session) ↔ (row ≡ Some (rows.Open session.blocks))) (same_row (keys.Open volume bucket session.key number) refl)
-        (subst (λ (o : Option Bucket). (option_and_then (λ (b : Bucket). get b.sessions number) o ≡ Some session) ↔ (own (keys.Open volume bucket session.key number) ≡ Some (rows.Open session.blocks))) (same_bucket bucket) is)
+        subst (λ (row : Option Row). (session_of namespace volume bucket number ≡ Some session) ↔ (row ≡ Some (rows.Open session.blocks)))
+        (same_row (keys.Open volume bucket session.key number) refl)
+        (subst (λ (o : Option Bucket). (option_and_then (λ (b : Bucket). get b.sessions number) o ≡ Some session)
+        ↔ (own (keys.Open volume bucket session.key number) ≡ Some (rows.Open session.blocks))) (same_bucket bucket) is)
 
-    snapshots_stand_in : (bucket : List ℕ) (numbers : List ℕ) (snapshots : List Snapshot) → AreSnapshots own volume bucket numbers snapshots → AreSnapshots all volume bucket numbers snapshots
+    snapshots_stand_in : (bucket : List ℕ) (numbers : List ℕ) (snapshots : List Snapshot) → AreSnapshots own volume bucket numbers snapshots
+        → AreSnapshots all volume bucket numbers snapshots
     snapshots_stand_in bucket [] [] are = tt
     snapshots_stand_in bucket (number ∷ numbers) (snapshot ∷ snapshots) are = (
       record {
@@ -78,7 +85,8 @@ module _ (all : Rows) (namespace : Namespace) (many : HasAllStripes namespace) (
     live_in : (bucket : List ℕ) (number : ℕ) → IsLive all volume bucket number → IsLive own volume bucket number
     live_in bucket number live = (live.0, live.1, same_row (keys.Snapshot volume bucket number) refl ∙ live.2)
 
-    snapshots_stand : (bucket : List ℕ) → SnapshotsStand own volume bucket (snapshots_of part volume bucket) → SnapshotsStand all volume bucket (snapshots_of namespace volume bucket)
+    snapshots_stand : (bucket : List ℕ) → SnapshotsStand own volume bucket (snapshots_of part volume bucket)
+        → SnapshotsStand all volume bucket (snapshots_of namespace volume bucket)
     snapshots_stand bucket it = subst (λ (o : Option Bucket). SnapshotsStand all volume bucket (snapshots_in o)) (same_bucket bucket) (record {
       numbers = it.numbers;
       rise = it.rise;
@@ -99,7 +107,8 @@ module _ (all : Rows) (namespace : Namespace) (many : HasAllStripes namespace) (
   pub parts_stand : StandsFor all namespace
   parts_stand = record {
     volumes = λ volume. ap is_some (sym (same_buckets volume)) ∙ (stand volume).volumes volume ∙ ap is_some (same_row volume (keys.Volume volume) refl);
-    buckets = λ volume bucket. ap is_some (sym (same_bucket volume bucket)) ∙ (stand volume).buckets volume bucket ∙ ap is_some (same_row volume (keys.Bucket volume bucket) refl);
+    buckets = λ volume bucket. ap is_some (sym (same_bucket volume bucket)) ∙ (stand volume).buckets volume bucket
+        ∙ ap is_some (same_row volume (keys.Bucket volume bucket) refl);
     pieces = λ volume bucket key. ap (λ (o : Option Bucket). option_and_then (λ (b : Bucket). get b.keys key) o) (sym (same_bucket volume bucket))
         ∙ (stand volume).pieces volume bucket key ∙ ap pieces_in (same_row volume (keys.Key volume bucket key) refl);
     sessions = λ volume bucket number session. session_stands volume bucket number session ((stand volume).sessions volume bucket number session);

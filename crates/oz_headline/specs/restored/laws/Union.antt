@@ -57,13 +57,15 @@ is_of_few rows key has = by (nat_lt (stripe_of_key key) STRIPES) refl has
 pub same_together : (rows next : ℕ → Rows) → ((stripe : ℕ) → stripe < STRIPES → next stripe ≡ rows stripe) → together next ≡ together rows
 same_together rows next same = λ i key. each key (nat_lt (stripe_of_key key) STRIPES) refl i
   where
-    each : (key : RowKey) (t : Bool) → nat_lt (stripe_of_key key) STRIPES ≡ t → cond t (next (stripe_of_key key) key) None ≡ cond t (rows (stripe_of_key key) key) None
+    each : (key : RowKey) (t : Bool) → nat_lt (stripe_of_key key) STRIPES ≡ t
+        → cond t (next (stripe_of_key key) key) None ≡ cond t (rows (stripe_of_key key) key) None
     each key true e = ap (λ (r : Rows). r key) (same (stripe_of_key key) (ltb-true (stripe_of_key key) STRIPES e))
     each key false e = refl
 
 -- ---- a block of a key row
 
-any_in : (block : Block) (pieces : List Piece) → list_any (λ (piece : Piece). is_block block piece.block) pieces ≡ list_any (is_block block) (map (λ (piece : Piece). piece.block) pieces)
+any_in : (block : Block) (pieces : List Piece)
+    → list_any (λ (piece : Piece). is_block block piece.block) pieces ≡ list_any (is_block block) (map (λ (piece : Piece). piece.block) pieces)
 any_in block [] = refl
 any_in block (piece ∷ pieces) = ap (λ (t : Bool). is_block block piece.block || t) (any_in block pieces)
 
@@ -83,7 +85,8 @@ module _ (rows : ℕ → Rows) (own : (stripe : ℕ) → stripe < STRIPES → (k
           one_of_few rows key (subst (λ (n : ℕ). n < STRIPES) (sym its) few) ∙ ap (λ (n : ℕ). rows n key) its
       each key false e = sym (own stripe few key e)
 
-  module _ (opening : Opening) (bytes : OpeningBytes) (loaded : Rows) (store : IsStore loaded opening bytes) (fit : AreInGrammar loaded) (story : List Event) (legal : IsLegal opening story)
+  module _ (opening : Opening) (bytes : OpeningBytes) (loaded : Rows) (store : IsStore loaded opening bytes) (fit : AreInGrammar loaded)
+      (story : List Event) (legal : IsLegal opening story)
       (stand : (stripe : ℕ) → stripe < STRIPES → StandAt opening loaded stripe story (rows stripe)) where
     abbrev all : Rows
     all = together rows
@@ -93,11 +96,13 @@ module _ (rows : ℕ → Rows) (own : (stripe : ℕ) → stripe < STRIPES → (k
         let few = is_of_few rows key (subst IsSome (sym it.there) refl) in
         record { row = it.row; there = sym (one_of_few rows key few) ∙ it.there; has = it.has }
 
-    apart : (block twin : Block) (key other : RowKey) → StandsIn all block key → StandsIn all twin other → block.local ≡ twin.local → stripe_of_key key ≡ stripe_of_key other
+    apart : (block twin : Block) (key other : RowKey) → StandsIn all block key → StandsIn all twin other → block.local ≡ twin.local
+        → stripe_of_key key ≡ stripe_of_key other
     apart block twin key other one two same =
         let few = is_of_few rows key (subst IsSome (sym one.there) refl) in
         let also = is_of_few rows other (subst IsSome (sym two.there) refl) in
-        stripes_apart opening loaded fit store.sound store.rows story legal (stripe_of_key key) (stripe_of_key other) (rows (stripe_of_key key)) (rows (stripe_of_key other))
+        stripes_apart opening loaded fit store.sound store.rows story legal (stripe_of_key key) (stripe_of_key other) (rows (stripe_of_key key))
+        (rows (stripe_of_key other))
         (stand (stripe_of_key key) few).old (stand (stripe_of_key other) also).old block twin key other (in_its block key one) (in_its twin other two) same
 
     all_fit : AreInGrammar all
@@ -109,7 +114,8 @@ module _ (rows : ℕ → Rows) (own : (stripe : ℕ) → stripe < STRIPES → (k
     sound_part stripe few = subst IsSoundButRenames (sym (only_is stripe few)) (stand stripe few).stand.sound
 
     stand_part : (stripe : ℕ) → stripe < STRIPES → StandsFor (only stripe all) (share_of stripe (namespace_of opening story))
-    stand_part stripe few = subst (λ (r : Rows). StandsFor r (share_of stripe (namespace_of opening story))) (sym (only_is stripe few)) (stand stripe few).stand.stands
+    stand_part stripe few =
+        subst (λ (r : Rows). StandsFor r (share_of stripe (namespace_of opening story))) (sym (only_is stripe few)) (stand stripe few).stand.stands
 
     few_rows : (key : RowKey) → IsSome (all key) → stripe_of_key key < STRIPES
     few_rows key has = is_of_few rows key has
@@ -126,7 +132,8 @@ module _ (rows : ℕ → Rows) (own : (stripe : ℕ) → stripe < STRIPES → (k
 
     -- ---- a batch of one stripe
 
-    keys_apart : (stripe : ℕ) → (before : List RowEntry) → AreRows before (only stripe all) → (volume bucket : List ℕ) → IsApart (is_own stripe) (row_of before) all volume bucket
+    keys_apart : (stripe : ℕ) → (before : List RowEntry) → AreRows before (only stripe all) → (volume bucket : List ℕ)
+        → IsApart (is_own stripe) (row_of before) all volume bucket
     keys_apart stripe before are volume bucket key number blocks block other row opened has outside is = by (has_block block other row) refl
       where
         there : StandsIn (only stripe all) block (keys.Open volume bucket key number)
@@ -135,7 +142,8 @@ module _ (rows : ℕ → Rows) (own : (stripe : ℕ) → stripe < STRIPES → (k
         clash : has_block block other row ≡ true → ⊥
         clash so =
             let beside : StandsIn all block other = record { row = row; there = is; has = names_it block other row so } in
-            let same = apart block block (keys.Open volume bucket key number) other (stands_from all stripe block (keys.Open volume bucket key number) there) beside refl in
+            let same = apart block block (keys.Open volume bucket key number) other
+            (stands_from all stripe block (keys.Open volume bucket key number) there) beside refl in
             let its = its_own all stripe (keys.Open volume bucket key number) (subst IsSome (sym there.there) refl) in
             false≢true (sym outside ∙ eq-eqb (stripe_of_key other) stripe (sym same ∙ its))
 
@@ -151,7 +159,10 @@ module _ (rows : ℕ → Rows) (own : (stripe : ℕ) → stripe < STRIPES → (k
         subst (λ (l : List RowEntry). IsApart (is_own stripe) (row_of l) all volume bucket) (sym same) (keys_apart stripe before are volume bucket)
 
     of_all : (stripe : ℕ) (batch : List ℕ) (changes : List Change) → IsBatchOfStripe stripe (only stripe all) batch changes → IsBatchOf all batch changes
-    of_all stripe batch changes it = batch_of_all stripe all batch changes it.batch it.operations_own it.changes_own (items_apart stripe it.batch.items it.drops_first)
+    of_all stripe batch changes it =
+        batch_of_all stripe all batch changes it.batch it.operations_own it.changes_own (items_apart stripe it.batch.items it.drops_first)
 
-    pub union_batch : (stripe : ℕ) → stripe < STRIPES → (batch : List ℕ) (changes : List Change) → IsBatchOfStripe stripe (rows stripe) batch changes → IsBatchOf (together rows) batch changes
-    union_batch stripe few batch changes it = of_all stripe batch changes (subst (λ (r : Rows). IsBatchOfStripe stripe r batch changes) (sym (only_is stripe few)) it)
+    pub union_batch : (stripe : ℕ) → stripe < STRIPES → (batch : List ℕ) (changes : List Change) → IsBatchOfStripe stripe (rows stripe) batch changes
+        → IsBatchOf (together rows) batch changes
+    union_batch stripe few batch changes it =
+        of_all stripe batch changes (subst (λ (r : Rows). IsBatchOfStripe stripe r batch changes) (sym (only_is stripe few)) it)

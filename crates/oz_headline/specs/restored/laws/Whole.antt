@@ -1,5 +1,31 @@
 -- The rows of all stripes together stood at each place of a story.
-use Rattle.std.proofs.Common.{◌≡◌, ◌≢◌, ◌==◌, ⊎_elim, ℕ, ◌<◌, ◌≤◌, Bool, true, false, List, [], ◌∷◌, ◌++◌, Option, None, Some, cond, append-nil, arith, refl, sym, ◌∙◌, ap, subst}
+use Rattle.std.proofs.Common.{
+  ◌≡◌,
+  ◌≢◌,
+  ◌==◌,
+  ⊎_elim,
+  ℕ,
+  ◌<◌,
+  ◌≤◌,
+  Bool,
+  true,
+  false,
+  List,
+  [],
+  ◌∷◌,
+  ◌++◌,
+  Option,
+  None,
+  Some,
+  cond,
+  append-nil,
+  arith,
+  refl,
+  sym,
+  ◌∙◌,
+  ap,
+  subst,
+}
 use mathlib.Core.Bool.{false≢true}
 use Rattle.std.proofs.lemmas.Bool.{cases_lt, eq-eqb, eqb-true}
 use Rattle.oz_core.specs.declared.event.Event.{Event}
@@ -33,7 +59,8 @@ use Rattle.oz_headline.specs.restored.laws.Union.{none_of_more, one_of_few, same
 
 -- ---- what changes of a stripe leave
 
-stay : (stripe : ℕ) (changes : List Change) → ChangeOnly stripe changes → (key : RowKey) → is_own stripe key ≡ false → (row : Option Row) → row_after changes key row ≡ row
+stay : (stripe : ℕ) (changes : List Change) → ChangeOnly stripe changes → (key : RowKey) → is_own stripe key ≡ false → (row : Option Row)
+    → row_after changes key row ≡ row
 stay stripe [] of key outside row = refl
 stay stripe (change ∷ changes) of key outside row = stay stripe changes of.1 key outside (row_after_one change key row) ∙ by (is_same change.key key) refl
   where
@@ -47,7 +74,8 @@ stay stripe (change ∷ changes) of key outside row = stay stripe changes of.1 k
 abbrev AreOwn : (ℕ → Rows) → Type 0
 AreOwn rows = (stripe : ℕ) → stripe < STRIPES → (key : RowKey) → is_own stripe key ≡ false → rows stripe key ≡ None
 
-made_own : (stripe : ℕ) (now next : Rows) (kind : EventKind) → IsMadeBy stripe now kind next → (key : RowKey) → is_own stripe key ≡ false → now key ≡ None → next key ≡ None
+made_own : (stripe : ℕ) (now next : Rows) (kind : EventKind) → IsMadeBy stripe now kind next → (key : RowKey) → is_own stripe key ≡ false → now key ≡ None
+    → next key ≡ None
 made_own stripe now next (Decide id index reply batch) made key outside none =
     ap (λ (r : Rows). r key) made.leads ∙ stay stripe made.changes made.of_stripe.changes_own key outside (now key) ∙ none
 made_own stripe now next kind made key outside none = ap (λ (r : Rows). r key) made ∙ none
@@ -59,7 +87,8 @@ by_seat {A} seat other same apart = by (seat == other) refl
     by true e = same (eqb-true seat other e)
     by false e = apart (λ is. false≢true (sym e ∙ eq-eqb seat other is))
 
-steps_own : (stripe : ℕ) (now : Rows) (event : Event) (next : Rows) → StepsTo stripe now event next → (key : RowKey) → is_own stripe key ≡ false → now key ≡ None → next key ≡ None
+steps_own : (stripe : ℕ) (now : Rows) (event : Event) (next : Rows) → StepsTo stripe now event next → (key : RowKey) → is_own stripe key ≡ false
+    → now key ≡ None → next key ≡ None
 steps_own stripe now event next steps key outside none = by_seat event.seat (stripe_seat stripe)
     (λ same. made_own stripe now next event.kind (steps.own same) key outside none)
     (λ apart. ap (λ (r : Rows). r key) (steps.others apart) ∙ none)
@@ -126,12 +155,14 @@ module _ (opening : Opening) (bytes : OpeningBytes) (loaded : Rows) (store : IsS
         each key false e = untouched key e ∙ sym (stay stripe it.changes it.of_stripe.changes_own key e (together rows key))
 
     makes : (seat : ℕ) (kind : EventKind) → KindIsEnabled opening before seat kind
-        → ((stripe : ℕ) → stripe < STRIPES → StepsTo stripe (rows stripe) (record { seat = seat; kind = kind }) (next stripe)) → Makes (together rows) kind (together next)
+        → ((stripe : ℕ) → stripe < STRIPES → StepsTo stripe (rows stripe) (record { seat = seat; kind = kind }) (next stripe))
+        → Makes (together rows) kind (together next)
     makes seat (Decide id index reply batch) enabled steps =
         let stripe = stripe_of (volume_in enabled.request) in
         let few = one_of_sixteen (volume_in enabled.request) in
         let it = (steps stripe few).own enabled.of_stripe in (
-          written stripe few index batch it (λ other among apart. (steps other among).others (λ same. apart (let is : other ≡ stripe = omega (arith, same, enabled.of_stripe) in is))),
+          written stripe few index batch it
+              (λ other among apart. (steps other among).others (λ same. apart (let is : other ≡ stripe = omega (arith, same, enabled.of_stripe) in is))),
           it.limit,
         )
     makes seat kind enabled steps = same_together rows next
@@ -157,16 +188,19 @@ module _ (opening : Opening) (bytes : OpeningBytes) (loaded : Rows) (store : IsS
   ended stripe before rows last stood = stood.1
 
   all_from : (story before : List Event) (rows last : ℕ → Rows) → AreOwn rows → IsLegal opening (before ++ story)
-      → ((stripe : ℕ) → stripe < STRIPES → HasStoodFrom opening loaded stripe before (rows stripe) story (last stripe)) → AllStoodFrom opening loaded before (together rows) story (together last)
+      → ((stripe : ℕ) → stripe < STRIPES → HasStoodFrom opening loaded stripe before (rows stripe) story (last stripe))
+      → AllStoodFrom opening loaded before (together rows) story (together last)
   unfolding AllStoodFrom
   all_from [] before rows last own legal stood = (
-    union_stands rows own opening bytes loaded store fit before (legal_to opening [] before [] legal) (λ stripe few. stood_first opening loaded stripe before (rows stripe) [] (last stripe) (stood stripe few)),
+    union_stands rows own opening bytes loaded store fit before (legal_to opening [] before [] legal)
+        (λ stripe few. stood_first opening loaded stripe before (rows stripe) [] (last stripe) (stood stripe few)),
     same_together rows last (λ stripe few. ended stripe before (rows stripe) (last stripe) (stood stripe few)),
   )
   all_from (event ∷ story) before rows last own legal stood =
       let legal_before = legal_to opening [] before (event ∷ story) legal in
       let enabled = legal_first opening before event story (legal_behind opening [] before (event ∷ story) legal) in
-      let stand = λ (stripe : ℕ) (few : stripe < STRIPES). stood_first opening loaded stripe before (rows stripe) (event ∷ story) (last stripe) (stood stripe few) in
+      let stand = λ (stripe : ℕ) (few : stripe < STRIPES). stood_first opening loaded stripe before (rows stripe) (event ∷ story) (last stripe)
+      (stood stripe few) in
       let on = λ (stripe : ℕ). onward stripe (rows stripe) before event story (last stripe) (stood stripe) in
       let next : ℕ → Rows = λ stripe. (on stripe).next in (
         union_stands rows own opening bytes loaded store fit before legal_before stand,
@@ -179,32 +213,44 @@ module _ (opening : Opening) (bytes : OpeningBytes) (loaded : Rows) (store : IsS
         ),
       )
 
-  pub all_stood : (story : List Event) (rows : ℕ → Rows) → IsLegal opening story → ((stripe : ℕ) → stripe < STRIPES → HasRun opening loaded story stripe (rows stripe))
+  pub all_stood : (story : List Event) (rows : ℕ → Rows) → IsLegal opening story
+      → ((stripe : ℕ) → stripe < STRIPES → HasRun opening loaded story stripe (rows stripe))
       → AllStood opening loaded story (together rows)
   all_stood story rows legal run = subst (λ (r : Rows). AllStoodFrom opening loaded [] r story (together rows)) (all_parts loaded fit)
-      (all_from story [] (parts_of loaded) rows (parts_own loaded) legal (λ stripe few. stood_all opening loaded stripe story (rows stripe) legal (run stripe few)))
+      (all_from story [] (parts_of loaded) rows (parts_own loaded) legal
+      (λ stripe few. stood_all opening loaded stripe story (rows stripe) legal (run stripe few)))
 
 -- ---- beginnings
 
 module _ (opening : Opening) (loaded : Rows) where
-  pub first_place : (before : List Event) (rows : Rows) (story : List Event) (last : Rows) → AllStoodFrom opening loaded before rows story last → StandTogether opening loaded before rows
+  pub first_place : (before : List Event) (rows : Rows) (story : List Event) (last : Rows) → AllStoodFrom opening loaded before rows story last
+      → StandTogether opening loaded before rows
   unfolding AllStoodFrom
   first_place before rows [] last stood = stood.0
   first_place before rows (event ∷ story) last stood = stood.0
 
-  pub last_place : (before : List Event) (rows : Rows) (story : List Event) (last : Rows) → AllStoodFrom opening loaded before rows story last → StandTogether opening loaded (before ++ story) last
+  pub last_place : (before : List Event) (rows : Rows) (story : List Event) (last : Rows) → AllStoodFrom opening loaded before rows story last
+      → StandTogether opening loaded (before ++ story) last
   unfolding AllStoodFrom
   last_place before rows [] last stood =
-      subst (λ (l : List Event). StandTogether opening loaded l last) (sym (append-nil before)) (subst (λ (r : Rows). StandTogether opening loaded before r) (sym stood.1) stood.0)
+      subst (λ (l : List Event). StandTogether opening loaded l last) (sym (append-nil before))
+      (subst (λ (r : Rows). StandTogether opening loaded before r) (sym stood.1) stood.0)
   last_place before rows (event ∷ story) last stood =
-      subst (λ (l : List Event). StandTogether opening loaded l last) (moved_over before story event) (last_place (before ++ event ∷ []) stood.1.0 story last stood.1.2)
+      subst (λ (l : List Event). StandTogether opening loaded l last) (moved_over before story event)
+      (last_place (before ++ event ∷ []) stood.1.0 story last stood.1.2)
 
   -- and the two parts of a story
   pub front_stood : (front before : List Event) (rows : Rows) (more : List Event) (last : Rows) → AllStoodFrom opening loaded before rows (front ++ more) last
       → (middle : Rows) × AllStoodFrom opening loaded before rows front middle × AllStoodFrom opening loaded (before ++ front) middle more last
   unfolding AllStoodFrom
-  front_stood [] before rows more last stood =
-      (rows, (first_place before rows more last stood, refl), subst (λ (l : List Event). AllStoodFrom opening loaded l rows more last) (sym (append-nil before)) stood)
+  front_stood [] before rows more last stood = (
+    rows,
+    (first_place before rows more last stood, refl),
+    subst (λ (l : List Event). AllStoodFrom opening loaded l rows more last) (sym (append-nil before)) stood,
+  )
   front_stood (event ∷ front) before rows more last stood =
-      let rest = front_stood front (before ++ event ∷ []) stood.1.0 more last stood.1.2 in
-      (rest.0, (stood.0, (stood.1.0, stood.1.1, rest.1)), subst (λ (l : List Event). AllStoodFrom opening loaded l rest.0 more last) (moved_over before front event) rest.2)
+      let rest = front_stood front (before ++ event ∷ []) stood.1.0 more last stood.1.2 in (
+        rest.0,
+        (stood.0, (stood.1.0, stood.1.1, rest.1)),
+        subst (λ (l : List Event). AllStoodFrom opening loaded l rest.0 more last) (moved_over before front event) rest.2,
+      )

@@ -1,5 +1,34 @@
 -- Nothing reaches what is being deleted after a stop, and its ids were granted.
-use Rattle.std.proofs.Common.{◌≡◌, ⊎_elim, ◌⊎◌, ℕ, suc, ◌<◌, ◌≤◌, ◌==◌, Bool, true, false, ◌||◌, List, [], ◌∷◌, take, map, Some, Contains, inl, inr, refl, sym, ◌∙◌, ap, subst, append-nil, arith}
+use Rattle.std.proofs.Common.{
+  ◌≡◌,
+  ⊎_elim,
+  ◌⊎◌,
+  ℕ,
+  suc,
+  ◌<◌,
+  ◌≤◌,
+  ◌==◌,
+  Bool,
+  true,
+  false,
+  ◌||◌,
+  List,
+  [],
+  ◌∷◌,
+  take,
+  map,
+  Some,
+  Contains,
+  inl,
+  inr,
+  refl,
+  sym,
+  ◌∙◌,
+  ap,
+  subst,
+  append-nil,
+  arith,
+}
 use mathlib.Core.Bool.{false≢true}
 use Rattle.std.proofs.lemmas.Bool.{eqb-true, and_parts}
 use Rattle.std.proofs.lemmas.List.Elements.{All-contains, Contains-append_cases}
@@ -72,7 +101,8 @@ local_in (local ∷ locals) x e = by (local == x) refl (local_in locals x)
 unfoldable pub IsGoing : Opening → List Event → Block → Type 0
 IsGoing opening story block = (is_logged_at_opening opening block ≡ true) ⊎ ((place : ℕ) × IsPurgeAt story block place)
 
-at_opening : (opening : Opening) (txn : Txn) (block : Block) → Contains (map (λ (unretired : Unretired). unretired.txn) opening.unretired) txn → names_block block txn ≡ true → is_logged_at_opening opening block ≡ true
+at_opening : (opening : Opening) (txn : Txn) (block : Block) → Contains (map (λ (unretired : Unretired). unretired.txn) opening.unretired) txn
+    → names_block block txn ≡ true → is_logged_at_opening opening block ≡ true
 at_opening opening txn block there names =
     let all = map (λ (unretired : Unretired). unretired.txn) opening.unretired in
     ap (list_any (names_block block)) (append-nil all) ∙ one_passes (names_block block) all txn there names
@@ -80,7 +110,8 @@ at_opening opening txn block there names =
 some_txn : (a b : Txn) → Some a ≡ Some b → a ≡ b
 some_txn a b e = cc
 
-in_log : (opening : Opening) (story : List Event) (txn : Txn) (block : Block) → IsLegal opening story → IsTold logged story txn → names_block block txn ≡ true → (place : ℕ) × IsPurgeAt story block place
+in_log : (opening : Opening) (story : List Event) (txn : Txn) (block : Block) → IsLegal opening story → IsTold logged story txn
+    → names_block block txn ≡ true → (place : ℕ) × IsPurgeAt story block place
 in_log opening story txn block legal told names = by told.event.kind refl
   where
     by : (kind : EventKind) → told.event.kind ≡ kind → (place : ℕ) × IsPurgeAt story block place
@@ -89,13 +120,19 @@ in_log opening story txn block legal told names = by told.event.kind refl
         let here = subst (λ (t : Txn). names_block block t ≡ true) (sym same) names in
         let parts = and_parts (container == block.container) (list_any (λ local. local == block.local) locals) here in
         let event : Event = record { seat = told.event.seat; kind = Log number container locals } in
-        let is : slice_get story told.there.0 ≡ Some event = found_at story told.event told.there ∙ ap (λ (kind : EventKind). Some (record { seat = told.event.seat; kind = kind })) e in
-        let found = logged_purged opening story told.there.0 told.event.seat number container block.local locals legal is (local_in locals block.local parts.1) in
-        (found.0, subst (λ (c : ℕ). IsPurgeAt story (record { container = c; local = block.local }) found.0) (eqb-true container block.container parts.0) found.2)
+        let is : slice_get story told.there.0 ≡ Some event = found_at story told.event told.there
+        ∙ ap (λ (kind : EventKind). Some (record { seat = told.event.seat; kind = kind })) e in
+        let found = logged_purged opening story told.there.0 told.event.seat number container block.local locals legal is
+        (local_in locals block.local parts.1) in (
+          found.0,
+          subst (λ (c : ℕ). IsPurgeAt story (record { container = c; local = block.local }) found.0)
+              (eqb-true container block.container parts.0) found.2,
+        )
     by kind e = let none = sym (ap logged e) ∙ told.told in absurd cc
 
 -- each block that the log has is going
-pub is_going : (opening : Opening) (story : List Event) (block : Block) → IsLegal opening story → is_in_logs (logs opening story) block ≡ true → IsGoing opening story block
+pub is_going : (opening : Opening) (story : List Event) (block : Block) → IsLegal opening story → is_in_logs (logs opening story) block ≡ true
+    → IsGoing opening story block
 unfolding IsGoing
 is_going opening story block legal is =
     let named = named_in (logs opening story) block is in
@@ -105,7 +142,8 @@ is_going opening story block legal is =
     (Contains-append_cases (map (λ (unretired : Unretired). unretired.txn) opening.unretired) (all_told logged story) named.txn named.there)
 
 -- and what a stop leaves of the log is of it
-pub left_going : (opening : Opening) (story : List Event) (left : Opening) (block : Block) → IsLegal opening story → IsLeftByScm opening story left → is_logged_at_opening left block ≡ true → IsGoing opening story block
+pub left_going : (opening : Opening) (story : List Event) (left : Opening) (block : Block) → IsLegal opening story → IsLeftByScm opening story left
+    → is_logged_at_opening left block ≡ true → IsGoing opening story block
 left_going opening story left block legal scm is =
     let all = map (λ (unretired : Unretired). unretired.txn) left.unretired in
     let named = named_in all block (sym (ap (list_any (names_block block)) (append-nil all)) ∙ is) in
@@ -115,7 +153,8 @@ left_going opening story left block legal scm is =
 
 -- ---- nothing reaches it
 
-pub going_away : (opening : Opening) (story : List Event) (most : ℕ) (left : Opening) (block : Block) → IsLegal opening story → LogIsCoherent opening → IsLeftByManager opening story most left
+pub going_away : (opening : Opening) (story : List Event) (most : ℕ) (left : Opening) (block : Block) → IsLegal opening story → LogIsCoherent opening
+    → IsLeftByManager opening story most left
     → durable_index opening story ≤ most → IsGoing opening story block → IsReached left.namespace block → ⊥
 unfolding IsGoing namespace_from
 going_away opening story most left block legal coherent manager stable (inl logged) reached =
@@ -126,19 +165,23 @@ going_away opening story most left block legal coherent manager stable (inr purg
 
 -- ---- its id was granted
 
-used_below : (opening : Opening) (story : List Event) (most : ℕ) (block : Block) → IsLegal opening story → IdsAreFresh opening → LogIsCoherent opening → WasUsed opening (all_told (kept_block most) story) block → block.local < next_id opening story
+used_below : (opening : Opening) (story : List Event) (most : ℕ) (block : Block) → IsLegal opening story → IdsAreFresh opening → LogIsCoherent opening
+    → WasUsed opening (all_told (kept_block most) story) block → block.local < next_id opening story
 used_below opening story most block legal fresh coherent (inl reached) = at_opening_below opening story block legal (fresh block (inl reached))
 used_below opening story most block legal fresh coherent (inr (inl left)) = at_opening_below opening story block legal (fresh block (inr (inl left)))
 used_below opening story most block legal fresh coherent (inr (inr (inl logged))) = at_opening_below opening story block legal (coherent.granted block logged)
-used_below opening story most block legal fresh coherent (inr (inr (inr granted))) = granted_below opening story legal block (kept_grant opening story legal most block granted)
+used_below opening story most block legal fresh coherent (inr (inr (inr granted))) =
+    granted_below opening story legal block (kept_grant opening story legal most block granted)
 
-pub going_below : (opening : Opening) (story : List Event) (block : Block) → IsLegal opening story → IdsAreFresh opening → LogIsCoherent opening → IsGoing opening story block → block.local < next_id opening story
+pub going_below : (opening : Opening) (story : List Event) (block : Block) → IsLegal opening story → IdsAreFresh opening → LogIsCoherent opening
+    → IsGoing opening story block → block.local < next_id opening story
 unfolding IsGoing
 going_below opening story block legal fresh coherent (inl logged) = at_opening_below opening story block legal (coherent.granted block logged)
 going_below opening story block legal fresh coherent (inr purged) =
     let purge = purged.1 in
     let front = take purged.0 story in
-    let enabled : PurgeAskIsEnabled opening (take purged.0 story) purge.seat purge.blocks = enabled_at opening story legal purged.0 (record { seat = purge.seat; kind = PurgeAsk purge.blocks }) purge.there in
+    let enabled : PurgeAskIsEnabled opening (take purged.0 story) purge.seat purge.blocks =
+    enabled_at opening story legal purged.0 (record { seat = purge.seat; kind = PurgeAsk purge.blocks }) purge.there in
     let used = All-contains (IsUsedAndKept opening (take purged.0 story)) purge.blocks block enabled.used purge.among in
     let below = used_below opening front (durable_index opening (take purged.0 story)) block (front_legal opening story legal purged.0) fresh coherent used in
     omega (arith, below, ids_within opening story purged.0 legal)

@@ -1,5 +1,35 @@
 -- The blocks that the manager's disk and the datanodes' name were granted, and so their ids are below the next.
-use Rattle.std.proofs.Common.{◌≡◌, ⊎_elim, ◌⊎◌, ℕ, suc, ◌<◌, Bool, true, false, List, [], ◌∷◌, ◌++◌, length, take, Option, None, Some, Contains, cond, inl, inr, refl, sym, ◌∙◌, ap, subst, append-nil, arith}
+use Rattle.std.proofs.Common.{
+  ◌≡◌,
+  ⊎_elim,
+  ◌⊎◌,
+  ℕ,
+  suc,
+  ◌<◌,
+  Bool,
+  true,
+  false,
+  List,
+  [],
+  ◌∷◌,
+  ◌++◌,
+  length,
+  take,
+  Option,
+  None,
+  Some,
+  Contains,
+  cond,
+  inl,
+  inr,
+  refl,
+  sym,
+  ◌∙◌,
+  ap,
+  subst,
+  append-nil,
+  arith,
+}
 use Rattle.std.proofs.lemmas.List.{take_all}
 use Rattle.std.proofs.lemmas.List.Elements.{Contains-append_left, Contains-append_right, filter_map-append}
 use Rattle.std.specs.Prelude.{nat_le}
@@ -71,7 +101,8 @@ pub record WasGrantedIn (opening : Opening) (story : List Event) (legal : IsLega
   pub id : AskId
   pub grant : IsGrantedTo opening story legal block id
 
-decided_grant : (opening : Opening) (story : List Event) (legal : IsLegal opening story) (block : Block) (event : Event) (id : AskId) (index : ℕ) (reply : Reply) (batch : List ℕ)
+decided_grant : (opening : Opening) (story : List Event) (legal : IsLegal opening story) (block : Block) (event : Event) (id : AskId) (index : ℕ)
+    (reply : Reply) (batch : List ℕ)
     → Contains story event → event.kind ≡ Decide id index reply batch → block_of_reply reply ≡ Some block → WasGrantedIn opening story legal block
 decided_grant opening story legal block event id index reply batch there is granted =
     let one = one_reply reply block granted in
@@ -82,7 +113,8 @@ decided_grant opening story legal block event id index reply batch there is gran
       grant = record { seat = event.seat; index = index; pipeline = one.0; batch = batch; there = subst (λ (e : Event). Contains story e) same there };
     }
 
-pub kept_grant : (opening : Opening) (story : List Event) (legal : IsLegal opening story) (most : ℕ) (block : Block) → Contains (all_told (kept_block most) story) block → WasGrantedIn opening story legal block
+pub kept_grant : (opening : Opening) (story : List Event) (legal : IsLegal opening story) (most : ℕ) (block : Block)
+    → Contains (all_told (kept_block most) story) block → WasGrantedIn opening story legal block
 kept_grant opening story legal most block among = by told.event.kind refl
   where
     told : IsTold (kept_block most) story block
@@ -122,30 +154,35 @@ given_is (replies.Granted given pipeline) block among = ap Some (in_one given bl
 given_is reply block among = absurd (in_none block among)
 
 step_named : (opening : Opening) (before : List Event) (seat : ℕ) (kind : EventKind) (block : Block) → KindIsEnabled opening before seat kind
-    → IsReached (namespace_step (λ index. true) before (namespace_of opening before) kind) block → IsReached (namespace_of opening before) block ⊎ (granted_block kind ≡ Some block)
+    → IsReached (namespace_step (λ index. true) before (namespace_of opening before) kind) block → IsReached (namespace_of opening before) block
+    ⊎ (granted_block kind ≡ Some block)
 step_named opening before seat (Decide id index reply batch) block enabled reached =
     let asked : namespace_after (pending id before) (namespace_of opening before) reply ≡ after (namespace_of opening before) enabled.request reply =
     ap (λ (o : Option Request). namespace_after o (namespace_of opening before) reply) enabled.undecided in
-    let grown = reach_grows block (namespace_of opening before) enabled.request reply enabled.one_thread (subst (λ (n : Namespace). IsReached n block) asked reached) in
+    let grown = reach_grows block (namespace_of opening before) enabled.request reply enabled.one_thread
+    (subst (λ (n : Namespace). IsReached n block) asked reached) in
     ⊎_elim (λ old. inl old) (λ given. inr (given_is reply block given)) grown
 step_named opening before seat kind block enabled reached = inl reached
 
 abbrev IsNamedBy : Opening → List Event → Block → Type 0
 IsNamedBy opening story block = IsReached opening.namespace block ⊎ Contains (all_told granted_block story) block
 
-told_last : (before : List Event) (event : Event) (block : Block) → granted_block event.kind ≡ Some block → Contains (all_told granted_block (before ++ event ∷ [])) block
+told_last : (before : List Event) (event : Event) (block : Block) → granted_block event.kind ≡ Some block
+    → Contains (all_told granted_block (before ++ event ∷ [])) block
 told_last before event block is =
     subst (λ (l : List Block). Contains l block) (sym (filter_map-append (λ (event : Event). granted_block event.kind) before (event ∷ [])))
     (Contains-append_right (all_told granted_block before) (all_told granted_block (event ∷ [])) block
     (subst (λ (o : Option Block). Contains (cons_option o []) block) (sym is) (0, omega arith, refl)))
 
-named_still : (opening : Opening) (before : List Event) (event : Event) (block : Block) → IsNamedBy opening before block → IsNamedBy opening (before ++ event ∷ []) block
+named_still : (opening : Opening) (before : List Event) (event : Event) (block : Block) → IsNamedBy opening before block
+    → IsNamedBy opening (before ++ event ∷ []) block
 named_still opening before event block (inl reached) = inl reached
 named_still opening before event block (inr granted) =
     inr (subst (λ (l : List Block). Contains l block) (sym (filter_map-append (λ (event : Event). granted_block event.kind) before (event ∷ [])))
     (Contains-append_left (all_told granted_block before) (all_told granted_block (event ∷ [])) block granted))
 
-named_from : (opening : Opening) (block : Block) (rest before : List Event) → IsLegalFrom opening before rest → (IsReached (namespace_of opening before) block → IsNamedBy opening before block)
+named_from : (opening : Opening) (block : Block) (rest before : List Event) → IsLegalFrom opening before rest
+    → (IsReached (namespace_of opening before) block → IsNamedBy opening before block)
     → IsReached (namespace_of opening (before ++ rest)) block → IsNamedBy opening (before ++ rest) block
 named_from opening block [] before legal so =
     subst (λ (l : List Event). IsReached (namespace_of opening l) block → IsNamedBy opening l block) (sym (append-nil before)) so
@@ -155,13 +192,16 @@ named_from opening block (event ∷ rest) before legal so =
     (λ there. ⊎_elim
     (λ old. named_still opening before event block (so old))
     (λ given. inr (told_last before event block given))
-    (step_named opening before event.seat event.kind block (legal_first opening before event rest legal) (subst (λ (n : Namespace). IsReached n block) (namespace_next opening before event) there))))
+    (step_named opening before event.seat event.kind block (legal_first opening before event rest legal)
+    (subst (λ (n : Namespace). IsReached n block) (namespace_next opening before event) there))))
 
-pub reached_named : (opening : Opening) (story : List Event) (block : Block) → IsLegal opening story → IsReached (namespace_of opening story) block → IsReached opening.namespace block ⊎ Contains (all_told granted_block story) block
+pub reached_named : (opening : Opening) (story : List Event) (block : Block) → IsLegal opening story → IsReached (namespace_of opening story) block
+    → IsReached opening.namespace block ⊎ Contains (all_told granted_block story) block
 unfolding namespace_from
 reached_named opening story block legal reached = named_from opening block story [] legal (λ at_opening. inl at_opening) reached
 
-pub of_manager : (opening : Opening) (story : List Event) (most : ℕ) (left : Opening) (block : Block) → IsLegal opening story → IsLeftByManager opening story most left
+pub of_manager : (opening : Opening) (story : List Event) (most : ℕ) (left : Opening) (block : Block) → IsLegal opening story
+    → IsLeftByManager opening story most left
     → IsReached left.namespace block ⊎ Contains left.left block → IsOfManager opening most story block
 unfolding namespace_from
 of_manager opening story most left block legal manager (inl reached) =
@@ -175,12 +215,14 @@ of_manager opening story most left block legal manager (inr deleted) = manager.d
 
 -- ---- and the datanodes hold
 
-module _ (opening : Opening) (bytes : OpeningBytes) (script : Script) (story : List Event) (coherent : IsCoherent opening bytes) (legal : IsLegal opening story) (fits : FitsFrom opening bytes script [] story) where
+module _ (opening : Opening) (bytes : OpeningBytes) (script : Script) (story : List Event) (coherent : IsCoherent opening bytes)
+    (legal : IsLegal opening story) (fits : FitsFrom opening bytes script [] story) where
   pub held_content : (block : Block) (dn : ℕ) → holds opening story dn block ≡ true → HasIts opening bytes script story block dn
   held_content block dn held =
       let whole = take_all (length story) story (omega arith) in
       subst (λ (l : List Event). HasIts opening bytes script l block dn) whole
-      (at_each opening bytes script coherent story legal fits block (length story) dn (subst (λ (l : List Event). GotIt opening l block dn) (sym whole) (holder_got opening story block dn held)))
+      (at_each opening bytes script coherent story legal fits block (length story) dn
+      (subst (λ (l : List Event). GotIt opening l block dn) (sym whole) (holder_got opening story block dn held)))
 
   -- where a block that a datanode holds comes from
   pub held_from : (block : Block) (dn : ℕ) → holds opening story dn block ≡ true → WasThere opening block ⊎ WasGrantedIn opening story legal block
@@ -192,14 +234,18 @@ module _ (opening : Opening) (bytes : OpeningBytes) (script : Script) (story : L
 
 -- ---- so their ids are below the next
 
-pub at_opening_below : (opening : Opening) (story : List Event) (block : Block) → IsLegal opening story → block.local < opening.next_id → block.local < next_id opening story
+pub at_opening_below : (opening : Opening) (story : List Event) (block : Block) → IsLegal opening story → block.local < opening.next_id
+    → block.local < next_id opening story
 at_opening_below opening story block legal below = let rises = ids_rise opening story [] legal in omega (arith, below, rises)
 
-pub of_manager_below : (opening : Opening) (story : List Event) (most : ℕ) (block : Block) → IsLegal opening story → IdsAreFresh opening → IsOfManager opening most story block → block.local < next_id opening story
+pub of_manager_below : (opening : Opening) (story : List Event) (most : ℕ) (block : Block) → IsLegal opening story → IdsAreFresh opening
+    → IsOfManager opening most story block → block.local < next_id opening story
 of_manager_below opening story most block legal fresh (inl reached) = at_opening_below opening story block legal (fresh block (inl reached))
 of_manager_below opening story most block legal fresh (inr (inl left)) = at_opening_below opening story block legal (fresh block (inr (inl left)))
-of_manager_below opening story most block legal fresh (inr (inr granted)) = granted_below opening story legal block (kept_grant opening story legal most block granted)
+of_manager_below opening story most block legal fresh (inr (inr granted)) =
+    granted_below opening story legal block (kept_grant opening story legal most block granted)
 
-pub held_below : (opening : Opening) (story : List Event) (block : Block) (legal : IsLegal opening story) → IdsAreFresh opening → WasThere opening block ⊎ WasGrantedIn opening story legal block → block.local < next_id opening story
+pub held_below : (opening : Opening) (story : List Event) (block : Block) (legal : IsLegal opening story) → IdsAreFresh opening → WasThere opening block
+    ⊎ WasGrantedIn opening story legal block → block.local < next_id opening story
 held_below opening story block legal fresh (inl there) = at_opening_below opening story block legal (fresh block (inr (inr there)))
 held_below opening story block legal fresh (inr was) = granted_below opening story legal block was

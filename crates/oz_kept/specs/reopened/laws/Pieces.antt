@@ -1,5 +1,32 @@
 -- Which pieces a request brings into keys and snapshots: none but those that it commits.
-use Rattle.std.proofs.Common.{◌≡◌, ◌⊎◌, ⊎_elim, inl, inr, ℕ, Bool, true, false, T, cond, List, [], ◌∷◌, ◌++◌, filter, Option, None, Some, is_some, Contains, refl, sym, ◌∙◌, ap, subst}
+use Rattle.std.proofs.Common.{
+  ◌≡◌,
+  ◌⊎◌,
+  ⊎_elim,
+  inl,
+  inr,
+  ℕ,
+  Bool,
+  true,
+  false,
+  T,
+  cond,
+  List,
+  [],
+  ◌∷◌,
+  ◌++◌,
+  filter,
+  Option,
+  None,
+  Some,
+  is_some,
+  Contains,
+  refl,
+  sym,
+  ◌∙◌,
+  ap,
+  subst,
+}
 use Rattle.std.proofs.lemmas.List.Elements.{Contains-append_cases, Contains-append_left, Contains-append_right, Contains-push_cases}
 use Rattle.std.specs.declared.cmp.Ordering.{Ordering}
 use Rattle.std.specs.Cmp.{IsTotalOrder}
@@ -19,7 +46,25 @@ use Rattle.oz_requests.specs.declared.request.Request.{Request}
 use Rattle.oz_requests.specs.declared.request.Request.TheVariants as requests
 use Rattle.oz_requests.specs.Names.{volume_in}
 use Rattle.oz_model.specs.Answers.{left, scope_after, after}
-use Rattle.oz_model.specs.Buckets.{buckets_in, found_in, bucket_in, bucket_or_new, pieces_or_none, pieces_in, session_blocks, next_number, granted_by, with_session, committed, with_keys, renamed, with_bucket, without_sessions, with_snapshot, without_snapshot}
+use Rattle.oz_model.specs.Buckets.{
+  buckets_in,
+  found_in,
+  bucket_in,
+  bucket_or_new,
+  pieces_or_none,
+  pieces_in,
+  session_blocks,
+  next_number,
+  granted_by,
+  with_session,
+  committed,
+  with_keys,
+  renamed,
+  with_bucket,
+  without_sessions,
+  with_snapshot,
+  without_snapshot,
+}
 use Rattle.oz_model.specs.Scope.{scope_of}
 use Rattle.oz_model.specs.laws.Stripes.{found_with}
 use Rattle.oz_core.specs.Pieces.{IsPieceOfKey, IsPieceOfSnapshot, IsPieceIn}
@@ -62,14 +107,16 @@ module _ (piece : Piece) where
     is_there : found_in scope name ≡ Some bucket
     has : Has bucket
 
-  keys_put : (keys : ByName (List Piece)) (key : List ℕ) (pieces : List Piece) → IsPieceOfKey (insert keys key pieces) piece → Contains pieces piece ⊎ IsPieceOfKey keys piece
+  keys_put : (keys : ByName (List Piece)) (key : List ℕ) (pieces : List Piece) → IsPieceOfKey (insert keys key pieces) piece → Contains pieces piece
+      ⊎ IsPieceOfKey keys piece
   keys_put keys key pieces it = ⊎_elim
       (λ same. inl (subst (λ (l : List Piece). Contains l piece) (sym same) it.has))
       (λ there. inr (record { key = it.key; pieces = it.pieces; is_there = there; has = it.has }))
       (put_or_there nat_list_cmp_total keys key pieces it.key it.pieces it.is_there)
 
   keys_gone : (keys : ByName (List Piece)) (key : List ℕ) → IsPieceOfKey (remove keys key) piece → IsPieceOfKey keys piece
-  keys_gone keys key it = record { key = it.key; pieces = it.pieces; is_there = was_there nat_list_cmp_total keys key it.key it.pieces it.is_there; has = it.has }
+  keys_gone keys key it =
+      record { key = it.key; pieces = it.pieces; is_there = was_there nat_list_cmp_total keys key it.key it.pieces it.is_there; has = it.has }
 
   pieces_seen : (keys : ByName (List Piece)) (key : List ℕ) → Contains (pieces_in keys key) piece → IsPieceOfKey keys piece
   pieces_seen keys key has = by_case (get keys key) refl
@@ -85,7 +132,8 @@ module _ (piece : Piece) where
 
   -- with the same keys and snapshots; with other keys; with other snapshots
   snapshots_have : (old new : Bucket) → old.snapshots ≡ new.snapshots → IsPieceOfSnapshot new piece → IsPieceOfSnapshot old piece
-  snapshots_have old new same it = record { snapshot = it.snapshot; is_there = subst (λ (l : List Snapshot). Contains l it.snapshot) (sym same) it.is_there; of_key = it.of_key }
+  snapshots_have old new same it =
+      record { snapshot = it.snapshot; is_there = subst (λ (l : List Snapshot). Contains l it.snapshot) (sym same) it.is_there; of_key = it.of_key }
 
   same_has : (old new : Bucket) → old.keys ≡ new.keys → old.snapshots ≡ new.snapshots → Has new → Has old
   same_has old new keys snapshots has = ⊎_elim
@@ -96,9 +144,11 @@ module _ (piece : Piece) where
   keys_have bucket keys known has = ⊎_elim known (λ it. inr (snapshots_have bucket (with_keys bucket keys) refl it)) has
 
   renamed_have : (bucket : Bucket) (key to : List ℕ) → IsPieceOfKey (renamed bucket.keys key to) piece → Has bucket
-  renamed_have bucket key to it = inl (⊎_elim (pieces_seen bucket.keys key) (keys_gone bucket.keys key) (keys_put (remove bucket.keys key) to (pieces_in bucket.keys key) it))
+  renamed_have bucket key to it =
+      inl (⊎_elim (pieces_seen bucket.keys key) (keys_gone bucket.keys key) (keys_put (remove bucket.keys key) to (pieces_in bucket.keys key) it))
 
-  committed_has : (bucket : Bucket) (key : List ℕ) (number : ℕ) (pieces : List Piece) → Has (committed bucket key number pieces) → Contains pieces piece ⊎ Has bucket
+  committed_has : (bucket : Bucket) (key : List ℕ) (number : ℕ) (pieces : List Piece) → Has (committed bucket key number pieces) → Contains pieces piece
+      ⊎ Has bucket
   committed_has bucket key number pieces has = ⊎_elim
       (λ it. ⊎_elim (λ new. inl new) (λ old. inr (inl old)) (keys_put bucket.keys key pieces it))
       (λ it. inr (inr (snapshots_have bucket (committed bucket key number pieces) refl it))) has
@@ -114,7 +164,8 @@ module _ (piece : Piece) where
   filtered keeps [] x has = has
   filtered keeps (item ∷ items) x has = by_test (keeps item) (filtered keeps items x) has
     where
-      by_test : (t : Bool) → (Contains (filter keeps items) x → Contains items x) → Contains (cond t (item ∷ filter keeps items) (filter keeps items)) x → Contains (item ∷ items) x
+      by_test : (t : Bool) → (Contains (filter keeps items) x → Contains items x) → Contains (cond t (item ∷ filter keeps items) (filter keeps items)) x
+          → Contains (item ∷ items) x
       by_test true rest has = ⊎_elim
           (λ first. Contains-append_left (item ∷ []) items x first)
           (λ later. Contains-append_right (item ∷ []) items x (rest later))
@@ -126,7 +177,8 @@ module _ (piece : Piece) where
       (λ it. inr (record { snapshot = it.snapshot; is_there = filtered _ bucket.snapshots it.snapshot it.is_there; of_key = it.of_key })) has
 
   -- a bucket of a scope
-  there_in : (buckets : Option (ByName Bucket)) (name : List ℕ) (bucket : Bucket) → get (buckets_in buckets) name ≡ Some bucket → option_and_then (λ (all : ByName Bucket). get all name) buckets ≡ Some bucket
+  there_in : (buckets : Option (ByName Bucket)) (name : List ℕ) (bucket : Bucket) → get (buckets_in buckets) name ≡ Some bucket
+      → option_and_then (λ (all : ByName Bucket). get all name) buckets ≡ Some bucket
   there_in None name bucket is = none_is bucket (sym (get-empty (slice_cmp nat_cmp) name) ∙ is)
   there_in (Some buckets) name bucket is = is
 
@@ -143,7 +195,8 @@ module _ (piece : Piece) where
       (λ there. inr (record { name = it.name; bucket = it.bucket; is_there = there_in scope.buckets it.name it.bucket there; has = it.has }))
       (put_or_there nat_list_cmp_total (buckets_in scope.buckets) name bucket it.name it.bucket it.is_there)
 
-  changed : (scope : Scope) (name : List ℕ) (bucket : Bucket) → (Has bucket → Has (bucket_in scope name)) → IsSeen (with_bucket scope name bucket) → IsSeen scope
+  changed : (scope : Scope) (name : List ℕ) (bucket : Bucket) → (Has bucket → Has (bucket_in scope name)) → IsSeen (with_bucket scope name bucket)
+      → IsSeen scope
   changed scope name bucket known it = ⊎_elim (λ has. bucket_seen scope name (known has)) (λ seen. seen) (bucket_put scope name bucket it)
 
   left_seen : (scope : Scope) (request : Request) (reply : Reply) → IsSeen (left scope request reply) → Contains (pieces_of (Some request)) piece ⊎ IsSeen scope
@@ -151,10 +204,17 @@ module _ (piece : Piece) where
   left_seen scope (requests.DeleteVolume volume) reply it = inr (none_is it.bucket it.is_there)
   left_seen scope (requests.CreateBucket volume bucket) reply it = inr (changed scope bucket new_bucket (λ has. none_new has) it)
   left_seen scope (requests.DeleteBucket volume bucket) reply it =
-      inr (record { name = it.name; bucket = it.bucket; is_there = there_in scope.buckets it.name it.bucket (was_there nat_list_cmp_total (buckets_in scope.buckets) bucket it.name it.bucket it.is_there); has = it.has })
+      inr (record {
+        name = it.name;
+        bucket = it.bucket;
+        is_there = there_in scope.buckets it.name it.bucket
+            (was_there nat_list_cmp_total (buckets_in scope.buckets) bucket it.name it.bucket it.is_there);
+        has = it.has;
+      })
   left_seen scope (requests.CreateKey volume bucket key) reply it =
       let with = with_session (bucket_in scope bucket) (next_number scope) key [] in
-      inr (changed scope bucket with (same_has (bucket_in scope bucket) with refl refl) (record { name = it.name; bucket = it.bucket; is_there = it.is_there; has = it.has }))
+      inr (changed scope bucket with (same_has (bucket_in scope bucket) with refl refl)
+      (record { name = it.name; bucket = it.bucket; is_there = it.is_there; has = it.has }))
   left_seen scope (requests.AllocateBlock volume bucket key session exclude) reply it =
       let with = with_session (bucket_in scope bucket) session key (session_blocks (bucket_in scope bucket) session ++ granted_by reply) in
       inr (changed scope bucket with (same_has (bucket_in scope bucket) with refl refl) it)
@@ -173,7 +233,8 @@ module _ (piece : Piece) where
       inr (changed scope bucket (without_sessions old) (same_has old (without_sessions old) refl refl) it)
   left_seen scope (requests.CreateSnapshot volume bucket snapshot) reply it =
       let old = bucket_in scope bucket in
-      inr (changed scope bucket (with_snapshot old snapshot) (copied_has old snapshot) (record { name = it.name; bucket = it.bucket; is_there = it.is_there; has = it.has }))
+      inr (changed scope bucket (with_snapshot old snapshot) (copied_has old snapshot)
+      (record { name = it.name; bucket = it.bucket; is_there = it.is_there; has = it.has }))
   left_seen scope (requests.DeleteSnapshot volume bucket snapshot) reply it =
       let old = bucket_in scope bucket in
       inr (changed scope bucket (without_snapshot old snapshot) (dropped_has old snapshot) it)
@@ -188,7 +249,8 @@ module _ (piece : Piece) where
   left_seen scope (requests.MoveDeleted volume bucket number to) reply it = inr it
   left_seen scope (requests.PurgeSnapshot volume bucket number) reply it = inr it
 
-  seen_after : (scope : Scope) (request : Request) (reply : Reply) → IsSeen (scope_after scope request reply) → Contains (pieces_of (Some request)) piece ⊎ IsSeen scope
+  seen_after : (scope : Scope) (request : Request) (reply : Reply) → IsSeen (scope_after scope request reply) → Contains (pieces_of (Some request)) piece
+      ⊎ IsSeen scope
   seen_after scope request (replies.Code code) it = inr it
   seen_after scope request replies.Done it = left_seen scope request replies.Done it
   seen_after scope request (replies.Count count) it = left_seen scope request (replies.Count count) it
@@ -198,7 +260,8 @@ module _ (piece : Piece) where
   seen_after scope request (replies.Granted given pipeline) it = left_seen scope request (replies.Granted given pipeline) it
   seen_after scope request (replies.Pieces pieces) it = left_seen scope request (replies.Pieces pieces) it
 
-  pub pieces_grow : (namespace : Namespace) (request : Request) (reply : Reply) → IsPieceIn (after namespace request reply) piece → Contains (pieces_of (Some request)) piece ⊎ IsPieceIn namespace piece
+  pub pieces_grow : (namespace : Namespace) (request : Request) (reply : Reply) → IsPieceIn (after namespace request reply) piece
+      → Contains (pieces_of (Some request)) piece ⊎ IsPieceIn namespace piece
   unfolding after
   pieces_grow namespace request reply it = by_test (eq_by_cmp (slice_cmp nat_cmp) it.volume volume) found
     where
@@ -208,10 +271,15 @@ module _ (piece : Piece) where
       scope : Scope
       scope = scope_of namespace volume
 
-      found : option_and_then (λ (all : ByName Bucket). get all it.name) (cond (eq_by_cmp (slice_cmp nat_cmp) it.volume volume) (scope_after scope request reply).buckets (get namespace.volumes it.volume)) ≡ Some it.bucket
-      found = ap (option_and_then (λ (all : ByName Bucket). get all it.name)) (sym (found_with namespace.volumes volume (scope_after scope request reply).buckets it.volume)) ∙ it.is_there
+      found : option_and_then (λ (all : ByName Bucket). get all it.name)
+          (cond (eq_by_cmp (slice_cmp nat_cmp) it.volume volume) (scope_after scope request reply).buckets (get namespace.volumes it.volume))
+          ≡ Some it.bucket
+      found = ap (option_and_then (λ (all : ByName Bucket). get all it.name))
+          (sym (found_with namespace.volumes volume (scope_after scope request reply).buckets it.volume)) ∙ it.is_there
 
-      by_test : (t : Bool) → option_and_then (λ (all : ByName Bucket). get all it.name) (cond t (scope_after scope request reply).buckets (get namespace.volumes it.volume)) ≡ Some it.bucket → Contains (pieces_of (Some request)) piece ⊎ IsPieceIn namespace piece
+      by_test : (t : Bool)
+          → option_and_then (λ (all : ByName Bucket). get all it.name) (cond t (scope_after scope request reply).buckets (get namespace.volumes it.volume))
+          ≡ Some it.bucket → Contains (pieces_of (Some request)) piece ⊎ IsPieceIn namespace piece
       by_test true is = ⊎_elim
           (λ given. inl given)
           (λ seen. inr (record { volume = volume; name = seen.name; bucket = seen.bucket; is_there = seen.is_there; has = seen.has }))

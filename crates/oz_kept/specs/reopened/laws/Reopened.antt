@@ -22,9 +22,11 @@ use Rattle.oz_kept.specs.reopened.laws.Placed.{of_manager_made, held_made, held_
 use Rattle.oz_kept.specs.reopened.laws.Logged.{going_away, going_below, left_going}
 use Rattle.oz_kept.specs.reopened.laws.Named.{of_manager, of_manager_below, held_from, held_below}
 
-pub fits_front : (opening : Opening) (bytes : OpeningBytes) (script : Script) (story : List Event) (place : ℕ) → Fits opening bytes script story → FitsFrom opening bytes script [] (take place story)
+pub fits_front : (opening : Opening) (bytes : OpeningBytes) (script : Script) (story : List Event) (place : ℕ) → Fits opening bytes script story
+    → FitsFrom opening bytes script [] (take place story)
 fits_front opening bytes script story place fits =
-    fits_to opening bytes script [] (take place story) (drop place story) (subst (FitsFrom opening bytes script []) (sym (take-append-drop place story)) fits.steps)
+    fits_to opening bytes script [] (take place story) (drop place story)
+    (subst (FitsFrom opening bytes script []) (sym (take-append-drop place story)) fits.steps)
 
 -- the parts of what is said of blocks
 pub record ArePlaced (left : Opening) : Type 0 where
@@ -36,7 +38,8 @@ pub record AreAlike (left : Opening) (given : OpeningBytes) : Type 0 where
   pub alike : (block : Block) (dn other : ℕ) → was_held left dn block ≡ true → was_held left other block ≡ true → given dn block ≡ given other block
 
 module _ (opening : Opening) (bytes : OpeningBytes) (script : Script) (story : List Event) (most : ℕ) (left : Opening) (given : OpeningBytes)
-    (coherent : IsCoherent opening bytes) (legal : IsLegal opening story) (fits : FitsFrom opening bytes script [] story) (is : IsLeft opening bytes script story most left given) where
+    (coherent : IsCoherent opening bytes) (legal : IsLegal opening story) (fits : FitsFrom opening bytes script [] story)
+    (is : IsLeft opening bytes script story most left given) where
   pub fresh_ids : IdsAreFresh left
   fresh_ids = λ block on. subst (λ (n : ℕ). block.local < n) (sym is.scm.next_id)
       (⊎_elim
@@ -53,8 +56,10 @@ module _ (opening : Opening) (bytes : OpeningBytes) (script : Script) (story : L
 
   pub log_stays : LogIsCoherent left
   log_stays = record {
-    unreached = λ block logged reached. going_away opening story most left block legal coherent.log is.manager is.within.stable (left_going opening story left block legal is.scm logged) reached;
-    granted = λ block logged. subst (λ (n : ℕ). block.local < n) (sym is.scm.next_id) (going_below opening story block legal coherent.fresh coherent.log (left_going opening story left block legal is.scm logged));
+    unreached = λ block logged reached. going_away opening story most left block legal coherent.log is.manager is.within.stable
+        (left_going opening story left block legal is.scm logged) reached;
+    granted = λ block logged. subst (λ (n : ℕ). block.local < n) (sym is.scm.next_id)
+        (going_below opening story block legal coherent.fresh coherent.log (left_going opening story left block legal is.scm logged));
   }
 
   held_here : (block : Block) (dn : ℕ) → was_held left dn block ≡ true → holds opening story dn block ≡ true
@@ -64,9 +69,11 @@ module _ (opening : Opening) (bytes : OpeningBytes) (script : Script) (story : L
   placed_well = record {
     made = λ block on. subst (λ (all : Containers). IsSome (get all block.container)) (sym is.scm.containers)
         (⊎_elim
-        (λ reached. of_manager_made opening bytes story most block legal coherent.blocks (of_manager opening story most left block legal is.manager (inl reached)))
+        (λ reached. of_manager_made opening bytes story most block legal coherent.blocks
+        (of_manager opening story most left block legal is.manager (inl reached)))
         (λ rest. ⊎_elim
-        (λ deleted. of_manager_made opening bytes story most block legal coherent.blocks (of_manager opening story most left block legal is.manager (inr deleted)))
+        (λ deleted. of_manager_made opening bytes story most block legal coherent.blocks
+        (of_manager opening story most left block legal is.manager (inr deleted)))
         (λ there. held_made opening bytes story block legal coherent.blocks
         (held_from opening bytes script story coherent legal fits block there.0 (held_here block there.0 there.1)))
         rest)
@@ -77,8 +84,10 @@ module _ (opening : Opening) (bytes : OpeningBytes) (script : Script) (story : L
 
   pub given_alike : LinesAreApart script → AreAlike left given
   given_alike apart = record {
-    digests_match = λ block dn held. some_given (given dn block) ((is.node dn).has block (held_here block dn held)).content ((is.node dn).has block (held_here block dn held)).gives;
-    alike = λ block dn other held also. give_alike opening bytes script story coherent apart legal fits given block dn other (held_here block dn held) (held_here block other also)
+    digests_match = λ block dn held. some_given (given dn block) ((is.node dn).has block (held_here block dn held)).content
+        ((is.node dn).has block (held_here block dn held)).gives;
+    alike = λ block dn other held also. give_alike opening bytes script story coherent apart legal fits given block dn other (held_here block dn held)
+        (held_here block other also)
         ((is.node dn).has block (held_here block dn held)) ((is.node other).has block (held_here block other also));
   }
     where

@@ -1,5 +1,33 @@
 -- Ids rise, and a container that was made stays on its pipeline.
-use Rattle.std.proofs.Common.{◌≡◌, ℕ, suc, ◌+◌, ◌≤◌, Bool, true, false, List, [], ◌∷◌, ◌++◌, length, take, drop, Option, None, Some, Contains, cond, refl, sym, ◌∙◌, ap, subst, append-nil, arith}
+use Rattle.std.proofs.Common.{
+  ◌≡◌,
+  ℕ,
+  suc,
+  ◌+◌,
+  ◌≤◌,
+  Bool,
+  true,
+  false,
+  List,
+  [],
+  ◌∷◌,
+  ◌++◌,
+  length,
+  take,
+  drop,
+  Option,
+  None,
+  Some,
+  Contains,
+  cond,
+  refl,
+  sym,
+  ◌∙◌,
+  ap,
+  subst,
+  append-nil,
+  arith,
+}
 use Rattle.std.proofs.lemmas.Bool.{eqb-true, eq-eqb}
 use Rattle.std.proofs.lemmas.Cmp.{nat_cmp_total}
 use Rattle.std.proofs.lemmas.List.{take-append-drop}
@@ -25,10 +53,12 @@ use Rattle.oz_kept.specs.laws.Contents.{front_grows}
 
 -- ---- ids
 
-next_next : (opening : Opening) (before : List Event) (event : Event) → next_id opening (before ++ event ∷ []) ≡ newer (id_after event.kind) (next_id opening before)
+next_next : (opening : Opening) (before : List Event) (event : Event)
+    → next_id opening (before ++ event ∷ []) ≡ newer (id_after event.kind) (next_id opening before)
 next_next opening before event = fold_push (λ told (event : Event). newer (id_after event.kind) told) opening.next_id before event
 
-kind_rises : (opening : Opening) (before : List Event) (seat : ℕ) (kind : EventKind) → KindIsEnabled opening before seat kind → next_id opening before ≤ newer (id_after kind) (next_id opening before)
+kind_rises : (opening : Opening) (before : List Event) (seat : ℕ) (kind : EventKind) → KindIsEnabled opening before seat kind
+    → next_id opening before ≤ newer (id_after kind) (next_id opening before)
 kind_rises opening before seat (Grant stripe container pipeline first count) enabled = omega (arith, enabled.next)
 kind_rises opening before seat kind enabled = omega arith
 
@@ -37,7 +67,8 @@ ids_rise opening [] before legal = subst (λ (l : List Event). next_id opening b
 ids_rise opening (event ∷ rest) before legal =
     let first = kind_rises opening before event.seat event.kind (legal_first opening before event rest legal) in
     let later = ids_rise opening rest (before ++ event ∷ []) (legal_rest opening before event rest legal) in
-    subst (λ (l : List Event). next_id opening before ≤ next_id opening l) (moved_over before rest event) (omega (arith, first, later, next_next opening before event))
+    subst (λ (l : List Event). next_id opening before ≤ next_id opening l) (moved_over before rest event)
+    (omega (arith, first, later, next_next opening before event))
 
 pub ids_within : (opening : Opening) (story : List Event) (place : ℕ) → IsLegal opening story → next_id opening (take place story) ≤ next_id opening story
 ids_within opening story place legal =
@@ -46,7 +77,8 @@ ids_within opening story place legal =
 
 -- ---- containers
 
-containers_next : (opening : Opening) (before : List Event) (event : Event) → containers opening (before ++ event ∷ []) ≡ containers_after (containers opening before) event.kind
+containers_next : (opening : Opening) (before : List Event) (event : Event)
+    → containers opening (before ++ event ∷ []) ≡ containers_after (containers opening before) event.kind
 containers_next opening before event = fold_push (λ before (event : Event). containers_after before event.kind) opening.containers before event
 
 -- a container that was made, on this pipeline
@@ -55,7 +87,8 @@ pub record IsOn (all : Containers) (number pipeline : ℕ) : Type 0 where
   pub made : get all number ≡ Some container
   pub on : container.pipeline ≡ pipeline
 
-inserted : (all : Containers) (at : ℕ) (new : Container) (number pipeline : ℕ) → ((old : Container) → get all at ≡ Some old → new.pipeline ≡ old.pipeline) → IsOn all number pipeline → IsOn (insert all at new) number pipeline
+inserted : (all : Containers) (at : ℕ) (new : Container) (number pipeline : ℕ) → ((old : Container) → get all at ≡ Some old → new.pipeline ≡ old.pipeline)
+    → IsOn all number pipeline → IsOn (insert all at new) number pipeline
 inserted all at new number pipeline same on = by (eq_by_cmp nat_cmp number at) refl
   where
     there : get (insert all at new) number ≡ cond (eq_by_cmp nat_cmp number at) (Some new) (get all number)
@@ -87,28 +120,35 @@ kind_keeps all (Closed at state) number pipeline on = by (get all at) refl
         inserted all at new number pipeline (λ old is. ap (λ (c : Container). c.pipeline) (some_container container old (sym e ∙ is))) on
 kind_keeps all kind number pipeline on = on
 
-pub stays_on : (opening : Opening) (rest before : List Event) (number pipeline : ℕ) → IsOn (containers opening before) number pipeline → IsOn (containers opening (before ++ rest)) number pipeline
+pub stays_on : (opening : Opening) (rest before : List Event) (number pipeline : ℕ) → IsOn (containers opening before) number pipeline
+    → IsOn (containers opening (before ++ rest)) number pipeline
 stays_on opening [] before number pipeline on = subst (λ (l : List Event). IsOn (containers opening l) number pipeline) (sym (append-nil before)) on
 stays_on opening (event ∷ rest) before number pipeline on =
-    let next = subst (λ (all : Containers). IsOn all number pipeline) (sym (containers_next opening before event)) (kind_keeps (containers opening before) event.kind number pipeline on) in
-    subst (λ (l : List Event). IsOn (containers opening l) number pipeline) (moved_over before rest event) (stays_on opening rest (before ++ event ∷ []) number pipeline next)
+    let next = subst (λ (all : Containers). IsOn all number pipeline) (sym (containers_next opening before event))
+    (kind_keeps (containers opening before) event.kind number pipeline on) in
+    subst (λ (l : List Event). IsOn (containers opening l) number pipeline) (moved_over before rest event)
+    (stays_on opening rest (before ++ event ∷ []) number pipeline next)
 
 -- ---- members
 
-pub members_on : (opening : Opening) (story : List Event) (number pipeline : ℕ) → IsOn (containers opening story) number pipeline → members opening story number ≡ members_of (length opening.nodes) pipeline
+pub members_on : (opening : Opening) (story : List Event) (number pipeline : ℕ) → IsOn (containers opening story) number pipeline
+    → members opening story number ≡ members_of (length opening.nodes) pipeline
 members_on opening story number pipeline on =
     ap (λ (o : Option Container). option_map_or (λ (container : Container). members_of (length opening.nodes) container.pipeline) o []) on.made
     ∙ ap (members_of (length opening.nodes)) on.on
 
-pub member_on : (opening : Opening) (story : List Event) (number dn : ℕ) → Contains (members opening story number) dn → (pipeline : ℕ) × IsOn (containers opening story) number pipeline
+pub member_on : (opening : Opening) (story : List Event) (number dn : ℕ) → Contains (members opening story number) dn → (pipeline : ℕ)
+    × IsOn (containers opening story) number pipeline
 member_on opening story number dn among = by (get (containers opening story) number) refl
   where
     by : (o : Option Container) → get (containers opening story) number ≡ o → (pipeline : ℕ) × IsOn (containers opening story) number pipeline
-    by None e = absurd (in_none dn (subst (λ (o : Option Container). Contains (option_map_or (λ (container : Container). members_of (length opening.nodes) container.pipeline) o []) dn) e among))
+    by None e = absurd (in_none dn (subst (λ (o : Option Container). Contains
+        (option_map_or (λ (container : Container). members_of (length opening.nodes) container.pipeline) o []) dn) e among))
     by (Some container) e = (container.pipeline, record { container = container; made = e; on = refl })
 
 -- a member stays one
-pub member_stays : (opening : Opening) (before rest : List Event) (number dn : ℕ) → Contains (members opening before number) dn → Contains (members opening (before ++ rest) number) dn
+pub member_stays : (opening : Opening) (before rest : List Event) (number dn : ℕ) → Contains (members opening before number) dn
+    → Contains (members opening (before ++ rest) number) dn
 member_stays opening before rest number dn among =
     let on = member_on opening before number dn among in
     let still = stays_on opening rest before number on.0 on.1 in
@@ -124,27 +164,34 @@ module _ (opening : Opening) (story : List Event) (legal : IsLegal opening story
   -- what was granted is below the next id
   pub grant_below : first + count ≤ next_id opening story
   grant_below =
-      let here : next_id opening (take (suc place) story) ≡ first + count = ap (next_id opening) grown ∙ next_next opening (take place story) (record { seat = seat; kind = Grant stripe container pipeline first count }) in
+      let here : next_id opening (take (suc place) story) ≡ first + count = ap (next_id opening) grown
+      ∙ next_next opening (take place story) (record { seat = seat; kind = Grant stripe container pipeline first count }) in
       omega (arith, here, ids_within opening story (suc place) legal)
 
   -- and its container is made, on the pipeline
   pub grant_on : IsOn (containers opening story) container pipeline
   grant_on =
-      let enabled : GrantIsEnabled opening (take place story) seat stripe container pipeline first count = enabled_at opening story legal place (record { seat = seat; kind = Grant stripe container pipeline first count }) is in
-      let next = subst (λ (all : Containers). IsOn all container pipeline) (sym (containers_next opening (take place story) (record { seat = seat; kind = Grant stripe container pipeline first count }))) (made (get (containers opening (take place story)) container) enabled.holds refl) in
+      let enabled : GrantIsEnabled opening (take place story) seat stripe container pipeline first count =
+      enabled_at opening story legal place (record { seat = seat; kind = Grant stripe container pipeline first count }) is in
+      let next = subst (λ (all : Containers). IsOn all container pipeline)
+      (sym (containers_next opening (take place story) (record { seat = seat; kind = Grant stripe container pipeline first count })))
+      (made (get (containers opening (take place story)) container) enabled.holds refl) in
       subst (λ (l : List Event). IsOn (containers opening l) container pipeline) (take-append-drop (suc place) story)
       (stays_on opening (drop (suc place) story) (take (suc place) story) container pipeline
       (subst (λ (l : List Event). IsOn (containers opening l) container pipeline) (sym grown) next))
     where
       made : (o : Option Container) → MayHold opening (take place story) container pipeline o → get (containers opening (take place story)) container ≡ o
-          → IsOn (insert (containers opening (take place story)) container (granted_in (get (containers opening (take place story)) container) pipeline count)) container pipeline
+          → IsOn (insert (containers opening (take place story)) container
+          (granted_in (get (containers opening (take place story)) container) pipeline count)) container pipeline
       made None holds e = record {
         container = granted_in (get (containers opening (take place story)) container) pipeline count;
-        made = placed_there (containers opening (take place story)) container (granted_in (get (containers opening (take place story)) container) pipeline count);
+        made = placed_there (containers opening (take place story)) container
+            (granted_in (get (containers opening (take place story)) container) pipeline count);
         on = ap (λ (o : Option Container). (granted_in o pipeline count).pipeline) e;
       }
       made (Some old) holds e = record {
         container = granted_in (get (containers opening (take place story)) container) pipeline count;
-        made = placed_there (containers opening (take place story)) container (granted_in (get (containers opening (take place story)) container) pipeline count);
+        made = placed_there (containers opening (take place story)) container
+            (granted_in (get (containers opening (take place story)) container) pipeline count);
         on = ap (λ (o : Option Container). (granted_in o pipeline count).pipeline) e ∙ holds.1;
       }

@@ -1,5 +1,36 @@
 -- The empty story leaves its opening.
-use Rattle.std.proofs.Common.{◌≡◌, ⊎_elim, ℕ, zero, suc, ◌==◌, Bool, true, false, ◌&&◌, List, [], ◌∷◌, ◌++◌, map, Option, None, Some, IsSome, Contains, cond, inl, inr, refl, sym, ◌∙◌, ap, subst, append-nil, arith}
+use Rattle.std.proofs.Common.{
+  ◌≡◌,
+  ⊎_elim,
+  ℕ,
+  zero,
+  suc,
+  ◌==◌,
+  Bool,
+  true,
+  false,
+  ◌&&◌,
+  List,
+  [],
+  ◌∷◌,
+  ◌++◌,
+  map,
+  Option,
+  None,
+  Some,
+  IsSome,
+  Contains,
+  cond,
+  inl,
+  inr,
+  refl,
+  sym,
+  ◌∙◌,
+  ap,
+  subst,
+  append-nil,
+  arith,
+}
 use Rattle.std.proofs.lemmas.Bool.{eq-eqb, eqb-true}
 use Rattle.std.proofs.lemmas.List.Elements.{Contains-append_left, Contains-append_right, Contains-append_cases}
 use Rattle.std.specs.List.{slice_get, flat_map, cons_option, filter_map}
@@ -57,13 +88,17 @@ without_end l x among = Contains-append_left l [] x among
 is_itself : (block : Block) → is_block block block ≡ true
 is_itself block = ap (λ (t : Bool). t && block.local == block.local) (eq-eqb block.container block.container refl) ∙ eq-eqb block.local block.local refl
 
-own_length : (held : List Piece) (piece : Piece) → Contains held piece → Contains (filter_map (λ (other : Piece). cond (is_block piece.block other.block) (Some other.length) None) held) piece.length
+own_length : (held : List Piece) (piece : Piece) → Contains held piece
+    → Contains (filter_map (λ (other : Piece). cond (is_block piece.block other.block) (Some other.length) None) held) piece.length
 own_length [] piece among = absurd (in_none piece among)
 own_length (first ∷ held) piece among = ⊎_elim
     (λ same.
     let told : cond (is_block piece.block first.block) (Some first.length) None ≡ Some piece.length =
-    ap (λ (p : Piece). cond (is_block piece.block p.block) (Some p.length) None) same ∙ ap (λ (t : Bool). cond t (Some piece.length) None) (is_itself piece.block) in
-    subst (λ (o : Option ℕ). Contains (cons_option o (filter_map (λ (other : Piece). cond (is_block piece.block other.block) (Some other.length) None) held)) piece.length) (sym told) (0, omega arith, refl))
+    ap (λ (p : Piece). cond (is_block piece.block p.block) (Some p.length) None) same
+    ∙ ap (λ (t : Bool). cond t (Some piece.length) None) (is_itself piece.block) in
+    subst (λ (o : Option ℕ). Contains (cons_option o
+    (filter_map (λ (other : Piece). cond (is_block piece.block other.block) (Some other.length) None) held)) piece.length) (sym told)
+    (0, omega arith, refl))
     (λ later. by (cond (is_block piece.block first.block) (Some first.length) None) (own_length held piece later))
     (first_or_later first piece held among)
   where
@@ -77,13 +112,15 @@ own_length (first ∷ held) piece among = ⊎_elim
 acks : ℕ → Unretired → List ℕ
 acks number unretired = cond (unretired.txn.number == number) unretired.acknowledgers []
 
-acknowledged_then : (opening : Opening) (unretired : Unretired) (dn : ℕ) → Contains opening.unretired unretired → Contains unretired.acknowledgers dn → Contains (acknowledged_at_opening opening unretired.txn.number) dn
+acknowledged_then : (opening : Opening) (unretired : Unretired) (dn : ℕ) → Contains opening.unretired unretired → Contains unretired.acknowledgers dn
+    → Contains (acknowledged_at_opening opening unretired.txn.number) dn
 unfolding acks
 acknowledged_then opening unretired dn there has =
     in_some (acks unretired.txn.number) opening.unretired unretired dn there
     (subst (λ (t : Bool). Contains (cond t unretired.acknowledgers []) dn) (sym (eq-eqb unretired.txn.number unretired.txn.number refl)) has)
 
-acknowledged_by : (opening : Opening) → NumbersAreApart opening → (unretired : Unretired) (dn : ℕ) → Contains opening.unretired unretired → Contains (acknowledged_at_opening opening unretired.txn.number) dn → Contains unretired.acknowledgers dn
+acknowledged_by : (opening : Opening) → NumbersAreApart opening → (unretired : Unretired) (dn : ℕ) → Contains opening.unretired unretired
+    → Contains (acknowledged_at_opening opening unretired.txn.number) dn → Contains unretired.acknowledgers dn
 unfolding acks
 acknowledged_by opening apart unretired dn there has = by (from.item.txn.number == unretired.txn.number) refl from.has
   where
@@ -96,7 +133,8 @@ acknowledged_by opening apart unretired dn there has = by (from.item.txn.number 
         subst (λ (u : Unretired). Contains u.acknowledgers dn) same among
     by false test none = absurd (in_none dn none)
 
-txn_there : (all : List Unretired) (unretired : Unretired) → Contains all unretired → Contains (map (λ (unretired : Unretired). unretired.txn) all) unretired.txn
+txn_there : (all : List Unretired) (unretired : Unretired) → Contains all unretired
+    → Contains (map (λ (unretired : Unretired). unretired.txn) all) unretired.txn
 txn_there [] unretired among = absurd (in_none unretired among)
 txn_there (first ∷ all) unretired among = ⊎_elim
     (λ same. (0, omega arith, ap (λ (u : Unretired). u.txn) same))
@@ -132,15 +170,19 @@ by_scm opening apart = record {
   next_id = refl;
   containers = refl;
   last_txn = refl;
-  logged = λ txn of. stands opening txn (subst (λ (l : List Txn). Contains l txn) (append-nil (map (λ (unretired : Unretired). unretired.txn) opening.unretired)) of.0);
-  unretired = λ unretired there. (without_end (map (λ (unretired : Unretired). unretired.txn) opening.unretired) unretired.txn (txn_there opening.unretired unretired there), refl);
+  logged = λ txn of. stands opening txn
+      (subst (λ (l : List Txn). Contains l txn) (append-nil (map (λ (unretired : Unretired). unretired.txn) opening.unretired)) of.0);
+  unretired = λ unretired there.
+      (without_end (map (λ (unretired : Unretired). unretired.txn) opening.unretired) unretired.txn (txn_there opening.unretired unretired there), refl);
   acknowledged = λ unretired there dn. (
     (λ has. without_end (acknowledged_at_opening opening unretired.txn.number) dn (acknowledged_then opening unretired dn there has)),
-    (λ has. acknowledged_by opening apart unretired dn there (subst (λ (l : List ℕ). Contains l dn) (append-nil (acknowledged_at_opening opening unretired.txn.number)) has)),
+    (λ has. acknowledged_by opening apart unretired dn there
+        (subst (λ (l : List ℕ). Contains l dn) (append-nil (acknowledged_at_opening opening unretired.txn.number)) has)),
   );
 }
 
-by_node : (opening : Opening) (bytes : OpeningBytes) (script : Script) (dn : ℕ) → IsCoherent opening bytes → IsLeftByNode opening bytes script [] dn opening bytes
+by_node : (opening : Opening) (bytes : OpeningBytes) (script : Script) (dn : ℕ) → IsCoherent opening bytes
+    → IsLeftByNode opening bytes script [] dn opening bytes
 unfolding HavingFrom
 by_node opening bytes script dn coherent = record {
   held = λ block. refl;
@@ -153,7 +195,8 @@ by_node opening bytes script dn coherent = record {
   greatest = λ container. refl;
 }
 
-pub left_as_it_was : (opening : Opening) (bytes : OpeningBytes) (script : Script) → IsCoherent opening bytes → NumbersAreApart opening → IsLeft opening bytes script [] opening.last_index opening bytes
+pub left_as_it_was : (opening : Opening) (bytes : OpeningBytes) (script : Script) → IsCoherent opening bytes → NumbersAreApart opening
+    → IsLeft opening bytes script [] opening.last_index opening bytes
 left_as_it_was opening bytes script coherent apart = record {
   within = record { stable = omega arith; decided = omega arith };
   manager = by_manager opening;

@@ -1,5 +1,35 @@
 -- Each piece that a key or a snapshot has is as long as its block's content.
-use Rattle.std.proofs.Common.{◌≡◌, ⊎_elim, ◌⊎◌, ℕ, zero, suc, ◌+◌, ◌==◌, Bool, true, false, List, [], ◌∷◌, length, take, drop, Option, None, Some, Contains, inl, inr, refl, sym, ◌∙◌, ap, subst, arith}
+use Rattle.std.proofs.Common.{
+  ◌≡◌,
+  ⊎_elim,
+  ◌⊎◌,
+  ℕ,
+  zero,
+  suc,
+  ◌+◌,
+  ◌==◌,
+  Bool,
+  true,
+  false,
+  List,
+  [],
+  ◌∷◌,
+  length,
+  take,
+  drop,
+  Option,
+  None,
+  Some,
+  Contains,
+  inl,
+  inr,
+  refl,
+  sym,
+  ◌∙◌,
+  ap,
+  subst,
+  arith,
+}
 use Rattle.std.proofs.lemmas.Bool.{eqb-true, and_parts}
 use Rattle.std.proofs.lemmas.List.{take-append-drop}
 use Rattle.std.specs.List.{slice_get}
@@ -38,7 +68,8 @@ use Rattle.oz_kept.specs.reopened.Left.{IsLeftByManager}
 use Rattle.oz_kept.specs.reopened.laws.Pieces.{pieces_of, pieces_grow}
 use Rattle.oz_kept.specs.reopened.laws.Committed.{IsOfWritten, next_pieces, piece_at, told_at_place, written_id, granted_lasts}
 
-pub fronts_fit : (opening : Opening) (bytes : OpeningBytes) (script : Script) (story : List Event) → FitsFrom opening bytes script [] story → (place : ℕ) → FitsFrom opening bytes script [] (take place story)
+pub fronts_fit : (opening : Opening) (bytes : OpeningBytes) (script : Script) (story : List Event) → FitsFrom opening bytes script [] story → (place : ℕ)
+    → FitsFrom opening bytes script [] (take place story)
 fronts_fit opening bytes script story fits place =
     fits_to opening bytes script [] (take place story) (drop place story) (subst (FitsFrom opening bytes script []) (sym (take-append-drop place story)) fits)
 
@@ -52,18 +83,22 @@ pub record IsWrittenAs (story : List Event) (line : Line) (it : Piece) : Type 0 
   pub of_number : id.line ≡ line.number
   pub long : it.length ≡ length (piece (piece_number id before) line.command)
 
-written_as : (opening : Opening) (bytes : OpeningBytes) (script : Script) (story : List Event) → IsLegal opening story → FitsFrom opening bytes script [] story → (line : Line) (it : Piece)
+written_as : (opening : Opening) (bytes : OpeningBytes) (script : Script) (story : List Event) → IsLegal opening story
+    → FitsFrom opening bytes script [] story → (line : Line) (it : Piece)
     → Contains (pieces_from 0 line.command (written_for line.client line.number story)) it → IsWrittenAs story line it
 written_as opening bytes script story legal fits line it among =
     let at = piece_at 0 line.command (written_for line.client line.number story) it among in
     let told = told_at_place (wrote line.client line.number) story at.place it.block at.there in
     let by = written_id line.client line.number it.block told.event.kind told.told in
-    let fit : WroteFits (take told.at story) it.block by.0 = subst (λ (kind : EventKind). EventFits opening bytes script (take told.at story) kind) by.1 (fits_at opening bytes script story fits told.at told.event told.there) in
+    let fit : WroteFits (take told.at story) it.block by.0 =
+    subst (λ (kind : EventKind). EventFits opening bytes script (take told.at story) kind) by.1
+    (fits_at opening bytes script story fits told.at told.event told.there) in
     let both = and_parts (by.0.client == line.client) (by.0.line == line.number) by.2 in
     let client = eqb-true by.0.client line.client both.0 in
     let number = eqb-true by.0.line line.number both.1 in
     let place : at.place ≡ piece_number by.0 fit.before =
-    sym told.before ∙ sym (ap (λ (c : ℕ). length (written_for c line.number (take told.at story))) client) ∙ sym (ap (λ (n : ℕ). length (written_for by.0.client n (take told.at story))) number) ∙ fit.in_turn in
+    sym told.before ∙ sym (ap (λ (c : ℕ). length (written_for c line.number (take told.at story))) client)
+    ∙ sym (ap (λ (n : ℕ). length (written_for by.0.client n (take told.at story))) number) ∙ fit.in_turn in
     let same : 0 + at.place ≡ piece_number by.0 fit.before = omega (arith, place) in
     record {
       id = by.0;
@@ -74,20 +109,24 @@ written_as opening bytes script story legal fits line it among =
       long = at.long ∙ ap (λ (n : ℕ). length (piece n line.command)) same;
     }
 
-written_whole : (opening : Opening) (bytes : OpeningBytes) (script : Script) (story : List Event) → IsCoherent opening bytes → LinesAreApart script → (legal : IsLegal opening story) → (line : Line) (it : Piece) → Contains script.lines line
+written_whole : (opening : Opening) (bytes : OpeningBytes) (script : Script) (story : List Event) → IsCoherent opening bytes → LinesAreApart script
+    → (legal : IsLegal opening story) → (line : Line) (it : Piece) → Contains script.lines line
     → IsWrittenAs story line it → (content : List ℕ) → HasContent opening bytes script story it.block content → length content ≡ it.length
 written_whole opening bytes script story coherent apart legal line it there its_own content (inl had) =
-    absurd (was_nowhere opening story legal it.block its_own.id (its_grant opening story legal its_own.id it.block its_own.before its_own.granted) coherent.fresh (had.dn, had.held))
+    absurd (was_nowhere opening story legal it.block its_own.id
+    (its_grant opening story legal its_own.id it.block its_own.before its_own.granted) coherent.fresh (had.dn, had.held))
 written_whole opening bytes script story coherent apart legal line it there its_own content (inr of) =
     let same = one_grant opening story legal it.block of.id its_own.id of.before its_own.before of.granted its_own.granted in
-    let number : piece_number of.id of.before ≡ piece_number its_own.id its_own.before = ap (λ (i : AskId). piece_number i of.before) same.0 ∙ ap (piece_number its_own.id) same.1 in
+    let number : piece_number of.id of.before ≡ piece_number its_own.id its_own.before = ap (λ (i : AskId). piece_number i of.before) same.0
+    ∙ ap (piece_number its_own.id) same.1 in
     let its : IsLineOf script line.client line.number of.line = record {
       there = of.its.there;
       of_client = of.its.of_client ∙ ap (λ (i : AskId). i.client) same.0 ∙ its_own.of_client;
       of_number = of.its.of_number ∙ ap (λ (i : AskId). i.line) same.0 ∙ its_own.of_number;
     } in
     let one = same_line script apart line.client line.number of.line line its (record { there = there; of_client = refl; of_number = refl }) in
-    ap length (of.are ∙ ap (λ (n : ℕ). piece n of.line.command) number ∙ ap (λ (l : Line). piece (piece_number its_own.id its_own.before) l.command) one) ∙ sym its_own.long
+    ap length (of.are ∙ ap (λ (n : ℕ). piece n of.line.command) number ∙ ap (λ (l : Line). piece (piece_number its_own.id its_own.before) l.command) one)
+    ∙ sym its_own.long
 
 -- ---- what keys have is of the opening, or was written
 
@@ -100,28 +139,36 @@ service_commits_none : (request : Request) (it : Piece) → family_of request �
 service_commits_none (requests.CommitKey volume bucket key session pieces) it e among = let wrong : Keys ≡ Service = e in absurd cc
 service_commits_none request it e among = in_none it among
 
-module _ (opening : Opening) (bytes : OpeningBytes) (script : Script) (story : List Event) (legal : IsLegal opening story) (fits : FitsFrom opening bytes script [] story) (it : Piece) where
-  asked_written : (n : ℕ) (id : AskId) (request : Request) → WasAsked id request (take n story) → Contains (pieces_of (Some request)) it → IsWrittenIn script story it
+module _ (opening : Opening) (bytes : OpeningBytes) (script : Script) (story : List Event) (legal : IsLegal opening story)
+    (fits : FitsFrom opening bytes script [] story) (it : Piece) where
+  asked_written : (n : ℕ) (id : AskId) (request : Request) → WasAsked id request (take n story) → Contains (pieces_of (Some request)) it
+      → IsWrittenIn script story it
   asked_written n id request asked among =
       let before = take n story in
       let event : Event = record { seat = asked.seat; kind = Ask asked.other request } in
-      let here = fits_at opening bytes script (take n story) (fronts_fit opening bytes script story fits n) asked.there.0 event (found_at (take n story) event asked.there) in
+      let here = fits_at opening bytes script (take n story) (fronts_fit opening bytes script story fits n) asked.there.0 event
+      (found_at (take n story) event asked.there) in
       by (is_script asked.other) refl here.0 here.1
     where
-      by : (t : Bool) → is_script asked.other ≡ t → (is_script asked.other ≡ true → AskFits opening script (take asked.there.0 (take n story)) asked.other request) → (is_script asked.other ≡ false → ServiceAskFits asked.other request) → IsWrittenIn script story it
+      by : (t : Bool) → is_script asked.other ≡ t
+          → (is_script asked.other ≡ true → AskFits opening script (take asked.there.0 (take n story)) asked.other request)
+          → (is_script asked.other ≡ false → ServiceAskFits asked.other request) → IsWrittenIn script story it
       by true is line service =
           let fit = line is in
           record {
             decided = n;
             asked = asked.there.0;
-            of = next_pieces opening script (take asked.there.0 (take n story)) fit.line it fit.its.there (subst (λ (o : Option Request). Contains (pieces_of o) it) (sym fit.next) among);
+            of = next_pieces opening script (take asked.there.0 (take n story)) fit.line it fit.its.there
+                (subst (λ (o : Option Request). Contains (pieces_of o) it) (sym fit.next) among);
           }
       by false is line service = absurd (service_commits_none request it (service is).of_service among)
 
-  step_written : (n seat : ℕ) (kind : EventKind) → KindIsEnabled opening (take n story) seat kind → IsPieceIn (namespace_step (λ index. true) (take n story) (namespace_of opening (take n story)) kind) it
+  step_written : (n seat : ℕ) (kind : EventKind) → KindIsEnabled opening (take n story) seat kind
+      → IsPieceIn (namespace_step (λ index. true) (take n story) (namespace_of opening (take n story)) kind) it
       → IsWrittenIn script story it ⊎ IsPieceIn (namespace_of opening (take n story)) it
   step_written n seat (Decide id index reply batch) enabled has =
-      let asked : namespace_after (pending id (take n story)) (namespace_of opening (take n story)) reply ≡ after (namespace_of opening (take n story)) enabled.request reply =
+      let asked : namespace_after (pending id (take n story)) (namespace_of opening (take n story)) reply
+      ≡ after (namespace_of opening (take n story)) enabled.request reply =
       ap (λ (o : Option Request). namespace_after o (namespace_of opening (take n story)) reply) enabled.undecided in
       ⊎_elim
       (λ given. inl (asked_written n id enabled.request (pending_asked id enabled.request (take n story) enabled.undecided) given))
@@ -134,12 +181,15 @@ module _ (opening : Opening) (bytes : OpeningBytes) (script : Script) (story : L
   piece_written zero has = inr has
   piece_written (suc n) has = by (slice_get story n) refl (piece_written n)
     where
-      by : (o : Option Event) → slice_get story n ≡ o → (IsPieceIn (namespace_of opening (take n story)) it → IsWrittenIn script story it ⊎ IsPieceIn opening.namespace it) → IsWrittenIn script story it ⊎ IsPieceIn opening.namespace it
+      by : (o : Option Event) → slice_get story n ≡ o
+          → (IsPieceIn (namespace_of opening (take n story)) it → IsWrittenIn script story it ⊎ IsPieceIn opening.namespace it)
+          → IsWrittenIn script story it ⊎ IsPieceIn opening.namespace it
       by None e before = before (subst (λ (l : List Event). IsPieceIn (namespace_of opening l) it) (front_ends story n e) has)
       by (Some event) e before =
           let grown = subst (λ (l : List Event). IsPieceIn (namespace_of opening l) it) (front_grows story n event e) has in
           ⊎_elim (λ written. inl written) before
-          (step_written n event.seat event.kind (enabled_at opening story legal n event e) (subst (λ (m : Namespace). IsPieceIn m it) (namespace_next opening (take n story) event) grown))
+          (step_written n event.seat event.kind (enabled_at opening story legal n event e)
+          (subst (λ (m : Namespace). IsPieceIn m it) (namespace_next opening (take n story) event) grown))
 
 -- ---- so each is whole
 
@@ -166,15 +216,18 @@ piece_reached namespace it has = record {
       has.has;
 }
 
-opening_whole : (opening : Opening) (bytes : OpeningBytes) (script : Script) (story : List Event) → IsCoherent opening bytes → (legal : IsLegal opening story) → (it : Piece) → IsPieceIn opening.namespace it → (content : List ℕ)
+opening_whole : (opening : Opening) (bytes : OpeningBytes) (script : Script) (story : List Event) → IsCoherent opening bytes
+    → (legal : IsLegal opening story) → (it : Piece) → IsPieceIn opening.namespace it → (content : List ℕ)
     → HasContent opening bytes script story it.block content → length content ≡ it.length
 opening_whole opening bytes script story coherent legal it has content (inl had) = coherent.blocks.whole it had.dn content has had.held had.are
 opening_whole opening bytes script story coherent legal it has content (inr of) =
     let granted = no_lower opening story legal it.block of.id (its_grant opening story legal of.id it.block of.before of.granted) in
     absurd (omega (arith, granted, coherent.fresh it.block (inl (piece_reached opening.namespace it has))))
 
-pub left_whole : (opening : Opening) (bytes : OpeningBytes) (script : Script) (story : List Event) (most : ℕ) (left : Opening) → IsCoherent opening bytes → LinesAreApart script → IsLegal opening story → FitsFrom opening bytes script [] story
-    → IsLeftByManager opening story most left → (it : Piece) (content : List ℕ) → IsPieceIn left.namespace it → HasContent opening bytes script story it.block content → length content ≡ it.length
+pub left_whole : (opening : Opening) (bytes : OpeningBytes) (script : Script) (story : List Event) (most : ℕ) (left : Opening) → IsCoherent opening bytes
+    → LinesAreApart script → IsLegal opening story → FitsFrom opening bytes script [] story
+    → IsLeftByManager opening story most left → (it : Piece) (content : List ℕ) → IsPieceIn left.namespace it
+    → HasContent opening bytes script story it.block content → length content ≡ it.length
 unfolding namespace_from
 left_whole opening bytes script story most left coherent apart legal fits manager it content has its =
     let kept = front opening most story [] legal in
@@ -185,10 +238,20 @@ left_whole opening bytes script story most left coherent apart legal fits manage
     let asked = take written.asked (take written.decided story) in
     let legal_decided = front_legal opening story legal written.decided in
     let fits_decided = fronts_fit opening bytes script story fits written.decided in
-    let its_own = written_as opening bytes script asked (front_legal opening decided legal_decided written.asked) (fronts_fit opening bytes script decided fits_decided written.asked) written.of.line it written.of.among in
-    let later = granted_lasts opening bytes script decided legal_decided fits_decided (fronts_fit opening bytes script decided fits_decided) its_own.id it.block its_own.before written.asked its_own.granted in
-    let granted = granted_lasts opening bytes script story legal fits (fronts_fit opening bytes script story fits) its_own.id it.block its_own.before written.decided later in
+    let its_own = written_as opening bytes script asked (front_legal opening decided legal_decided written.asked)
+    (fronts_fit opening bytes script decided fits_decided written.asked) written.of.line it written.of.among in
+    let later = granted_lasts opening bytes script decided legal_decided fits_decided
+    (fronts_fit opening bytes script decided fits_decided) its_own.id it.block its_own.before written.asked its_own.granted in
+    let granted = granted_lasts opening bytes script story legal fits
+    (fronts_fit opening bytes script story fits) its_own.id it.block its_own.before written.decided later in
     written_whole opening bytes script story coherent apart legal written.of.line it written.of.there
-    (record { id = its_own.id; before = its_own.before; granted = granted; of_client = its_own.of_client; of_number = its_own.of_number; long = its_own.long }) content its)
+    (record {
+      id = its_own.id;
+      before = its_own.before;
+      granted = granted;
+      of_client = its_own.of_client;
+      of_number = its_own.of_number;
+      long = its_own.long;
+    }) content its)
     (λ old. opening_whole opening bytes script story coherent legal it old content its)
     (piece_written opening bytes script story legal fits it kept.size there)

@@ -42,7 +42,8 @@ fails_where true never = absurd (never refl)
 fails_where false never = refl
 
 -- two lists without a number in both
-pub distinct_append : (xs ys : List ℕ) → IsDistinct eqb xs → IsDistinct eqb ys → ((q : ℕ) → list_any (eqb q) xs ≡ true → list_any (eqb q) ys ≡ true → ⊥) → IsDistinct eqb (xs ++ ys)
+pub distinct_append : (xs ys : List ℕ) → IsDistinct eqb xs → IsDistinct eqb ys → ((q : ℕ) → list_any (eqb q) xs ≡ true → list_any (eqb q) ys ≡ true → ⊥)
+    → IsDistinct eqb (xs ++ ys)
 distinct_append [] ys dx dy apart = dy
 distinct_append (x ∷ xs) ys dx dy apart =
     let itself : eqb x x ≡ true = (Decides-eqb x x).1 refl in

@@ -1,5 +1,32 @@
 -- The blocks that are held and their rows, as entries come.
-use Rattle.std.proofs.Common.{◌≡◌, ◌≢◌, ℕ, eqb, Bool, true, false, not, ◌&&◌, ◌||◌, cond, List, [], ◌∷◌, filter, Option, None, Some, is_some, AllPairs, refl, sym, ◌∙◌, ap, subst, arith}
+use Rattle.std.proofs.Common.{
+  ◌≡◌,
+  ◌≢◌,
+  ℕ,
+  eqb,
+  Bool,
+  true,
+  false,
+  not,
+  ◌&&◌,
+  ◌||◌,
+  cond,
+  List,
+  [],
+  ◌∷◌,
+  filter,
+  Option,
+  None,
+  Some,
+  is_some,
+  AllPairs,
+  refl,
+  sym,
+  ◌∙◌,
+  ap,
+  subst,
+  arith,
+}
 use Rattle.std.proofs.lemmas.Bool.{false≢true}
 use Rattle.std.proofs.lemmas.Bool.Decides.{same_from_decides}
 use Rattle.std.proofs.lemmas.List.Kept.{AllPairs-filter}
@@ -9,7 +36,23 @@ use Rattle.std.specs.Set.{is_member}
 use Rattle.oz_container.specs.declared.state.State.{State}
 use Rattle.oz_container.specs.declared.state.State.TheVariants as states
 use Rattle.oz_entries.specs.Build.{MakesFrom}
-use Rattle.oz_entries.specs.Node.{Node, HaveFreeSlots, MayFollow, RowFits, after_entry, empty_node, is_held, is_in, is_same_block, names, or_slot, with_number, with_row, with_state, without}
+use Rattle.oz_entries.specs.Node.{
+  Node,
+  HaveFreeSlots,
+  MayFollow,
+  RowFits,
+  after_entry,
+  empty_node,
+  is_held,
+  is_in,
+  is_same_block,
+  names,
+  or_slot,
+  with_number,
+  with_row,
+  with_state,
+  without,
+}
 use Rattle.oz_entries.specs.declared.entry.Entry.{Entry}
 use Rattle.oz_entries.specs.declared.entry.Entry.TheVariants.{Put, SetState, Apply, Drop}
 use Rattle.oz_entries.specs.declared.row.BlockRow.{BlockRow}
@@ -23,7 +66,8 @@ use Rattle.oz_node_events.specs.filled.laws.Lists.{blocks_alike, each_fails, or_
 -- ---- the blocks that are held
 
 -- whether a block is among them is whether it is held
-held_by : (node : Node) (blocks : List Block) → AllPairs (λ a b. a ≢ b) blocks → ((block : Block) → is_member is_same_block blocks block ≡ is_held node block) → AreHeldIn node blocks
+held_by : (node : Node) (blocks : List Block) → AllPairs (λ a b. a ≢ b) blocks
+    → ((block : Block) → is_member is_same_block blocks block ≡ is_held node block) → AreHeldIn node blocks
 held_by node blocks apart is = record {
   apart = apart;
   each = λ block.
@@ -39,21 +83,27 @@ member_is node blocks held block =
 none_held : AreHeldIn empty_node []
 none_held = held_by empty_node [] (λ i j d before within. absurd (omega (arith, within))) (λ block. refl)
 
-held_with : (block : Block) (row : BlockRow) (node : Node) (blocks : List Block) → AreHeldIn node blocks → is_held node block ≡ false → AreHeldIn (with_row block row node) (block ∷ blocks)
+held_with : (block : Block) (row : BlockRow) (node : Node) (blocks : List Block) → AreHeldIn node blocks → is_held node block ≡ false
+    → AreHeldIn (with_row block row node) (block ∷ blocks)
 held_with block row node blocks held absent = held_by (with_row block row node) (block ∷ blocks)
     (AllPairs-from_IsDistinct same_decides (block ∷ blocks)
-    (IsDistinct-cons is_same_block block blocks (each_fails (is_same_block block) blocks (member_is node blocks held block ∙ absent)) (IsDistinct-from_AllPairs same_decides blocks held.apart)))
-    (λ other. ap (λ (t : Bool). t || is_member is_same_block blocks other) (blocks_alike.symm other block) ∙ by (is_same_block block other) other (member_is node blocks held other))
+    (IsDistinct-cons is_same_block block blocks (each_fails (is_same_block block) blocks (member_is node blocks held block ∙ absent))
+    (IsDistinct-from_AllPairs same_decides blocks held.apart)))
+    (λ other. ap (λ (t : Bool). t || is_member is_same_block blocks other) (blocks_alike.symm other block)
+    ∙ by (is_same_block block other) other (member_is node blocks held other))
   where
-    by : (t : Bool) (other : Block) → is_member is_same_block blocks other ≡ is_held node other → (t || is_member is_same_block blocks other) ≡ is_some (cond t (Some row) (node.rows other))
+    by : (t : Bool) (other : Block) → is_member is_same_block blocks other ≡ is_held node other
+        → (t || is_member is_same_block blocks other) ≡ is_some (cond t (Some row) (node.rows other))
     by true other is = refl
     by false other is = is
 
-held_without : (is_gone : Block → Bool) (node : Node) (blocks : List Block) → AreHeldIn node blocks → AreHeldIn (without is_gone node) (filter (λ block. not (is_gone block)) blocks)
+held_without : (is_gone : Block → Bool) (node : Node) (blocks : List Block) → AreHeldIn node blocks
+    → AreHeldIn (without is_gone node) (filter (λ block. not (is_gone block)) blocks)
 held_without is_gone node blocks held = held_by (without is_gone node) (filter (λ block. not (is_gone block)) blocks)
     (AllPairs-filter (λ a b. a ≢ b) (λ block. not (is_gone block)) blocks held.apart)
     (λ other.
-    is_member-filter blocks_alike (λ block. not (is_gone block)) other (λ block same. ap (λ (b : Block). not (is_gone b)) ((same_decides other block).0 same)) blocks
+    is_member-filter blocks_alike (λ block. not (is_gone block)) other
+    (λ block same. ap (λ (b : Block). not (is_gone b)) ((same_decides other block).0 same)) blocks
     ∙ (ap (λ (t : Bool). t && not (is_gone other)) (member_is node blocks held other) ∙ by (is_gone other) (node.rows other)))
   where
     by : (gone : Bool) (row : Option BlockRow) → (is_some row && not gone) ≡ is_some (cond gone None row)
@@ -68,14 +118,16 @@ RowsFit : Node → Type 0
 RowsFit node = (block : Block) (row : BlockRow) → node.rows block ≡ Some row → RowFits (λ slot. false) row
 
 -- slots that are free are so where fewer are in use
-free_anyway : (used fewer : ℕ → Bool) (chunks : List Chunk) → ((slot : ℕ) → used slot ≡ false → fewer slot ≡ false) → HaveFreeSlots used chunks → HaveFreeSlots fewer chunks
+free_anyway : (used fewer : ℕ → Bool) (chunks : List Chunk) → ((slot : ℕ) → used slot ≡ false → fewer slot ≡ false) → HaveFreeSlots used chunks
+    → HaveFreeSlots fewer chunks
 free_anyway used fewer [] less free = tt
 free_anyway used fewer (chunk ∷ chunks) less free = (
   free.0,
   less chunk.slot free.1,
   free.2,
   free_anyway (or_slot used chunk.slot) (or_slot fewer chunk.slot) chunks
-      (λ slot unused. let both = or_false (used slot) (eqb chunk.slot slot) unused in ap (λ (t : Bool). t || eqb chunk.slot slot) (less slot both.0) ∙ both.1) free.3,
+      (λ slot unused. let both = or_false (used slot) (eqb chunk.slot slot) unused in ap (λ (t : Bool). t || eqb chunk.slot slot) (less slot both.0)
+      ∙ both.1) free.3,
 )
 
 fits_anyway : (used : ℕ → Bool) (row : BlockRow) → RowFits used row → RowFits (λ slot. false) row
@@ -126,7 +178,8 @@ have_without is_gone node has = record {
 }
 
 -- the same rows
-with_states : (node : Node) (states : ℕ → State) (greatest : ℕ → ℕ) → BlocksHaveSlots node → BlocksHaveSlots (record node { states = states; greatest = greatest })
+with_states : (node : Node) (states : ℕ → State) (greatest : ℕ → ℕ) → BlocksHaveSlots node
+    → BlocksHaveSlots (record node { states = states; greatest = greatest })
 with_states node states greatest has = record {
   blocks = has.blocks;
   held = record { apart = has.held.apart; each = has.held.each };
@@ -137,10 +190,13 @@ with_states node states greatest has = record {
 pub slots_with_state : (container : ℕ) (state : State) (node : Node) → BlocksHaveSlots node → BlocksHaveSlots (with_state container state node)
 slots_with_state container state node has = with_states node (with_state container state node).states node.greatest has
 
-pub slots_without : (container number : ℕ) (is_gone : Block → Bool) (node : Node) → BlocksHaveSlots node → BlocksHaveSlots (with_number container number (without is_gone node))
-slots_without container number is_gone node has = with_states (without is_gone node) node.states (with_number container number (without is_gone node)).greatest (have_without is_gone node has)
+pub slots_without : (container number : ℕ) (is_gone : Block → Bool) (node : Node) → BlocksHaveSlots node
+    → BlocksHaveSlots (with_number container number (without is_gone node))
+slots_without container number is_gone node has =
+    with_states (without is_gone node) node.states (with_number container number (without is_gone node)).greatest (have_without is_gone node has)
 
-pub slots_dropped : (container : ℕ) (is_gone : Block → Bool) (node : Node) → BlocksHaveSlots node → BlocksHaveSlots (with_state container states.Deleted (without is_gone node))
+pub slots_dropped : (container : ℕ) (is_gone : Block → Bool) (node : Node) → BlocksHaveSlots node
+    → BlocksHaveSlots (with_state container states.Deleted (without is_gone node))
 slots_dropped container is_gone node has = slots_with_state container states.Deleted (without is_gone node) (have_without is_gone node has)
 
 pub slots_after : (node : Node) (entry : Entry) → BlocksHaveSlots node → MayFollow node entry → BlocksHaveSlots (after_entry entry node)

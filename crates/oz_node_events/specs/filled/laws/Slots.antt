@@ -1,5 +1,34 @@
 -- The slots of all blocks in one list, counted in two ways.
-use Rattle.std.proofs.Common.{◌≡◌, ℕ, ◌+◌, ◌-◌, ◌<◌, ◌≤◌, eqb, Bool, true, false, ◌||◌, List, [], ◌∷◌, ◌++◌, map, length, sum, Option, None, Some, is_some, refl, sym, ◌∙◌, ap, subst, arith}
+use Rattle.std.proofs.Common.{
+  ◌≡◌,
+  ℕ,
+  ◌+◌,
+  ◌-◌,
+  ◌<◌,
+  ◌≤◌,
+  eqb,
+  Bool,
+  true,
+  false,
+  ◌||◌,
+  List,
+  [],
+  ◌∷◌,
+  ◌++◌,
+  map,
+  length,
+  sum,
+  Option,
+  None,
+  Some,
+  is_some,
+  refl,
+  sym,
+  ◌∙◌,
+  ap,
+  subst,
+  arith,
+}
 use Rattle.std.proofs.lemmas.Bool.{false≢true}
 use Rattle.std.proofs.lemmas.Bool.Decides.{Decides-eqb}
 use Rattle.std.proofs.lemmas.List.{length-append, length-map}
@@ -38,20 +67,24 @@ place_unused : (used : ℕ → Bool) (chunks : List Chunk) → HaveFreeSlots use
 place_unused used [] free slot is = refl
 place_unused used (chunk ∷ chunks) free slot is =
     let other = fails_where (eqb slot chunk.slot) (λ same. false≢true (sym free.1 ∙ (ap used (sym ((Decides-eqb slot chunk.slot).0 same)) ∙ is))) in
-    ap (λ (t : Bool). t || list_any (eqb slot) (places chunks)) other ∙ place_unused (or_slot used chunk.slot) chunks free.3 slot (or_left (used slot) (eqb chunk.slot slot) is)
+    ap (λ (t : Bool). t || list_any (eqb slot) (places chunks)) other
+    ∙ place_unused (or_slot used chunk.slot) chunks free.3 slot (or_left (used slot) (eqb chunk.slot slot) is)
 
 places_apart : (used : ℕ → Bool) (chunks : List Chunk) → HaveFreeSlots used chunks → IsDistinct eqb (places chunks)
 unfolding IsDistinct
 places_apart used [] free = tt
 places_apart used (chunk ∷ chunks) free =
     let now = or_right (used chunk.slot) (eqb chunk.slot chunk.slot) ((Decides-eqb chunk.slot chunk.slot).1 refl) in
-    IsDistinct-cons eqb chunk.slot (places chunks) (each_fails (eqb chunk.slot) (places chunks) (place_unused (or_slot used chunk.slot) chunks free.3 chunk.slot now)) (places_apart (or_slot used chunk.slot) chunks free.3)
+    IsDistinct-cons eqb chunk.slot (places chunks)
+    (each_fails (eqb chunk.slot) (places chunks) (place_unused (or_slot used chunk.slot) chunks free.3 chunk.slot now))
+    (places_apart (or_slot used chunk.slot) chunks free.3)
 
 places_within : (used : ℕ → Bool) (chunks : List Chunk) → HaveFreeSlots used chunks → (slot : ℕ) → list_any (eqb slot) (places chunks) ≡ true → slot < SLOTS
 places_within used [] free slot among = absurd (false≢true among)
 places_within used (chunk ∷ chunks) free slot among = by (eqb slot chunk.slot) refl among (places_within (or_slot used chunk.slot) chunks free.3 slot)
   where
-    by : (t : Bool) → eqb slot chunk.slot ≡ t → (t || list_any (eqb slot) (places chunks)) ≡ true → (list_any (eqb slot) (places chunks) ≡ true → slot < SLOTS) → slot < SLOTS
+    by : (t : Bool) → eqb slot chunk.slot ≡ t → (t || list_any (eqb slot) (places chunks)) ≡ true
+        → (list_any (eqb slot) (places chunks) ≡ true → slot < SLOTS) → slot < SLOTS
     by true same e others = subst (λ (n : ℕ). n < SLOTS) (sym ((Decides-eqb slot chunk.slot).0 same)) free.0
     by false other e others = others e
 
@@ -99,15 +132,20 @@ module _ (node : Node) (has : BlocksHaveSlots node) where
       let first = so_many (node.rows block) (has.fit block) in
       let rest = so_many_all blocks in
       let both = length-append (places_of (node.rows block)) (all_places node blocks) in
-      both ∙ (ap (λ (n : ℕ). n + length (all_places node blocks)) first ∙ (ap (λ (n : ℕ). slots_in node block + n) rest ∙ sym (sum_by-cons (λ x. x) (slots_in node block) (map (slots_in node) blocks))))
+      both ∙ (ap (λ (n : ℕ). n + length (all_places node blocks)) first
+      ∙ (ap (λ (n : ℕ). slots_in node block + n) rest ∙ sym (sum_by-cons (λ x. x) (slots_in node block) (map (slots_in node) blocks))))
 
   -- a slot of one block isn't among those of others
-  of_one_block : (block : Block) (blocks : List Block) → AllByRecursion (λ other. is_same_block block other ≡ false) blocks → (slot : ℕ) → row_has (node.rows block) slot ≡ true → list_any (eqb slot) (all_places node blocks) ≡ true → ⊥
+  of_one_block : (block : Block) (blocks : List Block) → AllByRecursion (λ other. is_same_block block other ≡ false) blocks → (slot : ℕ)
+      → row_has (node.rows block) slot ≡ true → list_any (eqb slot) (all_places node blocks) ≡ true → ⊥
   unfolding all_places
   of_one_block block [] apart slot its among = false≢true among
-  of_one_block block (other ∷ blocks) apart slot its among = by (list_any (eqb slot) (places_of (node.rows other))) refl (sym (list_any-append (eqb slot) (places_of (node.rows other)) (all_places node blocks)) ∙ among) (of_one_block block blocks apart.1 slot its)
+  of_one_block block (other ∷ blocks) apart slot its among =
+      by (list_any (eqb slot) (places_of (node.rows other))) refl
+      (sym (list_any-append (eqb slot) (places_of (node.rows other)) (all_places node blocks)) ∙ among) (of_one_block block blocks apart.1 slot its)
     where
-      by : (t : Bool) → list_any (eqb slot) (places_of (node.rows other)) ≡ t → (t || list_any (eqb slot) (all_places node blocks)) ≡ true → (list_any (eqb slot) (all_places node blocks) ≡ true → ⊥) → ⊥
+      by : (t : Bool) → list_any (eqb slot) (places_of (node.rows other)) ≡ t → (t || list_any (eqb slot) (all_places node blocks)) ≡ true
+          → (list_any (eqb slot) (all_places node blocks) ≡ true → ⊥) → ⊥
       by true is e others =
           let one = user_is (node.users slot) block (has.sound slot block ∙ its) in
           let two = user_is (node.users slot) other (has.sound slot other ∙ (sym (place_of_row (node.rows other) slot) ∙ is)) in
@@ -126,19 +164,26 @@ module _ (node : Node) (has : BlocksHaveSlots node) where
   all_within : (blocks : List Block) (slot : ℕ) → list_any (eqb slot) (all_places node blocks) ≡ true → slot < SLOTS
   unfolding all_places
   all_within [] slot among = absurd (false≢true among)
-  all_within (block ∷ blocks) slot among = by (list_any (eqb slot) (places_of (node.rows block))) refl (sym (list_any-append (eqb slot) (places_of (node.rows block)) (all_places node blocks)) ∙ among) (all_within blocks slot)
+  all_within (block ∷ blocks) slot among =
+      by (list_any (eqb slot) (places_of (node.rows block))) refl
+      (sym (list_any-append (eqb slot) (places_of (node.rows block)) (all_places node blocks)) ∙ among) (all_within blocks slot)
     where
-      by : (t : Bool) → list_any (eqb slot) (places_of (node.rows block)) ≡ t → (t || list_any (eqb slot) (all_places node blocks)) ≡ true → (list_any (eqb slot) (all_places node blocks) ≡ true → slot < SLOTS) → slot < SLOTS
+      by : (t : Bool) → list_any (eqb slot) (places_of (node.rows block)) ≡ t → (t || list_any (eqb slot) (all_places node blocks)) ≡ true
+          → (list_any (eqb slot) (all_places node blocks) ≡ true → slot < SLOTS) → slot < SLOTS
       by true is e others = within_row (node.rows block) (has.fit block) slot is
       by false is e others = others e
 
   -- the slot of a block is among them
-  place_among : (blocks : List Block) (block : Block) (slot : ℕ) → is_member is_same_block blocks block ≡ true → row_has (node.rows block) slot ≡ true → list_any (eqb slot) (all_places node blocks) ≡ true
+  place_among : (blocks : List Block) (block : Block) (slot : ℕ) → is_member is_same_block blocks block ≡ true → row_has (node.rows block) slot ≡ true
+      → list_any (eqb slot) (all_places node blocks) ≡ true
   unfolding all_places
   place_among [] block slot among its = absurd (false≢true among)
-  place_among (other ∷ blocks) block slot among its = list_any-append (eqb slot) (places_of (node.rows other)) (all_places node blocks) ∙ by (is_same_block block other) refl among (λ e. place_among blocks block slot e its)
+  place_among (other ∷ blocks) block slot among its = list_any-append (eqb slot) (places_of (node.rows other)) (all_places node blocks)
+      ∙ by (is_same_block block other) refl among (λ e. place_among blocks block slot e its)
     where
-      by : (t : Bool) → is_same_block block other ≡ t → (t || is_member is_same_block blocks block) ≡ true → (is_member is_same_block blocks block ≡ true → list_any (eqb slot) (all_places node blocks) ≡ true) → (list_any (eqb slot) (places_of (node.rows other)) || list_any (eqb slot) (all_places node blocks)) ≡ true
+      by : (t : Bool) → is_same_block block other ≡ t → (t || is_member is_same_block blocks block) ≡ true
+          → (is_member is_same_block blocks block ≡ true → list_any (eqb slot) (all_places node blocks) ≡ true)
+          → (list_any (eqb slot) (places_of (node.rows other)) || list_any (eqb slot) (all_places node blocks)) ≡ true
       by true same e others = or_left (list_any (eqb slot) (places_of (node.rows other))) (list_any (eqb slot) (all_places node blocks))
           (place_of_row (node.rows other) slot ∙ (ap (λ (b : Block). row_has (node.rows b) slot) (sym (same_block block other same)) ∙ its))
       by false same e others = or_right (list_any (eqb slot) (places_of (node.rows other))) (list_any (eqb slot) (all_places node blocks)) (others e)
@@ -161,15 +206,19 @@ module _ (node : Node) (has : BlocksHaveSlots node) where
       let apart = all_apart blocks (IsDistinct-from_AllPairs same_decides blocks held.apart) in
       subst (λ (n : ℕ). n ≤ SLOTS) (so_many_all blocks) (length-le_from_distinct_below (all_places node blocks) SLOTS apart (all_within blocks))
 
-  pub counted : (blocks : List Block) (chunks : List Chunk) → AreHeldIn node blocks → ((slot : ℕ) → slot < SLOTS → (is_used node slot || any_in chunks slot) ≡ true) → (others : ℕ) × (others ≤ length chunks) × (SLOTS ≡ sum (map (slots_in node) blocks) + others)
+  pub counted : (blocks : List Block) (chunks : List Chunk) → AreHeldIn node blocks
+      → ((slot : ℕ) → slot < SLOTS → (is_used node slot || any_in chunks slot) ≡ true) → (others : ℕ) × (others ≤ length chunks)
+      × (SLOTS ≡ sum (map (slots_in node) blocks) + others)
   counted blocks chunks held full =
       let within = within_all blocks held in
-      let all = le-length_from_below (all_places node blocks ++ places chunks) SLOTS (λ slot below. list_any-append (eqb slot) (all_places node blocks) (places chunks) ∙ each slot (is_used node slot) refl (full slot below)) in
+      let all = le-length_from_below (all_places node blocks ++ places chunks) SLOTS
+      (λ slot below. list_any-append (eqb slot) (all_places node blocks) (places chunks) ∙ each slot (is_used node slot) refl (full slot below)) in
       let long = length-append (all_places node blocks) (places chunks) in
       let some = length-map chunks (λ (chunk : Chunk). chunk.slot) in
       let many = so_many_all blocks in
       (SLOTS - sum (map (slots_in node) blocks), omega (arith, within, all, long, some, many), omega (arith, within))
     where
-      each : (slot : ℕ) (t : Bool) → is_used node slot ≡ t → (t || any_in chunks slot) ≡ true → (list_any (eqb slot) (all_places node blocks) || list_any (eqb slot) (places chunks)) ≡ true
+      each : (slot : ℕ) (t : Bool) → is_used node slot ≡ t → (t || any_in chunks slot) ≡ true
+          → (list_any (eqb slot) (all_places node blocks) || list_any (eqb slot) (places chunks)) ≡ true
       each slot true used e = or_left (list_any (eqb slot) (all_places node blocks)) (list_any (eqb slot) (places chunks)) (used_among blocks held slot used)
       each slot false used e = or_right (list_any (eqb slot) (all_places node blocks)) (list_any (eqb slot) (places chunks)) (place_in chunks slot ∙ e)

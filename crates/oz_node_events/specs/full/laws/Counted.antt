@@ -1,5 +1,31 @@
 -- The slots that a story counts are those that a datanode has in use.
-use Rattle.std.proofs.Common.{◌≡◌, ℕ, zero, suc, ◌+◌, ◌<◌, ◌≤◌, true, ◌||◌, List, [], ◌∷◌, map, length, sum, Option, None, Some, is_some, Contains, refl, sym, ◌∙◌, ap, arith}
+use Rattle.std.proofs.Common.{
+  ◌≡◌,
+  ℕ,
+  zero,
+  suc,
+  ◌+◌,
+  ◌<◌,
+  ◌≤◌,
+  true,
+  ◌||◌,
+  List,
+  [],
+  ◌∷◌,
+  map,
+  length,
+  sum,
+  Option,
+  None,
+  Some,
+  is_some,
+  Contains,
+  refl,
+  sym,
+  ◌∙◌,
+  ap,
+  arith,
+}
 use Rattle.std.proofs.lemmas.Bool.{false≢true}
 use Rattle.std.proofs.lemmas.List.Sums.{sum_by-cons}
 use Rattle.std.specs.Option.{option_map_or}
@@ -41,7 +67,8 @@ module _ (opening : Opening) (story : List Event) (dn : ℕ) (node : Node) (rows
   slots_same : (block : Block) → is_held node block ≡ true → slots_in node block ≡ slots_of opening story block
   slots_same block held = by (node.rows block) refl held
     where
-      by : (o : Option BlockRow) → node.rows block ≡ o → is_some o ≡ true → option_map_or (λ (row : BlockRow). chunk_count row.length) o 0 ≡ slots_of opening story block
+      by : (o : Option BlockRow) → node.rows block ≡ o → is_some o ≡ true
+          → option_map_or (λ (row : BlockRow). chunk_count row.length) o 0 ≡ slots_of opening story block
       by None is some = absurd (false≢true some)
       by (Some row) is some = ap (λ (o : Option ℕ). option_map_or slots_for o 0) (sym (rows.lengths block row is))
 
@@ -53,8 +80,10 @@ Counts node =
     (blocks : List Block) (chunks : List Chunk) → AreHeldIn node blocks → ((slot : ℕ) → slot < SLOTS → (is_used node slot || any_in chunks slot) ≡ true)
     → (others : ℕ) × (others ≤ length chunks) × (SLOTS ≡ sum (map (slots_in node) blocks) + others)
 
-pub filled_full : {D : Type 0} (faults : D → ℕ) (opening : Opening) (story : List Event) (dn : ℕ) (node : State D) (block : Block) (bytes : List ℕ) (used asked capacity : ℕ)
-    → BlocksHaveSlots (node_in node) → Counts (node_in node) → RowsAreHeld opening story dn (node_in node) → length bytes ≤ LONGEST_PIECE → IsFilled faults block bytes node used asked capacity
+pub filled_full : {D : Type 0} (faults : D → ℕ) (opening : Opening) (story : List Event) (dn : ℕ) (node : State D) (block : Block) (bytes : List ℕ)
+    (used asked capacity : ℕ)
+    → BlocksHaveSlots (node_in node) → Counts (node_in node) → RowsAreHeld opening story dn (node_in node) → length bytes ≤ LONGEST_PIECE
+    → IsFilled faults block bytes node used asked capacity
     → IsFull opening story dn used asked capacity
 filled_full faults opening story dn node block bytes used asked capacity has counts rows most filled =
     let count = counts has.blocks filled.chunks has.held filled.full in
@@ -72,7 +101,11 @@ filled_full faults opening story dn node block bytes used asked capacity has cou
       in_use = record {
         slots = slots;
         others = count.0;
-        taken = (has.blocks, held_each opening story dn (node_in node) rows has.blocks has.held, sums_same opening story dn (node_in node) rows has.blocks has.held);
+        taken = (
+          has.blocks,
+          held_each opening story dn (node_in node) rows has.blocks has.held,
+          sums_same opening story dn (node_in node) rows has.blocks has.held,
+        );
         few = omega (arith, few, within);
         are = omega (arith, in_use, all);
       };

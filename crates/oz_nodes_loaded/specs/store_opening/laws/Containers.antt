@@ -26,7 +26,8 @@ none_below (one ∷ made) first number below =
     ∙ (ap (λ (t : Bool). cond t (Some (opened_container one)) (get (containers_from (first + 1) made) number)) (lower_number number first below)
     ∙ none_below made (first + 1) number (omega (arith, below)))
 
-each_from : (made : List MadeContainer) (first place : ℕ) → get (containers_from first made) (first + place) ≡ option_map opened_container (slice_get made place)
+each_from : (made : List MadeContainer) (first place : ℕ)
+    → get (containers_from first made) (first + place) ≡ option_map opened_container (slice_get made place)
 each_from [] first place = get-empty nat_cmp (first + place)
 each_from (one ∷ made) first zero =
     let here : first + zero ≡ first = omega arith in
@@ -36,7 +37,8 @@ each_from (one ∷ made) first zero =
 each_from (one ∷ made) first (suc place) =
     let next : first + suc place ≡ (first + 1) + place = omega arith in
     get-insert nat_cmp_total (containers_from (first + 1) made) first (opened_container one) (first + suc place)
-    ∙ (ap (λ (t : Bool). cond t (Some (opened_container one)) (get (containers_from (first + 1) made) (first + suc place))) (other_number (first + suc place) first (omega arith))
+    ∙ (ap (λ (t : Bool). cond t (Some (opened_container one)) (get (containers_from (first + 1) made) (first + suc place)))
+    (other_number (first + suc place) first (omega arith))
     ∙ (ap (λ (n : ℕ). get (containers_from (first + 1) made) n) next ∙ each_from made (first + 1) place))
 
 pub containers_are : (made : List MadeContainer) (number : ℕ) → get (containers_from 1 made) number ≡ option_map opened_container (container_at made number)

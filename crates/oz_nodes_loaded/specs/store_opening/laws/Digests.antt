@@ -24,9 +24,15 @@ have_tested size (chunk ∷ chunks) slots have =
     and_from (bytes_eq chunk.digest (sha256 (part_of size chunk slots))) (have_digests (size - SLOT_SIZE) chunks slots)
     ((bytes_eq-Decides chunk.digest (sha256 (part_of size chunk slots))).1 have.0) (have_tested (size - SLOT_SIZE) chunks slots have.1)
 
-pub intact_are : (row : BlockRow) (slots content : List ℕ) → (intact_bytes row slots ≡ Some content) ↔ ((bytes_of row slots ≡ content) × HaveDigests row.length row.chunks slots)
-intact_are row slots content = (by (have_digests row.length row.chunks slots) refl, λ both. ap (λ (t : Bool). cond t (Some (bytes_of row slots)) None) (have_tested row.length row.chunks slots both.1) ∙ ap (λ (b : List ℕ). Some b) both.0)
+pub intact_are : (row : BlockRow) (slots content : List ℕ)
+    → (intact_bytes row slots ≡ Some content) ↔ ((bytes_of row slots ≡ content) × HaveDigests row.length row.chunks slots)
+intact_are row slots content = (
+  by (have_digests row.length row.chunks slots) refl,
+  λ both. ap (λ (t : Bool). cond t (Some (bytes_of row slots)) None) (have_tested row.length row.chunks slots both.1)
+      ∙ ap (λ (b : List ℕ). Some b) both.0,
+)
   where
-    by : (t : Bool) → have_digests row.length row.chunks slots ≡ t → cond t (Some (bytes_of row slots)) None ≡ Some content → (bytes_of row slots ≡ content) × HaveDigests row.length row.chunks slots
+    by : (t : Bool) → have_digests row.length row.chunks slots ≡ t → cond t (Some (bytes_of row slots)) None ≡ Some content → (bytes_of row slots ≡ content)
+        × HaveDigests row.length row.chunks slots
     by true tested is = (cc, tested_have row.length row.chunks slots tested)
     by false tested is = absurd cc

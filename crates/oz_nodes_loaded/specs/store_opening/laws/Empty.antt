@@ -1,5 +1,31 @@
 -- Where nothing is on any disk.
-use Rattle.std.proofs.Common.{◌≡◌, ⊎_elim, ℕ, zero, suc, ◌<◌, true, false, List, [], ◌∷◌, length, map, None, Some, All, Any, refl, sym, ◌∙◌, ap, subst, arith, Contains, ◌↔◌}
+use Rattle.std.proofs.Common.{
+  ◌≡◌,
+  ⊎_elim,
+  ℕ,
+  zero,
+  suc,
+  ◌<◌,
+  true,
+  false,
+  List,
+  [],
+  ◌∷◌,
+  length,
+  map,
+  None,
+  Some,
+  All,
+  Any,
+  refl,
+  sym,
+  ◌∙◌,
+  ap,
+  subst,
+  arith,
+  Contains,
+  ◌↔◌,
+}
 use Rattle.std.proofs.lemmas.Bool.{false≢true}
 use Rattle.std.specs.List.{slice_get, slice_index_or}
 use Rattle.std.specs.Option.{option_map_or}
@@ -42,10 +68,12 @@ none_there : {D : Type 0} (nodes : List (Datanode D)) → All HoldsNothing nodes
     → is_held (slice_index_or (map node_in nodes) k node) block ≡ false
 none_there [] none k node within block = absurd (omega (arith, within))
 none_there (first ∷ nodes) none zero node within block = none zero first (omega arith) block
-none_there (first ∷ nodes) none (suc k) node within block = none_there nodes (λ i d below. none (suc i) d (omega (arith, below))) k node (omega (arith, within)) block
+none_there (first ∷ nodes) none (suc k) node within block =
+    none_there nodes (λ i d below. none (suc i) d (omega (arith, below))) k node (omega (arith, within)) block
 
 pub nothing_below : {D : Type 0} (count : ℕ) (nodes : List (Datanode D)) → All HoldsNothing nodes → AreBelow 0 (map node_in nodes) (begun count).next_id
-nothing_below {D} count nodes none id seen = ⊎_elim (λ zero_it. subst (λ (n : ℕ). n < (begun count).next_id) (sym zero_it) (omega arith)) (λ any. holds any) seen
+nothing_below {D} count nodes none id seen =
+    ⊎_elim (λ zero_it. subst (λ (n : ℕ). n < (begun count).next_id) (sym zero_it) (omega arith)) (λ any. holds any) seen
   where
     holds : Any (HoldsId id) (map (node_in {D = D}) nodes) → id < (begun count).next_id
     holds any =
@@ -53,7 +81,8 @@ nothing_below {D} count nodes none id seen = ⊎_elim (λ zero_it. subst (λ (n 
         absurd (false≢true (sym none_of ∙ (ap (λ (n : Node). is_held n any.4.0) any.3 ∙ any.4.1)))
 
 module _ {D : Type 0} (nodes : List (Datanode D)) (none : All HoldsNothing nodes) where
-  pub nothing_agrees : (unseated : UnseatedView) (namespace : Namespace) (made : Made) (bytes : OpeningBytes) → BlocksAgree (row_of []) (opening_of unseated namespace made nodes) bytes
+  pub nothing_agrees : (unseated : UnseatedView) (namespace : Namespace) (made : Made) (bytes : OpeningBytes)
+      → BlocksAgree (row_of []) (opening_of unseated namespace made nodes) bytes
   nothing_agrees unseated namespace made bytes = record {
     made = λ block is. no_row block is;
     placed = λ block dn held. never block dn held;
@@ -88,7 +117,9 @@ module _ {D : Type 0} (see : D → Seen) (empty_store_is : (bytes : OpeningBytes
 
   below : AreBelow unseated.greatest_id (map node_in nodes) (begun count).next_id
   below =
-      let none : unseated.greatest_id ≡ 0 = unwritten_greatest unseated.greatest_id (subst (λ (all : List RowEntry). IsGreatestId (row_of all) unseated.greatest_id) no_rows this.greatest_id) in
+      let none : unseated.greatest_id ≡ 0 =
+      unwritten_greatest unseated.greatest_id
+      (subst (λ (all : List RowEntry). IsGreatestId (row_of all) unseated.greatest_id) no_rows this.greatest_id) in
       subst (λ (id : ℕ). AreBelow id (map node_in nodes) (begun count).next_id) (sym none) (nothing_below count nodes hold_nothing)
 
   pub unwritten_store : IsStore (row_of this.all) (opening_of unseated nothing (begun count) nodes) (opening_bytes see nodes)
@@ -96,9 +127,11 @@ module _ {D : Type 0} (see : D → Seen) (empty_store_is : (bytes : OpeningBytes
       let bytes = opening_bytes see nodes in
       let old = empty_store_is bytes in
       let agree : BlocksAgree (row_of this.all) (opening_of unseated nothing (begun count) nodes) bytes =
-      subst (λ (all : List RowEntry). BlocksAgree (row_of all) (opening_of unseated nothing (begun count) nodes) bytes) (sym no_rows) (nothing_agrees nodes hold_nothing unseated nothing (begun count) bytes) in
+      subst (λ (all : List RowEntry). BlocksAgree (row_of all) (opening_of unseated nothing (begun count) nodes) bytes) (sym no_rows)
+      (nothing_agrees nodes hold_nothing unseated nothing (begun count) bytes) in
       let stands : StandsFor (row_of this.all) nothing = subst (λ (all : List RowEntry). StandsFor (row_of all) nothing) (sym no_rows) old.stands in
-      let reached : (block : Block) → IsReached nothing block → IsInARow (row_of this.all) block = λ block is. reached_in (row_of this.all) nothing block stands is in
+      let reached : (block : Block) → IsReached nothing block
+      → IsInARow (row_of this.all) block = λ block is. reached_in (row_of this.all) nothing block stands is in
       record {
         stands = stands;
         sound = subst (λ (all : List RowEntry). IsSoundButRenames (row_of all)) (sym no_rows) old.sound;

@@ -1,5 +1,29 @@
 -- The blocks and replicas of an opening are those of the datanodes.
-use Rattle.std.proofs.Common.{◌≡◌, ℕ, zero, suc, Bool, true, false, ◌||◌, cond, List, [], ◌∷◌, map, Option, None, Some, is_some, option_map, refl, sym, ◌∙◌, ap, subst}
+use Rattle.std.proofs.Common.{
+  ◌≡◌,
+  ℕ,
+  zero,
+  suc,
+  Bool,
+  true,
+  false,
+  ◌||◌,
+  cond,
+  List,
+  [],
+  ◌∷◌,
+  map,
+  Option,
+  None,
+  Some,
+  is_some,
+  option_map,
+  refl,
+  sym,
+  ◌∙◌,
+  ap,
+  subst,
+}
 use Rattle.std.proofs.lemmas.Bool.{false≢true}
 use Rattle.std.specs.List.{cons_option, list_any, slice_get}
 use Rattle.std.specs.Option.{option_map_or}
@@ -49,7 +73,8 @@ module _ (node : Node) (block : Block) where
   listed_first : (other : Block) (row : BlockRow) (pieces : List Piece) → node.rows other ≡ Some row → (t : Bool) → is_block block other ≡ t
       → (list_any (λ (piece : Piece). is_block block piece.block) pieces ≡ true → is_held node block ≡ true)
       → (t || list_any (λ (piece : Piece). is_block block piece.block) pieces) ≡ true → is_held node block ≡ true
-  listed_first other row pieces its true same others e = subst (λ (b : Block). is_held node b ≡ true) (turned block other same) (ap (λ (o : Option BlockRow). is_some o) its)
+  listed_first other row pieces its true same others e =
+      subst (λ (b : Block). is_held node b ≡ true) (turned block other same) (ap (λ (o : Option BlockRow). is_some o) its)
   listed_first other row pieces its false same others e = others e
 
   listed_next : (other : Block) (pieces : List Piece) (o : Option BlockRow) → node.rows other ≡ o
@@ -70,8 +95,10 @@ module _ (node : Node) (block : Block) where
   held_next other pieces blocks None its true same held others e =
       absurd (false≢true (ap (λ (o : Option BlockRow). is_some o) (sym its) ∙ (ap (λ (b : Block). is_held node b) (turned block other same) ∙ held)))
   held_next other pieces blocks None its false same held others e = others e
-  held_next other pieces blocks (Some row) its true same held others e = ap (λ (t : Bool). t || list_any (λ (piece : Piece). is_block block piece.block) pieces) same
-  held_next other pieces blocks (Some row) its false same held others e = or_right (is_block block other) (list_any (λ (piece : Piece). is_block block piece.block) pieces) (others e)
+  held_next other pieces blocks (Some row) its true same held others e =
+      ap (λ (t : Bool). t || list_any (λ (piece : Piece). is_block block piece.block) pieces) same
+  held_next other pieces blocks (Some row) its false same held others e =
+      or_right (is_block block other) (list_any (λ (piece : Piece). is_block block piece.block) pieces) (others e)
 
   held_listed : (blocks : List Block) → is_held node block ≡ true → list_any (λ (other : Block). is_block block other) blocks ≡ true
       → list_any (λ (piece : Piece). is_block block piece.block) (pieces_of node blocks) ≡ true
@@ -89,7 +116,8 @@ row_next : (block first : Block) (row : Option BlockRow) (rows : List (Block × 
     → (is_block block first || list_any (λ (other : Block). is_block block other) (blocks_in rows)) ≡ true
 row_next block first row rows true same others e =
     let one : block ≡ first = same_block block first (sym (eq_block block first) ∙ same) in
-    or_left (is_block block first) (list_any (λ (other : Block). is_block block other) (blocks_in rows)) (subst (λ (b : Block). is_block block b ≡ true) one (own block))
+    or_left (is_block block first) (list_any (λ (other : Block). is_block block other) (blocks_in rows))
+    (subst (λ (b : Block). is_block block b ≡ true) one (own block))
 row_next block first row rows false same others e =
     or_right (is_block block first) (list_any (λ (other : Block). is_block block other) (blocks_in rows)) (others e)
 

@@ -1,5 +1,42 @@
 -- The length of a row is that of the block's bytes.
-use Rattle.std.proofs.Common.{◌≡◌, ℕ, zero, suc, ◌+◌, ◌-◌, ◌*◌, ◌≤◌, min, eqb, Bool, true, false, cond, List, [], ◌∷◌, length, drop, map, Option, None, Some, is_some, IfSome, All, option_and_then, refl, sym, ◌∙◌, ap, subst, arith, length-append, length-drop, length-take}
+use Rattle.std.proofs.Common.{
+  ◌≡◌,
+  ℕ,
+  zero,
+  suc,
+  ◌+◌,
+  ◌-◌,
+  ◌*◌,
+  ◌≤◌,
+  min,
+  eqb,
+  Bool,
+  true,
+  false,
+  cond,
+  List,
+  [],
+  ◌∷◌,
+  length,
+  drop,
+  map,
+  Option,
+  None,
+  Some,
+  is_some,
+  IfSome,
+  All,
+  option_and_then,
+  refl,
+  sym,
+  ◌∙◌,
+  ap,
+  subst,
+  arith,
+  length-append,
+  length-drop,
+  length-take,
+}
 use Rattle.std.proofs.lemmas.Bool.{eq-eqb, false≢true}
 use Rattle.std.proofs.lemmas.Option.{same_Some}
 use Rattle.std.specs.Prelude.{IsSome}
@@ -38,20 +75,25 @@ part_length size chunk slots within =
     let left = length-drop (start_of chunk.slot) slots in
     omega (arith, taken, left, within)
 
-parts_length : (size : ℕ) (chunks : List Chunk) (slots : List ℕ) → size ≤ length chunks * SLOT_SIZE → ((slot : ℕ) → list_any (λ (chunk : Chunk). eqb chunk.slot slot) chunks ≡ true → IsWithin slot slots)
+parts_length : (size : ℕ) (chunks : List Chunk) (slots : List ℕ) → size ≤ length chunks * SLOT_SIZE
+    → ((slot : ℕ) → list_any (λ (chunk : Chunk). eqb chunk.slot slot) chunks ≡ true → IsWithin slot slots)
     → length (parts_of size chunks slots) ≡ size
 unfolding parts_of
 parts_length size [] slots enough within = omega (arith, enough)
 parts_length size (chunk ∷ chunks) slots enough within =
-    let first = part_length size chunk slots (within chunk.slot (or_left (eqb chunk.slot chunk.slot) (list_any (λ (c : Chunk). eqb c.slot chunk.slot) chunks) (eq-eqb chunk.slot chunk.slot refl))) in
-    let others = parts_length (size - SLOT_SIZE) chunks slots (omega (arith, enough)) (λ slot has. within slot (or_right (eqb chunk.slot slot) (list_any (λ (c : Chunk). eqb c.slot slot) chunks) has)) in
+    let first = part_length size chunk slots
+    (within chunk.slot (or_left (eqb chunk.slot chunk.slot) (list_any (λ (c : Chunk). eqb c.slot chunk.slot) chunks)
+    (eq-eqb chunk.slot chunk.slot refl))) in
+    let others = parts_length (size - SLOT_SIZE) chunks slots (omega (arith, enough))
+    (λ slot has. within slot (or_right (eqb chunk.slot slot) (list_any (λ (c : Chunk). eqb c.slot slot) chunks) has)) in
     let both = length-append (part_of size chunk slots) (parts_of (size - SLOT_SIZE) chunks slots) in
     omega (arith, first, others, both)
 
 -- ---- of one datanode
 
 -- a slot of a block's row is in use
-row_used : (node : Node) → IsSound node → (block : Block) (row : BlockRow) → node.rows block ≡ Some row → (slot : ℕ) → has_slot row slot ≡ true → is_used node slot ≡ true
+row_used : (node : Node) → IsSound node → (block : Block) (row : BlockRow) → node.rows block ≡ Some row → (slot : ℕ) → has_slot row slot ≡ true
+    → is_used node slot ≡ true
 row_used node sound block row has slot its = by (node.users slot) refl
   where
     by : (user : Option Block) → node.users slot ≡ user → is_some user ≡ true
@@ -64,7 +106,8 @@ module _ {D : Type 0} (see : D → Seen) (apart : (bytes : List ℕ) (node : Nod
   slots_apart None node some stands = absurd (false≢true some)
   slots_apart (Some bytes) node some stands = apart bytes node stands
 
-  all_within : (told : Option (List ℕ)) (slots : List ℕ) (node : Node) → told ≡ Some slots → IfSome told (λ bytes. (slot : ℕ) → is_used node slot ≡ true → IsWithin slot bytes) → (slot : ℕ) → is_used node slot ≡ true → IsWithin slot slots
+  all_within : (told : Option (List ℕ)) (slots : List ℕ) (node : Node) → told ≡ Some slots
+      → IfSome told (λ bytes. (slot : ℕ) → is_used node slot ≡ true → IsWithin slot bytes) → (slot : ℕ) → is_used node slot ≡ true → IsWithin slot slots
   all_within None slots node is within = absurd cc
   all_within (Some bytes) slots node is within = λ slot used. subst (IsWithin slot) (cc) (within slot used)
 
@@ -75,7 +118,8 @@ module _ {D : Type 0} (see : D → Seen) (apart : (bytes : List ℕ) (node : Nod
     tells : IsSome (see disks.meta).told
     from : IsNodeFrom see dn disks node
 
-  told_at : (first : ℕ) (all : List (NodeDisks D)) (nodes : List (Datanode D)) → All (λ (disks : NodeDisks D). IsSome (see disks.meta).told) all → AreNodesFrom see first all nodes
+  told_at : (first : ℕ) (all : List (NodeDisks D)) (nodes : List (Datanode D)) → All (λ (disks : NodeDisks D). IsSome (see disks.meta).told) all
+      → AreNodesFrom see first all nodes
       → (at : ℕ) (node : Datanode D) → slice_get nodes at ≡ Some node → IsTold node
   told_at first [] [] tell are at node is = absurd cc
   told_at first [] (other ∷ nodes) tell are at node is = absurd are
@@ -87,8 +131,11 @@ module _ {D : Type 0} (see : D → Seen) (apart : (bytes : List ℕ) (node : Nod
       told_at (first + 1) all nodes (λ k d within. tell (suc k) d (omega (arith, within))) are.1 at node is
 
   -- the bytes of a block, if they are intact, are as many as its row says
-  content_length : (node : Datanode D) (block : Block) (row : BlockRow) (content : List ℕ) → IsTold node → (node_in node).rows block ≡ Some row → bytes_on see node block ≡ Some content → length content ≡ row.length
-  content_length node block row content told has is = by (see (slots_of node)).told refl (sym (ap (λ (o : Option BlockRow). option_and_then (λ (r : BlockRow). option_and_then (intact_bytes r) (see (slots_of node)).told) o) has) ∙ is)
+  content_length : (node : Datanode D) (block : Block) (row : BlockRow) (content : List ℕ) → IsTold node → (node_in node).rows block ≡ Some row
+      → bytes_on see node block ≡ Some content → length content ≡ row.length
+  content_length node block row content told has is =
+      by (see (slots_of node)).told refl
+      (sym (ap (λ (o : Option BlockRow). option_and_then (λ (r : BlockRow). option_and_then (intact_bytes r) (see (slots_of node)).told) o) has) ∙ is)
     where
       by : (o : Option (List ℕ)) → (see (slots_of node)).told ≡ o → option_and_then (intact_bytes row) o ≡ Some content → length content ≡ row.length
       by None tells e = absurd cc
@@ -100,7 +147,8 @@ module _ {D : Type 0} (see : D → Seen) (apart : (bytes : List ℕ) (node : Nod
               let fits = has_slots.fit block row has in
               let count = fits.count in
               parts_length row.length row.chunks slots (omega (arith, count))
-              (λ slot its. all_within (see told.disks.slots).told slots (node_in node) (sym told.from.slots.contents ∙ tells) told.from.within slot (row_used (node_in node) has_slots.sound block row has slot its))
+              (λ slot its. all_within (see told.disks.slots).told slots (node_in node) (sym told.from.slots.contents ∙ tells) told.from.within slot
+              (row_used (node_in node) has_slots.sound block row has slot its))
 
           tested : (t : Bool) → cond t (Some (bytes_of row slots)) None ≡ Some content → length content ≡ row.length
           tested true e = let same : bytes_of row slots ≡ content = cc in ap (λ (b : List ℕ). length b) (sym same) ∙ many
@@ -117,12 +165,20 @@ record IsFirst {D : Type 0} (nodes : List (Datanode D)) (block : Block) : Type 0
   has : (node_in node).rows block ≡ Some row
   is : first_row block (map node_in nodes) ≡ Some row.length
 
-first_of : {D : Type 0} (nodes : List (Datanode D)) (dn : ℕ) (node : Datanode D) (block : Block) (row : BlockRow) → slice_get nodes dn ≡ Some node → (node_in node).rows block ≡ Some row → IsFirst nodes block
+first_of : {D : Type 0} (nodes : List (Datanode D)) (dn : ℕ) (node : Datanode D) (block : Block) (row : BlockRow) → slice_get nodes dn ≡ Some node
+    → (node_in node).rows block ≡ Some row → IsFirst nodes block
 first_of [] dn node block row at has = absurd cc
 first_of (first ∷ nodes) zero node block row at has =
     let one : first ≡ node = cc in
     let its : (node_in first).rows block ≡ Some row = ap (λ n. (node_in n).rows block) one ∙ has in
-    record { dn = zero; node = first; row = row; there = refl; has = its; is = ap (λ (o : Option BlockRow). or_next o (first_row block (map node_in nodes))) its }
+    record {
+      dn = zero;
+      node = first;
+      row = row;
+      there = refl;
+      has = its;
+      is = ap (λ (o : Option BlockRow). or_next o (first_row block (map node_in nodes))) its;
+    }
 first_of (first ∷ nodes) (suc dn) node block row at has = by ((node_in first).rows block) refl (first_of nodes dn node block row at has)
   where
     by : (o : Option BlockRow) → (node_in first).rows block ≡ o → IsFirst nodes block → IsFirst (first ∷ nodes) block
@@ -150,10 +206,12 @@ module _ {D : Type 0} (see : D → Seen) (apart : (bytes : List ℕ) (node : Nod
   abbrev opening : Opening
   opening = opening_of unseated namespace made nodes
 
-  holds : (dn : ℕ) (node : Datanode D) (block : Block) (row : BlockRow) → slice_get nodes dn ≡ Some node → (node_in node).rows block ≡ Some row → was_held opening dn block ≡ true
+  holds : (dn : ℕ) (node : Datanode D) (block : Block) (row : BlockRow) → slice_get nodes dn ≡ Some node → (node_in node).rows block ≡ Some row
+      → was_held opening dn block ≡ true
   holds dn node block row at has =
       was_held_as block nodes dn
-      ∙ (ap (λ (o : Option (Datanode D)). option_map_or (λ (n : Datanode D). is_held (node_in n) block) o false) at ∙ ap (λ (o : Option BlockRow). is_some o) has)
+      ∙ (ap (λ (o : Option (Datanode D)). option_map_or (λ (n : Datanode D). is_held (node_in n) block) o false) at
+      ∙ ap (λ (o : Option BlockRow). is_some o) has)
 
   its_bytes : (dn : ℕ) (node : Datanode D) (block : Block) → slice_get nodes dn ≡ Some node → opening_bytes see nodes dn block ≡ bytes_on see node block
   its_bytes dn node block at = ap (option_and_then (λ (n : Datanode D). bytes_on see n block)) at
@@ -162,19 +220,22 @@ module _ {D : Type 0} (see : D → Seen) (apart : (bytes : List ℕ) (node : Nod
   some_of None none = absurd (false≢true none)
   some_of (Some content) some = (content, refl)
 
-  pub lengths_agree : (dn : ℕ) (node : Datanode D) (block : Block) (row : BlockRow) → slice_get nodes dn ≡ Some node → (node_in node).rows block ≡ Some row → length_of opening [] block ≡ Some row.length
+  pub lengths_agree : (dn : ℕ) (node : Datanode D) (block : Block) (row : BlockRow) → slice_get nodes dn ≡ Some node → (node_in node).rows block ≡ Some row
+      → length_of opening [] block ≡ Some row.length
   lengths_agree dn node block row at has =
       let first = first_of nodes dn node block row at has in
       let held = holds dn node block row at has in
       let also = holds first.dn first.node block first.row first.there first.has in
       let found = some_of (opening_bytes see nodes dn block) (agree.digests_match block dn held) in
-      let own = content_length see apart node block row found.0 (told_at see apart 0 disks nodes tell are dn node at) has (sym (its_bytes dn node block at) ∙ found.1) in
+      let own = content_length see apart node block row found.0 (told_at see apart 0 disks nodes tell are dn node at) has
+      (sym (its_bytes dn node block at) ∙ found.1) in
       let its = content_length see apart first.node block first.row found.0 (told_at see apart 0 disks nodes tell are first.dn first.node first.there) first.has
       (sym (its_bytes first.dn first.node block first.there) ∙ (agree.alike block first.dn dn also held ∙ found.1)) in
       let same : first.row.length ≡ row.length = sym its ∙ own in
       lengths_by_nodes nodes block ∙ (first.is ∙ ap (λ (n : ℕ). Some n) same)
 
-  pub lengths_of_bytes : (block : Block) (dn count : ℕ) (content : List ℕ) → opening_bytes see nodes dn block ≡ Some content → length_of opening [] block ≡ Some count → count ≡ length content
+  pub lengths_of_bytes : (block : Block) (dn count : ℕ) (content : List ℕ) → opening_bytes see nodes dn block ≡ Some content
+      → length_of opening [] block ≡ Some count → count ≡ length content
   lengths_of_bytes block dn count content gives is = by_node (slice_get nodes dn) refl gives
     where
       by_row : (node : Datanode D) → slice_get nodes dn ≡ Some node → (o : Option BlockRow) → (node_in node).rows block ≡ o
@@ -186,6 +247,7 @@ module _ {D : Type 0} (see : D → Seen) (apart : (bytes : List ℕ) (node : Nod
           let agreed = lengths_agree dn node block row at has in
           same_Some count row.length (sym is ∙ agreed) ∙ sym own
 
-      by_node : (o : Option (Datanode D)) → slice_get nodes dn ≡ o → option_and_then (λ (node : Datanode D). bytes_on see node block) o ≡ Some content → count ≡ length content
+      by_node : (o : Option (Datanode D)) → slice_get nodes dn ≡ o → option_and_then (λ (node : Datanode D). bytes_on see node block) o ≡ Some content
+          → count ≡ length content
       by_node None none e = absurd cc
       by_node (Some node) at e = by_row node at ((node_in node).rows block) refl e

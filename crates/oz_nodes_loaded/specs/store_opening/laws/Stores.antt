@@ -1,5 +1,32 @@
 -- What follows from loading, and what follows where the blocks agree.
-use Rattle.std.proofs.Common.{◌≡◌, ◌↔◌, ⊎_elim, inl, inr, ℕ, zero, suc, ◌<◌, true, false, List, [], ◌∷◌, length, map, Option, None, Some, IsSome, Any, Contains, refl, sym, ◌∙◌, arith}
+use Rattle.std.proofs.Common.{
+  ◌≡◌,
+  ◌↔◌,
+  ⊎_elim,
+  inl,
+  inr,
+  ℕ,
+  zero,
+  suc,
+  ◌<◌,
+  true,
+  false,
+  List,
+  [],
+  ◌∷◌,
+  length,
+  map,
+  Option,
+  None,
+  Some,
+  IsSome,
+  Any,
+  Contains,
+  refl,
+  sym,
+  ◌∙◌,
+  arith,
+}
 use Rattle.std.proofs.lemmas.Bool.{false≢true}
 use Rattle.std.specs.FinMap.{get}
 use Rattle.std.specs.List.{slice_get}
@@ -33,7 +60,8 @@ deleted_in_a_row : (all : Rows) (block : Block) → IsInADeletedRow all block �
 deleted_in_a_row all block is = (keys.Deleted is.volume is.bucket is.owner is.key is.local, is.has)
 
 -- whoever holds a block has its id
-holder_has : {D : Type 0} (nodes : List (Datanode D)) (dn : ℕ) (block : Block) → option_map_or (λ (node : Datanode D). is_held (node_in node) block) (slice_get nodes dn) false ≡ true
+holder_has : {D : Type 0} (nodes : List (Datanode D)) (dn : ℕ) (block : Block)
+    → option_map_or (λ (node : Datanode D). is_held (node_in node) block) (slice_get nodes dn) false ≡ true
     → Any (HoldsId block.local) (map node_in nodes)
 holder_has [] dn block is = absurd (false≢true is)
 holder_has (node ∷ nodes) zero block is = (zero, node_in node, omega arith, refl, (block, is, refl))
@@ -81,7 +109,8 @@ module _ {D : Type 0} (all : Rows) (unseated : UnseatedView) (greatest : IsGreat
     has_members : (block : Block) (dn : ℕ) → Contains (members opening [] block.container) dn → IsSome (get opening.containers block.container)
     has_members block dn among = by (get opening.containers block.container) among
       where
-        by : (o : Option Container) → Contains (option_map_or (λ (container : Container). members_of (length opening.nodes) container.pipeline) o []) dn → IsSome o
+        by : (o : Option Container) → Contains (option_map_or (λ (container : Container). members_of (length opening.nodes) container.pipeline) o []) dn
+            → IsSome o
         by None none = absurd (omega (arith, none.1))
         by (Some container) some = refl
 
@@ -105,5 +134,6 @@ module _ {D : Type 0} (all : Rows) (unseated : UnseatedView) (greatest : IsGreat
       fresh_in_keys = keys_fresh all unseated greatest (map node_in nodes) made.next_id below;
     }
 
-pub log_coherent : {D : Type 0} (unseated : UnseatedView) (namespace : Namespace) (made : Made) (nodes : List (Datanode D)) → LogIsCoherent (opening_of unseated namespace made nodes)
+pub log_coherent : {D : Type 0} (unseated : UnseatedView) (namespace : Namespace) (made : Made) (nodes : List (Datanode D))
+    → LogIsCoherent (opening_of unseated namespace made nodes)
 log_coherent unseated namespace made nodes = record { unreached = λ block logged is. false≢true logged; granted = λ block logged. absurd (false≢true logged) }

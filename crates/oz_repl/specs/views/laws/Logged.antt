@@ -190,7 +190,8 @@ not_passed p (y ∷ l) x there e = by (p y) refl (not_passed p l x) e
     by : (t : Bool) → p y ≡ t → (Contains l x → list_any (λ y. y == x) (filter p l) ≡ false → p x ≡ false)
         → list_any (λ y. y == x) (cond t (y ∷ filter p l) (filter p l)) ≡ false → p x ≡ false
     by true so rest e = ⊎_elim
-        (λ same. absurd (let found : list_any (λ y. y == x) (y ∷ filter p l) ≡ true = or_left (y == x) (list_any (λ y. y == x) (filter p l)) (eq-eqb y x same) in
+        (λ same. absurd (let found : list_any (λ y. y == x) (y ∷ filter p l)
+        ≡ true = or_left (y == x) (list_any (λ y. y == x) (filter p l)) (eq-eqb y x same) in
         let wrong : false ≡ true = sym e ∙ found in cc))
         (λ later. rest later (or_rest (y == x) (list_any (λ y. y == x) (filter p l)) e))
         (first_or_later y x l there)

@@ -26,7 +26,8 @@ journal_as_is disk = record {
   contents = if_all disk.told (λ bytes. 2 ≤ length bytes → disk.told ≡ Some bytes) (λ bytes is long. is);
   never_falls = omega arith;
   time = (same_spans IsLeftAlone disk).elapses;
-  moments = if_all disk.told (λ bytes. IsLoadable bytes (disk.image disk.clock) → Spans IsLeftAlone disk.clock disk.clock disk.image disk.image) (λ bytes is loadable. same_spans IsLeftAlone disk);
+  moments = if_all disk.told (λ bytes. IsLoadable bytes (disk.image disk.clock) → Spans IsLeftAlone disk.clock disk.clock disk.image disk.image)
+      (λ bytes is loadable. same_spans IsLeftAlone disk);
   loadable = if_all disk.told (λ bytes. IsLoadable bytes (disk.image disk.clock) → IsSomeAnd disk.told (λ left. IsLoadable left (disk.image disk.clock)))
       (λ bytes is loadable. subst (λ (o : Option (List ℕ)). IsSomeAnd o (λ left. IsLoadable left (disk.image disk.clock))) (sym is) loadable);
 }
@@ -36,7 +37,8 @@ scm_as_is given disk = record {
   telling = (λ none. none, λ none. none);
   never_falls = omega arith;
   time = (same_spans (StandsStill given) disk).elapses;
-  moments = if_all disk.told (λ bytes. IsLoadable bytes (disk.image disk.clock) → Spans (StandsStill given) disk.clock disk.clock disk.image disk.image) (λ bytes is loadable. same_spans (StandsStill given) disk);
+  moments = if_all disk.told (λ bytes. IsLoadable bytes (disk.image disk.clock) → Spans (StandsStill given) disk.clock disk.clock disk.image disk.image)
+      (λ bytes is loadable. same_spans (StandsStill given) disk);
 }
 
 slots_as_are : (disk : Seen) → LeavesSlots disk disk

@@ -1,5 +1,43 @@
 -- Bodies one after another: what they make, where they are damaged, and which ids they grant.
-use Rattle.std.proofs.Common.{◌≡◌, ◌⊎◌, inl, inr, ℕ, zero, suc, ◌+◌, ◌-◌, ◌<◌, ◌≤◌, ◌^◌, Bool, true, false, cond, List, [], ◌∷◌, ◌++◌, length, take, drop, get_or, slice_get, Option, None, Some, Result, Ok, Err, refl, sym, ap, subst, ◌∙◌, arith}
+use Rattle.std.proofs.Common.{
+  ◌≡◌,
+  ◌⊎◌,
+  inl,
+  inr,
+  ℕ,
+  zero,
+  suc,
+  ◌+◌,
+  ◌-◌,
+  ◌<◌,
+  ◌≤◌,
+  ◌^◌,
+  Bool,
+  true,
+  false,
+  cond,
+  List,
+  [],
+  ◌∷◌,
+  ◌++◌,
+  length,
+  take,
+  drop,
+  get_or,
+  slice_get,
+  Option,
+  None,
+  Some,
+  Result,
+  Ok,
+  Err,
+  refl,
+  sym,
+  ap,
+  subst,
+  ◌∙◌,
+  arith,
+}
 use Rattle.std.proofs.lemmas.Bool.{and_parts, eqb-true, leb-true, ltb-true}
 use Rattle.std.proofs.Common.{eqb}
 use Rattle.oz_fields.specs.Field.{IsField}
@@ -13,10 +51,25 @@ use Rattle.oz_scm.specs.declared.grants.entry.Grant.{Grant}
 use Rattle.oz_scm.specs.grants.Build.{Fault, whole, body_at, behind_one, followed_by, made_from, Makes, FailsAt}
 use Rattle.oz_scm.specs.grants.Entries.{entry_bytes, grant_bytes}
 use Rattle.oz_scm.specs.grants.Fresh.{AreFresh, said_by, said_from, grants_in}
-use Rattle.oz_scm.specs.grants.Made.{Made, begun, container_at, is_node_count, is_stripe, is_old_or_next, is_on, is_next_id, is_whole, MayGrant, MayFollow, after_grant, after_entry}
+use Rattle.oz_scm.specs.grants.Made.{
+  Made,
+  begun,
+  container_at,
+  is_node_count,
+  is_stripe,
+  is_old_or_next,
+  is_on,
+  is_next_id,
+  is_whole,
+  MayGrant,
+  MayFollow,
+  after_grant,
+  after_entry,
+}
 use Rattle.oz_scm.specs.grants.Reading.{goes_on, done, kept, field, nodes_at, ids_at, granted_at, unserved, entry_at}
 
-went_on : {A B : Type 0} (read : Result (A × List ℕ) ℕ) (next : A → List ℕ → Result (B × List ℕ) ℕ) (found : B × List ℕ) → goes_on read next ≡ Ok found → (x : A × List ℕ) × (read ≡ Ok x) × (next x.0 x.1 ≡ Ok found)
+went_on : {A B : Type 0} (read : Result (A × List ℕ) ℕ) (next : A → List ℕ → Result (B × List ℕ) ℕ) (found : B × List ℕ) → goes_on read next ≡ Ok found
+    → (x : A × List ℕ) × (read ≡ Ok x) × (next x.0 x.1 ≡ Ok found)
 went_on (Ok x) next found e = (x, refl, e)
 went_on (Err left) next found e = absurd (cc e)
 
@@ -55,7 +108,8 @@ granted_follow None left bytes rest entry e = absurd (cc e)
 granted_follow (Some made) left bytes rest entry e =
     let a = went_on (field u8_at is_stripe bytes) _ (entry, rest) e in
     let b = went_on (ids_at made a.0.1) _ (entry, rest) a.2 in
-    subst (MayFollow (Some made)) (first_of (Granted a.0.0 b.0.0) entry b.0.1 rest b.2) (kept_ok is_stripe (length bytes) (u8_at bytes) a.0 a.1, ids_follow made a.0.1 b.0.1 b.0.0 b.1)
+    subst (MayFollow (Some made)) (first_of (Granted a.0.0 b.0.0) entry b.0.1 rest b.2)
+    (kept_ok is_stripe (length bytes) (u8_at bytes) a.0 a.1, ids_follow made a.0.1 b.0.1 b.0.0 b.1)
 
 nodes_follow : (found : Option Made) (left : ℕ) (bytes rest : List ℕ) (entry : Entry) → nodes_at found left bytes ≡ Ok (entry, rest) → MayFollow found entry
 unfolding nodes_at
@@ -64,14 +118,16 @@ nodes_follow None left bytes rest entry e =
     let a = went_on (field u8_at is_node_count bytes) _ (entry, rest) e in
     subst (MayFollow None) (first_of (Nodes a.0.0) entry a.0.1 rest a.2) (kept_ok is_node_count (length bytes) (u8_at bytes) a.0 a.1)
 
-either : (b : Bool) (one other : List ℕ → Result (Entry × List ℕ) ℕ) (bytes : List ℕ) (x : Entry × List ℕ) → cond b one other bytes ≡ Ok x → (one bytes ≡ Ok x) ⊎ (other bytes ≡ Ok x)
+either : (b : Bool) (one other : List ℕ → Result (Entry × List ℕ) ℕ) (bytes : List ℕ) (x : Entry × List ℕ) → cond b one other bytes ≡ Ok x
+    → (one bytes ≡ Ok x) ⊎ (other bytes ≡ Ok x)
 either true one other bytes x e = inl e
 either false one other bytes x e = inr e
 
 no_entry : (left : ℕ) (bytes : List ℕ) (x : Entry × List ℕ) → unserved left bytes ≡ Ok x → ⊥
 no_entry left bytes x e = absurd (cc e)
 
-rest_unserved : (b3 b4 b5 b6 : Bool) (left : ℕ) (bytes : List ℕ) (x : Entry × List ℕ) → cond b3 (unserved left) (cond b4 (unserved left) (cond b5 (unserved left) (cond b6 (unserved left) (λ (bytes : List ℕ). Err left)))) bytes ≡ Ok x → ⊥
+rest_unserved : (b3 b4 b5 b6 : Bool) (left : ℕ) (bytes : List ℕ) (x : Entry × List ℕ)
+    → cond b3 (unserved left) (cond b4 (unserved left) (cond b5 (unserved left) (cond b6 (unserved left) (λ (bytes : List ℕ). Err left)))) bytes ≡ Ok x → ⊥
 rest_unserved true b4 b5 b6 left bytes x e = no_entry left bytes x e
 rest_unserved false true b5 b6 left bytes x e = no_entry left bytes x e
 rest_unserved false false true b6 left bytes x e = no_entry left bytes x e
@@ -79,16 +135,19 @@ rest_unserved false false false true left bytes x e = no_entry left bytes x e
 rest_unserved false false false false left bytes x e = no_entry left bytes x e
 
 abbrev rest_at : ℕ → ℕ → List ℕ → Result (Entry × List ℕ) ℕ
-rest_at left tag = cond (eqb tag 3) (unserved left) (cond (eqb tag 4) (unserved left) (cond (eqb tag 5) (unserved left) (cond (eqb tag 6) (unserved left) (λ (bytes : List ℕ). Err left))))
+rest_at left tag = cond (eqb tag 3) (unserved left)
+    (cond (eqb tag 4) (unserved left) (cond (eqb tag 5) (unserved left) (cond (eqb tag 6) (unserved left) (λ (bytes : List ℕ). Err left))))
 
-tag_follows : (found : Option Made) (left tag : ℕ) (bytes rest : List ℕ) (entry : Entry) → cond (eqb tag 1) (nodes_at found left) (cond (eqb tag 2) (granted_at found left) (rest_at left tag)) bytes ≡ Ok (entry, rest) → MayFollow found entry
-tag_follows found left tag bytes rest entry e = elim (either (eqb tag 1) (nodes_at found left) (cond (eqb tag 2) (granted_at found left) (rest_at left tag)) bytes (entry, rest) e) [
-  | inl nodes ↦ nodes_follow found left bytes rest entry nodes
-  | inr others ↦ elim (either (eqb tag 2) (granted_at found left) (rest_at left tag) bytes (entry, rest) others) [
-    | inl granted ↦ granted_follow found left bytes rest entry granted
-    | inr none ↦ absurd (rest_unserved (eqb tag 3) (eqb tag 4) (eqb tag 5) (eqb tag 6) left bytes (entry, rest) none)
-  ]
-]
+tag_follows : (found : Option Made) (left tag : ℕ) (bytes rest : List ℕ) (entry : Entry)
+    → cond (eqb tag 1) (nodes_at found left) (cond (eqb tag 2) (granted_at found left) (rest_at left tag)) bytes ≡ Ok (entry, rest) → MayFollow found entry
+tag_follows found left tag bytes rest entry e =
+    elim (either (eqb tag 1) (nodes_at found left) (cond (eqb tag 2) (granted_at found left) (rest_at left tag)) bytes (entry, rest) e) [
+      | inl nodes ↦ nodes_follow found left bytes rest entry nodes
+      | inr others ↦ elim (either (eqb tag 2) (granted_at found left) (rest_at left tag) bytes (entry, rest) others) [
+        | inl granted ↦ granted_follow found left bytes rest entry granted
+        | inr none ↦ absurd (rest_unserved (eqb tag 3) (eqb tag 4) (eqb tag 5) (eqb tag 6) left bytes (entry, rest) none)
+      ]
+    ]
 
 entry_follows : (found : Option Made) (bytes rest : List ℕ) (entry : Entry) → entry_at found bytes ≡ Ok (entry, rest) → MayFollow found entry
 unfolding entry_at
@@ -106,11 +165,14 @@ body_follows found bytes entry e = entry_follows found bytes [] entry (whole_ok 
 
 -- ---- what may follow is read back
 
-field_back : (bound : ℕ) (spelling : ℕ → List ℕ) (read : List ℕ → Option (ℕ × List ℕ)) (rule : ℕ → Bool) (n : ℕ) (rest : List ℕ) → IsField (λ n. n < bound) spelling read → n < bound → rule n ≡ true → field read rule (spelling n ++ rest) ≡ Ok (n, rest)
+field_back : (bound : ℕ) (spelling : ℕ → List ℕ) (read : List ℕ → Option (ℕ × List ℕ)) (rule : ℕ → Bool) (n : ℕ) (rest : List ℕ)
+    → IsField (λ n. n < bound) spelling read → n < bound → rule n ≡ true → field read rule (spelling n ++ rest) ≡ Ok (n, rest)
 field_back bound spelling read rule n rest is fits keeps =
-    ap (kept rule (length (spelling n ++ rest))) (is.reads_back n rest fits) ∙ ap (λ (b : Bool). cond b (Ok (n, rest)) (Err (length (spelling n ++ rest)))) keeps
+    ap (kept rule (length (spelling n ++ rest))) (is.reads_back n rest fits)
+    ∙ ap (λ (b : Bool). cond b (Ok (n, rest)) (Err (length (spelling n ++ rest)))) keeps
 
-ids_back : (made : Made) (grant : Grant) (rest : List ℕ) → grant.container < 2 ^ 64 → grant.pipeline < 2 ^ 8 → MayGrant made grant → ids_at made (u64_bytes grant.container ++ (u8_bytes grant.pipeline ++ (u64_bytes grant.first ++ (u32_bytes grant.count ++ rest)))) ≡ Ok (grant, rest)
+ids_back : (made : Made) (grant : Grant) (rest : List ℕ) → grant.container < 2 ^ 64 → grant.pipeline < 2 ^ 8 → MayGrant made grant
+    → ids_at made (u64_bytes grant.container ++ (u8_bytes grant.pipeline ++ (u64_bytes grant.first ++ (u32_bytes grant.count ++ rest)))) ≡ Ok (grant, rest)
 unfolding ids_at
 ids_back made grant rest one two may =
     let most : grant.first + 64 ≤ 4611686018427387904 = leb-true _ _ (and_parts _ _ may.first_is).1 in
@@ -119,16 +181,28 @@ ids_back made grant rest one two may =
     let behind_count = u32_bytes grant.count ++ rest in
     let behind_first = u64_bytes grant.first ++ behind_count in
     let behind_pipeline = u8_bytes grant.pipeline ++ behind_first in
-    ap (λ (read : Result (ℕ × List ℕ) ℕ). goes_on read (λ (container : ℕ) (bytes : List ℕ). goes_on (field u8_at (is_on made.nodes (container_at made.containers container)) bytes) (λ (pipeline : ℕ) (bytes : List ℕ). goes_on (field u64_at (is_next_id made.next_id) bytes) (λ (first : ℕ) (bytes : List ℕ). goes_on (field u32_at is_whole bytes) (λ (count : ℕ). done (record { container = container; pipeline = pipeline; first = first; count = count }))))))
+    ap (λ (read : Result (ℕ × List ℕ) ℕ). goes_on read
+    (λ (container : ℕ) (bytes : List ℕ). goes_on (field u8_at (is_on made.nodes (container_at made.containers container)) bytes)
+    (λ (pipeline : ℕ) (bytes : List ℕ). goes_on (field u64_at (is_next_id made.next_id) bytes)
+    (λ (first : ℕ) (bytes : List ℕ). goes_on (field u32_at is_whole bytes)
+    (λ (count : ℕ). done (record { container = container; pipeline = pipeline; first = first; count = count }))))))
     (field_back (2 ^ 64) u64_bytes u64_at (is_old_or_next made.containers) grant.container behind_pipeline u64_field one may.container_is)
-    ∙ (ap (λ (read : Result (ℕ × List ℕ) ℕ). goes_on read (λ (pipeline : ℕ) (bytes : List ℕ). goes_on (field u64_at (is_next_id made.next_id) bytes) (λ (first : ℕ) (bytes : List ℕ). goes_on (field u32_at is_whole bytes) (λ (count : ℕ). done (record { container = grant.container; pipeline = pipeline; first = first; count = count })))))
-    (field_back (2 ^ 8) u8_bytes u8_at (is_on made.nodes (container_at made.containers grant.container)) grant.pipeline behind_first u8_field two may.pipeline_is)
-    ∙ (ap (λ (read : Result (ℕ × List ℕ) ℕ). goes_on read (λ (first : ℕ) (bytes : List ℕ). goes_on (field u32_at is_whole bytes) (λ (count : ℕ). done (record { container = grant.container; pipeline = grant.pipeline; first = first; count = count }))))
+    ∙ (ap (λ (read : Result (ℕ × List ℕ) ℕ). goes_on read
+    (λ (pipeline : ℕ) (bytes : List ℕ). goes_on (field u64_at (is_next_id made.next_id) bytes)
+    (λ (first : ℕ) (bytes : List ℕ). goes_on (field u32_at is_whole bytes)
+    (λ (count : ℕ). done (record { container = grant.container; pipeline = pipeline; first = first; count = count })))))
+    (field_back (2 ^ 8) u8_bytes u8_at (is_on made.nodes
+    (container_at made.containers grant.container)) grant.pipeline behind_first u8_field two may.pipeline_is)
+    ∙ (ap (λ (read : Result (ℕ × List ℕ) ℕ). goes_on read
+    (λ (first : ℕ) (bytes : List ℕ). goes_on (field u32_at is_whole bytes)
+    (λ (count : ℕ). done (record { container = grant.container; pipeline = grant.pipeline; first = first; count = count }))))
     (field_back (2 ^ 64) u64_bytes u64_at (is_next_id made.next_id) grant.first behind_count u64_field first_fits may.first_is)
-    ∙ ap (λ (read : Result (ℕ × List ℕ) ℕ). goes_on read (λ (count : ℕ). done (record { container = grant.container; pipeline = grant.pipeline; first = grant.first; count = count })))
+    ∙ ap (λ (read : Result (ℕ × List ℕ) ℕ). goes_on read
+    (λ (count : ℕ). done (record { container = grant.container; pipeline = grant.pipeline; first = grant.first; count = count })))
     (field_back (2 ^ 32) u32_bytes u32_at is_whole grant.count rest u32_field (omega (arith, count_is)) may.count_is)))
 
-grant_rest : (grant : Grant) → grant_bytes grant ≡ u64_bytes grant.container ++ (u8_bytes grant.pipeline ++ (u64_bytes grant.first ++ (u32_bytes grant.count ++ [])))
+grant_rest : (grant : Grant)
+    → grant_bytes grant ≡ u64_bytes grant.container ++ (u8_bytes grant.pipeline ++ (u64_bytes grant.first ++ (u32_bytes grant.count ++ [])))
 unfolding u64_bytes u32_bytes
 grant_rest grant = refl
 
@@ -138,13 +212,16 @@ stripe_fits stripe of_stripe =
     omega (arith, below)
 
 -- a grant that may follow is read from its bytes
-pub grant_back : (made : Made) (stripe : ℕ) (grant : Grant) → grant.container < 2 ^ 64 → grant.pipeline < 2 ^ 8 → is_stripe stripe ≡ true → MayGrant made grant → body_at (Some made) (entry_bytes (Granted stripe grant)) ≡ Ok (Granted stripe grant)
+pub grant_back : (made : Made) (stripe : ℕ) (grant : Grant) → grant.container < 2 ^ 64 → grant.pipeline < 2 ^ 8 → is_stripe stripe ≡ true
+    → MayGrant made grant → body_at (Some made) (entry_bytes (Granted stripe grant)) ≡ Ok (Granted stripe grant)
 unfolding entry_at granted_at
 grant_back made stripe grant one two of_stripe may =
     ap (whole (length (entry_bytes (Granted stripe grant)))) (
-    ap (λ (read : Result (ℕ × List ℕ) ℕ). goes_on read (λ (stripe : ℕ) (bytes : List ℕ). goes_on (ids_at made bytes) (λ (grant : Grant). done (Granted stripe grant))))
+    ap (λ (read : Result (ℕ × List ℕ) ℕ). goes_on read
+    (λ (stripe : ℕ) (bytes : List ℕ). goes_on (ids_at made bytes) (λ (grant : Grant). done (Granted stripe grant))))
     (field_back (2 ^ 8) u8_bytes u8_at is_stripe stripe (grant_bytes grant) u8_field (stripe_fits stripe of_stripe) of_stripe)
-    ∙ ap (λ (read : Result (Grant × List ℕ) ℕ). goes_on read (λ (grant : Grant). done (Granted stripe grant))) (ap (ids_at made) (grant_rest grant) ∙ ids_back made grant [] one two may))
+    ∙ ap (λ (read : Result (Grant × List ℕ) ℕ). goes_on read (λ (grant : Grant). done (Granted stripe grant)))
+    (ap (ids_at made) (grant_rest grant) ∙ ids_back made grant [] one two may))
 
 -- so is the first entry
 pub nodes_back : (count : ℕ) → count < 2 ^ 8 → is_node_count count ≡ true → body_at None (entry_bytes (Nodes count)) ≡ Ok (Nodes count)
@@ -156,7 +233,8 @@ nodes_back count fits many =
 
 -- ---- bodies one after another
 
-followed_ok : (read : Result Entry ℕ) (next : Entry → Result (Option Made) Fault) (x : Option Made) → followed_by read next ≡ Ok x → (entry : Entry) × (read ≡ Ok entry) × (next entry ≡ Ok x)
+followed_ok : (read : Result Entry ℕ) (next : Entry → Result (Option Made) Fault) (x : Option Made) → followed_by read next ≡ Ok x → (entry : Entry)
+    × (read ≡ Ok entry) × (next entry ≡ Ok x)
 followed_ok (Err at) next x e = absurd (cc e)
 followed_ok (Ok entry) next x e = (entry, refl, unbehind (next entry) x e)
   where
@@ -165,7 +243,8 @@ followed_ok (Ok entry) next x e = (entry, refl, unbehind (next entry) x e)
     unbehind (Err fault) x e = absurd (cc e)
 
 -- one body more
-pub makes_push : (found : Option Made) (bodies : List (List ℕ)) (between : Option Made) (bytes : List ℕ) (entry : Entry) → made_from found bodies ≡ Ok between → body_at between bytes ≡ Ok entry → made_from found (bodies ++ bytes ∷ []) ≡ Ok (after_entry entry between)
+pub makes_push : (found : Option Made) (bodies : List (List ℕ)) (between : Option Made) (bytes : List ℕ) (entry : Entry)
+    → made_from found bodies ≡ Ok between → body_at between bytes ≡ Ok entry → made_from found (bodies ++ bytes ∷ []) ≡ Ok (after_entry entry between)
 unfolding made_from
 makes_push found [] between bytes entry makes reads =
     let same : found ≡ between = cc makes in
@@ -177,7 +256,9 @@ makes_push found (first ∷ bodies) between bytes entry makes reads =
     ∙ ap behind_one (makes_push (after_entry one.0 found) bodies between bytes entry one.2 reads)
 
 -- behind so many good bodies stands one that is damaged
-fails_push : (found : Option Made) (bodies : List (List ℕ)) (between : Option Made) (bytes : List ℕ) (later : List (List ℕ)) (at : ℕ) → made_from found bodies ≡ Ok between → body_at between bytes ≡ Err at → made_from found (bodies ++ bytes ∷ later) ≡ Err (record { body = length bodies; at = at })
+fails_push : (found : Option Made) (bodies : List (List ℕ)) (between : Option Made) (bytes : List ℕ) (later : List (List ℕ)) (at : ℕ)
+    → made_from found bodies ≡ Ok between → body_at between bytes ≡ Err at
+    → made_from found (bodies ++ bytes ∷ later) ≡ Err (record { body = length bodies; at = at })
 unfolding made_from
 fails_push found [] between bytes later at makes reads =
     let same : found ≡ between = cc makes in
@@ -192,12 +273,14 @@ pub none_made : Makes [] None
 unfolding made_from
 none_made = refl
 
-bodies_more : (bodies : List Body) (k : ℕ) (body : Body) → k < length bodies → body ≡ get_or bodies k body → bodies_in (take (suc k) bodies) ≡ bodies_in (take k bodies) ++ body.bytes ∷ []
+bodies_more : (bodies : List Body) (k : ℕ) (body : Body) → k < length bodies → body ≡ get_or bodies k body
+    → bodies_in (take (suc k) bodies) ≡ bodies_in (take k bodies) ++ body.bytes ∷ []
 bodies_more [] k body lt it = absurd (omega (arith, lt))
 bodies_more (first ∷ bodies) zero body lt it = ap (λ (body : Body). body.bytes ∷ []) (sym it)
 bodies_more (first ∷ bodies) (suc k) body lt it = ap (λ (texts : List (List ℕ)). first.bytes ∷ texts) (bodies_more bodies k body (omega (arith, lt)) it)
 
-pub one_more_made : (bodies : List Body) (k : ℕ) (body : Body) (before after : Option Made) (entry : Entry) → k < length bodies → body ≡ get_or bodies k body → Makes (bodies_in (take k bodies)) before → body_at before body.bytes ≡ Ok entry → after ≡ after_entry entry before
+pub one_more_made : (bodies : List Body) (k : ℕ) (body : Body) (before after : Option Made) (entry : Entry) → k < length bodies
+    → body ≡ get_or bodies k body → Makes (bodies_in (take k bodies)) before → body_at before body.bytes ≡ Ok entry → after ≡ after_entry entry before
     → Makes (bodies_in (take (suc k) bodies)) after
 one_more_made bodies k body before after entry lt it so_far reads is =
     subst (λ (texts : List (List ℕ)). Makes texts after) (sym (bodies_more bodies k body lt it))
@@ -218,7 +301,8 @@ parts_at [] k d lt = absurd (omega (arith, lt))
 parts_at (first ∷ bodies) zero d lt = refl
 parts_at (first ∷ bodies) (suc k) d lt = ap (λ (l : List Body). first ∷ l) (parts_at bodies k d (omega (arith, lt)))
 
-pub fails_here : (bodies : List Body) (k : ℕ) (body : Body) (before : Option Made) (at : ℕ) → k < length bodies → body ≡ get_or bodies k body → Makes (bodies_in (take k bodies)) before → body_at before body.bytes ≡ Err at → FailsAt (bodies_in bodies) k at
+pub fails_here : (bodies : List Body) (k : ℕ) (body : Body) (before : Option Made) (at : ℕ) → k < length bodies → body ≡ get_or bodies k body
+    → Makes (bodies_in (take k bodies)) before → body_at before body.bytes ≡ Err at → FailsAt (bodies_in bodies) k at
 fails_here bodies k body before at lt it so_far reads =
     let parts = parts_at bodies k body lt ∙ ap (λ (other : Body). take k bodies ++ other ∷ drop (suc k) bodies) (sym it) in
     subst (λ (texts : List (List ℕ)). FailsAt texts k at) (sym (ap bodies_in parts ∙ bodies_split (take k bodies) body (drop (suc k) bodies)))
@@ -232,48 +316,63 @@ whole_err size (Ok (one, [])) at e = absurd (cc e)
 whole_err size (Ok (one, byte ∷ rest)) at e = let is : size - suc (length rest) ≡ at = cc e in omega (arith, is)
 
 followed_err : (read : Result Entry ℕ) (next : Entry → Result (Option Made) Fault) (fault : Fault) → followed_by read next ≡ Err fault
-    → ((read ≡ Err fault.at) × (fault.body ≡ 0)) ⊎ ((entry : Entry) × (read ≡ Ok entry) × ((before : Fault) × (next entry ≡ Err before) × (fault ≡ record { body = suc before.body; at = before.at })))
+    → ((read ≡ Err fault.at) × (fault.body ≡ 0))
+    ⊎ ((entry : Entry) × (read ≡ Ok entry) × ((before : Fault) × (next entry ≡ Err before)
+    × (fault ≡ record { body = suc before.body; at = before.at })))
 followed_err (Err at) next fault e =
     let is : ◌≡◌ {A = Fault} (record { body = 0; at = at }) fault = cc e in
     inl (ap (λ (f : Fault). Err f.at) is, ap (λ (f : Fault). f.body) (sym is))
 followed_err (Ok entry) next fault e = inr (entry, refl, unbehind (next entry) fault e)
   where
-    unbehind : (made : Result (Option Made) Fault) (fault : Fault) → behind_one made ≡ Err fault → (before : Fault) × (made ≡ Err before) × (fault ≡ record { body = suc before.body; at = before.at })
+    unbehind : (made : Result (Option Made) Fault) (fault : Fault) → behind_one made ≡ Err fault → (before : Fault) × (made ≡ Err before)
+        × (fault ≡ record { body = suc before.body; at = before.at })
     unbehind (Ok y) fault e = absurd (cc e)
     unbehind (Err before) fault e = (before, refl, cc (sym e))
 
-pub fault_within : (bodies : List (List ℕ)) (found : Option Made) (fault : Fault) → made_from found bodies ≡ Err fault → (body : List ℕ) × (slice_get bodies fault.body ≡ Some body) × (fault.at ≤ length body)
+pub fault_within : (bodies : List (List ℕ)) (found : Option Made) (fault : Fault) → made_from found bodies ≡ Err fault → (body : List ℕ)
+    × (slice_get bodies fault.body ≡ Some body) × (fault.at ≤ length body)
 unfolding made_from
 fault_within [] found fault e = absurd (cc e)
 fault_within (bytes ∷ bodies) found fault e = elim (followed_err (body_at found bytes) _ fault e) [
-  | inl here ↦ (bytes, subst (λ (n : ℕ). slice_get (bytes ∷ bodies) n ≡ Some bytes) (sym here.1) refl, whole_err (length bytes) (entry_at found bytes) fault.at here.0)
+  | inl here ↦ (
+    bytes,
+    subst (λ (n : ℕ). slice_get (bytes ∷ bodies) n ≡ Some bytes) (sym here.1) refl,
+    whole_err (length bytes) (entry_at found bytes) fault.at here.0,
+  )
   | inr there ↦
       let before = there.2.0 in
       let is = there.2.2 in
-      let rest = fault_within bodies (after_entry there.0 found) before there.2.1 in
-      (rest.0, subst (λ (f : Fault). slice_get (bytes ∷ bodies) f.body ≡ Some rest.0) (sym is) rest.1, subst (λ (f : Fault). f.at ≤ length rest.0) (sym is) rest.2)
+      let rest = fault_within bodies (after_entry there.0 found) before there.2.1 in (
+        rest.0,
+        subst (λ (f : Fault). slice_get (bytes ∷ bodies) f.body ≡ Some rest.0) (sym is) rest.1,
+        subst (λ (f : Fault). f.at ≤ length rest.0) (sym is) rest.2,
+      )
 ]
 
 -- ---- no id is granted twice
 
 -- an entry behind what is made, where what stands behind it is fresh
-entry_fresh : (entry : Entry) (bodies : List (List ℕ)) (made later : Made) → MayFollow (Some made) entry → ((between : Made) → after_entry entry (Some made) ≡ Some between → AreFresh between.next_id (said_from (Some between) bodies) later.next_id)
+entry_fresh : (entry : Entry) (bodies : List (List ℕ)) (made later : Made) → MayFollow (Some made) entry
+    → ((between : Made) → after_entry entry (Some made) ≡ Some between → AreFresh between.next_id (said_from (Some between) bodies) later.next_id)
     → AreFresh made.next_id (said_by (Ok entry) (λ (entry : Entry). said_from (after_entry entry (Some made)) bodies)) later.next_id
 entry_fresh (Nodes count) bodies made later follows rest = absurd follows
 entry_fresh (Granted stripe grant) bodies made later follows rest =
     let first : grant.first ≡ made.next_id = eqb-true _ _ (and_parts _ _ follows.1.first_is).0 in
     (omega (arith, first), rest (after_grant grant made) refl)
 
-fresh_from : (bodies : List (List ℕ)) (made later : Made) → made_from (Some made) bodies ≡ Ok (Some later) → AreFresh made.next_id (said_from (Some made) bodies) later.next_id
+fresh_from : (bodies : List (List ℕ)) (made later : Made) → made_from (Some made) bodies ≡ Ok (Some later)
+    → AreFresh made.next_id (said_from (Some made) bodies) later.next_id
 unfolding made_from said_from
 fresh_from [] made later e = let same : made ≡ later = cc e in omega (arith, ap (λ (m : Made). m.next_id) same)
 fresh_from (bytes ∷ bodies) made later e =
     let one = followed_ok (body_at (Some made) bytes) _ (Some later) e in
-    subst (λ (read : Result Entry ℕ). AreFresh made.next_id (said_by read (λ (entry : Entry). said_from (after_entry entry (Some made)) bodies)) later.next_id) (sym one.1)
+    subst (λ (read : Result Entry ℕ). AreFresh made.next_id
+    (said_by read (λ (entry : Entry). said_from (after_entry entry (Some made)) bodies)) later.next_id) (sym one.1)
     (entry_fresh one.0 bodies made later (body_follows (Some made) bytes one.0 one.1)
     (λ between is. fresh_from bodies between later (subst (λ (f : Option Made). made_from f bodies ≡ Ok (Some later)) is one.2)))
 
-first_fresh : (entry : Entry) (bodies : List (List ℕ)) (made : Made) → MayFollow None entry → ((between : Made) → after_entry entry None ≡ Some between → AreFresh between.next_id (said_from (Some between) bodies) made.next_id)
+first_fresh : (entry : Entry) (bodies : List (List ℕ)) (made : Made) → MayFollow None entry
+    → ((between : Made) → after_entry entry None ≡ Some between → AreFresh between.next_id (said_from (Some between) bodies) made.next_id)
     → AreFresh 1 (said_by (Ok entry) (λ (entry : Entry). said_from (after_entry entry None) bodies)) made.next_id
 first_fresh (Nodes count) bodies made follows rest = rest (begun count) refl
 first_fresh (Granted stripe grant) bodies made follows rest = absurd follows
@@ -293,7 +392,8 @@ pub one_thing : (bodies : List (List ℕ)) (found other : Option Made) → Makes
 one_thing bodies found other one two = let both : ◌≡◌ {A = Result (Option Made) Fault} (Ok found) (Ok other) = sym one ∙ two in cc both
 
 pub not_both : (bodies : List (List ℕ)) (found : Option Made) (body at : ℕ) → Makes bodies found → FailsAt bodies body at → ⊥
-not_both bodies found body at makes fails = let both : ◌≡◌ {A = Result (Option Made) Fault} (Ok found) (Err (record { body = body; at = at })) = sym makes ∙ fails in absurd (cc both)
+not_both bodies found body at makes fails = let both : ◌≡◌ {A = Result (Option Made) Fault} (Ok found) (Err (record { body = body; at = at })) = sym makes
+    ∙ fails in absurd (cc both)
 
 pub one_fault : (bodies : List (List ℕ)) (body at other place : ℕ) → FailsAt bodies body at → FailsAt bodies other place → (body ≡ other) × (at ≡ place)
 one_fault bodies body at other place one two =
@@ -310,9 +410,12 @@ first_made count many =
     let fits : count < 2 ^ 8 = omega (arith, most) in
     makes_push None [] None (entry_bytes (Nodes count)) (Nodes count) none_made (nodes_back count fits many)
 
-pub grant_made : (bodies : List (List ℕ)) (made : Made) (stripe : ℕ) (grant : Grant) → Makes bodies (Some made) → is_stripe stripe ≡ true → MayGrant made grant → grant.container < 2 ^ 64 → grant.pipeline < 2 ^ 8
+pub grant_made : (bodies : List (List ℕ)) (made : Made) (stripe : ℕ) (grant : Grant) → Makes bodies (Some made) → is_stripe stripe ≡ true
+    → MayGrant made grant → grant.container < 2 ^ 64 → grant.pipeline < 2 ^ 8
     → Makes (bodies ++ entry_bytes (Granted stripe grant) ∷ []) (Some (after_grant grant made))
-grant_made bodies made stripe grant makes of_stripe may one two = makes_push None bodies (Some made) (entry_bytes (Granted stripe grant)) (Granted stripe grant) makes (grant_back made stripe grant one two of_stripe may)
+grant_made bodies made stripe grant makes of_stripe may one two =
+    makes_push None bodies (Some made) (entry_bytes (Granted stripe grant)) (Granted stripe grant) makes
+    (grant_back made stripe grant one two of_stripe may)
 
 -- ---- what was made stays
 
@@ -321,7 +424,8 @@ unfolding made_from
 still_made [] made e = absurd (cc e)
 still_made (bytes ∷ bodies) made e =
     let one = followed_ok (body_at (Some made) bytes) (λ (entry : Entry). made_from (after_entry entry (Some made)) bodies) None e in
-    of_entry one.0 (λ between is. still_made bodies between (subst (λ (f : Option Made). made_from f bodies ≡ Ok None) is one.2)) (body_follows (Some made) bytes one.0 one.1)
+    of_entry one.0 (λ between is. still_made bodies between (subst (λ (f : Option Made). made_from f bodies ≡ Ok None) is one.2))
+    (body_follows (Some made) bytes one.0 one.1)
   where
     of_entry : (entry : Entry) → ((between : Made) → after_entry entry (Some made) ≡ Some between → ⊥) → MayFollow (Some made) entry → ⊥
     of_entry (Nodes count) rest follows = follows
@@ -333,7 +437,8 @@ unfolding made_from
 none_makes [] e = refl
 none_makes (bytes ∷ bodies) e =
     let one = followed_ok (body_at None bytes) (λ (entry : Entry). made_from (after_entry entry None) bodies) None e in
-    absurd (of_entry one.0 (λ between is. still_made bodies between (subst (λ (f : Option Made). made_from f bodies ≡ Ok None) is one.2)) (body_follows None bytes one.0 one.1))
+    absurd (of_entry one.0 (λ between is. still_made bodies between (subst (λ (f : Option Made). made_from f bodies ≡ Ok None) is one.2))
+    (body_follows None bytes one.0 one.1))
   where
     of_entry : (entry : Entry) → ((between : Made) → after_entry entry None ≡ Some between → ⊥) → MayFollow None entry → ⊥
     of_entry (Nodes count) rest follows = rest (begun count) refl

@@ -1,5 +1,30 @@
 -- Rows that changed in one bucket are sound where that bucket's rows are, alone.
-use Rattle.std.proofs.Common.{◌≡◌, ◌≢◌, ◌≤◌, ℕ, Bool, true, false, ◌&&◌, List, Option, None, Some, IsSome, is_some, cond, refl, sym, ◌∙◌, ap, subst, arith, inl, inr, ◌⊎◌}
+use Rattle.std.proofs.Common.{
+  ◌≡◌,
+  ◌≢◌,
+  ◌≤◌,
+  ℕ,
+  Bool,
+  true,
+  false,
+  ◌&&◌,
+  List,
+  Option,
+  None,
+  Some,
+  IsSome,
+  is_some,
+  cond,
+  refl,
+  sym,
+  ◌∙◌,
+  ap,
+  subst,
+  arith,
+  inl,
+  inr,
+  ◌⊎◌,
+}
 use mathlib.Core.Bool.{false≢true}
 use Rattle.std.proofs.lemmas.Option.{same_Some}
 use Rattle.oz_fields.specs.declared.block.Block.{Block}
@@ -8,7 +33,22 @@ use Rattle.oz_rows.specs.declared.key.RowKey.{RowKey}
 use Rattle.oz_rows.specs.declared.key.RowKey.TheVariants as keys
 use Rattle.oz_rows.specs.Rows.{kind_of}
 use Rattle.oz_rows.specs.RowMaps.{Rows, is_bucket}
-use Rattle.oz_sound.specs.Sound.{StandsIn, bucket_of_row, IsHome, IsUsing, SnapshotHas, AreTogether, IsRename, IsNamedAnew, BlocksAreSound, NamesAreSound, RenamesAreSound, NumbersAreSound, CountsAreSound, IsSoundButRenames}
+use Rattle.oz_sound.specs.Sound.{
+  StandsIn,
+  bucket_of_row,
+  IsHome,
+  IsUsing,
+  SnapshotHas,
+  AreTogether,
+  IsRename,
+  IsNamedAnew,
+  BlocksAreSound,
+  NamesAreSound,
+  RenamesAreSound,
+  NumbersAreSound,
+  CountsAreSound,
+  IsSoundButRenames,
+}
 use Rattle.oz_sound.specs.StandsFor.{IsLive, drawn_in}
 use Rattle.oz_sound.specs.laws.BucketChanges.{is_name, one_name, itself, same_bucket}
 use Rattle.oz_sound.specs.frames.Apart.{is_this, only_in, ChangedInOne}
@@ -133,7 +173,11 @@ module _ (all now : Rows) (volume name : List ℕ) (changed : ChangedInOne all n
 
   like_all : (v b : List ℕ) → (Some (path v b) ≡ Some (path volume name) → ⊥) → IsLike all now v b
   like_all v b other = record {
-    same = λ key of. changed.outside key (record { other = λ same. other (sym of ∙ same); no_stripe = by_stripe (λ k. bucket_of_row k ≡ Some (path v b) → kind_of k ≢ 9) key (λ s of. absurd (none_apart of)) (λ kind of. kind) of });
+    same = λ key of. changed.outside key
+        (record {
+          other = λ same. other (sym of ∙ same);
+          no_stripe = by_stripe (λ k. bucket_of_row k ≡ Some (path v b) → kind_of k ≢ 9) key (λ s of. absurd (none_apart of)) (λ kind of. kind) of;
+        });
     drawn = changed.drawn;
   }
 
@@ -165,7 +209,8 @@ module _ (all now : Rows) (volume name : List ℕ) (changed : ChangedInOne all n
           let of = tested_this volume name (bucket_of_row key) e in
           inside of (record { row = stands.row; there = sym (only_there volume name now key of) ∙ stands.there; has = stands.has })
       by_test false e kind stands =
-          let out : IsOutside volume name key = record { other = λ same. false≢true (sym e ∙ this_tested volume name (bucket_of_row key) same); no_stripe = kind } in
+          let out : IsOutside volume name key =
+          record { other = λ same. false≢true (sym e ∙ this_tested volume name (bucket_of_row key) same); no_stripe = kind } in
           elsewhere out (record { row = stands.row; there = sym (changed.outside key out) ∙ stands.there; has = stands.has })
 
   module _ (alone : IsSoundButRenames only) (sound : IsSoundButRenames all) where
@@ -174,8 +219,10 @@ module _ (all now : Rows) (volume name : List ℕ) (changed : ChangedInOne all n
 
     blocks_now : BlocksAreSound now
     blocks_now = record {
-      one_bucket = λ block key other here there. by_two block block key other here there refl (λ of of'. of ∙ sym of') (λ one two. sound.blocks.one_bucket block key other one two);
-      one_home = λ block key other home home' here there. one_home block key other home home' here there (where_now block key here) (where_now block other there);
+      one_bucket = λ block key other here there. by_two block block key other here there refl (λ of of'. of ∙ sym of')
+          (λ one two. sound.blocks.one_bucket block key other one two);
+      one_home = λ block key other home home' here there. one_home block key other home home' here there (where_now block key here)
+          (where_now block other there);
       one_local = λ block twin key other here there e. one_local block twin key other here there e (where_now block key here) (where_now twin other there);
       kept = λ v b name n block has. choose v b (λ rows like is.
           let it = had rows now v b like n block name has in
@@ -183,16 +230,23 @@ module _ (all now : Rows) (volume name : List ℕ) (changed : ChangedInOne all n
           let of = (blocks_apart rows is).one_bucket block found.0 (keys.SnapshotKey v b n name) found.2 it.stands in
           (found.0, found.1, stands_on rows now v b like block found.0 of found.2));
       deleted_together = λ v b key owner local block other here there. choose v b (λ rows like is.
-          together rows now v b like block other ((blocks_apart rows is).deleted_together v b key owner local block other (stood rows now v b like block (keys.Deleted v b owner key local) refl here) (stood rows now v b like other (keys.Deleted v b owner key local) refl there)));
+          together rows now v b like block other
+          ((blocks_apart rows is).deleted_together v b key owner local block other
+          (stood rows now v b like block (keys.Deleted v b owner key local) refl here)
+          (stood rows now v b like other (keys.Deleted v b owner key local) refl there)));
       key_together = λ v b key block other here there. choose v b (λ rows like is.
-          together rows now v b like block other ((blocks_apart rows is).key_together v b key block other (stood rows now v b like block (keys.Key v b key) refl here) (stood rows now v b like other (keys.Key v b key) refl there)));
+          together rows now v b like block other
+          ((blocks_apart rows is).key_together v b key block other (stood rows now v b like block (keys.Key v b key) refl here)
+          (stood rows now v b like other (keys.Key v b key) refl there)));
     }
       where
-        clash : {P : Type 0} (block twin : Block) (key other : RowKey) → StandsIn now block key → bucket_of_row key ≡ Some (path volume name) → StandsIn all twin other → IsOutside volume name other → block.local ≡ twin.local → P
+        clash : {P : Type 0} (block twin : Block) (key other : RowKey) → StandsIn now block key → bucket_of_row key ≡ Some (path volume name)
+            → StandsIn all twin other → IsOutside volume name other → block.local ≡ twin.local → P
         clash block twin key other here of there out e = absurd (changed.apart block twin key other here of there out e)
 
         by_two : {P : Type 0} (block twin : Block) (key other : RowKey) → StandsIn now block key → StandsIn now twin other → block.local ≡ twin.local
-            → (bucket_of_row key ≡ Some (path volume name) → bucket_of_row other ≡ Some (path volume name) → P) → (StandsIn all block key → StandsIn all twin other → P) → P
+            → (bucket_of_row key ≡ Some (path volume name) → bucket_of_row other ≡ Some (path volume name) → P)
+            → (StandsIn all block key → StandsIn all twin other → P) → P
         by_two {P} block twin key other here there e in_one in_all = by (where_now block key here) (where_now twin other there)
           where
             by : Where block key → Where twin other → P
@@ -201,13 +255,15 @@ module _ (all now : Rows) (volume name : List ℕ) (changed : ChangedInOne all n
             by (elsewhere out one) (inside of two) = clash twin block other key there of one out (sym e)
             by (elsewhere out one) (elsewhere out' two) = in_all one two
 
-        one_home : (block : Block) (key other : RowKey) → IsHome key → IsHome other → StandsIn now block key → StandsIn now block other → Where block key → Where block other → key ≡ other
+        one_home : (block : Block) (key other : RowKey) → IsHome key → IsHome other → StandsIn now block key → StandsIn now block other → Where block key
+            → Where block other → key ≡ other
         one_home block key other home home' here there (inside of one) (inside of' two) = alone.blocks.one_home block key other home home' one two
         one_home block key other home home' here there (inside of one) (elsewhere out two) = clash block block key other here of two out refl
         one_home block key other home home' here there (elsewhere out one) (inside of two) = clash block block other key there of one out refl
         one_home block key other home home' here there (elsewhere out one) (elsewhere out' two) = sound.blocks.one_home block key other home home' one two
 
-        one_local : (block twin : Block) (key other : RowKey) → StandsIn now block key → StandsIn now twin other → block.local ≡ twin.local → Where block key → Where twin other → block ≡ twin
+        one_local : (block twin : Block) (key other : RowKey) → StandsIn now block key → StandsIn now twin other → block.local ≡ twin.local
+            → Where block key → Where twin other → block ≡ twin
         one_local block twin key other here there e (inside of one) (inside of' two) = alone.blocks.one_local block twin key other one two e
         one_local block twin key other here there e (inside of one) (elsewhere out two) = clash block twin key other here of two out e
         one_local block twin key other here there e (elsewhere out one) (inside of two) = clash twin block other key there of one out (sym e)
@@ -216,11 +272,14 @@ module _ (all now : Rows) (volume name : List ℕ) (changed : ChangedInOne all n
     names_now : NamesAreSound now
     names_now = record {
       one_snapshot = λ v b title n previous m before here there. choose v b (λ rows like is.
-          (either NamesAreSound rows alone.names sound.names is).one_snapshot v b title n previous m before (sym (like.same (keys.Snapshot v b n) refl) ∙ here) (sym (like.same (keys.Snapshot v b m) refl) ∙ there));
+          (either NamesAreSound rows alone.names sound.names is).one_snapshot v b title n previous m before
+          (sym (like.same (keys.Snapshot v b n) refl) ∙ here) (sym (like.same (keys.Snapshot v b m) refl) ∙ there));
       one_name = λ v b title another n block here there. choose v b (λ rows like is.
-          (either NamesAreSound rows alone.names sound.names is).one_name v b title another n block (had rows now v b like n block title here) (had rows now v b like n block another there));
+          (either NamesAreSound rows alone.names sound.names is).one_name v b title another n block (had rows now v b like n block title here)
+          (had rows now v b like n block another there));
       open_name = λ v b key title session n block here there. choose v b (λ rows like is.
-          (either NamesAreSound rows alone.names sound.names is).open_name v b key title session n block (stood rows now v b like block (keys.Open v b key session) refl here) (had rows now v b like n block title there));
+          (either NamesAreSound rows alone.names sound.names is).open_name v b key title session n block
+          (stood rows now v b like block (keys.Open v b key session) refl here) (had rows now v b like n block title there));
     }
 
     numbers_apart : (rows : Rows) → (rows ≡ only) ⊎ (rows ≡ all) → NumbersAreSound rows
@@ -237,11 +296,14 @@ module _ (all now : Rows) (volume name : List ℕ) (changed : ChangedInOne all n
           let drawn = like.drawn (stripe_of v) in
           omega (arith, before, drawn));
       deleted = λ v b key owner local some apart. choose v b (λ rows like is.
-          there_on rows now v b like (keys.Snapshot v b owner) refl ((numbers_apart rows is).deleted v b key owner local (there rows now v b like (keys.Deleted v b owner key local) refl some) apart));
+          there_on rows now v b like (keys.Snapshot v b owner) refl
+          ((numbers_apart rows is).deleted v b key owner local (there rows now v b like (keys.Deleted v b owner key local) refl some) apart));
       renamed = λ v b owner local some apart. choose v b (λ rows like is.
-          there_on rows now v b like (keys.Snapshot v b owner) refl ((numbers_apart rows is).renamed v b owner local (there rows now v b like (keys.Renamed v b owner local) refl some) apart));
+          there_on rows now v b like (keys.Snapshot v b owner) refl
+          ((numbers_apart rows is).renamed v b owner local (there rows now v b like (keys.Renamed v b owner local) refl some) apart));
       snapshot_keys = λ v b key n some. choose v b (λ rows like is.
-          there_on rows now v b like (keys.Snapshot v b n) refl ((numbers_apart rows is).snapshot_keys v b key n (there rows now v b like (keys.SnapshotKey v b n key) refl some)));
+          there_on rows now v b like (keys.Snapshot v b n) refl
+          ((numbers_apart rows is).snapshot_keys v b key n (there rows now v b like (keys.SnapshotKey v b n key) refl some)));
     }
 
     counts_apart : (rows : Rows) → (rows ≡ only) ⊎ (rows ≡ all) → CountsAreSound rows
@@ -263,7 +325,9 @@ module _ (all now : Rows) (volume name : List ℕ) (changed : ChangedInOne all n
       buckets = λ v. at_most _ _ 1024 (bucket_before v) (sound.counts.buckets v);
       keys_and_sessions = λ v b. choose v b (λ rows like is. at_most _ _ 4096 (used rows now v b like) ((counts_apart rows is).keys_and_sessions v b));
       snapshots = λ v b. choose v b (λ rows like is. at_most _ _ 32 (lived rows now v b like) ((counts_apart rows is).snapshots v b));
-      snapshot_keys = λ v b n live. choose v b (λ rows like is. at_most _ _ 4096 (λ key some. there rows now v b like (keys.SnapshotKey v b n key) refl some) ((counts_apart rows is).snapshot_keys v b n (lived rows now v b like n live)));
+      snapshot_keys = λ v b n live. choose v b
+          (λ rows like is. at_most _ _ 4096 (λ key some. there rows now v b like (keys.SnapshotKey v b n key) refl some)
+          ((counts_apart rows is).snapshot_keys v b n (lived rows now v b like n live)));
     }
 
     pub sound_apart : IsSoundButRenames now
@@ -272,8 +336,10 @@ module _ (all now : Rows) (volume name : List ℕ) (changed : ChangedInOne all n
   pub renames_apart : RenamesAreSound only → RenamesAreSound all → RenamesAreSound now
   renames_apart alone sound = record {
     renamed = λ v b title another n owner block has is_one. choose v b (λ rows like is.
-        (either RenamesAreSound rows alone sound is).renamed v b title another n owner block (had rows now v b like n block title has) (was_renamed rows now v b like n block.local owner another is_one));
+        (either RenamesAreSound rows alone sound is).renamed v b title another n owner block (had rows now v b like n block title has)
+        (was_renamed rows now v b like n block.local owner another is_one));
     noted = λ v b title n block has anew. choose v b (λ rows like is.
-        let found = (either RenamesAreSound rows alone sound is).noted v b title n block (had rows now v b like n block title has) (was_named rows now v b like n block title anew) in
+        let found = (either RenamesAreSound rows alone sound is).noted v b title n block (had rows now v b like n block title has)
+        (was_named rows now v b like n block title anew) in
         (found.0, found.1, renamed_on rows now v b like n block.local found.0 found.1 found.2));
   }

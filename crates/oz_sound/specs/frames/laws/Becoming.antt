@@ -34,7 +34,8 @@ apart volume name v b other same =
 no_bucket : (volume name : List ℕ) → None ≡ Some (path volume name) → ⊥
 no_bucket volume name same = false≢true (ap is_some same)
 
-module _ (all now : Rows) (namespace : Namespace) (volume : List ℕ) (buckets : ByName Bucket) (name : List ℕ) (bucket : Bucket) (stripes : List ℕ) (becomes : BucketBecomes all now namespace volume buckets name bucket stripes) (stands : StandsFor all namespace) where
+module _ (all now : Rows) (namespace : Namespace) (volume : List ℕ) (buckets : ByName Bucket) (name : List ℕ) (bucket : Bucket) (stripes : List ℕ)
+    (becomes : BucketBecomes all now namespace volume buckets name bucket stripes) (stands : StandsFor all namespace) where
   abbrev after : Namespace
   after = with_bucket namespace volume buckets name bucket stripes
 
@@ -42,7 +43,8 @@ module _ (all now : Rows) (namespace : Namespace) (volume : List ℕ) (buckets :
   changed = insert buckets name bucket
 
   -- a row of another bucket is as it was
-  elsewhere : (key : RowKey) (v b : List ℕ) → bucket_of_row key ≡ Some (path v b) → kind_of key ≢ 9 → is_name v volume && is_name b name ≡ false → now key ≡ all key
+  elsewhere : (key : RowKey) (v b : List ℕ) → bucket_of_row key ≡ Some (path v b) → kind_of key ≢ 9 → is_name v volume && is_name b name ≡ false
+      → now key ≡ all key
   elsewhere key v b of kind other = becomes.outside key (record { other = λ same. apart volume name v b other (sym of ∙ same); no_stripe = kind })
 
   volumes_now : (v : List ℕ) → buckets_of after v ≡ cond (is_name v volume) (Some changed) (buckets_of namespace v)
@@ -51,21 +53,28 @@ module _ (all now : Rows) (namespace : Namespace) (volume : List ℕ) (buckets :
   bucket_now : (v b : List ℕ) → bucket_of after v b ≡ cond (is_name v volume && is_name b name) (Some bucket) (bucket_of namespace v b)
   bucket_now v b = ap (option_and_then (λ (bs : ByName Bucket). get bs b)) (volumes_now v) ∙ by_test (is_name v volume) refl
     where
-      by_test : (t : Bool) → is_name v volume ≡ t → option_and_then (λ (bs : ByName Bucket). get bs b) (cond t (Some changed) (buckets_of namespace v)) ≡ cond (t && is_name b name) (Some bucket) (bucket_of namespace v b)
-      by_test true e = get-insert nat_list_cmp_total buckets name bucket b ∙ ap (cond (is_name b name) (Some bucket)) (sym (ap (option_and_then (λ (bs : ByName Bucket). get bs b)) (ap (buckets_of namespace) (one_name v volume e) ∙ becomes.volume_there)))
+      by_test : (t : Bool) → is_name v volume ≡ t
+          → option_and_then (λ (bs : ByName Bucket). get bs b) (cond t (Some changed) (buckets_of namespace v))
+          ≡ cond (t && is_name b name) (Some bucket) (bucket_of namespace v b)
+      by_test true e = get-insert nat_list_cmp_total buckets name bucket b
+          ∙ ap (cond (is_name b name) (Some bucket))
+          (sym (ap (option_and_then (λ (bs : ByName Bucket). get bs b)) (ap (buckets_of namespace) (one_name v volume e) ∙ becomes.volume_there)))
       by_test false e = refl
 
   -- what holds of the bucket and of each other one holds of each
-  each : (P : List ℕ → List ℕ → Option Bucket → Type 0) → P volume name (Some bucket) → ((v b : List ℕ) → is_name v volume && is_name b name ≡ false → P v b (bucket_of namespace v b)) → (v b : List ℕ) → P v b (bucket_of after v b)
+  each : (P : List ℕ → List ℕ → Option Bucket → Type 0) → P volume name (Some bucket)
+      → ((v b : List ℕ) → is_name v volume && is_name b name ≡ false → P v b (bucket_of namespace v b)) → (v b : List ℕ) → P v b (bucket_of after v b)
   each P here others v b = subst (P v b) (sym (bucket_now v b)) (by_test (is_name v volume) refl (is_name b name) refl)
     where
       by_test : (t : Bool) → is_name v volume ≡ t → (s : Bool) → is_name b name ≡ s → P v b (cond (t && s) (Some bucket) (bucket_of namespace v b))
-      by_test true e true f = subst (λ w. P w b (Some bucket)) (sym (one_name v volume e)) (subst (λ c. P volume c (Some bucket)) (sym (one_name b name f)) here)
+      by_test true e true f =
+          subst (λ w. P w b (Some bucket)) (sym (one_name v volume e)) (subst (λ c. P volume c (Some bucket)) (sym (one_name b name f)) here)
       by_test true e false f = others v b (ap (λ t. t && is_name b name) e ∙ f)
       by_test false e s f = others v b (ap (λ t. t && is_name b name) e)
 
   volume_row : (v : List ℕ) → has_volume after v ≡ is_some (now (keys.Volume v))
-  volume_row v = ap is_some (volumes_now v) ∙ by_test (is_name v volume) refl ∙ stands.volumes v ∙ ap is_some (sym (becomes.outside (keys.Volume v) (record { other = no_bucket volume name; no_stripe = λ e. omega (arith, e) })))
+  volume_row v = ap is_some (volumes_now v) ∙ by_test (is_name v volume) refl ∙ stands.volumes v
+      ∙ ap is_some (sym (becomes.outside (keys.Volume v) (record { other = no_bucket volume name; no_stripe = λ e. omega (arith, e) })))
     where
       by_test : (t : Bool) → is_name v volume ≡ t → is_some (cond t (Some changed) (buckets_of namespace v)) ≡ has_volume namespace v
       by_test true e = sym (ap is_some (ap (buckets_of namespace) (one_name v volume e) ∙ becomes.volume_there))
@@ -82,7 +91,9 @@ module _ (all now : Rows) (namespace : Namespace) (volume : List ℕ) (buckets :
       (λ v b other key. stands.pieces v b key ∙ ap pieces_in (sym (elsewhere (keys.Key v b key) v b refl (λ e. omega (arith, e)) other)))
 
   all_sessions : (v b : List ℕ) → (number : ℕ) (session : Session) → SessionStands now after v b number session
-  all_sessions = each (λ v b o. (number : ℕ) (session : Session) → (option_and_then (λ (x : Bucket). get x.sessions number) o ≡ Some session) ↔ (now (keys.Open v b session.key number) ≡ Some (rows.Open session.blocks)))
+  all_sessions = each (λ v b o. (number : ℕ) (session : Session)
+      → (option_and_then (λ (x : Bucket). get x.sessions number) o ≡ Some session)
+      ↔ (now (keys.Open v b session.key number) ≡ Some (rows.Open session.blocks)))
       becomes.sessions
       (λ v b other number session.
       let row = elsewhere (keys.Open v b session.key number) v b refl (λ e. omega (arith, e)) other in

@@ -1,5 +1,33 @@
 -- A session's row goes, and a key's row comes with blocks of it.
-use Rattle.std.proofs.Common.{◌≡◌, ◌≢◌, ℕ, suc, Bool, true, false, List, [], ◌∷◌, map, length, Option, None, Some, IsSome, is_some, cond, refl, sym, ◌∙◌, ap, subst, arith, inl, inr, ◌⊎◌}
+use Rattle.std.proofs.Common.{
+  ◌≡◌,
+  ◌≢◌,
+  ℕ,
+  suc,
+  Bool,
+  true,
+  false,
+  List,
+  [],
+  ◌∷◌,
+  map,
+  length,
+  Option,
+  None,
+  Some,
+  IsSome,
+  is_some,
+  cond,
+  refl,
+  sym,
+  ◌∙◌,
+  ap,
+  subst,
+  arith,
+  inl,
+  inr,
+  ◌⊎◌,
+}
 use mathlib.Core.Bool.{false≢true}
 use Rattle.std.proofs.lemmas.Option.{same_Some}
 use Rattle.std.specs.List.{AllByRecursion, list_any}
@@ -28,8 +56,10 @@ itself_key : (q : RowKey) → is_same q q ≡ true
 itself_key q = ap is_eq (itself q)
 
 -- at most so many things, where each is known as another
-through : {A B : Type 0} (f : A → B) (P : A → Type 0) (Q : B → Type 0) (n : ℕ) → ((a c : A) → P a → P c → f a ≡ f c → a ≡ c) → ((a : A) → P a → Q (f a)) → AtMost n Q → AtMost n P
-through f P Q n inverse holds most items apart all = let few = most (map f items) (apart_too items apart all) (all_too items all) in omega (arith, few, size items)
+through : {A B : Type 0} (f : A → B) (P : A → Type 0) (Q : B → Type 0) (n : ℕ) → ((a c : A) → P a → P c → f a ≡ f c → a ≡ c) → ((a : A) → P a → Q (f a))
+    → AtMost n Q → AtMost n P
+through f P Q n inverse holds most items apart all = let few =
+    most (map f items) (apart_too items apart all) (all_too items all) in omega (arith, few, size items)
   where
     size : (l : List _) → length (map f l) ≡ length l
     size [] = refl
@@ -75,13 +105,19 @@ module _ (all : Rows) (v b k : List ℕ) (n : ℕ) (blocks : List Block) (pieces
     };
     was_empty = λ block stands. some_apart (sym stands.there ∙ may.free);
     not_both = λ block one two. some_apart (sym one.1);
-    all_there = λ block stands. inr (row, refl, may.used block ∙ ap (λ (r : Row). list_any (is_block block) (blocks_of r)) (same_Some (rows.Open blocks) stands.row (sym may.session ∙ stands.there)) ∙ stands.has);
+    all_there = λ block stands. inr (
+      row,
+      refl,
+      may.used block ∙ ap (λ (r : Row). list_any (is_block block) (blocks_of r))
+          (same_Some (rows.Open blocks) stands.row (sym may.session ∙ stands.there)) ∙ stands.has,
+    );
   }
 
   pub key_stood : NamesStay all now
   key_stood w c q block stands = by_test (is_same to (keys.Key w c q)) refl stands.there
     where
-      by_test : (t : Bool) → is_same to (keys.Key w c q) ≡ t → cond t (Some row) (all (keys.Key w c q)) ≡ Some stands.row → StandsIn all block (keys.Key w c q) ⊎ ((name : List ℕ) × (number : ℕ) × StandsIn all block (keys.Open w c name number))
+      by_test : (t : Bool) → is_same to (keys.Key w c q) ≡ t → cond t (Some row) (all (keys.Key w c q)) ≡ Some stands.row
+          → StandsIn all block (keys.Key w c q) ⊎ ((name : List ℕ) × (number : ℕ) × StandsIn all block (keys.Open w c name number))
       by_test false e there = inl (record { row = stands.row; there = there; has = stands.has })
       by_test true e there =
           let same = same_is_one to (keys.Key w c q) e in
@@ -100,7 +136,8 @@ module _ (all : Rows) (v b k : List ℕ) (n : ℕ) (blocks : List Block) (pieces
   session_before : (w c q : List ℕ) (m : ℕ) → IsSome (now (keys.Open w c q m)) → (is_same from (keys.Open w c q m) ≡ false) × IsSome (all (keys.Open w c q m))
   session_before w c q m some = by_test (is_same from (keys.Open w c q m)) refl some
     where
-      by_test : (t : Bool) → is_same from (keys.Open w c q m) ≡ t → IsSome (cond t None (all (keys.Open w c q m))) → (is_same from (keys.Open w c q m) ≡ false) × IsSome (all (keys.Open w c q m))
+      by_test : (t : Bool) → is_same from (keys.Open w c q m) ≡ t → IsSome (cond t None (all (keys.Open w c q m)))
+          → (is_same from (keys.Open w c q m) ≡ false) × IsSome (all (keys.Open w c q m))
       by_test true e some = absurd (false≢true some)
       by_test false e some = (e, some)
 
@@ -118,13 +155,15 @@ module _ (all : Rows) (v b k : List ℕ) (n : ℕ) (blocks : List Block) (pieces
       by_test false e some = some
       by_test true e some =
           let same = same_is_one to (keys.Key w c q) e in
-          let opened : keys.Open v b k n ≡ keys.Open w c q n = let volume : v ≡ w = cc in let bucket : b ≡ c = cc in let key : k ≡ q = cc in (λ i. keys.Open (volume i) (bucket i) (key i) n) in
+          let opened : keys.Open v b k n ≡ keys.Open w c q n = let volume : v ≡ w = cc in let bucket : b ≡ c = cc in let key : k ≡ q =
+          cc in (λ i. keys.Open (volume i) (bucket i) (key i) n) in
           subst (λ x. IsSome (all x)) opened (ap is_some may.session)
 
   abbrev as_key : List ℕ → Option ℕ → List ℕ × Option ℕ
   as_key q m = (q, m)
 
-  clash : (w c q : List ℕ) (m : ℕ) (p : List ℕ) → IsSome (now (keys.Open w c q m)) → as_key q (Some m) ≡ as_key p (cond (is_same to (keys.Key w c p)) (Some n) None) → as_key q (Some m) ≡ as_key p None
+  clash : (w c q : List ℕ) (m : ℕ) (p : List ℕ) → IsSome (now (keys.Open w c q m))
+      → as_key q (Some m) ≡ as_key p (cond (is_same to (keys.Key w c p)) (Some n) None) → as_key q (Some m) ≡ as_key p None
   clash w c q m p some e = by_test (is_same to (keys.Key w c p)) refl (ap (λ (x : List ℕ × Option ℕ). x.1) e)
     where
       by_test : (t : Bool) → is_same to (keys.Key w c p) ≡ t → Some m ≡ cond t (Some n) None → as_key q (Some m) ≡ as_key p None
@@ -133,7 +172,8 @@ module _ (all : Rows) (v b k : List ℕ) (n : ℕ) (blocks : List Block) (pieces
           let same = same_is_one to (keys.Key w c p) f in
           let number : m ≡ n = same_Some m n e' in
           let name : q ≡ p = ap (λ (x : List ℕ × Option ℕ). x.0) e in
-          let opened : keys.Open v b k n ≡ keys.Open w c q m = let volume : v ≡ w = cc in let bucket : b ≡ c = cc in let key : k ≡ p = cc in (λ i. keys.Open (volume i) (bucket i) ((key ∙ sym name) i) (sym number i)) in
+          let opened : keys.Open v b k n ≡ keys.Open w c q m = let volume : v ≡ w = cc in let bucket : b ≡ c = cc in let key : k ≡ p =
+          cc in (λ i. keys.Open (volume i) (bucket i) ((key ∙ sym name) i) (sym number i)) in
           absurd (false≢true (sym (session_before w c q m some).0 ∙ ap (is_same from) (sym opened) ∙ itself_key from))
 
   inverse : (w c : List ℕ) (one other : List ℕ × Option ℕ) → IsUsing now w c one → IsUsing now w c other → counted w c one ≡ counted w c other → one ≡ other

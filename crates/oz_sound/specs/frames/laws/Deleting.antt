@@ -49,7 +49,12 @@ module _ (all : Rows) (v b k : List ℕ) (number local : ℕ) (pieces : List Pie
       there = may.row;
       has = ap (λ (r : Row). list_any (is_block block) (blocks_of r)) (same_Some row has.0 has.1) ∙ has.2;
     };
-    all_there = λ block stands. inr (row, refl, ap (λ (r : Row). list_any (is_block block) (blocks_of r)) (same_Some (rows.Key number pieces) stands.row (sym may.row ∙ stands.there)) ∙ stands.has);
+    all_there = λ block stands. inr (
+      row,
+      refl,
+      ap (λ (r : Row). list_any (is_block block) (blocks_of r)) (same_Some (rows.Key number pieces) stands.row (sym may.row ∙ stands.there))
+          ∙ stands.has,
+    );
     not_both = λ block one two. some_apart (sym one.1);
     was_empty = λ block stands. some_apart (sym stands.there ∙ may.free);
   }
@@ -57,14 +62,16 @@ module _ (all : Rows) (v b k : List ℕ) (number local : ℕ) (pieces : List Pie
   pub names_stay : NamesStay all now
   names_stay w c q block stands = by_test (is_same from (keys.Key w c q)) stands.there
     where
-      by_test : (t : Bool) → cond t None (all (keys.Key w c q)) ≡ Some stands.row → StandsIn all block (keys.Key w c q) ⊎ ((name : List ℕ) × (m : ℕ) × StandsIn all block (keys.Open w c name m))
+      by_test : (t : Bool) → cond t None (all (keys.Key w c q)) ≡ Some stands.row → StandsIn all block (keys.Key w c q)
+          ⊎ ((name : List ℕ) × (m : ℕ) × StandsIn all block (keys.Open w c name m))
       by_test true there = absurd (some_apart (sym there))
       by_test false there = inl (record { row = stands.row; there = there; has = stands.has })
 
   owner_before : (w c q : List ℕ) (o l : ℕ) → IsSome (now (keys.Deleted w c o q l)) → o ≢ 0 → IsSome (all (keys.Deleted w c o q l))
   owner_before w c q o l some other = by_test (is_same to (keys.Deleted w c o q l)) refl some
     where
-      by_test : (t : Bool) → is_same to (keys.Deleted w c o q l) ≡ t → IsSome (cond t (Some row) (all (keys.Deleted w c o q l))) → IsSome (all (keys.Deleted w c o q l))
+      by_test : (t : Bool) → is_same to (keys.Deleted w c o q l) ≡ t → IsSome (cond t (Some row) (all (keys.Deleted w c o q l)))
+          → IsSome (all (keys.Deleted w c o q l))
       by_test true e some = let same = same_is_one to (keys.Deleted w c o q l) e in absurd (other (let zero : o ≡ 0 = cc in zero))
       by_test false e some = some
 

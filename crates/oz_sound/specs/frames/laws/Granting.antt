@@ -1,5 +1,33 @@
 -- A session gets a block that stood nowhere.
-use Rattle.std.proofs.Common.{◌≡◌, ◌==◌, ◌&&◌, ◌||◌, ℕ, Bool, true, false, List, [], ◌∷◌, ◌++◌, Option, None, Some, IsSome, is_some, cond, refl, sym, ◌∙◌, ap, subst, arith, inl, inr, ◌⊎◌}
+use Rattle.std.proofs.Common.{
+  ◌≡◌,
+  ◌==◌,
+  ◌&&◌,
+  ◌||◌,
+  ℕ,
+  Bool,
+  true,
+  false,
+  List,
+  [],
+  ◌∷◌,
+  ◌++◌,
+  Option,
+  None,
+  Some,
+  IsSome,
+  is_some,
+  cond,
+  refl,
+  sym,
+  ◌∙◌,
+  ap,
+  subst,
+  arith,
+  inl,
+  inr,
+  ◌⊎◌,
+}
 use mathlib.Core.Bool.{false≢true}
 use Rattle.std.proofs.lemmas.Option.{same_Some}
 use Rattle.std.proofs.lemmas.Bool.Decides.{nat_tests}
@@ -53,7 +81,8 @@ among a new [] e = by_test (is_block a new) refl e
     by_test false is e = absurd (false≢true e)
 among a new (x ∷ l) e = by_test (is_block a x) e (among a new l)
   where
-    by_test : (t : Bool) → t || list_any (is_block a) (l ++ new ∷ []) ≡ true → (list_any (is_block a) (l ++ new ∷ []) ≡ true → (list_any (is_block a) l ≡ true) ⊎ (new ≡ a)) → (t || list_any (is_block a) l ≡ true) ⊎ (new ≡ a)
+    by_test : (t : Bool) → t || list_any (is_block a) (l ++ new ∷ []) ≡ true
+        → (list_any (is_block a) (l ++ new ∷ []) ≡ true → (list_any (is_block a) l ≡ true) ⊎ (new ≡ a)) → (t || list_any (is_block a) l ≡ true) ⊎ (new ≡ a)
     by_test true e later = inl refl
     by_test false e later = later e
 
@@ -78,10 +107,11 @@ module _ (all : Rows) (v b k : List ℕ) (n : ℕ) (blocks : List Block) (new : 
     where
       by_test : (t : Bool) → is_same session key ≡ t → cond t (Some row) (all key) ≡ Some stands.row → Where block key
       by_test false e there = elsewhere e (record { row = stands.row; there = there; has = stands.has })
-      by_test true e there = elim (among block new blocks (ap (λ (r : Row). list_any (is_block block) (blocks_of r)) (same_Some row stands.row there) ∙ stands.has)) [
-        | inl has ↦ stood_open (sym (same_is_one session key e)) (record { row = rows.Open blocks; there = may.session; has = has })
-        | inr same ↦ granted (sym (same_is_one session key e)) same
-      ]
+      by_test true e there =
+          elim (among block new blocks (ap (λ (r : Row). list_any (is_block block) (blocks_of r)) (same_Some row stands.row there) ∙ stands.has)) [
+            | inl has ↦ stood_open (sym (same_is_one session key e)) (record { row = rows.Open blocks; there = may.session; has = has })
+            | inr same ↦ granted (sym (same_is_one session key e)) same
+          ]
 
   is_new : (block : Block) → new ≡ block → IsGranted all (Some new) block
   is_new block same = record { this_one = ap Some same; fresh = λ twin key stands e. may.fresh twin key stands (e ∙ ap (λ (x : Block). x.local) (sym same)) }
@@ -129,7 +159,8 @@ module _ (all : Rows) (v b k : List ℕ) (n : ℕ) (blocks : List Block) (new : 
     before : (block : Block) (key : RowKey) → IsKeeper key → StandsIn now block key → StandsIn all block key
     before block key keeper stands = record { row = stands.row; there = sym (keeper_row key keeper) ∙ stands.there; has = stands.has }
 
-    open_key : (w c q : List ℕ) (m : ℕ) (block : Block) → StandsIn now block (keys.Open w c q m) → ((l : ℕ) × StandsIn all block (keys.Open w c q l)) ⊎ IsGranted all (Some new) block
+    open_key : (w c q : List ℕ) (m : ℕ) (block : Block) → StandsIn now block (keys.Open w c q m) → ((l : ℕ) × StandsIn all block (keys.Open w c q l))
+        ⊎ IsGranted all (Some new) block
     open_key w c q m block here = by (stood block (keys.Open w c q m) here)
       where
         by : Where block (keys.Open w c q m) → ((l : ℕ) × StandsIn all block (keys.Open w c q l)) ⊎ IsGranted all (Some new) block
@@ -187,7 +218,13 @@ module _ (all : Rows) (v b k : List ℕ) (n : ℕ) (blocks : List Block) (new : 
       none_lost = none_lost;
       stays = λ block key keeper stands. (key, keeper, record { row = stands.row; there = keeper_row key keeper ∙ stands.there; has = stands.has });
       one_home = one_home;
-      together = λ block other key keeper here there. record { key = key; home = keeper_home key keeper; here = before block key keeper here; there = before other key keeper there; same_bucket = refl };
+      together = λ block other key keeper here there. record {
+        key = key;
+        home = keeper_home key keeper;
+        here = before block key keeper here;
+        there = before other key keeper there;
+        same_bucket = refl;
+      };
       open_key = open_key;
       drawn = λ s. let m = drawn_in (all (keys.Stripe s)) in omega arith;
       sessions = λ w c q m some. sound.numbers.sessions w c q m (session_before w c q m some);

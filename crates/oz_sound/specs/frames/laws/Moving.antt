@@ -9,7 +9,23 @@ use Rattle.oz_rows.specs.declared.key.RowKey.TheVariants as keys
 use Rattle.oz_rows.specs.Rows.{kind_of}
 use Rattle.oz_rows.specs.RowMaps.{Rows}
 use Rattle.oz_sound.specs.Kept.{KeepsBlocks}
-use Rattle.oz_sound.specs.Sound.{StandsIn, bucket_of_row, IsKeeper, IsHome, SnapshotHas, AreTogether, IsRename, IsNamedAnew, AtMost, BlocksAreSound, NamesAreSound, RenamesAreSound, NumbersAreSound, CountsAreSound, IsSoundButRenames}
+use Rattle.oz_sound.specs.Sound.{
+  StandsIn,
+  bucket_of_row,
+  IsKeeper,
+  IsHome,
+  SnapshotHas,
+  AreTogether,
+  IsRename,
+  IsNamedAnew,
+  AtMost,
+  BlocksAreSound,
+  NamesAreSound,
+  RenamesAreSound,
+  NumbersAreSound,
+  CountsAreSound,
+  IsSoundButRenames,
+}
 use Rattle.oz_sound.specs.StandsFor.{IsLive}
 use Rattle.oz_sound.specs.frames.Moves.{StoodTogether, IsGranted, BlocksMove, NamesStay}
 
@@ -93,7 +109,11 @@ module _ (all now : Rows) (granted : Option Block) (moved : BlocksMove all now g
       ])
       (λ other. by_stripe (λ k. StandsIn now block k → (IsHome k → ⊥) → Origin block k ⊎ (IsHome k × IsGranted all granted block)) key
       (λ s stands other. absurd (moved.bare s block stands))
-      (λ kind stands other. inl (record { old = key; stood = record { row = stands.row; there = sym (moved.others key other kind) ∙ stands.there; has = stands.has }; same_bucket = refl }))
+      (λ kind stands other. inl (record {
+        old = key;
+        stood = record { row = stands.row; there = sym (moved.others key other kind) ∙ stands.there; has = stands.has };
+        same_bucket = refl;
+      }))
       stands other)
 
   -- a granted block stood nowhere
@@ -119,7 +139,8 @@ module _ (all now : Rows) (granted : Option Block) (moved : BlocksMove all now g
 
   module _ (sound : IsSoundButRenames all) where
     -- a block of an open key is in no live snapshot
-    not_open : {P : Type 0} (v b k : List ℕ) (n : ℕ) (w c name : List ℕ) (m : ℕ) (block : Block) → StandsIn all block (keys.Open v b k n) → SnapshotHas all w c m block name → P
+    not_open : {P : Type 0} (v b k : List ℕ) (n : ℕ) (w c name : List ℕ) (m : ℕ) (block : Block) → StandsIn all block (keys.Open v b k n)
+        → SnapshotHas all w c m block name → P
     not_open v b k n w c name m block opened has =
         let kept = sound.blocks.kept w c name m block has in
         let same = sound.blocks.one_home block kept.0 (keys.Open v b k n) (keeper_home kept.0 kept.1) tt kept.2 opened in
@@ -128,11 +149,14 @@ module _ (all now : Rows) (granted : Option Block) (moved : BlocksMove all now g
     together_before : (v b : List ℕ) (block other : Block) → StoodTogether all block other (Some (v, b)) → AreTogether all v b block other
     together_before v b block other stood = by_key stood.key stood.home stood.here stood.there stood.same_bucket
       where
-        by_key : (key : RowKey) → IsHome key → StandsIn all block key → StandsIn all other key → bucket_of_row key ≡ Some (v, b) → AreTogether all v b block other
+        by_key : (key : RowKey) → IsHome key → StandsIn all block key → StandsIn all other key → bucket_of_row key ≡ Some (v, b)
+            → AreTogether all v b block other
         by_key (keys.Key w c k) home here there place =
-            subst (λ (p : List ℕ × List ℕ). AreTogether all p.0 p.1 block other) (same_Some (w, c) (v, b) place) (sound.blocks.key_together w c k block other here there)
+            subst (λ (p : List ℕ × List ℕ). AreTogether all p.0 p.1 block other) (same_Some (w, c) (v, b) place)
+            (sound.blocks.key_together w c k block other here there)
         by_key (keys.Deleted w c o k l) home here there place =
-            subst (λ (p : List ℕ × List ℕ). AreTogether all p.0 p.1 block other) (same_Some (w, c) (v, b) place) (sound.blocks.deleted_together w c k o l block other here there)
+            subst (λ (p : List ℕ × List ℕ). AreTogether all p.0 p.1 block other) (same_Some (w, c) (v, b) place)
+            (sound.blocks.deleted_together w c k o l block other here there)
         by_key (keys.Open w c k n) home here there place = λ number name has. not_open w c k n v b name number block here has
         by_key key home here there place = absurd home
 
@@ -162,15 +186,20 @@ module _ (all now : Rows) (granted : Option Block) (moved : BlocksMove all now g
           | inr again ↦ same_Some block twin (sym new.1.this_one ∙ again.1.this_one)
         ]
       ];
-      kept = λ v b name n block has. let found = sound.blocks.kept v b name n block (has_before v b n block name has) in moved.stays block found.0 found.1 found.2;
-      deleted_together = λ v b key owner local block other here there. together v b block other (together_before v b block other (moved.together block other (keys.Deleted v b owner key local) tt here there));
-      key_together = λ v b key block other here there. together v b block other (together_before v b block other (moved.together block other (keys.Key v b key) tt here there));
+      kept = λ v b name n block has. let found =
+          sound.blocks.kept v b name n block (has_before v b n block name has) in moved.stays block found.0 found.1 found.2;
+      deleted_together = λ v b key owner local block other here there. together v b block other
+          (together_before v b block other (moved.together block other (keys.Deleted v b owner key local) tt here there));
+      key_together = λ v b key block other here there. together v b block other
+          (together_before v b block other (moved.together block other (keys.Key v b key) tt here there));
     }
 
     names_moved : NamesAreSound now
     names_moved = record {
-      one_snapshot = λ v b name n previous m before here there. sound.names.one_snapshot v b name n previous m before (sym (snapshot_row v b n) ∙ here) (sym (snapshot_row v b m) ∙ there);
-      one_name = λ v b name another n block here there. sound.names.one_name v b name another n block (has_before v b n block name here) (has_before v b n block another there);
+      one_snapshot = λ v b name n previous m before here there. sound.names.one_snapshot v b name n previous m before (sym (snapshot_row v b n) ∙ here)
+          (sym (snapshot_row v b m) ∙ there);
+      one_name = λ v b name another n block here there. sound.names.one_name v b name another n block (has_before v b n block name here)
+          (has_before v b n block another there);
       open_name = λ v b key name session n block here there.
           let had = has_before v b n block name there in
           elim (moved.open_key v b key session block here) [
@@ -179,8 +208,10 @@ module _ (all now : Rows) (granted : Option Block) (moved : BlocksMove all now g
           ];
     }
 
-    named_before : NamesStay all now → (v b : List ℕ) (n : ℕ) (block : Block) (name : List ℕ) → SnapshotHas all v b n block name → IsNamedAnew now v b n block name → IsNamedAnew all v b n block name
-    named_before stay v b n block name had (inl (later, another, rises, has, apart)) = inl (later, another, rises, has_before v b later block another has, apart)
+    named_before : NamesStay all now → (v b : List ℕ) (n : ℕ) (block : Block) (name : List ℕ) → SnapshotHas all v b n block name
+        → IsNamedAnew now v b n block name → IsNamedAnew all v b n block name
+    named_before stay v b n block name had (inl (later, another, rises, has, apart)) =
+        inl (later, another, rises, has_before v b later block another has, apart)
     named_before stay v b n block name had (inr (another, stands, apart)) = elim (stay v b another block stands) [
       | inl same ↦ inr (another, same, apart)
       | inr opened ↦ not_open v b opened.0 opened.1 v b name n block opened.2 had
@@ -188,7 +219,8 @@ module _ (all now : Rows) (granted : Option Block) (moved : BlocksMove all now g
 
     pub renames_moved : NamesStay all now → RenamesAreSound all → RenamesAreSound now
     renames_moved stay renames = record {
-      renamed = λ v b name another n owner block has is. renames.renamed v b name another n owner block (has_before v b n block name has) (rename_before v b n block.local owner another is);
+      renamed = λ v b name another n owner block has is. renames.renamed v b name another n owner block (has_before v b n block name has)
+          (rename_before v b n block.local owner another is);
       noted = λ v b name n block has anew.
           let had = has_before v b n block name has in
           let found = renames.noted v b name n block had (named_before stay v b n block name had anew) in
@@ -202,9 +234,12 @@ module _ (all now : Rows) (granted : Option Block) (moved : BlocksMove all now g
           let before = sound.numbers.snapshots v b n (subst IsSome (snapshot_row v b n) some) in
           let drawn = moved.drawn (stripe_of v) in
           omega (arith, before, drawn);
-      deleted = λ v b key owner local some apart. subst IsSome (sym (snapshot_row v b owner)) (sound.numbers.deleted v b key owner local (moved.owners v b key owner local some apart) apart);
-      renamed = λ v b owner local some apart. subst IsSome (sym (snapshot_row v b owner)) (sound.numbers.renamed v b owner local (subst IsSome (renamed_row v b owner local) some) apart);
-      snapshot_keys = λ v b key n some. subst IsSome (sym (snapshot_row v b n)) (sound.numbers.snapshot_keys v b key n (subst IsSome (snapshot_key_row v b n key) some));
+      deleted = λ v b key owner local some apart. subst IsSome (sym (snapshot_row v b owner))
+          (sound.numbers.deleted v b key owner local (moved.owners v b key owner local some apart) apart);
+      renamed = λ v b owner local some apart. subst IsSome (sym (snapshot_row v b owner))
+          (sound.numbers.renamed v b owner local (subst IsSome (renamed_row v b owner local) some) apart);
+      snapshot_keys = λ v b key n some. subst IsSome (sym (snapshot_row v b n))
+          (sound.numbers.snapshot_keys v b key n (subst IsSome (snapshot_key_row v b n key) some));
     }
 
     counts_moved : CountsAreSound now
@@ -212,7 +247,8 @@ module _ (all now : Rows) (granted : Option Block) (moved : BlocksMove all now g
       buckets = λ v. at_most _ _ 1024 (λ b some. subst IsSome (bucket_row v b) some) (sound.counts.buckets v);
       keys_and_sessions = moved.few;
       snapshots = λ v b. at_most _ _ 32 (live_before v b) (sound.counts.snapshots v b);
-      snapshot_keys = λ v b n live. at_most _ _ 4096 (λ key some. subst IsSome (snapshot_key_row v b n key) some) (sound.counts.snapshot_keys v b n (live_before v b n live));
+      snapshot_keys = λ v b n live. at_most _ _ 4096 (λ key some. subst IsSome (snapshot_key_row v b n key) some)
+          (sound.counts.snapshot_keys v b n (live_before v b n live));
     }
 
 pub sound_moved : (all now : Rows) (granted : Option Block) → BlocksMove all now granted → IsSoundButRenames all → IsSoundButRenames now

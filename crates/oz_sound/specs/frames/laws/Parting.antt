@@ -29,7 +29,8 @@ module _ (all : Rows) (from : RowKey) (left : Option Row) (to : RowKey) (moved :
   abbrev now : Rows
   now = after_changes (parted from left to moved) all
 
-  by_key : (P : Option Row → Type 0) (q : RowKey) → (q ≡ to → P moved) → (q ≡ from → P left) → (is_same from q ≡ false → is_same to q ≡ false → P (all q)) → P (now q)
+  by_key : (P : Option Row → Type 0) (q : RowKey) → (q ≡ to → P moved) → (q ≡ from → P left) → (is_same from q ≡ false → is_same to q ≡ false → P (all q))
+      → P (now q)
   by_key P q is_to is_from other = first (is_same to q) refl
     where
       second : (t : Bool) → is_same from q ≡ t → is_same to q ≡ false → P (cond t left (all q))
@@ -66,12 +67,14 @@ module _ (all : Rows) (from : RowKey) (left : Option Row) (to : RowKey) (moved :
   at_from : (block : Block) → Has left block → StandsIn now block from
   at_from block has = record {
     row = has.0;
-    there = ap (λ (t : Bool). cond t moved (cond (is_same from from) left (all from))) turned ∙ ap (λ (t : Bool). cond t left (all from)) (itself_key from) ∙ has.1;
+    there = ap (λ (t : Bool). cond t moved (cond (is_same from from) left (all from))) turned ∙ ap (λ (t : Bool). cond t left (all from)) (itself_key from)
+        ∙ has.1;
     has = has.2;
   }
 
   -- a block that stood in a row stands in one that is like it
-  goes_on : (Q : RowKey → Type 0) → (Q from → Q to) → (block : Block) (key : RowKey) → Q key → StandsIn all block key → (q : RowKey) × Q q × StandsIn now block q
+  goes_on : (Q : RowKey → Type 0) → (Q from → Q to) → (block : Block) (key : RowKey) → Q key → StandsIn all block key → (q : RowKey) × Q q
+      × StandsIn now block q
   goes_on Q on block key holds stands = by_key (λ (o : Option Row). now key ≡ o → (q : RowKey) × Q q × StandsIn now block q) key
       (λ same e. absurd (is.was_empty block (subst (StandsIn all block) same stands)))
       (λ same e. elim (is.all_there block (subst (StandsIn all block) same stands)) [
@@ -107,7 +110,8 @@ module _ (all : Rows) (from : RowKey) (left : Option Row) (to : RowKey) (moved :
         both (elsewhere f g stands) (in_from same' has') = absurd (here_or block key home f (is.left_from block has') stands)
         both (elsewhere f g stands) (elsewhere f' g' stands') = sound.blocks.one_home block key other home home' stands stands'
 
-    together : (block other : Block) (key : RowKey) → IsHome key → StandsIn now block key → StandsIn now other key → StoodTogether all block other (bucket_of_row key)
+    together : (block other : Block) (key : RowKey) → IsHome key → StandsIn now block key → StandsIn now other key
+        → StoodTogether all block other (bucket_of_row key)
     together block other key home here there = both (stood block key here) (stood other key there)
       where
         in_one : (key ≡ from) ⊎ (key ≡ to) → StandsIn all block from → StandsIn all other from → StoodTogether all block other (bucket_of_row key)

@@ -1,5 +1,30 @@
 -- What an operation changes among a part of the rows that has all of its bucket.
-use Rattle.std.proofs.Common.{◌≡◌, ℕ, ◌==◌, Bool, true, false, not, ◌&&◌, ◌||◌, List, [], ◌∷◌, ◌++◌, map, Option, None, Some, is_some, cond, refl, sym, ◌∙◌, ap, subst}
+use Rattle.std.proofs.Common.{
+  ◌≡◌,
+  ℕ,
+  ◌==◌,
+  Bool,
+  true,
+  false,
+  not,
+  ◌&&◌,
+  ◌||◌,
+  List,
+  [],
+  ◌∷◌,
+  ◌++◌,
+  map,
+  Option,
+  None,
+  Some,
+  is_some,
+  cond,
+  refl,
+  sym,
+  ◌∙◌,
+  ap,
+  subst,
+}
 use mathlib.Core.Bool.{false≢true}
 use Rattle.std.proofs.lemmas.Bool.{eq-eqb}
 use Rattle.std.specs.List.{AllByRecursion, filter, flat_map, list_any}
@@ -37,7 +62,8 @@ one_bucket volume bucket of_volume of_bucket e =
 is_itself : (block : Block) → is_block block block ≡ true
 is_itself block = ap (λ (t : Bool). t && block.local == block.local) (eq-eqb block.container block.container refl) ∙ eq-eqb block.local block.local refl
 
-among_more : (first : Block) (blocks l : List Block) → AllByRecursion (λ (block : Block). list_any (is_block block) blocks ≡ true) l → AllByRecursion (λ (block : Block). list_any (is_block block) (first ∷ blocks) ≡ true) l
+among_more : (first : Block) (blocks l : List Block) → AllByRecursion (λ (block : Block). list_any (is_block block) blocks ≡ true) l
+    → AllByRecursion (λ (block : Block). list_any (is_block block) (first ∷ blocks) ≡ true) l
 among_more first blocks [] among = tt
 among_more first blocks (block ∷ l) among = (by (is_block block first), among_more first blocks l among.1)
   where
@@ -52,7 +78,8 @@ each_among (block ∷ blocks) =
 
 module _ (p : RowKey → Bool) (volume bucket : List ℕ) (has : HasBucket p volume bucket) where
   -- a key of this shape outside the part is of another bucket
-  apart : (shape : List ℕ → List ℕ → RowKey) (of_volume of_bucket : List ℕ) → p (shape volume bucket) ≡ true → p (shape of_volume of_bucket) ≡ false → is_bucket volume bucket of_volume of_bucket ≡ false
+  apart : (shape : List ℕ → List ℕ → RowKey) (of_volume of_bucket : List ℕ) → p (shape volume bucket) ≡ true → p (shape of_volume of_bucket) ≡ false
+      → is_bucket volume bucket of_volume of_bucket ≡ false
   apart shape of_volume of_bucket inside outside = by (is_bucket volume bucket of_volume of_bucket) refl
     where
       by : (t : Bool) → is_bucket volume bucket of_volume of_bucket ≡ t → is_bucket volume bucket of_volume of_bucket ≡ false
@@ -81,7 +108,8 @@ module _ (p : RowKey → Bool) (volume bucket : List ℕ) (has : HasBucket p vol
 
   moved_outside : (all : List RowEntry) (from to : ℕ) (key : RowKey) (row : Row) → p key ≡ false → moved all volume bucket from to key row ≡ []
   moved_outside all from to (keys.Deleted of_volume of_bucket owner key local) row e =
-      ap (λ (t : Bool). cond (t && owner == from) (gone (keys.Deleted volume bucket from key local) ∷ put (keys.Deleted volume bucket to key local) row ∷ []) [])
+      ap (λ (t : Bool). cond (t && owner == from)
+      (gone (keys.Deleted volume bucket from key local) ∷ put (keys.Deleted volume bucket to key local) row ∷ []) [])
       (apart (λ v b. keys.Deleted v b owner key local) of_volume of_bucket (has.deleted owner local key) e)
   moved_outside all from to (keys.Renamed of_volume of_bucket owner local) row e =
       ap (λ (t : Bool). cond (t && owner == from) (gone (keys.Renamed volume bucket from local)
@@ -89,7 +117,8 @@ module _ (p : RowKey → Bool) (volume bucket : List ℕ) (has : HasBucket p vol
       (apart (λ v b. keys.Renamed v b owner local) of_volume of_bucket (has.renamed owner local) e)
   moved_outside all from to key row e = refl
 
-  moved_alike : (all : List RowEntry) (from to : ℕ) (key : RowKey) (row : Row) → moved (part_of p all) volume bucket from to key row ≡ moved all volume bucket from to key row
+  moved_alike : (all : List RowEntry) (from to : ℕ) (key : RowKey) (row : Row)
+      → moved (part_of p all) volume bucket from to key row ≡ moved all volume bucket from to key row
   moved_alike all from to (keys.Renamed of_volume of_bucket owner local) row =
       ap (λ (found : Option Row). cond (is_bucket volume bucket of_volume of_bucket && owner == from) (gone (keys.Renamed volume bucket from local)
       ∷ cond (from == 0 && is_some found) [] (put (keys.Renamed volume bucket to local) row ∷ [])) [])
@@ -108,16 +137,20 @@ module _ (p : RowKey → Bool) (volume bucket : List ℕ) (has : HasBucket p vol
 
   module _ (all : List RowEntry) (rise : KeysRise all) where
     module _ (away : IsApart p (row_of all) (row_of all) volume bucket) where
-      none_outside : (key : List ℕ) (number : ℕ) (blocks : List Block) (block : Block) → row_of all (keys.Open volume bucket key number) ≡ Some (rows.Open blocks) → list_any (is_block block) blocks ≡ true
-          → (l : List RowEntry) → AllByRecursion (λ (x : RowEntry). row_of all x.key ≡ Some x.row) l → AllByRecursion (λ (x : RowEntry). p x.key ≡ false → has_block block x.key x.row ≡ false) l
+      none_outside : (key : List ℕ) (number : ℕ) (blocks : List Block) (block : Block)
+          → row_of all (keys.Open volume bucket key number) ≡ Some (rows.Open blocks) → list_any (is_block block) blocks ≡ true
+          → (l : List RowEntry) → AllByRecursion (λ (x : RowEntry). row_of all x.key ≡ Some x.row) l
+          → AllByRecursion (λ (x : RowEntry). p x.key ≡ false → has_block block x.key x.row ≡ false) l
       none_outside key number blocks block stands among [] found = tt
       none_outside key number blocks block stands among (x ∷ l) found =
           (λ e. away key number blocks block x.key x.row stands among e found.0, none_outside key number blocks block stands among l found.1)
 
-      in_a_key_alike : (key : List ℕ) (number : ℕ) (blocks : List Block) (block : Block) → row_of all (keys.Open volume bucket key number) ≡ Some (rows.Open blocks) → list_any (is_block block) blocks ≡ true
+      in_a_key_alike : (key : List ℕ) (number : ℕ) (blocks : List Block) (block : Block)
+          → row_of all (keys.Open volume bucket key number) ≡ Some (rows.Open blocks) → list_any (is_block block) blocks ≡ true
           → is_in_a_key (part_of p all) block ≡ is_in_a_key all block
       in_a_key_alike key number blocks block stands among =
-          any_of_part p (λ (entry : RowEntry). has_block block entry.key entry.row) all (none_outside key number blocks block stands among all (each_found all rise))
+          any_of_part p (λ (entry : RowEntry). has_block block entry.key entry.row) all
+          (none_outside key number blocks block stands among all (each_found all rise))
 
       unfreed_alike : (key : List ℕ) (number : ℕ) (blocks : List Block) → row_of all (keys.Open volume bucket key number) ≡ Some (rows.Open blocks)
           → (l : List Block) → AllByRecursion (λ (block : Block). list_any (is_block block) blocks ≡ true) l
@@ -125,7 +158,8 @@ module _ (p : RowKey → Bool) (volume bucket : List ℕ) (has : HasBucket p vol
       unfreed_alike key number blocks stands [] among = refl
       unfreed_alike key number blocks stands (block ∷ l) among =
           let rest = unfreed_alike key number blocks stands l among.1 in
-          ap (λ (t : Bool). cond (not t) (block ∷ filter (λ block. not (is_in_a_key (part_of p all) block)) l) (filter (λ block. not (is_in_a_key (part_of p all) block)) l)) (in_a_key_alike key number blocks block stands among.0)
+          ap (λ (t : Bool). cond (not t) (block ∷ filter (λ block. not (is_in_a_key (part_of p all) block)) l)
+          (filter (λ block. not (is_in_a_key (part_of p all) block)) l)) (in_a_key_alike key number blocks block stands among.0)
           ∙ ap (λ (later : List Block). cond (not (is_in_a_key all block)) (block ∷ later) later) rest
 
       freed_alike : (key : RowKey) (row : Row) → row_of all key ≡ Some row → freed (part_of p all) volume bucket key row ≡ freed all volume bucket key row
@@ -133,13 +167,15 @@ module _ (p : RowKey → Bool) (volume bucket : List ℕ) (has : HasBucket p vol
       freed_alike (keys.Open of_volume of_bucket key number) (rows.Open blocks) stands = by (is_bucket volume bucket of_volume of_bucket) refl
         where
           by : (t : Bool) → is_bucket volume bucket of_volume of_bucket ≡ t
-              → freed (part_of p all) volume bucket (keys.Open of_volume of_bucket key number) (rows.Open blocks) ≡ freed all volume bucket (keys.Open of_volume of_bucket key number) (rows.Open blocks)
+              → freed (part_of p all) volume bucket (keys.Open of_volume of_bucket key number) (rows.Open blocks)
+              ≡ freed all volume bucket (keys.Open of_volume of_bucket key number) (rows.Open blocks)
           by false e =
               ap (λ (t : Bool). freed_by key t (filter (λ block. not (is_in_a_key (part_of p all) block)) blocks)) e
               ∙ sym (ap (λ (t : Bool). freed_by key t (filter (λ block. not (is_in_a_key all block)) blocks)) e)
           by true e =
               let same = one_bucket volume bucket of_volume of_bucket e in
-              let here = subst (λ v. row_of all (keys.Open v bucket key number) ≡ Some (rows.Open blocks)) (sym same.0) (subst (λ b. row_of all (keys.Open of_volume b key number) ≡ Some (rows.Open blocks)) (sym same.1) stands) in
+              let here = subst (λ v. row_of all (keys.Open v bucket key number) ≡ Some (rows.Open blocks)) (sym same.0)
+              (subst (λ b. row_of all (keys.Open of_volume b key number) ≡ Some (rows.Open blocks)) (sym same.1) stands) in
               ap (freed_by key (is_bucket volume bucket of_volume of_bucket)) (unfreed_alike key number blocks here blocks (each_among blocks))
       freed_alike key row stands = refl
 
@@ -153,15 +189,18 @@ module _ (p : RowKey → Bool) (volume bucket : List ℕ) (has : HasBucket p vol
           let shut = mapped p (λ (entry : RowEntry). closed volume bucket entry.key) (λ x e. closed_outside x.key e) all in
           let free =
           mapped p (λ (entry : RowEntry). freed (part_of p all) volume bucket entry.key entry.row) (λ x e. freed_outside (part_of p all) x.key x.row e) all
-          ∙ mapped_alike (λ (entry : RowEntry). freed (part_of p all) volume bucket entry.key entry.row) (λ (entry : RowEntry). freed all volume bucket entry.key entry.row) all (each_freed_alike all (each_found all rise)) in
+          ∙ mapped_alike (λ (entry : RowEntry). freed (part_of p all) volume bucket entry.key entry.row)
+          (λ (entry : RowEntry). freed all volume bucket entry.key entry.row) all (each_freed_alike all (each_found all rise)) in
           ap (λ (first : List Change). first ++ flat_map (λ (entry : RowEntry). freed (part_of p all) volume bucket entry.key entry.row) (part_of p all)) shut
           ∙ ap (λ (rest : List Change). flat_map (λ (entry : RowEntry). closed volume bucket entry.key) all ++ rest) free
 
   -- the others look at no key row
-  pub keys_copy_alike : (all : List RowEntry) (number : ℕ) → operation_changes (part_of p all) (CopyKeys volume bucket number) ≡ operation_changes all (CopyKeys volume bucket number)
+  pub keys_copy_alike : (all : List RowEntry) (number : ℕ)
+      → operation_changes (part_of p all) (CopyKeys volume bucket number) ≡ operation_changes all (CopyKeys volume bucket number)
   keys_copy_alike all number = mapped p (λ (entry : RowEntry). copied volume bucket number entry.key entry.row) (λ x e. copied_outside number x.key x.row e) all
 
-  pub keys_drop_alike : (all : List RowEntry) (number : ℕ) → operation_changes (part_of p all) (DropKeys volume bucket number) ≡ operation_changes all (DropKeys volume bucket number)
+  pub keys_drop_alike : (all : List RowEntry) (number : ℕ)
+      → operation_changes (part_of p all) (DropKeys volume bucket number) ≡ operation_changes all (DropKeys volume bucket number)
   keys_drop_alike all number = mapped p (λ (entry : RowEntry). dropped volume bucket number entry.key) (λ x e. dropped_outside number x.key e) all
 
   each_moved_alike : (all : List RowEntry) (from to : ℕ) (l : List RowEntry)
@@ -169,9 +208,12 @@ module _ (p : RowKey → Bool) (volume bucket : List ℕ) (has : HasBucket p vol
   each_moved_alike all from to [] = tt
   each_moved_alike all from to (x ∷ l) = (moved_alike all from to x.key x.row, each_moved_alike all from to l)
 
-  pub rows_move_alike : (all : List RowEntry) (from to : ℕ) → operation_changes (part_of p all) (MoveDeleted volume bucket from to) ≡ operation_changes all (MoveDeleted volume bucket from to)
+  pub rows_move_alike : (all : List RowEntry) (from to : ℕ)
+      → operation_changes (part_of p all) (MoveDeleted volume bucket from to) ≡ operation_changes all (MoveDeleted volume bucket from to)
   rows_move_alike all from to =
       let same =
-      mapped p (λ (entry : RowEntry). moved (part_of p all) volume bucket from to entry.key entry.row) (λ x e. moved_outside (part_of p all) from to x.key x.row e) all
-      ∙ mapped_alike (λ (entry : RowEntry). moved (part_of p all) volume bucket from to entry.key entry.row) (λ (entry : RowEntry). moved all volume bucket from to entry.key entry.row) all (each_moved_alike all from to all) in
+      mapped p (λ (entry : RowEntry). moved (part_of p all) volume bucket from to entry.key entry.row)
+      (λ x e. moved_outside (part_of p all) from to x.key x.row e) all
+      ∙ mapped_alike (λ (entry : RowEntry). moved (part_of p all) volume bucket from to entry.key entry.row)
+      (λ (entry : RowEntry). moved all volume bucket from to entry.key entry.row) all (each_moved_alike all from to all) in
       ap (λ (changes : List Change). cond (from == to) [] changes) same

@@ -1,5 +1,30 @@
 -- Operations of a stripe lead the rows of the store where they lead the stripe's.
-use Rattle.std.proofs.Common.{◌≡◌, ℕ, ◌==◌, Bool, true, false, not, ◌&&◌, List, [], ◌∷◌, ◌++◌, map, Option, None, Some, IsSome, is_some, cond, refl, sym, ◌∙◌, ap, subst}
+use Rattle.std.proofs.Common.{
+  ◌≡◌,
+  ℕ,
+  ◌==◌,
+  Bool,
+  true,
+  false,
+  not,
+  ◌&&◌,
+  List,
+  [],
+  ◌∷◌,
+  ◌++◌,
+  map,
+  Option,
+  None,
+  Some,
+  IsSome,
+  is_some,
+  cond,
+  refl,
+  sym,
+  ◌∙◌,
+  ap,
+  subst,
+}
 use mathlib.Core.Bool.{false≢true}
 use Rattle.std.proofs.lemmas.Bool.{eq-eqb}
 use Rattle.std.proofs.lemmas.List.Concat.{flat_map-cons}
@@ -64,7 +89,8 @@ module _ (stripe : ℕ) where
     copies_own number key row = tt
 
     drops_own : (number : ℕ) (key : RowKey) → AllByRecursion IsOwn (dropped volume bucket number key)
-    drops_own number (keys.SnapshotKey of_volume of_bucket snapshot key) = where_so IsOwn (is_bucket volume bucket of_volume of_bucket && snapshot == number) _ (own, tt)
+    drops_own number (keys.SnapshotKey of_volume of_bucket snapshot key) =
+        where_so IsOwn (is_bucket volume bucket of_volume of_bucket && snapshot == number) _ (own, tt)
     drops_own number key = tt
 
     closes_own : (key : RowKey) → AllByRecursion IsOwn (closed volume bucket key)
@@ -74,7 +100,8 @@ module _ (stripe : ℕ) where
     frees_own : (all : List RowEntry) (key : RowKey) (row : Row) → AllByRecursion IsOwn (freed all volume bucket key row)
     frees_own all (keys.Open of_volume of_bucket key number) (rows.Open blocks) =
         where_so IsOwn (is_bucket volume bucket of_volume of_bucket) _
-        (each_made IsOwn (λ (block : Block). put (keys.Deleted volume bucket 0 key block.local) (rows.Deleted (block ∷ []))) (λ block. own) (filter (λ block. not (is_in_a_key all block)) blocks))
+        (each_made IsOwn (λ (block : Block). put (keys.Deleted volume bucket 0 key block.local) (rows.Deleted (block ∷ []))) (λ block. own)
+        (filter (λ block. not (is_in_a_key all block)) blocks))
     frees_own all key row = tt
 
     renamed_own : (t : Bool) (to local : ℕ) (row : Row) → AllByRecursion IsOwn (cond t [] (put (keys.Renamed volume bucket to local) row ∷ []))
@@ -82,7 +109,8 @@ module _ (stripe : ℕ) where
     renamed_own false to local row = (own, tt)
 
     moves_own : (all : List RowEntry) (from to : ℕ) (key : RowKey) (row : Row) → AllByRecursion IsOwn (moved all volume bucket from to key row)
-    moves_own all from to (keys.Deleted of_volume of_bucket owner key local) row = where_so IsOwn (is_bucket volume bucket of_volume of_bucket && owner == from) _ (own, (own, tt))
+    moves_own all from to (keys.Deleted of_volume of_bucket owner key local) row =
+        where_so IsOwn (is_bucket volume bucket of_volume of_bucket && owner == from) _ (own, (own, tt))
     moves_own all from to (keys.Renamed of_volume of_bucket owner local) row =
         where_so IsOwn (is_bucket volume bucket of_volume of_bucket && owner == from) _
         (own, renamed_own (from == 0 && is_some (row_of all (keys.Renamed volume bucket to local))) to local row)
@@ -91,20 +119,25 @@ module _ (stripe : ℕ) where
   changes_own : (all : List RowEntry) (operation : Operation) → stripe_of_operation operation ≡ stripe → AllByRecursion IsOwn (operation_changes all operation)
   changes_own all (Put key row) own = (own, tt)
   changes_own all (Remove key) own = (own, tt)
-  changes_own all (CopyKeys volume bucket number) own = each_of IsOwn (λ (entry : RowEntry). copied volume bucket number entry.key entry.row) (λ x. copies_own volume bucket own number x.key x.row) all
+  changes_own all (CopyKeys volume bucket number) own =
+      each_of IsOwn (λ (entry : RowEntry). copied volume bucket number entry.key entry.row) (λ x. copies_own volume bucket own number x.key x.row) all
   changes_own all (MoveDeleted volume bucket from to) own = by (from == to)
     where
       by : (t : Bool) → AllByRecursion IsOwn (cond t [] (flat_map (λ (entry : RowEntry). moved all volume bucket from to entry.key entry.row) all))
       by true = tt
-      by false = each_of IsOwn (λ (entry : RowEntry). moved all volume bucket from to entry.key entry.row) (λ x. moves_own volume bucket own all from to x.key x.row) all
-  changes_own all (DropKeys volume bucket number) own = each_of IsOwn (λ (entry : RowEntry). dropped volume bucket number entry.key) (λ x. drops_own volume bucket own number x.key) all
+      by false = each_of IsOwn (λ (entry : RowEntry). moved all volume bucket from to entry.key entry.row)
+          (λ x. moves_own volume bucket own all from to x.key x.row) all
+  changes_own all (DropKeys volume bucket number) own =
+      each_of IsOwn (λ (entry : RowEntry). dropped volume bucket number entry.key) (λ x. drops_own volume bucket own number x.key) all
   changes_own all (DropOpen volume bucket) own =
-      both IsOwn (flat_map (λ (entry : RowEntry). closed volume bucket entry.key) all) (flat_map (λ (entry : RowEntry). freed all volume bucket entry.key entry.row) all)
+      both IsOwn (flat_map (λ (entry : RowEntry). closed volume bucket entry.key) all)
+      (flat_map (λ (entry : RowEntry). freed all volume bucket entry.key entry.row) all)
       (each_of IsOwn (λ (entry : RowEntry). closed volume bucket entry.key) (λ x. closes_own volume bucket own x.key) all)
       (each_of IsOwn (λ (entry : RowEntry). freed all volume bucket entry.key entry.row) (λ x. frees_own volume bucket own all x.key x.row) all)
 
   -- other rows stay
-  rows_stay : (changes : List Change) → AllByRecursion IsOwn changes → (q : RowKey) → is_own stripe q ≡ false → (row : Option Row) → row_after changes q row ≡ row
+  rows_stay : (changes : List Change) → AllByRecursion IsOwn changes → (q : RowKey) → is_own stripe q ≡ false → (row : Option Row)
+      → row_after changes q row ≡ row
   rows_stay [] all q outside row = refl
   rows_stay (change ∷ changes) all q outside row = ap (row_after changes q) (by (is_same change.key q) refl) ∙ rows_stay changes all.1 q outside row
     where
@@ -125,9 +158,11 @@ module _ (stripe : ℕ) where
     changes_alike (CopyKeys volume bucket number) own apart = keys_copy_alike (is_own stripe) volume bucket (has_bucket volume bucket own) all number
     changes_alike (MoveDeleted volume bucket from to) own apart = rows_move_alike (is_own stripe) volume bucket (has_bucket volume bucket own) all from to
     changes_alike (DropKeys volume bucket number) own apart = keys_drop_alike (is_own stripe) volume bucket (has_bucket volume bucket own) all number
-    changes_alike (DropOpen volume bucket) own apart = sessions_drop_alike (is_own stripe) volume bucket (has_bucket volume bucket own) all rise (apart volume bucket refl)
+    changes_alike (DropOpen volume bucket) own apart =
+        sessions_drop_alike (is_own stripe) volume bucket (has_bucket volume bucket own) all rise (apart volume bucket refl)
 
-    possible_alike : (operation : Operation) → stripe_of_operation operation ≡ stripe → IsPossible (part_of (is_own stripe) all) operation → IsPossible all operation
+    possible_alike : (operation : Operation) → stripe_of_operation operation ≡ stripe → IsPossible (part_of (is_own stripe) all) operation
+        → IsPossible all operation
     possible_alike (Remove key) own possible = subst IsSome (in_part (is_own stripe) all key (eq-eqb (stripe_of_key key) stripe own)) possible
     possible_alike operation own possible = tt
 
@@ -137,7 +172,8 @@ module _ (stripe : ℕ) where
         → Becomes (part_of (is_own stripe) all) (operation_changes (part_of (is_own stripe) all) operation) between
         → Becomes all (operation_changes all operation) whole → between ≡ part_of (is_own stripe) whole
     left_alike operation between whole own same to_part to_whole =
-        one_list between (part_of (is_own stripe) whole) to_part.in_order (part_rises (is_own stripe) whole to_whole.in_order) (λ q. by q (is_own stripe q) refl)
+        one_list between (part_of (is_own stripe) whole) to_part.in_order (part_rises (is_own stripe) whole to_whole.in_order)
+        (λ q. by q (is_own stripe q) refl)
       where
         by : (q : RowKey) (t : Bool) → is_own stripe q ≡ t → row_of between q ≡ row_of (part_of (is_own stripe) whole) q
         by q true e =
@@ -145,12 +181,15 @@ module _ (stripe : ℕ) where
             ∙ ap (row_after (operation_changes all operation) q) (in_part (is_own stripe) all q e)
             ∙ sym (to_whole.rows q) ∙ sym (in_part (is_own stripe) whole q e)
         by q false e =
-            to_part.rows q ∙ rows_stay (operation_changes (part_of (is_own stripe) all) operation) (changes_own (part_of (is_own stripe) all) operation own) q e (row_of (part_of (is_own stripe) all) q)
+            to_part.rows q ∙ rows_stay (operation_changes (part_of (is_own stripe) all) operation)
+            (changes_own (part_of (is_own stripe) all) operation own) q e (row_of (part_of (is_own stripe) all) q)
             ∙ out_of_part (is_own stripe) all q e ∙ sym (out_of_part (is_own stripe) whole q e)
 
-    outside_alike : (operation : Operation) (whole : List RowEntry) → stripe_of_operation operation ≡ stripe → Becomes all (operation_changes all operation) whole
+    outside_alike : (operation : Operation) (whole : List RowEntry) → stripe_of_operation operation ≡ stripe
+        → Becomes all (operation_changes all operation) whole
         → (q : RowKey) → is_own stripe q ≡ false → row_of whole q ≡ row_of all q
-    outside_alike operation whole own to_whole q e = to_whole.rows q ∙ rows_stay (operation_changes all operation) (changes_own all operation own) q e (row_of all q)
+    outside_alike operation whole own to_whole q e = to_whole.rows q
+        ∙ rows_stay (operation_changes all operation) (changes_own all operation own) q e (row_of all q)
 
   -- ---- operations one after another
 
@@ -172,7 +211,8 @@ module _ (stripe : ℕ) where
         → IsApart (is_own stripe) (row_of (part_of (is_own stripe) all)) others volume bucket → IsApart (is_own stripe) (row_of all) (row_of all) volume bucket
     within all outside volume bucket {operation} own e apart = λ key number blocks block other row stands among away has.
         let inside = eq-eqb (stripe_of volume) stripe (ap stripe_of_operation (sym e) ∙ own) in
-        apart key number blocks block other row (in_part (is_own stripe) all (keys.Open volume bucket key number) inside ∙ stands) among away (sym (outside other away) ∙ has)
+        apart key number blocks block other row (in_part (is_own stripe) all (keys.Open volume bucket key number) inside ∙ stands) among away
+        (sym (outside other away) ∙ has)
 
     lead_whole : (items : List Operation) (all after : List RowEntry) → KeysRise all → ((q : RowKey) → is_own stripe q ≡ false → row_of all q ≡ others q)
         → AreOf stripe items → AreApart others (part_of (is_own stripe) all) items → Leads (part_of (is_own stripe) all) items after → Whole all items after
@@ -186,7 +226,8 @@ module _ (stripe : ℕ) where
         let left = left_alike all rise operation leads.0 made.0 own.0 same leads.2 made.1 in
         let stays = outside_alike all rise operation made.0 own.0 made.1 in
         let rest = lead_whole items made.0 after made.1.in_order (λ q e. stays q e ∙ outside q e) own.1
-        (λ earlier later volume bucket between parts to. apart (operation ∷ earlier) later volume bucket between (ap (λ (l : List Operation). operation ∷ l) parts)
+        (λ earlier later volume bucket between parts to. apart (operation ∷ earlier) later volume bucket between
+        (ap (λ (l : List Operation). operation ∷ l) parts)
         (leads.0, leads.1, leads.2, subst (λ (l : List RowEntry). Leads l earlier between) (sym left) to))
         (subst (λ (l : List RowEntry). Leads l items after) left leads.3) in
         record {
@@ -230,7 +271,8 @@ module _ (stripe : ℕ) where
       })
       by false e = none_there orphan.row (sym orphan.stands ∙ out_of_part (is_own stripe) all key e)
 
-  whole_based : (all whole : List RowEntry) → ((q : RowKey) → is_own stripe q ≡ false → row_of whole q ≡ row_of all q) → AllAreBased all → AllAreBased (part_of (is_own stripe) whole) → AllAreBased whole
+  whole_based : (all whole : List RowEntry) → ((q : RowKey) → is_own stripe q ≡ false → row_of whole q ≡ row_of all q) → AllAreBased all
+      → AllAreBased (part_of (is_own stripe) whole) → AllAreBased whole
   whole_based all whole outside based part key base orphan = by (is_own stripe key) refl
     where
       by : (t : Bool) → is_own stripe key ≡ t → ⊥
@@ -254,10 +296,12 @@ module _ (stripe : ℕ) where
   }
 
   whole_comes : (rows : Rows) (items : List Operation) (changes : List Change) (all : List RowEntry) → AreRows all rows → AllAreBased all
-      → AreOf stripe items → ChangeOnly stripe changes → AllApart stripe rows items → ComesTo (part_of (is_own stripe) all) items changes → ComesTo all items changes
+      → AreOf stripe items → ChangeOnly stripe changes → AllApart stripe rows items → ComesTo (part_of (is_own stripe) all) items changes
+      → ComesTo all items changes
   whole_comes rows items changes all are based own only_own apart comes =
       let whole = lead_whole rows items all comes.after are.in_order (λ q e. are.rows_are q) own
-      (λ earlier later volume bucket between parts to. apart earlier later volume bucket (part_of (is_own stripe) all) between parts (part_are rows all are) to) comes.leads in
+      (λ earlier later volume bucket between parts to. apart earlier later volume bucket (part_of (is_own stripe) all) between parts
+      (part_are rows all are) to) comes.leads in
       record {
         after = whole.whole;
         leads = whole.leads;

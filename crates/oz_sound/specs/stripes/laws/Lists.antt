@@ -30,7 +30,8 @@ none_behind x l key rise same = by (row_of l key) refl
         let below = found_over x.key key l rise.0 (subst IsSome (sym e) refl) in
         absurd (false≢true (sym (ap is_eq below) ∙ same))
 
-one_first : (x y : RowEntry) (a b : List RowEntry) → KeysRise (x ∷ a) → KeysRise (y ∷ b) → ((key : RowKey) → row_of (x ∷ a) key ≡ row_of (y ∷ b) key) → x.key ≡ y.key
+one_first : (x y : RowEntry) (a b : List RowEntry) → KeysRise (x ∷ a) → KeysRise (y ∷ b) → ((key : RowKey) → row_of (x ∷ a) key ≡ row_of (y ∷ b) key)
+    → x.key ≡ y.key
 one_first x y a b rise_a rise_b same = by (key_order x.key y.key) refl
   where
     y_not_above : is_gt (key_order y.key x.key) ≡ false
@@ -61,15 +62,18 @@ one_list (x ∷ a) [] rise_a rise_b same = let clash : None ≡ Some x.row = sym
 one_list (x ∷ a) (y ∷ b) rise_a rise_b same =
     let key = one_first x y a b rise_a rise_b same in
     let row = one_row x.row y.row (sym (found_first x a) ∙ same x.key ∙ ap (row_of (y ∷ b)) key ∙ found_first y b) in
-    ap (λ (first : RowEntry). first ∷ a) (one_entry x y key row) ∙ ap (λ (rest : List RowEntry). y ∷ rest) (one_list a b rise_a.1 rise_b.1 (λ other. behind key other (is_same x.key other) refl))
+    ap (λ (first : RowEntry). first ∷ a) (one_entry x y key row)
+    ∙ ap (λ (rest : List RowEntry). y ∷ rest) (one_list a b rise_a.1 rise_b.1 (λ other. behind key other (is_same x.key other) refl))
   where
     behind : x.key ≡ y.key → (other : RowKey) (t : Bool) → is_same x.key other ≡ t → row_of a other ≡ row_of b other
     behind key other true e = none_behind x a other rise_a e ∙ sym (none_behind y b other rise_b (ap (λ (key : RowKey). is_same key other) (sym key) ∙ e))
     behind key other false e =
-        sym (ap (λ (t : Bool). cond t (Some x.row) (row_of a other)) e) ∙ same other ∙ ap (λ (t : Bool). cond t (Some y.row) (row_of b other)) (ap (λ (key : RowKey). is_same key other) (sym key) ∙ e)
+        sym (ap (λ (t : Bool). cond t (Some x.row) (row_of a other)) e) ∙ same other
+        ∙ ap (λ (t : Bool). cond t (Some y.row) (row_of b other)) (ap (λ (key : RowKey). is_same key other) (sym key) ∙ e)
 
 -- each row is found under its key
-has_rows : (first : RowEntry) (l rest : List RowEntry) → AllByRecursion (λ other. IsBelow first.key other.key) rest → AllByRecursion (λ (x : RowEntry). row_of l x.key ≡ Some x.row) rest → AllByRecursion (λ (x : RowEntry). row_of (first ∷ l) x.key ≡ Some x.row) rest
+has_rows : (first : RowEntry) (l rest : List RowEntry) → AllByRecursion (λ other. IsBelow first.key other.key) rest
+    → AllByRecursion (λ (x : RowEntry). row_of l x.key ≡ Some x.row) rest → AllByRecursion (λ (x : RowEntry). row_of (first ∷ l) x.key ≡ Some x.row) rest
 has_rows first l [] below found = tt
 has_rows first l (x ∷ rest) below found =
     (ap (λ (t : Bool). cond t (Some first.row) (row_of l x.key)) (ap is_eq below.0) ∙ found.0, has_rows first l rest below.1 found.1)
@@ -120,7 +124,8 @@ module _ (p : RowKey → Bool) where
       passed : (m : List RowEntry) → is_same x.key q ≡ false → row_of (x ∷ m) q ≡ row_of m q
       passed m other = ap (λ (t : Bool). cond t (Some x.row) (row_of m q)) other
 
-      by : (t : Bool) → p x.key ≡ t → (s : Bool) → is_same x.key q ≡ s → row_of (part_of p l) q ≡ cond (p q) (row_of l q) None → row_of (part_of p (x ∷ l)) q ≡ cond (p q) (row_of (x ∷ l) q) None
+      by : (t : Bool) → p x.key ≡ t → (s : Bool) → is_same x.key q ≡ s → row_of (part_of p l) q ≡ cond (p q) (row_of l q) None
+          → row_of (part_of p (x ∷ l)) q ≡ cond (p q) (row_of (x ∷ l) q) None
       by true e true same rest =
           ap (λ (m : List RowEntry). row_of m q) (taken x l e) ∙ found (part_of p l) same ∙ sym (found l same)
           ∙ sym (ap (λ (t : Bool). cond t (row_of (x ∷ l) q) None) (ap p (sym (same_is_one x.key q same)) ∙ e))
@@ -141,7 +146,8 @@ module _ (p : RowKey → Bool) where
   out_of_part l q e = row_of_part l q ∙ ap (λ (t : Bool). cond t (row_of l q) None) e
 
   -- what the others give nothing to
-  pub mapped : {A : Type 0} (f : RowEntry → List A) → ((x : RowEntry) → p x.key ≡ false → f x ≡ []) → (l : List RowEntry) → flat_map f (part_of p l) ≡ flat_map f l
+  pub mapped : {A : Type 0} (f : RowEntry → List A) → ((x : RowEntry) → p x.key ≡ false → f x ≡ []) → (l : List RowEntry)
+      → flat_map f (part_of p l) ≡ flat_map f l
   mapped f none [] = refl
   mapped {A} f none (x ∷ l) = by (p x.key) refl (mapped f none l)
     where
@@ -150,7 +156,8 @@ module _ (p : RowKey → Bool) where
       by false e rest = ap (flat_map f) (left_out x l e) ∙ rest ∙ sym (flat_map-cons f x l ∙ ap (λ (first : List A). first ++ flat_map f l) (none x e))
 
   -- and what none of them has
-  pub any_of_part : (f : RowEntry → Bool) (l : List RowEntry) → AllByRecursion (λ (x : RowEntry). p x.key ≡ false → f x ≡ false) l → list_any f (part_of p l) ≡ list_any f l
+  pub any_of_part : (f : RowEntry → Bool) (l : List RowEntry) → AllByRecursion (λ (x : RowEntry). p x.key ≡ false → f x ≡ false) l
+      → list_any f (part_of p l) ≡ list_any f l
   any_of_part f [] none = refl
   any_of_part f (x ∷ l) none = by (p x.key) refl (any_of_part f l none.1)
     where
@@ -161,4 +168,5 @@ module _ (p : RowKey → Bool) where
 pub mapped_alike : {A : Type 0} (f g : RowEntry → List A) (l : List RowEntry) → AllByRecursion (λ (x : RowEntry). f x ≡ g x) l → flat_map f l ≡ flat_map g l
 mapped_alike f g [] same = refl
 mapped_alike {A} f g (x ∷ l) same =
-    flat_map-cons f x l ∙ ap (λ (first : List A). first ++ flat_map f l) same.0 ∙ ap (λ (rest : List A). g x ++ rest) (mapped_alike f g l same.1) ∙ sym (flat_map-cons g x l)
+    flat_map-cons f x l ∙ ap (λ (first : List A). first ++ flat_map f l) same.0 ∙ ap (λ (rest : List A). g x ++ rest) (mapped_alike f g l same.1)
+    ∙ sym (flat_map-cons g x l)

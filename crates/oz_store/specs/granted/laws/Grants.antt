@@ -40,7 +40,8 @@ pub grant_of : (story : List Event) (stripe : ℕ) (block : Block) (pipeline : �
 grant_of story stripe block pipeline of = record { seat = of.seat; there = found_grant story stripe block pipeline of }
 
 -- it stands in a longer story too
-pub of_longer : (before more : List Event) (stripe : ℕ) (block : Block) (pipeline : ℕ) → IsOfGrant before stripe block pipeline → IsOfGrant (before ++ more) stripe block pipeline
+pub of_longer : (before more : List Event) (stripe : ℕ) (block : Block) (pipeline : ℕ) → IsOfGrant before stripe block pipeline
+    → IsOfGrant (before ++ more) stripe block pipeline
 of_longer before more stripe block pipeline of = record {
   seat = of.seat;
   first = of.first;
@@ -51,13 +52,15 @@ of_longer before more stripe block pipeline of = record {
   local = of.local;
 }
 
-pub of_taken : (story : List Event) (n stripe : ℕ) (block : Block) (pipeline : ℕ) → IsOfGrant (take n story) stripe block pipeline → IsOfGrant story stripe block pipeline
+pub of_taken : (story : List Event) (n stripe : ℕ) (block : Block) (pipeline : ℕ) → IsOfGrant (take n story) stripe block pipeline
+    → IsOfGrant story stripe block pipeline
 of_taken story n stripe block pipeline of =
     subst (λ (l : List Event). IsOfGrant l stripe block pipeline) (take-append-drop n story) (of_longer (take n story) (drop n story) stripe block pipeline of)
 
 -- ---- its ids
 
-module _ (opening : Opening) (story : List Event) (legal : IsLegal opening story) (place stripe container pipeline first count : ℕ) (grant : IsGrantAt story place stripe container pipeline first count) where
+module _ (opening : Opening) (story : List Event) (legal : IsLegal opening story) (place stripe container pipeline first count : ℕ)
+    (grant : IsGrantAt story place stripe container pipeline first count) where
   pub enabled_there : GrantIsEnabled opening (take place story) grant.seat stripe container pipeline first count
   enabled_there = enabled_at opening story legal place (event_of grant.seat stripe container pipeline first count) grant.there
 
@@ -73,7 +76,8 @@ module _ (opening : Opening) (story : List Event) (legal : IsLegal opening story
   grant_below = ends_below opening story legal place grant.seat stripe container pipeline first count grant.there
 
 -- a later Grant begins no lower
-pub grants_in_order : (opening : Opening) (story : List Event) (legal : IsLegal opening story) (place stripe container pipeline first count later other with beside from many : ℕ) → place < later
+pub grants_in_order : (opening : Opening) (story : List Event) (legal : IsLegal opening story)
+    (place stripe container pipeline first count later other with beside from many : ℕ) → place < later
     → IsGrantAt story place stripe container pipeline first count → IsGrantAt story later other with beside from many → first + count ≤ from
 grants_in_order opening story legal place stripe container pipeline first count later other with beside from many lt grant behind =
     let front = front_legal opening story legal later in
@@ -84,7 +88,8 @@ grants_in_order opening story legal place stripe container pipeline first count 
 
 -- ---- and those of its blocks
 
-module _ (opening : Opening) (story : List Event) (legal : IsLegal opening story) (stripe : ℕ) (block : Block) (pipeline : ℕ) (of : IsOfGrant story stripe block pipeline) where
+module _ (opening : Opening) (story : List Event) (legal : IsLegal opening story) (stripe : ℕ) (block : Block) (pipeline : ℕ)
+    (of : IsOfGrant story stripe block pipeline) where
   pub local_from : opening.next_id ≤ block.local
   local_from =
       let from = grant_from opening story legal of.there.0 stripe block.container pipeline of.first of.count (grant_of story stripe block pipeline of) in
@@ -108,7 +113,8 @@ later_above opening front more stripe pipeline other beside block twin legal of 
     let rest = drop (suc behind.there.0) more in
     let legal_more = legal_behind opening [] front more legal in
     let parts = subst (IsLegalFrom opening front) (split_at more behind.there.0 event (found_at more event behind.there)) legal_more in
-    let enabled : GrantIsEnabled opening (front ++ before) behind.seat other twin.container beside behind.first behind.count = legal_first opening (front ++ before) event rest (legal_behind opening front before (event ∷ rest) parts) in
+    let enabled : GrantIsEnabled opening (front ++ before) behind.seat other twin.container beside behind.first behind.count =
+    legal_first opening (front ++ before) event rest (legal_behind opening front before (event ∷ rest) parts) in
     let rises = ids_rise opening before front (legal_to opening front before (event ∷ rest) parts) in
     let below = local_below opening front (legal_to opening [] front more legal) stripe block pipeline of in
     omega (arith, below, rises, enabled.next, behind.local)
@@ -135,15 +141,18 @@ pipeline_in kind = 0
 some_event : (a b : Event) → Some a ≡ Some b → a ≡ b
 some_event a b e = cc
 
-module _ (opening : Opening) (story : List Event) (legal : IsLegal opening story) (stripe pipeline other beside : ℕ) (block twin : Block) (of : IsOfGrant story stripe block pipeline) (also : IsOfGrant story other twin beside) (same : block.local ≡ twin.local) where
+module _ (opening : Opening) (story : List Event) (legal : IsLegal opening story) (stripe pipeline other beside : ℕ) (block twin : Block)
+    (of : IsOfGrant story stripe block pipeline) (also : IsOfGrant story other twin beside) (same : block.local ≡ twin.local) where
   one_place : of.there.0 ≡ also.there.0
   one_place = ⊎_elim
       (λ lt.
-      let order = grants_in_order opening story legal of.there.0 stripe block.container pipeline of.first of.count also.there.0 other twin.container beside also.first also.count lt (grant_of story stripe block pipeline of) (grant_of story other twin beside also) in
+      let order = grants_in_order opening story legal of.there.0 stripe block.container pipeline of.first of.count also.there.0 other twin.container beside
+      also.first also.count lt (grant_of story stripe block pipeline of) (grant_of story other twin beside also) in
       absurd (omega (arith, order, of.local, of.within, also.local, same)))
       (λ le. ⊎_elim
       (λ lt.
-      let order = grants_in_order opening story legal also.there.0 other twin.container beside also.first also.count of.there.0 stripe block.container pipeline of.first of.count lt (grant_of story other twin beside also) (grant_of story stripe block pipeline of) in
+      let order = grants_in_order opening story legal also.there.0 other twin.container beside also.first also.count of.there.0 stripe block.container
+      pipeline of.first of.count lt (grant_of story other twin beside also) (grant_of story stripe block pipeline of) in
       absurd (omega (arith, order, also.local, also.within, of.local, same)))
       (λ more. omega (arith, le, more))
       (cases_lt also.there.0 of.there.0))

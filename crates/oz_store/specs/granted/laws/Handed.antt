@@ -41,7 +41,8 @@ of_filtered : {A : Type 0} (p : A → Bool) (l : List A) (x : A) → Contains (f
 of_filtered p [] x among = absurd (in_none x among)
 of_filtered {A} p (first ∷ l) x among = by (p first) refl among (of_filtered p l x)
   where
-    by : (t : Bool) → p first ≡ t → Contains (cond t (first ∷ filter p l) (filter p l)) x → (Contains (filter p l) x → Contains l x × (p x ≡ true)) → Contains (first ∷ l) x × (p x ≡ true)
+    by : (t : Bool) → p first ≡ t → Contains (cond t (first ∷ filter p l) (filter p l)) x → (Contains (filter p l) x → Contains l x × (p x ≡ true))
+        → Contains (first ∷ l) x × (p x ≡ true)
     by true passes among rest = ⊎_elim
         (λ same. ((0, omega arith, same), ap p (sym same) ∙ passes))
         (λ later. let r = rest later in (behind first x l r.0, r.1))
@@ -77,18 +78,21 @@ reply_of_seat : (opening : Opening) (before : List Event) (namespace : Namespace
     → Answers namespace request reply → GrantIsAllowed opening before request reply → seat ≡ stripe_seat (stripe_of (volume_in request))
     → block_of_reply reply ≡ Some block → IsOfSeat before seat block
 unfolding Answers
-reply_of_seat opening before namespace seat (AllocateBlock volume bucket key session exclude) (replies.Granted given pipeline) block answers allowed its is = record {
-  stripe = stripe_of volume;
-  pipeline = pipeline;
-  granted = subst (λ (b : Block). IsOfGrant before (stripe_of volume) b pipeline) (some_block given block is) allowed.to_stripe;
-  its = its;
-}
+reply_of_seat opening before namespace seat (AllocateBlock volume bucket key session exclude)
+    (replies.Granted given pipeline) block answers allowed its is = record {
+      stripe = stripe_of volume;
+      pipeline = pipeline;
+      granted = subst (λ (b : Block). IsOfGrant before (stripe_of volume) b pipeline) (some_block given block is) allowed.to_stripe;
+      its = its;
+    }
 reply_of_seat opening before namespace seat (AllocateBlock volume bucket key session exclude) reply block answers allowed its is = absurd cc
 reply_of_seat opening before namespace seat request reply block answers allowed its is =
-    let none = grants_none (refusal (scope_of namespace (volume_in request)) request) (scope_of namespace (volume_in request)) request reply (λ e. absurd cc) answers in
+    let none = grants_none (refusal (scope_of namespace (volume_in request)) request) (scope_of namespace (volume_in request)) request reply
+    (λ e. absurd cc) answers in
     absurd (none_named reply block none is)
 
-kind_of_seat : (opening : Opening) (before : List Event) (seat : ℕ) (kind : EventKind) (block : Block) → KindIsEnabled opening before seat kind → granted_block kind ≡ Some block → IsOfSeat before seat block
+kind_of_seat : (opening : Opening) (before : List Event) (seat : ℕ) (kind : EventKind) (block : Block) → KindIsEnabled opening before seat kind
+    → granted_block kind ≡ Some block → IsOfSeat before seat block
 kind_of_seat opening before seat (Decide id index reply batch) block enabled is =
     reply_of_seat opening before (namespace_of opening before) seat enabled.request reply block enabled.one_thread enabled.granted enabled.of_stripe is
 kind_of_seat opening before seat kind block enabled is = absurd cc
@@ -96,11 +100,13 @@ kind_of_seat opening before seat kind block enabled is = absurd cc
 module _ (opening : Opening) (story : List Event) (legal : IsLegal opening story) where
   pub of_seat : (event : Event) (block : Block) → Contains story event → granted_block event.kind ≡ Some block → IsOfSeat story event.seat block
   of_seat event block there is =
-      let its = kind_of_seat opening (take there.0 story) event.seat event.kind block (enabled_at opening story legal there.0 event (found_at story event there)) is in
+      let its = kind_of_seat opening (take there.0 story) event.seat event.kind block
+      (enabled_at opening story legal there.0 event (found_at story event there)) is in
       record { stripe = its.stripe; pipeline = its.pipeline; granted = of_taken story there.0 its.stripe block its.pipeline its.granted; its = its.its }
 
   -- so no other stripe hands it out
-  pub by_its_stripe : (event : Event) (block : Block) (stripe pipeline : ℕ) → Contains story event → granted_block event.kind ≡ Some block → IsOfGrant story stripe block pipeline → event.seat ≡ stripe_seat stripe
+  pub by_its_stripe : (event : Event) (block : Block) (stripe pipeline : ℕ) → Contains story event → granted_block event.kind ≡ Some block
+      → IsOfGrant story stripe block pipeline → event.seat ≡ stripe_seat stripe
   by_its_stripe event block stripe pipeline there is of =
       let its = of_seat event block there is in
       its.its ∙ ap stripe_seat (one_stripe opening story legal its.stripe its.pipeline stripe pipeline block block its.granted of refl)
@@ -116,11 +122,13 @@ module _ (opening : Opening) (story : List Event) (legal : IsLegal opening story
       (its.pipeline, subst (λ (n : ℕ). IsOfGrant story n block its.pipeline) same its.granted)
 
   -- a block of a Grant that any Decide granted was handed out by the stripe
-  pub granted_handed : (stripe pipeline : ℕ) (block : Block) → Contains (all_told granted_block story) block → IsOfGrant story stripe block pipeline → Contains (handed_out stripe story) block
+  pub granted_handed : (stripe pipeline : ℕ) (block : Block) → Contains (all_told granted_block story) block → IsOfGrant story stripe block pipeline
+      → Contains (handed_out stripe story) block
   granted_handed stripe pipeline block granted of =
       let told = told_event granted_block story block granted in
       let seat = by_its_stripe told.event block stripe pipeline told.there told.told of in
-      let own = stays_filtered (λ (event : Event). event.seat == stripe_seat stripe) story told.event told.there (eq-eqb told.event.seat (stripe_seat stripe) seat) in
+      let own = stays_filtered (λ (event : Event). event.seat == stripe_seat stripe) story told.event told.there
+      (eq-eqb told.event.seat (stripe_seat stripe) seat) in
       told_among granted_block (mine (stripe_seat stripe) story) told.event block own told.told
 
 pub handed_told : (story : List Event) (stripe : ℕ) (block : Block) → Contains (handed_out stripe story) block → Contains (all_told granted_block story) block

@@ -1,5 +1,29 @@
 -- The blocks of a stripe's Grants as a list, of items of any form.
-use Rattle.std.proofs.Common.{◌≡◌, ⊎_elim, ℕ, suc, ◌+◌, ◌<◌, Bool, true, false, ◌==◌, if◌then◌else◌, cond, List, [], ◌∷◌, map, Contains, refl, sym, ◌∙◌, ap, subst, arith}
+use Rattle.std.proofs.Common.{
+  ◌≡◌,
+  ⊎_elim,
+  ℕ,
+  suc,
+  ◌+◌,
+  ◌<◌,
+  Bool,
+  true,
+  false,
+  ◌==◌,
+  if◌then◌else◌,
+  cond,
+  List,
+  [],
+  ◌∷◌,
+  map,
+  Contains,
+  refl,
+  sym,
+  ◌∙◌,
+  ap,
+  subst,
+  arith,
+}
 use Rattle.std.proofs.lemmas.Bool.{eqb-true, eq-eqb}
 use Rattle.std.proofs.lemmas.List.Elements.{Contains-append_left, Contains-append_right, Contains-append_cases}
 use Rattle.std.proofs.lemmas.List.FromFn.{length-map-range_with_len, get_or-map-range_with_len}
@@ -34,7 +58,8 @@ pub record IsItemOf {X : Type 0} (item : Block → ℕ → X) (story : List Even
   pub is : item block pipeline ≡ x
 
 -- a Grant stands behind one event more
-later_grant : (stripe : ℕ) (event : Event) (story : List Event) (block : Block) (pipeline : ℕ) → IsOfGrant story stripe block pipeline → IsOfGrant (event ∷ story) stripe block pipeline
+later_grant : (stripe : ℕ) (event : Event) (story : List Event) (block : Block) (pipeline : ℕ) → IsOfGrant story stripe block pipeline
+    → IsOfGrant (event ∷ story) stripe block pipeline
 later_grant stripe event story block pipeline of = record {
   seat = of.seat;
   first = of.first;
@@ -49,7 +74,8 @@ module _ {X : Type 0} (item : Block → ℕ → X) where
   made : ℕ → ℕ → ℕ → X
   made container pipeline local = item (record { container = container; local = local }) pipeline
 
-  of_grant : (story : List Event) (seat stripe container pipeline first count : ℕ) → Contains story (record { seat = seat; kind = Grant stripe container pipeline first count })
+  of_grant : (story : List Event) (seat stripe container pipeline first count : ℕ)
+      → Contains story (record { seat = seat; kind = Grant stripe container pipeline first count })
       → (x : X) → Contains (items_of_grant item container pipeline first count) x → IsItemOf item story stripe x
   unfolding made
   of_grant story seat stripe container pipeline first count there x among =
@@ -62,14 +88,19 @@ module _ {X : Type 0} (item : Block → ℕ → X) where
         is = sym (get_or-map-range_with_len {X = X} (made container pipeline) first count among.0 (first + among.0) x within refl) ∙ among.2;
       }
 
-  in_the_first : (stripe : ℕ) (event : Event) (story : List Event) (x : X) → Contains (items_in item stripe event.kind) x → IsItemOf item (event ∷ story) stripe x
+  in_the_first : (stripe : ℕ) (event : Event) (story : List Event) (x : X) → Contains (items_in item stripe event.kind) x
+      → IsItemOf item (event ∷ story) stripe x
   in_the_first stripe event story x there = by event.kind refl there
     where
       its : (other container pipeline first count : ℕ) (t : Bool) → (other == stripe) ≡ t → event.kind ≡ Grant other container pipeline first count
           → Contains (cond t (items_of_grant item container pipeline first count) []) x → IsItemOf item (event ∷ story) stripe x
       its other container pipeline first count true same is among =
-          of_grant (event ∷ story) event.seat stripe container pipeline first count
-          (0, omega arith, ap (λ (kind : EventKind). record { seat = event.seat; kind = kind }) (is ∙ ap (λ (n : ℕ). Grant n container pipeline first count) (eqb-true other stripe same))) x among
+          of_grant (event ∷ story) event.seat stripe container pipeline first count (
+            0,
+            omega arith,
+            ap (λ (kind : EventKind). record { seat = event.seat; kind = kind })
+                (is ∙ ap (λ (n : ℕ). Grant n container pipeline first count) (eqb-true other stripe same)),
+          ) x among
       its other container pipeline first count false same is among = absurd (in_none x among)
 
       by : (kind : EventKind) → event.kind ≡ kind → Contains (items_in item stripe kind) x → IsItemOf item (event ∷ story) stripe x
@@ -86,7 +117,8 @@ module _ {X : Type 0} (item : Block → ℕ → X) where
       record { block = its.block; pipeline = its.pipeline; granted = later_grant stripe event story its.block its.pipeline its.granted; is = its.is })
       (Contains-append_cases (items_in item stripe event.kind) (items_granted item stripe story) x there)
 
-  at_place : (container pipeline first count place local : ℕ) → place < count → local ≡ first + place → Contains (items_of_grant item container pipeline first count) (item (record { container = container; local = local }) pipeline)
+  at_place : (container pipeline first count place local : ℕ) → place < count → local ≡ first + place
+      → Contains (items_of_grant item container pipeline first count) (item (record { container = container; local = local }) pipeline)
   unfolding made
   at_place container pipeline first count place local within is =
       let long = length-map-range_with_len {X = X} (made container pipeline) first count in (
@@ -95,17 +127,22 @@ module _ {X : Type 0} (item : Block → ℕ → X) where
         get_or-map-range_with_len {X = X} (made container pipeline) first count place local (made container pipeline local) within (sym is),
       )
 
-  granted_at : (stripe : ℕ) (story : List Event) (block : Block) (pipeline seat first count place : ℕ) → Contains story (record { seat = seat; kind = Grant stripe block.container pipeline first count })
+  granted_at : (stripe : ℕ) (story : List Event) (block : Block) (pipeline seat first count place : ℕ)
+      → Contains story (record { seat = seat; kind = Grant stripe block.container pipeline first count })
       → place < count → block.local ≡ first + place → Contains (items_granted item stripe story) (item block pipeline)
-  granted_at stripe [] block pipeline seat first count place there within local = absurd (in_none (record { seat = seat; kind = Grant stripe block.container pipeline first count }) there)
+  granted_at stripe [] block pipeline seat first count place there within local =
+      absurd (in_none (record { seat = seat; kind = Grant stripe block.container pipeline first count }) there)
   granted_at stripe (event ∷ story) block pipeline seat first count place there within local = ⊎_elim
       (λ same. Contains-append_left (items_in item stripe event.kind) (items_granted item stripe story) (item block pipeline)
       (subst (λ (e : Event). Contains (items_in item stripe e.kind) (item block pipeline)) (sym same)
-      (subst (λ (t : Bool). Contains (cond t (items_of_grant item block.container pipeline first count) []) (item block pipeline)) (sym (eq-eqb stripe stripe refl))
+      (subst (λ (t : Bool). Contains (cond t (items_of_grant item block.container pipeline first count) []) (item block pipeline))
+      (sym (eq-eqb stripe stripe refl))
       (at_place block.container pipeline first count place block.local within local))))
-      (λ later. Contains-append_right (items_in item stripe event.kind) (items_granted item stripe story) (item block pipeline) (granted_at stripe story block pipeline seat first count place later within local))
+      (λ later. Contains-append_right (items_in item stripe event.kind) (items_granted item stripe story) (item block pipeline)
+      (granted_at stripe story block pipeline seat first count place later within local))
       (first_or_later event (record { seat = seat; kind = Grant stripe block.container pipeline first count }) story there)
 
   -- and what is of a Grant is listed
-  pub granted_listed : (stripe : ℕ) (story : List Event) (block : Block) (pipeline : ℕ) → IsOfGrant story stripe block pipeline → Contains (items_granted item stripe story) (item block pipeline)
+  pub granted_listed : (stripe : ℕ) (story : List Event) (block : Block) (pipeline : ℕ) → IsOfGrant story stripe block pipeline
+      → Contains (items_granted item stripe story) (item block pipeline)
   granted_listed stripe story block pipeline of = granted_at stripe story block pipeline of.seat of.first of.count of.place of.there of.within of.local

@@ -1,5 +1,31 @@
 -- The numbers of containers stay below the next id.
-use Rattle.std.proofs.Common.{◌≡◌, ℕ, ◌+◌, ◌<◌, ◌≤◌, Bool, true, false, ◌||◌, cond, List, [], ◌∷◌, ◌++◌, take, Option, None, Some, refl, sym, ◌∙◌, ap, subst, append-nil, arith}
+use Rattle.std.proofs.Common.{
+  ◌≡◌,
+  ℕ,
+  ◌+◌,
+  ◌<◌,
+  ◌≤◌,
+  Bool,
+  true,
+  false,
+  ◌||◌,
+  cond,
+  List,
+  [],
+  ◌∷◌,
+  ◌++◌,
+  take,
+  Option,
+  None,
+  Some,
+  refl,
+  sym,
+  ◌∙◌,
+  ap,
+  subst,
+  append-nil,
+  arith,
+}
 use Rattle.std.proofs.lemmas.Bool.{eqb-true, eq-eqb}
 use Rattle.std.proofs.lemmas.List.Sums.{fold_push}
 use Rattle.std.specs.Prelude.{IsSome, fold, max}
@@ -48,11 +74,13 @@ is_there : (o : Option Container) (container : Container) → o ≡ Some contain
 is_there o container e = subst IsSome (sym e) refl
 
 -- the container of a Grant is below the end of the Grant
-holder_numbered : (opening : Opening) (before : List Event) (seat stripe container pipeline first count : ℕ) → GrantIsEnabled opening before seat stripe container pipeline first count
+holder_numbered : (opening : Opening) (before : List Event) (seat stripe container pipeline first count : ℕ)
+    → GrantIsEnabled opening before seat stripe container pipeline first count
     → AreNumbered (containers opening before) (next_id opening before) → (1 ≤ container) × (container < first + count)
 holder_numbered opening before seat stripe container pipeline first count enabled numbered = by (get (containers opening before) container) refl enabled.holds
   where
-    by : (o : Option Container) → get (containers opening before) container ≡ o → MayHold opening before container pipeline o → (1 ≤ container) × (container < first + count)
+    by : (o : Option Container) → get (containers opening before) container ≡ o → MayHold opening before container pipeline o → (1 ≤ container)
+        × (container < first + count)
     by None e next =
         let greatest = greatest_numbered (containers opening before) (next_id opening before) numbered in
         (omega (arith, next), omega (arith, next, greatest, enabled.next, enabled.whole))
@@ -61,7 +89,8 @@ holder_numbered opening before seat stripe container pipeline first count enable
         (its.0, omega (arith, its.1, enabled.next))
 
 -- one container more, or one that changes
-numbered_insert : (all : Containers) (at : ℕ) (new : Container) (next later : ℕ) → next ≤ later → (1 ≤ at) × (at < later) → AreNumbered all next → AreNumbered (insert all at new) later
+numbered_insert : (all : Containers) (at : ℕ) (new : Container) (next later : ℕ) → next ≤ later → (1 ≤ at) × (at < later) → AreNumbered all next
+    → AreNumbered (insert all at new) later
 numbered_insert all at new next later le its numbered number there = by (eq_by_cmp nat_cmp number at) refl
   where
     got : get (insert all at new) number ≡ cond (eq_by_cmp nat_cmp number at) (Some new) (get all number)
@@ -73,25 +102,30 @@ numbered_insert all at new next later le its numbered number there = by (eq_by_c
         let old = numbered number (subst IsSome (got ∙ ap (λ (t : Bool). cond t (Some new) (get all number)) e) there) in
         (old.0, omega (arith, old.1, le))
 
-kind_numbered : (opening : Opening) (before : List Event) (seat : ℕ) (kind : EventKind) → KindIsEnabled opening before seat kind → AreNumbered (containers opening before) (next_id opening before)
+kind_numbered : (opening : Opening) (before : List Event) (seat : ℕ) (kind : EventKind) → KindIsEnabled opening before seat kind
+    → AreNumbered (containers opening before) (next_id opening before)
     → AreNumbered (containers_after (containers opening before) kind) (newer (id_after kind) (next_id opening before))
 kind_numbered opening before seat (Grant stripe container pipeline first count) enabled numbered =
-    numbered_insert (containers opening before) container (granted_in (get (containers opening before) container) pipeline count) (next_id opening before) (first + count)
+    numbered_insert (containers opening before) container (granted_in (get (containers opening before) container) pipeline count) (next_id opening before)
+    (first + count)
     (omega (arith, enabled.next)) (holder_numbered opening before seat stripe container pipeline first count enabled numbered) numbered
 kind_numbered opening before seat (Closed at state) enabled numbered = by (get (containers opening before) at) refl
   where
     by : (o : Option Container) → get (containers opening before) at ≡ o → AreNumbered (come_to (containers opening before) at state o) (next_id opening before)
     by None e = numbered
     by (Some container) e =
-        numbered_insert (containers opening before) at (record { pipeline = container.pipeline; state = state; granted = container.granted }) (next_id opening before) (next_id opening before)
+        numbered_insert (containers opening before) at (record { pipeline = container.pipeline; state = state; granted = container.granted })
+        (next_id opening before) (next_id opening before)
         (omega arith) (numbered at (is_there (get (containers opening before) at) container e)) numbered
 kind_numbered opening before seat kind enabled numbered = numbered
 
 -- ---- a whole story
 
-numbered_from : (opening : Opening) (rest before : List Event) → IsLegalFrom opening before rest → AreNumbered (containers opening before) (next_id opening before)
+numbered_from : (opening : Opening) (rest before : List Event) → IsLegalFrom opening before rest
+    → AreNumbered (containers opening before) (next_id opening before)
     → AreNumbered (containers opening (before ++ rest)) (next_id opening (before ++ rest))
-numbered_from opening [] before legal numbered = subst (λ (l : List Event). AreNumbered (containers opening l) (next_id opening l)) (sym (append-nil before)) numbered
+numbered_from opening [] before legal numbered =
+    subst (λ (l : List Event). AreNumbered (containers opening l) (next_id opening l)) (sym (append-nil before)) numbered
 numbered_from opening (event ∷ rest) before legal numbered =
     let made = fold_push (λ before (event : Event). containers_after before event.kind) opening.containers before event in
     let next = fold_push (λ told (event : Event). newer (id_after event.kind) told) opening.next_id before event in
@@ -105,14 +139,16 @@ module _ (opening : Opening) (numbered : AreNumbered opening.containers opening.
   pub stay_numbered : (story : List Event) → IsLegal opening story → AreNumbered (containers opening story) (next_id opening story)
   stay_numbered story legal = numbered_from opening story [] legal numbered
 
-  pub grant_numbered : (story : List Event) → IsLegal opening story → (place stripe container pipeline first count : ℕ) → IsGrantAt story place stripe container pipeline first count
+  pub grant_numbered : (story : List Event) → IsLegal opening story → (place stripe container pipeline first count : ℕ)
+      → IsGrantAt story place stripe container pipeline first count
       → (1 ≤ container) × (container < first + count)
   grant_numbered story legal place stripe container pipeline first count grant =
       holder_numbered opening (take place story) grant.seat stripe container pipeline first count
       (enabled_there opening story legal place stripe container pipeline first count grant)
       (stay_numbered (take place story) (front_legal opening story legal place))
 
-  pub block_fits : (story : List Event) → IsLegal opening story → 1 ≤ opening.next_id → (stripe : ℕ) (block : Block) (pipeline : ℕ) → IsOfGrant story stripe block pipeline → IsBlock block
+  pub block_fits : (story : List Event) → IsLegal opening story → 1 ≤ opening.next_id → (stripe : ℕ) (block : Block) (pipeline : ℕ)
+      → IsOfGrant story stripe block pipeline → IsBlock block
   block_fits story legal some stripe block pipeline of =
       let grant = grant_of story stripe block pipeline of in
       let number = grant_numbered story legal of.there.0 stripe block.container pipeline of.first of.count grant in

@@ -1,5 +1,32 @@
 -- What is asked of a line's id is one thing.
-use Rattle.std.proofs.Common.{◌≡◌, ◌⊎◌, ⊎_elim, ℕ, Bool, true, false, ◌&&◌, ◌==◌, List, [], ◌∷◌, ◌++◌, take, None, Some, Contains, cond, inl, inr, refl, sym, ◌∙◌, ap, subst, append-nil}
+use Rattle.std.proofs.Common.{
+  ◌≡◌,
+  ◌⊎◌,
+  ⊎_elim,
+  ℕ,
+  Bool,
+  true,
+  false,
+  ◌&&◌,
+  ◌==◌,
+  List,
+  [],
+  ◌∷◌,
+  ◌++◌,
+  take,
+  None,
+  Some,
+  Contains,
+  cond,
+  inl,
+  inr,
+  refl,
+  sym,
+  ◌∙◌,
+  ap,
+  subst,
+  append-nil,
+}
 use Rattle.std.proofs.lemmas.Bool.{eqb-true, eq-eqb, and_parts, false≢true}
 use Rattle.std.proofs.lemmas.List.Elements.{Contains-push, Contains-push_cases, Contains-append_left}
 use Rattle.std.proofs.lemmas.List.Sums.{fold_push}
@@ -55,7 +82,8 @@ module _ (id : AskId) (request : Request) where
   record IsThisOr (before : List Event) (seat : ℕ) (kind : EventKind) : Type 0 where
     asked : (record { seat = seat; kind = kind } ≡ ask_by seat id request) ⊎ (pending id before ≡ Some request)
 
-  by_ask : (before : List Event) (seat : ℕ) (other : AskId) (asked : Request) (t : Bool) → is_id id other ≡ t → cond t (Some asked) (pending id before) ≡ Some request → IsThisOr before seat (Ask other asked)
+  by_ask : (before : List Event) (seat : ℕ) (other : AskId) (asked : Request) (t : Bool) → is_id id other ≡ t
+      → cond t (Some asked) (pending id before) ≡ Some request → IsThisOr before seat (Ask other asked)
   by_ask before seat other asked true same is =
       let requests : asked ≡ request = cc in
       record { asked = inl (λ i. ask_by seat (same_id id other same i) (requests i)) }
@@ -70,8 +98,11 @@ module _ (id : AskId) (request : Request) where
   this_or before seat (Decide other index reply batch) is = by_decide before seat (Decide other index reply batch) (is_id id other) is
   this_or before seat kind is = record { asked = inr is }
 
-  rest_asked : (rest before : List Event) → (pending id before ≡ Some request → WasAsked before id request) → pending id (before ++ rest) ≡ Some request → WasAsked (before ++ rest) id request
-  rest_asked [] before was is = subst (λ (l : List Event). WasAsked l id request) (sym (append-nil before)) (was (subst (λ (l : List Event). pending id l ≡ Some request) (append-nil before) is))
+  rest_asked : (rest before : List Event) → (pending id before ≡ Some request → WasAsked before id request) → pending id (before ++ rest) ≡ Some request
+      → WasAsked (before ++ rest) id request
+  rest_asked [] before was is =
+      subst (λ (l : List Event). WasAsked l id request) (sym (append-nil before))
+      (was (subst (λ (l : List Event). pending id l ≡ Some request) (append-nil before) is))
   rest_asked (event ∷ rest) before was is =
       subst (λ (l : List Event). WasAsked l id request) (moved_over before rest event)
       (rest_asked rest (before ++ event ∷ []) next (subst (λ (l : List Event). pending id l ≡ Some request) (sym (moved_over before rest event)) is))
@@ -91,7 +122,8 @@ module _ (opening : Opening) (id : AskId) (script : is_script id ≡ true) where
   among_asked : (story : List Event) (seat : ℕ) (request : Request) → Contains story (ask_by seat id request) → is_asked id story ≡ true
   among_asked story seat request among = one_passes (λ (event : Event). asks id event.kind) story (ask_by seat id request) among (id_itself id)
 
-  not_again : (before : List Event) (event : Event) (seat earlier : ℕ) (request other : Request) → IsEnabled opening before event → event ≡ ask_by seat id request → Contains before (ask_by earlier id other) → ⊥
+  not_again : (before : List Event) (event : Event) (seat earlier : ℕ) (request other : Request) → IsEnabled opening before event
+      → event ≡ ask_by seat id request → Contains before (ask_by earlier id other) → ⊥
   not_again before event seat earlier request other enabled is among =
       let may : AskIsEnabled opening before seat id request = subst (λ (e : Event). IsEnabled opening before e) is enabled in
       false≢true (sym (may.unasked script) ∙ among_asked before earlier other among)
@@ -101,7 +133,8 @@ module _ (opening : Opening) (id : AskId) (script : is_script id ≡ true) where
   requested kind otherwise = otherwise
 
   AreOne : List Event → Type 0
-  AreOne story = (seat other_seat : ℕ) (request other : Request) → Contains story (ask_by seat id request) → Contains story (ask_by other_seat id other) → request ≡ other
+  AreOne story = (seat other_seat : ℕ) (request other : Request) → Contains story (ask_by seat id request) → Contains story (ask_by other_seat id other)
+      → request ≡ other
 
   next_one : (before : List Event) (event : Event) → IsEnabled opening before event → AreOne before → AreOne (before ++ event ∷ [])
   unfolding AreOne requested
@@ -120,7 +153,8 @@ module _ (opening : Opening) (id : AskId) (script : is_script id ≡ true) where
   rest_one [] before legal one = subst AreOne (sym (append-nil before)) one
   rest_one (event ∷ rest) before legal one =
       subst AreOne (moved_over before rest event)
-      (rest_one rest (before ++ event ∷ []) (legal_rest opening before event rest legal) (next_one before event (legal_first opening before event rest legal) one))
+      (rest_one rest (before ++ event ∷ []) (legal_rest opening before event rest legal)
+      (next_one before event (legal_first opening before event rest legal) one))
 
   module _ (story : List Event) (legal : IsLegal opening story) where
     pub asked_once : (seat other_seat : ℕ) (request other : Request) → Contains story (record { seat = seat; kind = Ask id request })
@@ -135,11 +169,14 @@ module _ (opening : Opening) (id : AskId) (script : is_script id ≡ true) where
           asked_once was.0 seat other request was.1 (found_among story place (ask_by seat id request) asked)
 
       -- at a Decide of the id just that is pending
-      pub decided_is_asked : (later decider index : ℕ) (reply : Reply) (batch : List ℕ) → slice_get story later ≡ Some (record { seat = decider; kind = Decide id index reply batch })
+      pub decided_is_asked : (later decider index : ℕ) (reply : Reply) (batch : List ℕ)
+          → slice_get story later ≡ Some (record { seat = decider; kind = Decide id index reply batch })
           → pending id (take later story) ≡ Some request
       decided_is_asked later decider index reply batch decided =
-          let may : DecideIsEnabled opening (take later story) decider id index reply batch = enabled_at opening story legal later (record { seat = decider; kind = Decide id index reply batch }) decided in
+          let may : DecideIsEnabled opening (take later story) decider id index reply batch =
+          enabled_at opening story legal later (record { seat = decider; kind = Decide id index reply batch }) decided in
           let was = pending_was_asked id may.request (take later story) may.undecided in
           let here = got_of_taken story later was.1.0 (ask_by was.0 id may.request) (found_at (take later story) (ask_by was.0 id may.request) was.1) in
-          let one = asked_once was.0 seat may.request request (found_among story was.1.0 (ask_by was.0 id may.request) here) (found_among story place (ask_by seat id request) asked) in
+          let one = asked_once was.0 seat may.request request (found_among story was.1.0 (ask_by was.0 id may.request) here)
+          (found_among story place (ask_by seat id request) asked) in
           may.undecided ∙ ap Some one

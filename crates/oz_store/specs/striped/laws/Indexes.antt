@@ -15,7 +15,8 @@ use Rattle.oz_kept.specs.laws.Kept.{index_rises}
 use Rattle.oz_kept.specs.laws.Places.{legal_first, legal_rest, moved_over}
 use Rattle.oz_kept.specs.laws.Reached.{in_none}
 
-told_next : (tells : EventKind → Option ℕ) (first : ℕ) (before : List Event) (event : Event) → last_told tells first (before ++ event ∷ []) ≡ newer (tells event.kind) (last_told tells first before)
+told_next : (tells : EventKind → Option ℕ) (first : ℕ) (before : List Event) (event : Event)
+    → last_told tells first (before ++ event ∷ []) ≡ newer (tells event.kind) (last_told tells first before)
 told_next tells first before event = fold_push (λ told (event : Event). newer (tells event.kind) told) first before event
 
 -- the indexes of an event, whichever they are
@@ -79,8 +80,10 @@ module _ (opening : Opening) where
           taken = omega (arith, next.order.taken, swapped, last);
         };
         each = λ other among. ⊎_elim
-            (λ earlier. no_higher (last_index opening before) (last_index opening (before ++ event ∷ [])) other.kind (omega (arith, next.rises, last)) (is.each other earlier))
-            (λ same. subst (λ (e : Event). NoHigher (last_index opening (before ++ event ∷ [])) e.kind) same (subst (λ n. NoHigher n event.kind) (sym last) next.within))
+            (λ earlier. no_higher (last_index opening before) (last_index opening (before ++ event ∷ [])) other.kind (omega (arith, next.rises, last))
+            (is.each other earlier))
+            (λ same. subst (λ (e : Event). NoHigher (last_index opening (before ++ event ∷ [])) e.kind) same
+            (subst (λ n. NoHigher n event.kind) (sym last) next.within))
             (Contains-push_cases before event other among);
       }
 
@@ -88,7 +91,8 @@ module _ (opening : Opening) where
   rest_ordered [] before legal is = subst Ordered (sym (append-nil before)) is
   rest_ordered (event ∷ rest) before legal is =
       subst Ordered (moved_over before rest event)
-      (rest_ordered rest (before ++ event ∷ []) (legal_rest opening before event rest legal) (next_ordered before event (legal_first opening before event rest legal) is))
+      (rest_ordered rest (before ++ event ∷ []) (legal_rest opening before event rest legal)
+      (next_ordered before event (legal_first opening before event rest legal) is))
 
   module _ (story : List Event) (legal : IsLegal opening story) where
     ordered : Ordered story
@@ -109,7 +113,8 @@ module _ (opening : Opening) where
     pub durable_within_last : durable_index opening story ≤ last_index opening story
     durable_within_last = omega (arith, ordered.order.stable, ordered.order.taken)
 
-    pub decided_within : (seat : ℕ) (id : AskId) (index : ℕ) (reply : Reply) (batch : List ℕ) → Contains story (record { seat = seat; kind = Decide id index reply batch }) → index ≤ last_index opening story
+    pub decided_within : (seat : ℕ) (id : AskId) (index : ℕ) (reply : Reply) (batch : List ℕ)
+        → Contains story (record { seat = seat; kind = Decide id index reply batch }) → index ≤ last_index opening story
     decided_within seat id index reply batch among = ordered.each (record { seat = seat; kind = Decide id index reply batch }) among
 
     pub taken_within : (seat index : ℕ) → Contains story (record { seat = seat; kind = Swap index }) → index ≤ last_index opening story

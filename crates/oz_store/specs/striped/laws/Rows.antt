@@ -12,5 +12,6 @@ use Rattle.oz_store.specs.striped.Shares.{HasAllStripes}
 pub standing_has_all : (rows : Rows) (namespace : Namespace) → StandsFor rows namespace → HasAllStripes namespace
 standing_has_all rows namespace stand = ap (λ (l : List ℕ). length l) stand.stripes
 
-pub left_as_it_was : (rows : Rows) (part : Namespace) (request : Request) (reply : Reply) → StandsFor rows part → StandsFor rows (after part request reply) → after part request reply ≡ part
+pub left_as_it_was : (rows : Rows) (part : Namespace) (request : Request) (reply : Reply) → StandsFor rows part → StandsFor rows (after part request reply)
+    → after part request reply ≡ part
 left_as_it_was rows part request reply one other = one_namespace rows (after part request reply) part other one

@@ -1,5 +1,33 @@
 -- A namespace has one share of each stripe, and agrees with it on the stripe.
-use Rattle.std.proofs.Common.{◌≡◌, ◌==◌, ⊎_elim, ℕ, ◌+◌, ◌<◌, ◌≤◌, Bool, true, false, List, [], ◌∷◌, length, map, Option, None, Some, cond, get_or, sum, refl, sym, ◌∙◌, ap, subst, arith}
+use Rattle.std.proofs.Common.{
+  ◌≡◌,
+  ◌==◌,
+  ⊎_elim,
+  ℕ,
+  ◌+◌,
+  ◌<◌,
+  ◌≤◌,
+  Bool,
+  true,
+  false,
+  List,
+  [],
+  ◌∷◌,
+  length,
+  map,
+  Option,
+  None,
+  Some,
+  cond,
+  get_or,
+  sum,
+  refl,
+  sym,
+  ◌∙◌,
+  ap,
+  subst,
+  arith,
+}
 use Rattle.std.proofs.lemmas.Bool.{cases_lt, eq-eqb, eqb-true}
 use Rattle.std.proofs.lemmas.Bool.Decides.{nat_tests}
 use Rattle.std.proofs.lemmas.List.{ext_get_or}
@@ -33,14 +61,19 @@ each_from P i (x ∷ l) counts all s low high = by_test (i == s) refl (each_from
     by_test false e later = later (another i s e low) (omega (arith, high))
 
 of_sixteen : (P : ℕ → Type 0) → AllByRecursion P sixteen → (s : ℕ) → s < 16 → P s
-of_sixteen P all s few = each_from P 0 sixteen (refl, (refl, (refl, (refl, (refl, (refl, (refl, (refl, (refl, (refl, (refl, (refl, (refl, (refl, (refl, (refl, tt)))))))))))))))) all s (omega arith) (omega (arith, few))
+of_sixteen P all s few =
+    each_from P 0 sixteen
+    (refl, (refl, (refl, (refl, (refl, (refl, (refl, (refl, (refl, (refl, (refl, (refl, (refl, (refl, (refl, (refl, tt)))))))))))))))) all s (omega arith)
+    (omega (arith, few))
 
 at_each : (f : ℕ → ℕ) (s : ℕ) → s < 16 → get_or (map f sixteen) s 0 ≡ f s
-at_each f = of_sixteen (λ s. get_or (map f sixteen) s 0 ≡ f s) (refl, (refl, (refl, (refl, (refl, (refl, (refl, (refl, (refl, (refl, (refl, (refl, (refl, (refl, (refl, (refl, tt))))))))))))))))
+at_each f = of_sixteen (λ s. get_or (map f sixteen) s 0 ≡ f s)
+    (refl, (refl, (refl, (refl, (refl, (refl, (refl, (refl, (refl, (refl, (refl, (refl, (refl, (refl, (refl, (refl, tt))))))))))))))))
 
 -- sixteen numbers are known by each of them
 pub are_numbers : (numbers : List ℕ) (f : ℕ → ℕ) → length numbers ≡ 16 → ((s : ℕ) → s < 16 → get_or numbers s 0 ≡ f s) → numbers ≡ map f sixteen
-are_numbers numbers f many each = ext_get_or 0 numbers (map f sixteen) many (λ s lt. each s (omega (arith, lt, many)) ∙ sym (at_each f s (omega (arith, lt, many))))
+are_numbers numbers f many each =
+    ext_get_or 0 numbers (map f sixteen) many (λ s lt. each s (omega (arith, lt, many)) ∙ sym (at_each f s (omega (arith, lt, many))))
 
 pub one_of_sixteen : (volume : List ℕ) → stripe_of volume < 16
 one_of_sixteen volume = mod_below (sum volume) 16 (omega arith)
@@ -72,7 +105,8 @@ module _ (stripe : ℕ) (namespace part : Namespace) (of : IsOfStripe stripe nam
     drawn = ⊎_elim
         (λ few. slice_get-get_or namespace.stripes stripe 0 (omega (arith, few, all)) ∙ ap Some (sym (same_drawn few))
         ∙ sym (slice_get-get_or part.stripes stripe 0 (omega (arith, few, share_has_all))))
-        (λ past. slice_get_past namespace.stripes stripe (omega (arith, past, all)) ∙ sym (slice_get_past part.stripes stripe (omega (arith, past, share_has_all))))
+        (λ past. slice_get_past namespace.stripes stripe (omega (arith, past, all))
+        ∙ sym (slice_get_past part.stripes stripe (omega (arith, past, share_has_all))))
         (cases_lt stripe 16);
   }
 
@@ -85,7 +119,8 @@ share_is_there stripe namespace = record {
 
 pub one_share : (stripe : ℕ) (namespace one other : Namespace) → IsOfStripe stripe namespace one → IsOfStripe stripe namespace other → one ≡ other
 one_share stripe namespace one other this that = λ i. record {
-  volumes = same_map nat_list_cmp_total (slice_cmp-IsAntisymmetric nat_cmp-IsAntisymmetric) one.volumes other.volumes (λ volume. this.volumes volume ∙ sym (that.volumes volume)) i;
+  volumes = same_map nat_list_cmp_total (slice_cmp-IsAntisymmetric nat_cmp-IsAntisymmetric) one.volumes other.volumes
+      (λ volume. this.volumes volume ∙ sym (that.volumes volume)) i;
   stripes = (this.stripes ∙ sym that.stripes) i;
 }
 

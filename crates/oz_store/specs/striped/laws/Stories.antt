@@ -1,5 +1,29 @@
 -- What events make of a stripe's share: those of other seats nothing.
-use Rattle.std.proofs.Common.{◌≡◌, ◌≢◌, ◌==◌, ℕ, Bool, true, false, List, [], ◌∷◌, ◌++◌, length, Option, None, Some, cond, refl, sym, ◌∙◌, ap, subst, append-nil, arith}
+use Rattle.std.proofs.Common.{
+  ◌≡◌,
+  ◌≢◌,
+  ◌==◌,
+  ℕ,
+  Bool,
+  true,
+  false,
+  List,
+  [],
+  ◌∷◌,
+  ◌++◌,
+  length,
+  Option,
+  None,
+  Some,
+  cond,
+  refl,
+  sym,
+  ◌∙◌,
+  ap,
+  subst,
+  append-nil,
+  arith,
+}
 use Rattle.std.proofs.lemmas.Bool.{eq-eqb}
 use Rattle.std.proofs.lemmas.List.{length-append}
 use Rattle.std.proofs.lemmas.List.Elements.{filter-append}
@@ -25,30 +49,36 @@ use Rattle.oz_store.specs.striped.laws.Requests.{after_has_all, share_after, sha
 
 -- ---- one event more
 
-pub decided_next : (opening : Opening) (story : List Event) (seat : ℕ) (id : AskId) (index : ℕ) (reply : Reply) (batch : List ℕ) (request : Request) → pending id story ≡ Some request
+pub decided_next : (opening : Opening) (story : List Event) (seat : ℕ) (id : AskId) (index : ℕ) (reply : Reply) (batch : List ℕ) (request : Request)
+    → pending id story ≡ Some request
     → namespace_of opening (story ++ record { seat = seat; kind = Decide id index reply batch } ∷ []) ≡ after (namespace_of opening story) request reply
 decided_next opening story seat id index reply batch request is =
     namespace_next opening story (record { seat = seat; kind = Decide id index reply batch })
     ∙ ap (λ (o : Option Request). namespace_after o (namespace_of opening story) reply) is
 
-other_step : (before : List Event) (namespace : Namespace) (kind : EventKind) → decided_index kind ≡ None → namespace_step (λ index. true) before namespace kind ≡ namespace
+other_step : (before : List Event) (namespace : Namespace) (kind : EventKind) → decided_index kind ≡ None
+    → namespace_step (λ index. true) before namespace kind ≡ namespace
 other_step before namespace (Decide id index reply batch) none = absurd cc
 other_step before namespace kind none = refl
 
-pub others_next : (opening : Opening) (story : List Event) (event : Event) → decided_index event.kind ≡ None → namespace_of opening (story ++ event ∷ []) ≡ namespace_of opening story
+pub others_next : (opening : Opening) (story : List Event) (event : Event) → decided_index event.kind ≡ None
+    → namespace_of opening (story ++ event ∷ []) ≡ namespace_of opening story
 others_next opening story event none = namespace_next opening story event ∙ other_step story (namespace_of opening story) event.kind none
 
 -- ---- all stripes
 
-left_has_all : (asked : Option Request) (namespace : Namespace) (reply : Reply) → HasAllStripes namespace → HasAllStripes (namespace_after asked namespace reply)
+left_has_all : (asked : Option Request) (namespace : Namespace) (reply : Reply) → HasAllStripes namespace
+    → HasAllStripes (namespace_after asked namespace reply)
 left_has_all None namespace reply all = all
 left_has_all (Some request) namespace reply all = after_has_all namespace request reply all
 
-step_has_all : (before : List Event) (namespace : Namespace) (kind : EventKind) → HasAllStripes namespace → HasAllStripes (namespace_step (λ index. true) before namespace kind)
+step_has_all : (before : List Event) (namespace : Namespace) (kind : EventKind) → HasAllStripes namespace
+    → HasAllStripes (namespace_step (λ index. true) before namespace kind)
 step_has_all before namespace (Decide id index reply batch) all = left_has_all (pending id before) namespace reply all
 step_has_all before namespace kind all = all
 
-rest_has_all : (before : List Event) (namespace : Namespace) (rest : List Event) → HasAllStripes namespace → HasAllStripes (namespace_from (λ index. true) before namespace rest)
+rest_has_all : (before : List Event) (namespace : Namespace) (rest : List Event) → HasAllStripes namespace
+    → HasAllStripes (namespace_from (λ index. true) before namespace rest)
 unfolding namespace_from
 rest_has_all before namespace [] all = all
 rest_has_all before namespace (event ∷ rest) all =
@@ -101,13 +131,16 @@ pub share_of_seen : (stripe : ℕ) (opening : Opening) (story seen more : List E
     → IsOfStripe stripe (namespace_of opening seen) part → IsOfStripe stripe (namespace_of opening story) part
 share_of_seen stripe opening story seen more part legal parts own of =
     let test = λ (event : Event). event.seat == stripe_seat stripe in
-    let none = none_more (mine (stripe_seat stripe) seen) (mine (stripe_seat stripe) more) (sym (filter-append test seen more) ∙ (ap (mine (stripe_seat stripe)) (sym parts) ∙ own)) in
+    let none = none_more (mine (stripe_seat stripe) seen) (mine (stripe_seat stripe) more)
+    (sym (filter-append test seen more) ∙ (ap (mine (stripe_seat stripe)) (sym parts) ∙ own)) in
     subst (λ (l : List Event). IsOfStripe stripe (namespace_of opening l) part) (sym parts)
     (share_behind stripe opening part more seen (legal_behind opening [] seen more (subst (IsLegalFrom opening []) parts legal)) none of)
 
 -- what the stripe decides then
-pub share_decided : (stripe : ℕ) (opening : Opening) (story : List Event) (part : Namespace) (seat : ℕ) (id : AskId) (index : ℕ) (reply : Reply) (batch : List ℕ) (request : Request)
-    → HasAllStripes opening.namespace → pending id story ≡ Some request → stripe_of (volume_in request) ≡ stripe → IsOfStripe stripe (namespace_of opening story) part
+pub share_decided : (stripe : ℕ) (opening : Opening) (story : List Event) (part : Namespace) (seat : ℕ) (id : AskId) (index : ℕ) (reply : Reply)
+    (batch : List ℕ) (request : Request)
+    → HasAllStripes opening.namespace → pending id story ≡ Some request → stripe_of (volume_in request) ≡ stripe
+    → IsOfStripe stripe (namespace_of opening story) part
     → IsOfStripe stripe (namespace_of opening (story ++ record { seat = seat; kind = Decide id index reply batch } ∷ [])) (after part request reply)
 share_decided stripe opening story part seat id index reply batch request all is its of =
     subst (λ (n : Namespace). IsOfStripe stripe n (after part request reply)) (sym (decided_next opening story seat id index reply batch request is))

@@ -44,18 +44,23 @@ operations_append [] b = refl
 operations_append (first ∷ a) b = ap (λ (items : List Operation). first.operation ∷ items) (operations_append a b)
 
 -- before a place and behind it stand all of them
-at_any_place : (steps : List Step) (j k : ℕ) → operations_of (take j steps) ++ operations_of (drop j steps) ≡ operations_of (take k steps) ++ operations_of (drop k steps)
+at_any_place : (steps : List Step) (j k : ℕ)
+    → operations_of (take j steps) ++ operations_of (drop j steps) ≡ operations_of (take k steps) ++ operations_of (drop k steps)
 at_any_place steps j k =
     sym (operations_append (take j steps) (drop j steps)) ∙ ap operations_of (take-append-drop j steps)
     ∙ ap operations_of (sym (take-append-drop k steps)) ∙ operations_append (take k steps) (drop k steps)
 
 module _ (all : List RowEntry) (items : List Operation) where
-  pub none_more : (steps : List Step) (k : ℕ) (step : Step) → k < length steps → step ≡ get_or steps k step → NoneAtFault all items (operations_of (take k steps)) (operations_of (drop k steps))
-      → (IsAtFault all items (operations_of (drop (suc k) steps)) step.operation → ⊥) → NoneAtFault all items (operations_of (take (suc k) steps)) (operations_of (drop (suc k) steps))
+  pub none_more : (steps : List Step) (k : ℕ) (step : Step) → k < length steps → step ≡ get_or steps k step
+      → NoneAtFault all items (operations_of (take k steps)) (operations_of (drop k steps))
+      → (IsAtFault all items (operations_of (drop (suc k) steps)) step.operation → ⊥)
+      → NoneAtFault all items (operations_of (take (suc k) steps)) (operations_of (drop (suc k) steps))
   none_more [] k step lt it so_far here = absurd (omega arith)
   none_more (first ∷ steps) zero step lt it so_far here = (subst (λ (step : Step). IsAtFault all items (operations_of steps) step.operation → ⊥) it here, tt)
-  none_more (first ∷ steps) (suc k) step lt it so_far here =
-      (subst (λ (later : List Operation). IsAtFault all items later first.operation → ⊥) (at_any_place steps k (suc k)) so_far.0, none_more steps k step (omega arith) it so_far.1 here)
+  none_more (first ∷ steps) (suc k) step lt it so_far here = (
+    subst (λ (later : List Operation). IsAtFault all items later first.operation → ⊥) (at_any_place steps k (suc k)) so_far.0,
+    none_more steps k step (omega arith) it so_far.1 here,
+  )
 
 pub rest_whole : (steps : List Step) (k : ℕ) → take (length steps - k) (drop k steps) ≡ drop k steps
 rest_whole steps k = ap (λ (n : ℕ). take n (drop k steps)) (sym (length-drop k steps)) ∙ take-length (drop k steps)
@@ -65,14 +70,16 @@ here_and_on [] k step lt it = absurd (omega arith)
 here_and_on (first ∷ steps) zero step lt it = ap (λ (other : Step). other ∷ steps) (sym it)
 here_and_on (first ∷ steps) (suc k) step lt it = here_and_on steps k step (omega arith) it
 
-pub first_found : (all : List RowEntry) (steps : List Step) (k : ℕ) (step : Step) → k < length steps → step ≡ get_or steps k step → NoneAtFault all (operations_of steps) (operations_of (take k steps)) (operations_of (drop k steps))
+pub first_found : (all : List RowEntry) (steps : List Step) (k : ℕ) (step : Step) → k < length steps → step ≡ get_or steps k step
+    → NoneAtFault all (operations_of steps) (operations_of (take k steps)) (operations_of (drop k steps))
     → IsAtFault all (operations_of steps) (operations_of (drop (suc k) steps)) step.operation → FirstAtFault all steps step.left
 first_found all steps k step lt it none fault = record {
   earlier = take k steps;
   step = step;
   later = drop (suc k) steps;
   parts = parts_at steps k step lt ∙ ap (λ (other : Step). take k steps ++ other ∷ drop (suc k) steps) (sym it);
-  first = subst (λ (rest : List Step). NoneAtFault all (operations_of steps) (operations_of (take k steps)) (operations_of rest)) (here_and_on steps k step lt it) none;
+  first = subst (λ (rest : List Step). NoneAtFault all (operations_of steps) (operations_of (take k steps)) (operations_of rest))
+      (here_and_on steps k step lt it) none;
   at_fault = fault;
   left_is = refl;
 }
@@ -108,7 +115,11 @@ found (x ∷ l) test rise e = by (found l test rise.1) (test x) refl
     by behind false fails =
         let later = behind (sym (ap (λ (t : Bool). t || list_any test l) fails) ∙ e) in
         let below = found_over x.key later.entry.key l rise.0 (subst IsSome (sym later.stands) refl) in
-        record { entry = later.entry; stands = ap (λ (t : Bool). cond t (Some x.row) (row_of l later.entry.key)) (ap is_eq below) ∙ later.stands; passes = later.passes }
+        record {
+          entry = later.entry;
+          stands = ap (λ (t : Bool). cond t (Some x.row) (row_of l later.entry.key)) (ap is_eq below) ∙ later.stands;
+          passes = later.passes;
+        }
 
 abbrev entry_of : RowKey → Row → RowEntry
 entry_of key row = record { key = key; row = row }
@@ -120,7 +131,8 @@ or_true false = refl
 some_is : (a b : Row) → Some a ≡ Some b → a ≡ b
 some_is a b e = cc
 
-found_again : (l : List RowEntry) (test : RowEntry → Bool) (key : RowKey) (row : Row) → row_of l key ≡ Some row → test (entry_of key row) ≡ true → list_any test l ≡ true
+found_again : (l : List RowEntry) (test : RowEntry → Bool) (key : RowKey) (row : Row) → row_of l key ≡ Some row → test (entry_of key row) ≡ true
+    → list_any test l ≡ true
 found_again [] test key row stands passes = cc
 found_again (x ∷ l) test key row stands passes = by (λ here. found_again l test key row here passes) (is_same x.key key) refl
   where
@@ -134,11 +146,15 @@ found_again (x ∷ l) test key row stands passes = by (λ here. found_again l te
         let later = behind (sym (ap (λ (t : Bool). cond t (Some x.row) (row_of l key)) other) ∙ stands) in
         ap (λ (t : Bool). test x || t) later ∙ or_true (test x)
 
-left_is_orphan : (l : List RowEntry) (items : List Operation) (base : RowKey) → KeysRise l → row_of l base ≡ None → list_any (is_left items base) l ≡ true → LeavesOne l items base
+left_is_orphan : (l : List RowEntry) (items : List Operation) (base : RowKey) → KeysRise l → row_of l base ≡ None → list_any (is_left items base) l ≡ true
+    → LeavesOne l items base
 left_is_orphan l items base rise absent e =
     let it = found l (is_left items base) rise e in
-    let both = split_and (stands_on base it.entry) (not (list_any (puts it.entry.key) items)) it.passes in
-    (it.entry.key, record { row = it.entry.row; stands = it.stands; needs = needed_is base (base_of it.entry.key it.entry.row) both.0; absent = absent }, not_true (list_any (puts it.entry.key) items) both.1)
+    let both = split_and (stands_on base it.entry) (not (list_any (puts it.entry.key) items)) it.passes in (
+      it.entry.key,
+      record { row = it.entry.row; stands = it.stands; needs = needed_is base (base_of it.entry.key it.entry.row) both.0; absent = absent },
+      not_true (list_any (puts it.entry.key) items) both.1,
+    )
 
 orphan_is_left : (l : List RowEntry) (items : List Operation) (base : RowKey) → LeavesOne l items base → list_any (is_left items base) l ≡ true
 orphan_is_left l items base (key, orphan, unput) =
@@ -146,7 +162,8 @@ orphan_is_left l items base (key, orphan, unput) =
     (ap (λ (t : Bool). t && not (list_any (puts key) items)) (ap (is_needed base) orphan.needs ∙ same_self base) ∙ ap not unput)
 
 -- whether one is left is told by the rows
-pub left_told : (l : List RowEntry) (items : List Operation) (base : RowKey) (t : Bool) → KeysRise l → row_of l base ≡ None → t ≡ list_any (is_left items base) l → MatchBool t (LeavesOne l items base) (LeavesOne l items base → ⊥)
+pub left_told : (l : List RowEntry) (items : List Operation) (base : RowKey) (t : Bool) → KeysRise l → row_of l base ≡ None
+    → t ≡ list_any (is_left items base) l → MatchBool t (LeavesOne l items base) (LeavesOne l items base → ⊥)
 left_told l items base true rise absent e = left_is_orphan l items base rise absent (sym e)
 left_told l items base false rise absent e = λ leaves. false≢true (e ∙ orphan_is_left l items base leaves)
 
@@ -158,7 +175,8 @@ off_left t u e = ap (λ (t : Bool). t && u) e
 abbrev unput : List Operation → RowKey → Bool
 unput items key = not (list_any (puts key) items)
 
-on_volume : (items : List Operation) (volume : List ℕ) (key : RowKey) (row : Row) → is_eq (part_order ((2 ∷ []) ∷ volume ∷ []) key) ≡ false → (is_needed (keys.Volume volume) (base_of key row) && unput items key) ≡ false
+on_volume : (items : List Operation) (volume : List ℕ) (key : RowKey) (row : Row) → is_eq (part_order ((2 ∷ []) ∷ volume ∷ []) key) ≡ false
+    → (is_needed (keys.Volume volume) (base_of key row) && unput items key) ≡ false
 on_volume items volume (keys.Bucket v b) row e = off_left _ _ e
 on_volume items volume (keys.Volume v) row e = refl
 on_volume items volume (keys.Key v b k) row e = refl
@@ -167,8 +185,10 @@ on_volume items volume (keys.Snapshot v b n) (rows.Snapshot name previous Live) 
 on_volume items volume (keys.Snapshot v b n) (rows.Snapshot name previous Marked) e = refl
 on_volume items volume key row e = refl
 
-pub volume_left : (l part : List RowEntry) (items : List Operation) (volume : List ℕ) → IsPart l ((2 ∷ []) ∷ volume ∷ []) part → list_any (is_left items (keys.Volume volume)) l ≡ list_any (is_left items (keys.Volume volume)) part
-volume_left l part items volume is = any_part (is_left items (keys.Volume volume)) l ((2 ∷ []) ∷ volume ∷ []) part is (λ entry e. on_volume items volume entry.key entry.row e)
+pub volume_left : (l part : List RowEntry) (items : List Operation) (volume : List ℕ) → IsPart l ((2 ∷ []) ∷ volume ∷ []) part
+    → list_any (is_left items (keys.Volume volume)) l ≡ list_any (is_left items (keys.Volume volume)) part
+volume_left l part items volume is =
+    any_part (is_left items (keys.Volume volume)) l ((2 ∷ []) ∷ volume ∷ []) part is (λ entry e. on_volume items volume entry.key entry.row e)
 
 -- the rows of one kind alone
 abbrev of_kind : ℕ → (RowEntry → Bool) → RowEntry → Bool
@@ -184,7 +204,8 @@ kind_inside kind volume bucket key e =
     let level = first_level (nat_cmp kind (kind_of key)) Equal (first_level (slice_cmp nat_cmp (kind ∷ []) (kind_of key ∷ [])) _ e) in
     eq-eqb (kind_of key) kind (sym (nat_cmp-IsAntisymmetric kind (kind_of key) level))
 
-inside_kind : (kind : ℕ) (volume bucket : List ℕ) (test : RowEntry → Bool) (entry : RowEntry) → part_order (in_bucket kind volume bucket) entry.key ≡ Equal → test entry ≡ of_kind kind test entry
+inside_kind : (kind : ℕ) (volume bucket : List ℕ) (test : RowEntry → Bool) (entry : RowEntry) → part_order (in_bucket kind volume bucket) entry.key ≡ Equal
+    → test entry ≡ of_kind kind test entry
 inside_kind kind volume bucket test entry e = sym (ap (λ (t : Bool). t && test entry) (kind_inside kind volume bucket entry.key e))
 
 -- a row that needs the bucket, and that no operation put
@@ -192,15 +213,18 @@ abbrev on_bucket : List Operation → List ℕ → List ℕ → RowKey → Row �
 on_bucket items volume bucket key row = is_needed (keys.Bucket volume bucket) (base_of key row) && unput items key
 
 module _ (items : List Operation) (volume bucket : List ℕ) where
-  no_key : (key : RowKey) (row : Row) → is_eq (part_order (in_bucket 3 volume bucket) key) ≡ false → ((kind_of key == 3) && on_bucket items volume bucket key row) ≡ false
+  no_key : (key : RowKey) (row : Row) → is_eq (part_order (in_bucket 3 volume bucket) key) ≡ false
+      → ((kind_of key == 3) && on_bucket items volume bucket key row) ≡ false
   no_key (keys.Key v b k) row e = off_left _ _ e
   no_key key row e = refl
 
-  no_session : (key : RowKey) (row : Row) → is_eq (part_order (in_bucket 4 volume bucket) key) ≡ false → ((kind_of key == 4) && on_bucket items volume bucket key row) ≡ false
+  no_session : (key : RowKey) (row : Row) → is_eq (part_order (in_bucket 4 volume bucket) key) ≡ false
+      → ((kind_of key == 4) && on_bucket items volume bucket key row) ≡ false
   no_session (keys.Open v b k n) row e = off_left _ _ e
   no_session key row e = refl
 
-  no_snapshot : (key : RowKey) (row : Row) → is_eq (part_order (in_bucket 6 volume bucket) key) ≡ false → ((kind_of key == 6) && on_bucket items volume bucket key row) ≡ false
+  no_snapshot : (key : RowKey) (row : Row) → is_eq (part_order (in_bucket 6 volume bucket) key) ≡ false
+      → ((kind_of key == 6) && on_bucket items volume bucket key row) ≡ false
   no_snapshot (keys.Snapshot v b n) (rows.Snapshot name previous Live) e = off_left _ _ e
   no_snapshot key row e = refl
 
@@ -208,7 +232,10 @@ module _ (items : List Operation) (volume bucket : List ℕ) where
   or_none true = refl
   or_none false = refl
 
-  of_three : (key : RowKey) (row : Row) → on_bucket items volume bucket key row ≡ (((kind_of key == 3) && on_bucket items volume bucket key row) || (((kind_of key == 4) && on_bucket items volume bucket key row) || ((kind_of key == 6) && on_bucket items volume bucket key row)))
+  of_three : (key : RowKey) (row : Row)
+      → on_bucket items volume bucket key row
+      ≡ (((kind_of key == 3) && on_bucket items volume bucket key row)
+      || (((kind_of key == 4) && on_bucket items volume bucket key row) || ((kind_of key == 6) && on_bucket items volume bucket key row)))
   of_three (keys.Key v b k) row = or_none _
   of_three (keys.Open v b k n) row = or_none _
   of_three (keys.Snapshot v b n) row = refl
@@ -228,38 +255,54 @@ any_same : (p q : RowEntry → Bool) → ((entry : RowEntry) → p entry ≡ q e
 any_same p q same [] = refl
 any_same p q same (x ∷ l) = ap (λ (t : Bool). t || list_any p l) (same x) ∙ ap (λ (t : Bool). q x || t) (any_same p q same l)
 
-any_among : (P : RowEntry → Type 0) (p q : RowEntry → Bool) → ((entry : RowEntry) → P entry → p entry ≡ q entry) → (l : List RowEntry) → AllByRecursion P l → list_any p l ≡ list_any q l
+any_among : (P : RowEntry → Type 0) (p q : RowEntry → Bool) → ((entry : RowEntry) → P entry → p entry ≡ q entry) → (l : List RowEntry) → AllByRecursion P l
+    → list_any p l ≡ list_any q l
 any_among P p q same [] all = refl
 any_among P p q same (x ∷ l) all = ap (λ (t : Bool). t || list_any p l) (same x all.0) ∙ ap (λ (t : Bool). q x || t) (any_among P p q same l all.1)
 
 module _ (l : List RowEntry) (items : List Operation) (volume bucket : List ℕ) where
-  one_kind : (kind : ℕ) (part : List RowEntry) → IsPart l (in_bucket kind volume bucket) part → ((entry : RowEntry) → is_eq (part_order (in_bucket kind volume bucket) entry.key) ≡ false → of_kind kind (is_left items (keys.Bucket volume bucket)) entry ≡ false)
+  one_kind : (kind : ℕ) (part : List RowEntry) → IsPart l (in_bucket kind volume bucket) part
+      → ((entry : RowEntry) → is_eq (part_order (in_bucket kind volume bucket) entry.key) ≡ false
+      → of_kind kind (is_left items (keys.Bucket volume bucket)) entry ≡ false)
       → list_any (of_kind kind (is_left items (keys.Bucket volume bucket))) l ≡ list_any (is_left items (keys.Bucket volume bucket)) part
   one_kind kind part is outside =
       any_part (of_kind kind (is_left items (keys.Bucket volume bucket))) l (in_bucket kind volume bucket) part is outside
-      ∙ sym (any_among (λ (entry : RowEntry). part_order (in_bucket kind volume bucket) entry.key ≡ Equal) (is_left items (keys.Bucket volume bucket)) (of_kind kind (is_left items (keys.Bucket volume bucket))) (λ entry e. inside_kind kind volume bucket (is_left items (keys.Bucket volume bucket)) entry e) part is.among)
+      ∙ sym (any_among (λ (entry : RowEntry). part_order (in_bucket kind volume bucket) entry.key ≡ Equal) (is_left items (keys.Bucket volume bucket))
+      (of_kind kind (is_left items (keys.Bucket volume bucket)))
+      (λ entry e. inside_kind kind volume bucket (is_left items (keys.Bucket volume bucket)) entry e) part is.among)
 
-  pub bucket_left : (own sessions snapshots : List RowEntry) → IsPart l (in_bucket 3 volume bucket) own → IsPart l (in_bucket 4 volume bucket) sessions → IsPart l (in_bucket 6 volume bucket) snapshots
+  pub bucket_left : (own sessions snapshots : List RowEntry) → IsPart l (in_bucket 3 volume bucket) own → IsPart l (in_bucket 4 volume bucket) sessions
+      → IsPart l (in_bucket 6 volume bucket) snapshots
       → list_any (is_left items (keys.Bucket volume bucket)) l
-      ≡ (list_any (is_left items (keys.Bucket volume bucket)) own || (list_any (is_left items (keys.Bucket volume bucket)) sessions || list_any (is_left items (keys.Bucket volume bucket)) snapshots))
+      ≡ (list_any (is_left items (keys.Bucket volume bucket)) own
+      || (list_any (is_left items (keys.Bucket volume bucket)) sessions || list_any (is_left items (keys.Bucket volume bucket)) snapshots))
   bucket_left own sessions snapshots is_own are_sessions are_snapshots =
       let left = is_left items (keys.Bucket volume bucket) in
       let a = one_kind 3 own is_own (λ entry e. no_key items volume bucket entry.key entry.row e) in
       let b = one_kind 4 sessions are_sessions (λ entry e. no_session items volume bucket entry.key entry.row e) in
       let c = one_kind 6 snapshots are_snapshots (λ entry e. no_snapshot items volume bucket entry.key entry.row e) in
-      any_same (is_left items (keys.Bucket volume bucket)) (λ entry. of_kind 3 (is_left items (keys.Bucket volume bucket)) entry || (of_kind 4 (is_left items (keys.Bucket volume bucket)) entry || of_kind 6 (is_left items (keys.Bucket volume bucket)) entry)) (λ entry. of_three items volume bucket entry.key entry.row) l
-      ∙ any_both (of_kind 3 (is_left items (keys.Bucket volume bucket))) (λ entry. of_kind 4 (is_left items (keys.Bucket volume bucket)) entry || of_kind 6 (is_left items (keys.Bucket volume bucket)) entry) l
-      ∙ ap (λ (t : Bool). list_any (of_kind 3 (is_left items (keys.Bucket volume bucket))) l || t) (any_both (of_kind 4 (is_left items (keys.Bucket volume bucket))) (of_kind 6 (is_left items (keys.Bucket volume bucket))) l)
+      any_same (is_left items (keys.Bucket volume bucket))
+      (λ entry. of_kind 3 (is_left items (keys.Bucket volume bucket)) entry
+      || (of_kind 4 (is_left items (keys.Bucket volume bucket)) entry || of_kind 6 (is_left items (keys.Bucket volume bucket)) entry))
+      (λ entry. of_three items volume bucket entry.key entry.row) l
+      ∙ any_both (of_kind 3 (is_left items (keys.Bucket volume bucket)))
+      (λ entry. of_kind 4 (is_left items (keys.Bucket volume bucket)) entry || of_kind 6 (is_left items (keys.Bucket volume bucket)) entry) l
+      ∙ ap (λ (t : Bool). list_any (of_kind 3 (is_left items (keys.Bucket volume bucket))) l || t)
+      (any_both (of_kind 4 (is_left items (keys.Bucket volume bucket))) (of_kind 6 (is_left items (keys.Bucket volume bucket))) l)
       ∙ cc (a, b, c)
 
-  pub content_left : (base : RowKey) (own sessions snapshots : List RowEntry) → base ≡ keys.Bucket volume bucket → IsPart l (in_bucket 3 volume bucket) own → IsPart l (in_bucket 4 volume bucket) sessions → IsPart l (in_bucket 6 volume bucket) snapshots
-      → list_any (is_left items base) l ≡ (list_any (is_left items base) own || (list_any (is_left items base) sessions || list_any (is_left items base) snapshots))
+  pub content_left : (base : RowKey) (own sessions snapshots : List RowEntry) → base ≡ keys.Bucket volume bucket → IsPart l (in_bucket 3 volume bucket) own
+      → IsPart l (in_bucket 4 volume bucket) sessions → IsPart l (in_bucket 6 volume bucket) snapshots
+      → list_any (is_left items base) l
+      ≡ (list_any (is_left items base) own || (list_any (is_left items base) sessions || list_any (is_left items base) snapshots))
   content_left base own sessions snapshots is_base is_own are_sessions are_snapshots =
-      subst (λ (base : RowKey). list_any (is_left items base) l ≡ (list_any (is_left items base) own || (list_any (is_left items base) sessions || list_any (is_left items base) snapshots))) (sym is_base)
+      subst (λ (base : RowKey). list_any (is_left items base) l
+      ≡ (list_any (is_left items base) own || (list_any (is_left items base) sessions || list_any (is_left items base) snapshots))) (sym is_base)
       (bucket_left own sessions snapshots is_own are_sessions are_snapshots)
 
 pub all_told : (whole a b c x y z : Bool) → whole ≡ (a || (b || c)) → x ≡ a → y ≡ b → z ≡ c → ((x || y) || z) ≡ whole
-all_told whole a b c x y z e is_a is_b is_c = ap (λ (t : Bool). (t || y) || z) is_a ∙ ap (λ (t : Bool). (a || t) || z) is_b ∙ ap (λ (t : Bool). (a || b) || t) is_c ∙ regroup a ∙ sym e
+all_told whole a b c x y z e is_a is_b is_c = ap (λ (t : Bool). (t || y) || z) is_a ∙ ap (λ (t : Bool). (a || t) || z) is_b
+    ∙ ap (λ (t : Bool). (a || b) || t) is_c ∙ regroup a ∙ sym e
   where
     regroup : (a : Bool) → ((a || b) || c) ≡ (a || (b || c))
     regroup true = refl

@@ -36,7 +36,7 @@ use Rattle.oz_rows.specs.RowMaps.{Rows}
 use Rattle.oz_namespace.specs.declared.namespace.Namespace.{Namespace}
 use Rattle.oz_store.specs.striped.Shares.{IsOfStripe}
 use Rattle.oz_store.specs.striped.laws.Requests.{share_answers}
-use Rattle.oz_om.specs.Decided.{IsPoolEmpty}
+use Rattle.oz_store.specs.granted.Empty.{IsPoolEmpty}
 use Rattle.oz_om.specs.Held.{IsHeld, IsOpenAsk, IsPickFor, IsPicked}
 use Rattle.oz_om.specs.Opens.{Opens}
 use Rattle.oz_om.proofs.Tellable.{PoolLaw, of, part, pends}

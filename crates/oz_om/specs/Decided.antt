@@ -7,19 +7,14 @@ use Rattle.oz_core.specs.declared.event.Event.{Event}
 use Rattle.oz_core.specs.declared.event.EventKind.TheVariants.{Decide}
 use Rattle.oz_core.specs.declared.opening.Opening.{Opening}
 use Rattle.oz_core.specs.Asks.{pending}
-use Rattle.oz_core.specs.Grants.{IsSpent}
 use Rattle.oz_core.specs.Law.{DecideIsEnabled}
-use Rattle.oz_core.specs.Manager.{namespace_at, namespace_of}
+use Rattle.oz_core.specs.Manager.{namespace_at}
 use Rattle.oz_core.specs.Seats.{stripe_seat}
-use Rattle.oz_fields.specs.declared.block.Block.{Block}
 use Rattle.oz_model.specs.Answers.{Answers}
 use Rattle.oz_names.specs.Names.{stripe_of}
 use Rattle.oz_requests.specs.declared.reply.Reply.{Reply}
-use Rattle.oz_requests.specs.declared.reply.Reply.TheVariants.{Granted}
 use Rattle.oz_requests.specs.declared.request.AskId.{AskId}
-use Rattle.oz_requests.specs.declared.request.Exclude.{Exclude}
 use Rattle.oz_requests.specs.declared.request.Request.{Request}
-use Rattle.oz_requests.specs.declared.request.Request.TheVariants.{AllocateBlock}
 use Rattle.oz_requests.specs.Names.{volume_in}
 use Rattle.oz_turn.specs.Told.{BeginsWith}
 
@@ -44,20 +39,6 @@ pub record WasAsSaid (seen story : List Event) (id : AskId) (said : ℕ) : Type 
   pub behind : BeginsWith place seen
   pub begins : BeginsWith story place
   pub so_often : times_said id.client id.line place ≡ said
-
--- At the end of a story a session wants a block, one thread would grant it any, and each block that its stripe was
--- granted is used, or excluded.
-pub record IsPoolEmpty (opening : Opening) (story : List Event) (id : AskId) (stripe : ℕ) : Type 0 where
-  pub volume : List ℕ
-  pub bucket : List ℕ
-  pub key : List ℕ
-  pub session : ℕ
-  pub exclude : Exclude
-  pub asked : pending id story ≡ Some (AllocateBlock volume bucket key session exclude)
-  pub its_stripe : stripe ≡ stripe_of volume
-  pub no_code : (block : Block) (pipeline : ℕ)
-      → Answers (namespace_of opening story) (AllocateBlock volume bucket key session exclude) (Granted block pipeline)
-  pub spent : IsSpent opening story stripe exclude
 
 -- The id may be decided at the end of a story, with a batch of so many bytes.
 pub record IsBatchDue (opening : Opening) (story : List Event) (id : AskId) (asked : ℕ) : Type 0 where

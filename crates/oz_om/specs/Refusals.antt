@@ -11,7 +11,8 @@ use Rattle.oz_requests.specs.declared.request.AskId.{AskId}
 use Rattle.oz_requests.specs.declared.request.Request.{Request}
 use Rattle.oz_om.specs.declared.refusal.Refusal.{Refusal}
 use Rattle.oz_om.specs.declared.refusal.Refusal.TheVariants.{OtherBlocks, Early, Stopped, PoolEmpty, Later, OutOfMemory}
-use Rattle.oz_om.specs.Decided.{IsPoolEmpty, IsTooMuch}
+use Rattle.oz_om.specs.Decided.{IsTooMuch}
+use Rattle.oz_store.specs.granted.Empty.{IsPoolEmpty}
 
 -- from making room
 abbrev pub IsOfRoom : Refusal → Type 0

@@ -7,7 +7,7 @@ use Rattle.oz_om.specs.decider.Promises.{IsDecision}
 use Rattle.oz_decision.specs.Meets.{Stand}
 use Rattle.oz_sound.specs.Sound.{IsSoundButRenames}
 use Rattle.oz_store.specs.striped.Shares.{share_of}
-use Rattle.oz_om.specs.Decided.{IsPoolEmpty}
+use Rattle.oz_store.specs.granted.Empty.{IsPoolEmpty}
 use Rattle.oz_om.specs.Held.{IsOpenAsk}
 use Rattle.oz_om.proofs.Empty.{no_block}
 use Rattle.oz_om.proofs.Picking.{held_pooled, pooled}

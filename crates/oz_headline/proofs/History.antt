@@ -21,8 +21,8 @@ use Rattle.oz_requests.specs.declared.answer.Answer.{Answer}
 use Rattle.oz_requests.specs.declared.answer.Answer.TheVariants as told
 use Rattle.oz_requests.specs.declared.request.AskId.{AskId}
 use Rattle.oz_requests.specs.declared.request.Request.{Request}
-use Rattle.oz_asker.specs.laws.Asks.{asked_at}
-use Rattle.oz_asker.specs.laws.Halts.{late_means_halted}
+use Rattle.oz_om.specs.Asks.{asked_at}
+use Rattle.oz_om.specs.Halts.{late_means_halted}
 use Rattle.oz_kept.specs.laws.Deleted.{found_at}
 use Rattle.oz_kept.specs.laws.Granted.{one_ask_id, pending_asked}
 use Rattle.oz_kept.specs.laws.Places.{legal_behind, legal_first, moved_over}

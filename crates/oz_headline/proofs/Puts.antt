@@ -50,7 +50,7 @@ use Rattle.oz_core.specs.Manager.{namespace_of}
 use Rattle.oz_core.specs.Steps.{Target, target, block_step, commit_of, excluded, granted_to}
 use Rattle.oz_core.specs.Steps.{is_code, is_done, is_settled, next_of_put, next_step, pieces_from, pieces_needed, put_step, session_in, step_of}
 use Rattle.oz_core.specs.Stories.{last_in}
-use Rattle.oz_asker.specs.laws.Asks.{same_id}
+use Rattle.oz_om.specs.Asks.{same_id}
 use Rattle.oz_buffer.specs.laws.Courses.{pending-push}
 use Rattle.oz_kept.specs.Held.{LinesAreApart}
 use Rattle.oz_kept.specs.laws.Contents.{same_line}

@@ -24,3 +24,5 @@ pub use Rattle.oz_om.specs.Keeps
 pub use Rattle.oz_om.specs.Opens
 pub use Rattle.oz_om.specs.Seated
 pub use Rattle.oz_nodes_loaded.specs.AllLoad
+pub use Rattle.oz_store.specs.Store
+pub use Rattle.oz_replicas.specs.Stays

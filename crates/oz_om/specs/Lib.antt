@@ -6,3 +6,5 @@ pub mod Refusals
 pub mod Seated
 pub mod Shown
 pub mod decider
+pub use Rattle.oz_asker.specs.laws.Asks
+pub use Rattle.oz_asker.specs.laws.Halts

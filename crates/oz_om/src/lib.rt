@@ -15,4 +15,5 @@ mod telling;
 
 pub use decider::{Outcome, decide};
 pub use manager::Manager;
+pub use oz_locks::Loaded;
 pub use refusal::Refusal;

@@ -14,7 +14,7 @@ use Rattle.oz_nodes_loaded.specs.Led.{no_lines}
 use Rattle.oz_nodes_loaded.specs.NodeSeat.{IsKept as SeatIsKept, SeatView, StandsFor, events_of}
 use Rattle.oz_replicas.specs.Cells.{IsAtRest}
 use Rattle.oz_scm.specs.Scm.{State as Scm}
-use Rattle.oz_scm_events.specs.Kept.{IsKept as ScmIsKept}
+use Rattle.oz_nodes_loaded.specs.ScmKept.{IsKept as ScmIsKept}
 use Rattle.oz_world.specs.Disk.{Images}
 
 -- a datanode's seat that has seen the whole story; which lines had something done to it isn't looked at

@@ -9,7 +9,7 @@ use Rattle.oz_running.specs.disk_run.Coherent.{BothTell}
 use Rattle.oz_running.specs.declared.disk_run.disks.Disks.{Disks}
 use Rattle.oz_headline.specs.LoadedDisks.{LeavesNode}
 use Rattle.oz_headline.specs.Loads.{AreNodesFrom, disks_in}
-use Rattle.oz_replicas.specs.Stays.{IsIdle}
+use Rattle.oz_headline.specs.Stays.{IsIdle}
 use Rattle.oz_world.specs.Disk.{Seen, TellsAsBefore}
 
 pub disks_same : {D : Type 0} (some other : Disks D) → some.manager ≡ other.manager → some.scm ≡ other.scm → some.nodes ≡ other.nodes → some ≡ other

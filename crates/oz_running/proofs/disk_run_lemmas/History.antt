@@ -38,7 +38,7 @@ use Rattle.oz_running.specs.declared.ran.Ran.{Ran}
 use Rattle.oz_sound.specs.Sound.{IsSoundButRenames}
 use Rattle.oz_sound.specs.StandsFor.{StandsFor}
 use Rattle.oz_loaded.specs.standing.Shown.{namespace_shown}
-use Rattle.oz_store.specs.Store.{IsStore}
+use Rattle.oz_headline.specs.Store.{IsStore}
 use Rattle.oz_headline.specs.store_opening.Agreeing.{BlocksAgree}
 use Rattle.oz_headline.specs.store_opening.Openings.{opening_bytes, opening_of}
 use Rattle.oz_world.specs.Disk.{Seen, TellsAsBefore}

@@ -19,7 +19,7 @@ use Rattle.oz_rows.specs.RowMaps.{Rows, row_of}
 use Rattle.oz_sound.specs.Sound.{IsSoundButRenames}
 use Rattle.oz_sound.specs.StandsFor.{StandsFor}
 use Rattle.oz_loaded.specs.standing.Shown.{namespace_shown}
-use Rattle.oz_store.specs.Store.{IsStore}
+use Rattle.oz_headline.specs.Store.{IsStore}
 use Rattle.oz_headline.specs.store_opening.Agreeing.{BlocksAgree}
 use Rattle.oz_headline.specs.store_opening.Openings.{opened_node, opening_bytes, opening_of}
 use Rattle.oz_world.specs.Disk.{Seen, TellsAsBefore}

@@ -19,7 +19,7 @@ use Rattle.oz_loaded.specs.Loads.{IsLoaded}
 use Rattle.oz_loaded.specs.Unseated.{UnseatedView}
 use Rattle.oz_headline.specs.NodeSeat.{IsAsOpened}
 use Rattle.oz_headline.specs.Loads.{AreNodesFrom, IsScmFrom}
-use Rattle.oz_replicas.specs.Stays.{IsIdle}
+use Rattle.oz_headline.specs.Stays.{IsIdle}
 use Rattle.oz_rows.specs.RowMaps.{Rows}
 use Rattle.oz_running.specs.declared.ran.Ran.{Ran}
 use Rattle.oz_running.specs.Run.{IsRun}

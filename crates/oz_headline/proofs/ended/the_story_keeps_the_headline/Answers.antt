@@ -1,6 +1,6 @@
 use Rattle.std.proofs.Common.{ap, ◌∙◌}
 use Rattle.oz_core.specs.Manager.{flushed_moment}
-use Rattle.oz_asker.specs.laws.Asks.{legal_of_follow}
+use Rattle.oz_om.specs.Asks.{legal_of_follow}
 use Rattle.oz_headline.proofs.Story.{by_flushers, headline_holds}
 use Rattle.oz_headline.proofs.ended.the_story_keeps_the_headline.Goals as goal
 

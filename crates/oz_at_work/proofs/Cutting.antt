@@ -2,6 +2,7 @@
 use Rattle.std.proofs.Common.{◌≡◌, ◌≢◌, inl, inr, ℕ, true, false, List, [], ◌∷◌, ◌++◌, length, None, Some, refl, sym, ap, ◌∙◌, subst, cond, ◌==◌, Bool, is_some}
 use Rattle.std.proofs.lemmas.Bool.{eqb-true, false≢true}
 use Rattle.oz_asker.specs.laws.Halts.{late_means_halted}
+use Rattle.oz_buffer.specs.declared.opened.Opened.{Ghosts as Run}
 use Rattle.oz_buffer.specs.Buffer.{AllFollow, Follows}
 use Rattle.oz_command.specs.declared.command.AdminCommand.TheVariants as admin
 use Rattle.oz_command.specs.declared.command.Command.{Command}
@@ -23,6 +24,7 @@ use Rattle.oz_turn.specs.Told.{BeginsWith}
 use Rattle.oz_underway.specs.laws.Labels.{open_as_told, open_still}
 use Rattle.oz_underway.specs.laws.Starting.{started_still}
 use Rattle.oz_at_work.specs.AtWork.{HasGoneOn, IsAtWork, IsLabelOf, IsStarted, IsTelling, MayBeTold, WasSaid, WorkView, id_of, last_of}
+use Rattle.oz_at_work.specs.Part.{IsAtWorkIn, StaysAtWork}
 use Rattle.oz_at_work.specs.inner.Replied.{IsOfEnd, cut_with}
 use Rattle.oz_at_work.proofs.Staying.{begun_still, said_was}
 
@@ -104,3 +106,18 @@ module _ (Coherent : Type 0) (opening : Opening) (bytes : OpeningBytes) (script 
       subst (IsAtWork Coherent opening bytes script later) (sym is)
       (cut_fits later work asked answer coherent of_end (begun_still script later seen work.line begins at_work.begun) at_work.does at_work.nodes at_work.opened
       (said_was later seen work.line work.said begins at_work.said))
+
+-- who is told such an answer next stays at work
+pub cut_stays : {O : Type 0} (run : Run O) (later seen : List Event) (work new : WorkView) (asked : ℕ) (answer : Answer) {Does : Type 0} → BeginsWith later seen
+    → IsOfEnd asked answer → new ≡ cut_with work asked answer → IsAtWorkIn run seen work → StaysAtWork run later Does work new
+cut_stays run later seen work new asked answer begins of_end is works = record {
+  line = ap (λ (w : WorkView). w.line) is;
+  works = λ coherent. cut_so run.coherent run.opening run.bytes run.script later seen work new asked answer coherent begins of_end is (works coherent);
+  went_on = λ does. cut_goes_on work work new asked answer is;
+}
+
+-- so does who was the same inside
+pub cut_inside : {O : Type 0} (run : Run O) (later seen : List Event) (inside work new : WorkView) (asked : ℕ) (answer : Answer) {Does : Type 0} → inside ≡ work
+    → BeginsWith later seen → IsOfEnd asked answer → new ≡ cut_with inside asked answer → IsAtWorkIn run seen work → StaysAtWork run later Does work new
+cut_inside run later seen inside work new asked answer same begins of_end is works =
+    cut_stays run later seen work new asked answer begins of_end (is ∙ ap (λ (w : WorkView). cut_with w asked answer) same) works

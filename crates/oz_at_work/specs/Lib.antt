@@ -1,3 +1,4 @@
 pub mod AtWork
+pub mod Part
 pub mod inner
 pub mod servers

@@ -1,14 +1,13 @@
 //! How a line asks the manager.
 
-ghost use Rattle.std.specs.Prelude.{◌≡◌, ◌≢◌, ◌<◌, ◌+◌, true, IfSome, None, Some};
-ghost use Rattle.oz_at_work.specs.AtWork.{HasGoneOn, IsAtWork, id_of};
+ghost use Rattle.std.specs.Prelude.{◌≡◌, ◌≢◌, ◌+◌, true, IfSome, None, Some};
+ghost use Rattle.oz_at_work.specs.AtWork.{id_of};
+ghost use Rattle.oz_at_work.specs.Part.{Gone, IsAtWorkIn, IsLinePart, StaysAtWork};
 ghost use Rattle.oz_at_work.specs.inner.Short.{IsShort};
 ghost use Rattle.oz_client.specs.declared.step.Step.TheVariants as steps;
 ghost use Rattle.oz_core.specs.Asks.{is_script};
-ghost use Rattle.oz_core.specs.Seats.{IsLineSeat};
 ghost use Rattle.oz_om.specs.decider.Decided.{is_decided};
-ghost use Rattle.oz_turn.specs.Seat.{IsReady, room_of, seen_of};
-ghost use Rattle.oz_turn.specs.Told.{BeginsWith};
+ghost use Rattle.oz_turn.specs.Seat.{seen_of};
 ghost use Rattle.oz_turn.specs.Turn.{turn_id};
 
 use crate::at_work::LineAtWork;
@@ -41,16 +40,10 @@ impl<'s> LineAtWork<'s> {
         by: u16,
     ) -> Did
         requires turn { turn_id turn.now ≡ R.turn }
-        requires ready { IsReady R.turn by seat.old }
-        requires seats { by < 64 }
-        requires of_line { IsLineSeat by }
-        requires works { O.coherent → IsAtWork O.coherent O.opening O.bytes O.script (seen_of seat.old) self.old }
-        ensures ready { IsReady R.turn by seat.new }
-        ensures room { room_of seat.new ≡ room_of seat.old }
-        ensures goes_on { BeginsWith (seen_of seat.new) (seen_of seat.old) }
-        ensures line { self.new.line ≡ self.old.line }
-        ensures works { O.coherent → IsAtWork O.coherent O.opening O.bytes O.script (seen_of seat.new) self.new }
-        ensures went_on { result ≡ Did.WentOn → HasGoneOn self.old self.new }
+        requires part { IsLinePart R.turn by seat.old }
+        requires works { IsAtWorkIn O.Opened (seen_of seat.old) self.old }
+        ensures gone { Gone R.turn by seat.old seat.new }
+        ensures stays { StaysAtWork O.Opened (seen_of seat.new) (result ≡ Did.WentOn) self.old self.new }
         ensures unended { result ≢ Did.Ended }
     {
         match self.ask_once(rt, alloc, turn, &servers.manager, seat, by) {
@@ -71,16 +64,10 @@ impl<'s> LineAtWork<'s> {
         by: u16,
     ) -> Did
         requires turn { turn_id turn.now ≡ R.turn }
-        requires ready { IsReady R.turn by seat.old }
-        requires seats { by < 64 }
-        requires of_line { IsLineSeat by }
-        requires works { O.coherent → IsAtWork O.coherent O.opening O.bytes O.script (seen_of seat.old) self.old }
-        ensures ready { IsReady R.turn by seat.new }
-        ensures room { room_of seat.new ≡ room_of seat.old }
-        ensures goes_on { BeginsWith (seen_of seat.new) (seen_of seat.old) }
-        ensures line { self.new.line ≡ self.old.line }
-        ensures works { O.coherent → IsAtWork O.coherent O.opening O.bytes O.script (seen_of seat.new) self.new }
-        ensures went_on { result ≡ Did.WentOn → HasGoneOn self.old self.new }
+        requires part { IsLinePart R.turn by seat.old }
+        requires works { IsAtWorkIn O.Opened (seen_of seat.old) self.old }
+        ensures gone { Gone R.turn by seat.old seat.new }
+        ensures stays { StaysAtWork O.Opened (seen_of seat.new) (result ≡ Did.WentOn) self.old self.new }
         ensures unended { result ≢ Did.Ended }
     {
         let (scm, nodes, count) = (&servers.scm, &servers.nodes, servers.node_count());
@@ -112,18 +99,12 @@ impl<'s> LineAtWork<'s> {
         by: u16,
     ) -> Option<Did>
         requires turn { turn_id turn.now ≡ R.turn }
-        requires ready { IsReady R.turn by seat.old }
-        requires seats { by < 64 }
-        requires of_line { IsLineSeat by }
-        requires works { O.coherent → IsAtWork O.coherent O.opening O.bytes O.script (seen_of seat.old) self.old }
-        ensures ready { IsReady R.turn by seat.new }
-        ensures room { room_of seat.new ≡ room_of seat.old }
-        ensures goes_on { BeginsWith (seen_of seat.new) (seen_of seat.old) }
-        ensures line { self.new.line ≡ self.old.line }
-        ensures works { O.coherent → IsAtWork O.coherent O.opening O.bytes O.script (seen_of seat.new) self.new }
+        requires part { IsLinePart R.turn by seat.old }
+        requires works { IsAtWorkIn O.Opened (seen_of seat.old) self.old }
+        ensures gone { Gone R.turn by seat.old seat.new }
+        ensures stays { StaysAtWork O.Opened (seen_of seat.new) (result ≡ Some Did.WentOn) self.old self.new }
         ensures same { result ≡ None → self.new ≡ self.old }
         ensures short { result ≡ None → O.coherent → IsShort O.opening (seen_of seat.new) self.new }
-        ensures went_on { result ≡ Some Did.WentOn → HasGoneOn self.old self.new }
         ensures unended { result ≢ Some Did.Ended }
     {
         let Some((id, request)) = self.next_ask(alloc) else {

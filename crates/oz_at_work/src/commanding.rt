@@ -1,11 +1,9 @@
 //! How a line stops, starts or wipes a datanode.
 
-ghost use Rattle.std.specs.Prelude.{◌≡◌, ◌<◌, ◌≤◌, IfSome};
-ghost use Rattle.oz_at_work.specs.AtWork.{HasGoneOn, HasLeft, IsAtWork, left_of};
+ghost use Rattle.std.specs.Prelude.{◌≡◌, IfSome};
+ghost use Rattle.oz_at_work.specs.Part.{Gone, HasEnded, IsAtWorkIn, IsLinePart, StaysAtWork};
 ghost use Rattle.oz_at_work.specs.inner.Commanded.{HasNumbers, IsCommandOf, IsDoneDue};
-ghost use Rattle.oz_core.specs.Seats.{IsLineSeat};
-ghost use Rattle.oz_turn.specs.Seat.{IsReady, room_of, seen_of};
-ghost use Rattle.oz_turn.specs.Told.{BeginsWith};
+ghost use Rattle.oz_turn.specs.Seat.{seen_of};
 ghost use Rattle.oz_turn.specs.Turn.{turn_id};
 
 use crate::at_work::LineAtWork;
@@ -45,18 +43,11 @@ impl<'s> LineAtWork<'s> {
         by: u16,
     ) -> Did
         requires turn { turn_id turn.now ≡ R.turn }
-        requires ready { IsReady R.turn by seat.old }
-        requires seats { by < 64 }
-        requires of_line { IsLineSeat by }
-        requires works { O.coherent → IsAtWork O.coherent O.opening O.bytes O.script (seen_of seat.old) self.old }
-        ensures ready { IsReady R.turn by seat.new }
-        ensures room { room_of seat.new ≡ room_of seat.old }
-        ensures goes_on { BeginsWith (seen_of seat.new) (seen_of seat.old) }
-        ensures line { self.new.line ≡ self.old.line }
-        ensures works { O.coherent → IsAtWork O.coherent O.opening O.bytes O.script (seen_of seat.new) self.new }
-        ensures went_on { result ≡ Did.WentOn → HasGoneOn self.old self.new }
-        ensures ended { result ≡ Did.Ended → O.coherent →
-            HasLeft O.coherent O.opening O.bytes O.script (seen_of seat.new) self.new.line (left_of self.new) }
+        requires part { IsLinePart R.turn by seat.old }
+        requires works { IsAtWorkIn O.Opened (seen_of seat.old) self.old }
+        ensures gone { Gone R.turn by seat.old seat.new }
+        ensures stays { StaysAtWork O.Opened (seen_of seat.new) (result ≡ Did.WentOn) self.old self.new }
+        ensures ended { result ≡ Did.Ended → HasEnded O.Opened (seen_of seat.new) self.new }
     {
         let (asked, line) = (self.asked, self.line);
         let Some(Commanded { dn, done }) = command_in(line) else {
@@ -89,20 +80,13 @@ impl<'s> LineAtWork<'s> {
         dn: u8,
         done: NodeCommand,
     ) -> Did
-        requires ready { IsReady (turn_id turn.now) by seat.old }
-        requires seats { by < 64 }
-        requires of_line { IsLineSeat by }
-        requires works { O.coherent → IsAtWork O.coherent O.opening O.bytes O.script (seen_of seat.old) self.old }
+        requires part { IsLinePart (turn_id turn.now) by seat.old }
+        requires works { IsAtWorkIn O.Opened (seen_of seat.old) self.old }
         requires commands { IsCommandOf self.old.line dn done }
         requires due { O.coherent → IsDoneDue O.coherent O.opening O.bytes O.script (seen_of seat.old) self.old.line dn }
-        ensures ready { IsReady (turn_id turn.now) by seat.new }
-        ensures room { room_of seat.new ≡ room_of seat.old }
-        ensures goes_on { BeginsWith (seen_of seat.new) (seen_of seat.old) }
-        ensures line { self.new.line ≡ self.old.line }
-        ensures works { O.coherent → IsAtWork O.coherent O.opening O.bytes O.script (seen_of seat.new) self.new }
-        ensures went_on { result ≡ Did.WentOn → HasGoneOn self.old self.new }
-        ensures ended { result ≡ Did.Ended → O.coherent →
-            HasLeft O.coherent O.opening O.bytes O.script (seen_of seat.new) self.new.line (left_of self.new) }
+        ensures gone { Gone (turn_id turn.now) by seat.old seat.new }
+        ensures stays { StaysAtWork O.Opened (seen_of seat.new) (result ≡ Did.WentOn) self.old self.new }
+        ensures ended { result ≡ Did.Ended → HasEnded O.Opened (seen_of seat.new) self.new }
     {
         let (asked, said) = (self.asked, self.said);
         let (client, line, last) = (self.line.client, self.line.number, self.last_of(asked));

@@ -1,10 +1,8 @@
 //! How a line goes on.
 
-ghost use Rattle.std.specs.Prelude.{◌≡◌, ◌<◌};
-ghost use Rattle.oz_at_work.specs.AtWork.{HasGoneOn, HasLeft, IsAtWork, left_of};
-ghost use Rattle.oz_core.specs.Seats.{IsLineSeat};
-ghost use Rattle.oz_turn.specs.Seat.{IsReady, room_of, seen_of};
-ghost use Rattle.oz_turn.specs.Told.{BeginsWith};
+ghost use Rattle.std.specs.Prelude.{◌≡◌};
+ghost use Rattle.oz_at_work.specs.Part.{Gone, HasEnded, IsAtWorkIn, IsLinePart, StaysAtWork};
+ghost use Rattle.oz_turn.specs.Seat.{seen_of};
 ghost use Rattle.oz_turn.specs.Turn.{turn_id};
 
 use crate::at_work::LineAtWork;
@@ -33,18 +31,11 @@ impl<'s> LineAtWork<'s> {
         by: u16,
     ) -> Did
         requires turn { turn_id turn.now ≡ R.turn }
-        requires ready { IsReady R.turn by seat.old }
-        requires seats { by < 64 }
-        requires of_line { IsLineSeat by }
-        requires works { O.coherent → IsAtWork O.coherent O.opening O.bytes O.script (seen_of seat.old) self.old }
-        ensures ready { IsReady R.turn by seat.new }
-        ensures room { room_of seat.new ≡ room_of seat.old }
-        ensures goes_on { BeginsWith (seen_of seat.new) (seen_of seat.old) }
-        ensures line { self.new.line ≡ self.old.line }
-        ensures works { O.coherent → IsAtWork O.coherent O.opening O.bytes O.script (seen_of seat.new) self.new }
-        ensures went_on { result ≡ Did.WentOn → HasGoneOn self.old self.new }
-        ensures ended { result ≡ Did.Ended → O.coherent →
-            HasLeft O.coherent O.opening O.bytes O.script (seen_of seat.new) self.new.line (left_of self.new) }
+        requires part { IsLinePart R.turn by seat.old }
+        requires works { IsAtWorkIn O.Opened (seen_of seat.old) self.old }
+        ensures gone { Gone R.turn by seat.old seat.new }
+        ensures stays { StaysAtWork O.Opened (seen_of seat.new) (result ≡ Did.WentOn) self.old self.new }
+        ensures ended { result ≡ Did.Ended → HasEnded O.Opened (seen_of seat.new) self.new }
     {
         if let Some(did) = self.tell_refused(rt, alloc, turn, seat, by) {
             return did;

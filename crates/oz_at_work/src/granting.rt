@@ -1,13 +1,13 @@
 //! How a line's stripe is granted blocks, or the line is refused.
 
 ghost use Rattle.std.specs.Prelude.{◌≡◌, ◌≢◌, ◌<◌, ◌≤◌, ◌+◌, true, length, IfSome, None, Some};
-ghost use Rattle.oz_at_work.specs.AtWork.{HasGoneOn, IsAtWork, id_of};
+ghost use Rattle.oz_at_work.specs.AtWork.{id_of};
+ghost use Rattle.oz_at_work.specs.Part.{Gone, IsAtWorkIn, StaysAtWork};
 ghost use Rattle.oz_at_work.specs.inner.Short.{IsShort, WantsBlock};
 ghost use Rattle.oz_core.specs.Asks.{is_script};
 ghost use Rattle.oz_core.specs.Steps.{was_told_ok};
 ghost use Rattle.oz_names.specs.declared.limits.TheConstants.{STRIPES};
-ghost use Rattle.oz_turn.specs.Seat.{IsReady, room_of, seen_of};
-ghost use Rattle.oz_turn.specs.Told.{BeginsWith};
+ghost use Rattle.oz_turn.specs.Seat.{IsReady, seen_of};
 ghost use Rattle.oz_turn.specs.Turn.{turn_id};
 
 use crate::at_work::LineAtWork;
@@ -48,16 +48,12 @@ impl<'s> LineAtWork<'s> {
     ) -> Option<Did>
         requires turn { turn_id turn.now ≡ R.turn }
         requires ready { IsReady R.turn by seat.old }
-        requires works { O.coherent → IsAtWork O.coherent O.opening O.bytes O.script (seen_of seat.old) self.old }
+        requires works { IsAtWorkIn O.Opened (seen_of seat.old) self.old }
         requires short { O.coherent → IsShort O.opening (seen_of seat.old) self.old }
         requires reached { place ≤ length (seen_of seat.old) }
-        ensures ready { IsReady R.turn by seat.new }
-        ensures room { room_of seat.new ≡ room_of seat.old }
-        ensures goes_on { BeginsWith (seen_of seat.new) (seen_of seat.old) }
-        ensures line { self.new.line ≡ self.old.line }
-        ensures works { O.coherent → IsAtWork O.coherent O.opening O.bytes O.script (seen_of seat.new) self.new }
+        ensures gone { Gone R.turn by seat.old seat.new }
+        ensures stays { StaysAtWork O.Opened (seen_of seat.new) (result ≡ Some Did.WentOn) self.old self.new }
         ensures same { result ≡ None → self.new ≡ self.old }
-        ensures went_on { result ≡ Some Did.WentOn → HasGoneOn self.old self.new }
         ensures unended { result ≢ Some Did.Ended }
     {
         let Some(wanted) = self.wanted() else {

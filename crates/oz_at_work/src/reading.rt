@@ -3,6 +3,7 @@
 ghost use Rattle.std.specs.Prelude.{◌≡◌, ◌≢◌, ◌⊎◌, ◌<◌, [], true, All, List, None, IfSome, IsSome, map};
 ghost use Rattle.std.specs.FinMap.{get};
 ghost use Rattle.oz_at_work.specs.AtWork.{HasGoneOn, IsAtWork};
+ghost use Rattle.oz_at_work.specs.Part.{Gone, IsAtWorkIn, StaysAtWork};
 ghost use Rattle.oz_at_work.specs.inner.Read.{IsReadNext, WasMissed, WasRead};
 ghost use Rattle.oz_buffer.specs.Buffer.{AllFollow, Follows};
 ghost use Rattle.oz_core.specs.declared.event.Event.{Event as AnyEvent};
@@ -10,8 +11,7 @@ ghost use Rattle.oz_client.specs.declared.step.Step.TheVariants.{Read};
 ghost use Rattle.oz_core.specs.Scm.{containers, members};
 ghost use Rattle.oz_fields.specs.declared.block.Piece.{Piece as AnyPiece};
 ghost use Rattle.oz_line_blocks.specs.reading.Lacks.{doubted_in};
-ghost use Rattle.oz_turn.specs.Seat.{IsReady, mine_of, room_of, seen_of};
-ghost use Rattle.oz_turn.specs.Told.{BeginsWith};
+ghost use Rattle.oz_turn.specs.Seat.{IsReady, mine_of, seen_of};
 ghost use Rattle.oz_turn.specs.Turn.{turn_id};
 
 use crate::at_work::LineAtWork;
@@ -47,13 +47,9 @@ impl<'s> LineAtWork<'s> {
     ) -> Did
         requires turn { turn_id turn.now ≡ R.turn }
         requires ready { IsReady R.turn by seat.old }
-        requires works { O.coherent → IsAtWork O.coherent O.opening O.bytes O.script (seen_of seat.old) self.old }
-        ensures ready { IsReady R.turn by seat.new }
-        ensures room { room_of seat.new ≡ room_of seat.old }
-        ensures goes_on { BeginsWith (seen_of seat.new) (seen_of seat.old) }
-        ensures line { self.new.line ≡ self.old.line }
-        ensures works { O.coherent → IsAtWork O.coherent O.opening O.bytes O.script (seen_of seat.new) self.new }
-        ensures went_on { result ≡ Did.WentOn → HasGoneOn self.old self.new }
+        requires works { IsAtWorkIn O.Opened (seen_of seat.old) self.old }
+        ensures gone { Gone R.turn by seat.old seat.new }
+        ensures stays { StaysAtWork O.Opened (seen_of seat.new) (result ≡ Did.WentOn) self.old self.new }
         ensures unended { result ≢ Did.Ended }
     {
         servers.manager.opens();
@@ -148,10 +144,8 @@ fn members_of<D: Disk, O: Opened, L: Loaded, R: Ring, W: Wait>(
 ) -> Option<[u8; 3]>
     requires turn { turn_id turn.now ≡ R.turn }
     requires ready { IsReady R.turn by seat.old }
-    ensures ready { IsReady R.turn by seat.new }
-    ensures room { room_of seat.new ≡ room_of seat.old }
+    ensures gone { Gone R.turn by seat.old seat.new }
     ensures mine { mine_of seat.new ≡ mine_of seat.old }
-    ensures goes_on { BeginsWith (seen_of seat.new) (seen_of seat.old) }
     ensures follow { AllFollow (Follows O.coherent O.opening O.bytes O.script) [] (seen_of seat.new) }
     ensures known { IfSome result (λ dns. All (λ dn. dn < servers.now.nodes) dns) }
     ensures are { O.coherent → IfSome result (λ dns. members O.opening (seen_of seat.new) container ≡ dns) }

@@ -1,13 +1,13 @@
 //! How a line goes on with what was replied to it.
 
 ghost use Rattle.std.specs.Prelude.{◌≡◌, ◌+◌, ◌||◌, [], true, IsTrue, is_some};
-ghost use Rattle.oz_at_work.specs.AtWork.{HasGoneOn, IsAtWork};
+ghost use Rattle.oz_at_work.specs.AtWork.{HasGoneOn};
+ghost use Rattle.oz_at_work.specs.Part.{Gone, IsAtWorkIn};
 ghost use Rattle.oz_at_work.specs.inner.Replied.{IsAsking, WasReplied};
 ghost use Rattle.oz_buffer.specs.Buffer.{AllFollow, Follows};
 ghost use Rattle.oz_buffer.specs.Became.{times_said};
 ghost use Rattle.oz_steps.specs.Came.{granted_by};
-ghost use Rattle.oz_turn.specs.Seat.{IsReady, room_of, seen_of};
-ghost use Rattle.oz_turn.specs.Told.{BeginsWith};
+ghost use Rattle.oz_turn.specs.Seat.{IsReady, seen_of};
 ghost use Rattle.oz_turn.specs.Turn.{turn_id};
 
 use crate::at_work::LineAtWork;
@@ -37,11 +37,9 @@ impl<'s> LineAtWork<'s> {
         requires asks { IsAsking self.old.next }
         requires replied { O.coherent →
             WasReplied O.coherent O.opening O.bytes O.script (seen_of seat.old) self.old reply }
-        ensures ready { IsReady (turn_id turn.now) by seat.new }
-        ensures room { room_of seat.new ≡ room_of seat.old }
-        ensures goes_on { BeginsWith (seen_of seat.new) (seen_of seat.old) }
+        ensures gone { Gone (turn_id turn.now) by seat.old seat.new }
         ensures line { self.new.line ≡ self.old.line }
-        ensures works { O.coherent → IsAtWork O.coherent O.opening O.bytes O.script (seen_of seat.new) self.new }
+        ensures works { IsAtWorkIn O.Opened (seen_of seat.new) self.new }
         ensures went_on { HasGoneOn self.old self.new }
     {
         let looks = self.looks(&reply);
@@ -63,9 +61,7 @@ impl<'s> LineAtWork<'s> {
         looks: bool,
     ) -> bool
         requires { IsReady (turn_id turn.now) by seat.old }
-        ensures ready { IsReady (turn_id turn.now) by seat.new }
-        ensures room { room_of seat.new ≡ room_of seat.old }
-        ensures goes_on { BeginsWith (seen_of seat.new) (seen_of seat.old) }
+        ensures gone { Gone (turn_id turn.now) by seat.old seat.new }
         ensures follow { AllFollow (Follows O.coherent O.opening O.bytes O.script) [] (seen_of seat.old) →
             AllFollow (Follows O.coherent O.opening O.bytes O.script) [] (seen_of seat.new) }
         ensures said { IsTrue result → looks ≡ true →

@@ -1,10 +1,9 @@
 //! How a line is told its answer.
 
-ghost use Rattle.std.specs.Prelude.{◌≡◌, ◌≢◌, ◌<◌, None, Some};
-ghost use Rattle.oz_at_work.specs.AtWork.{HasGoneOn, HasLeft, IsAtWork, IsTelling, left_of};
-ghost use Rattle.oz_core.specs.Seats.{IsLineSeat};
-ghost use Rattle.oz_turn.specs.Seat.{IsReady, room_of, seen_of};
-ghost use Rattle.oz_turn.specs.Told.{BeginsWith};
+ghost use Rattle.std.specs.Prelude.{◌≡◌, ◌≢◌, None, Some};
+ghost use Rattle.oz_at_work.specs.AtWork.{IsTelling};
+ghost use Rattle.oz_at_work.specs.Part.{Gone, HasEnded, IsAtWorkIn, IsLinePart, StaysAtWork};
+ghost use Rattle.oz_turn.specs.Seat.{IsReady, seen_of};
 ghost use Rattle.oz_turn.specs.Turn.{turn_id};
 
 use crate::at_work::LineAtWork;
@@ -29,19 +28,12 @@ impl<'s> LineAtWork<'s> {
         seat: &mut Seat<Ledger<O>>,
         by: u16,
     ) -> Did
-        requires ready { IsReady (turn_id turn.now) by seat.old }
-        requires seats { by < 64 }
-        requires of_line { IsLineSeat by }
-        requires works { O.coherent → IsAtWork O.coherent O.opening O.bytes O.script (seen_of seat.old) self.old }
+        requires part { IsLinePart (turn_id turn.now) by seat.old }
+        requires works { IsAtWorkIn O.Opened (seen_of seat.old) self.old }
         requires tells { IsTelling self.old.next }
-        ensures ready { IsReady (turn_id turn.now) by seat.new }
-        ensures room { room_of seat.new ≡ room_of seat.old }
-        ensures goes_on { BeginsWith (seen_of seat.new) (seen_of seat.old) }
-        ensures line { self.new.line ≡ self.old.line }
-        ensures works { O.coherent → IsAtWork O.coherent O.opening O.bytes O.script (seen_of seat.new) self.new }
-        ensures went_on { result ≡ Did.WentOn → HasGoneOn self.old self.new }
-        ensures ended { result ≡ Did.Ended → O.coherent →
-            HasLeft O.coherent O.opening O.bytes O.script (seen_of seat.new) self.new.line (left_of self.new) }
+        ensures gone { Gone (turn_id turn.now) by seat.old seat.new }
+        ensures stays { StaysAtWork O.Opened (seen_of seat.new) (result ≡ Did.WentOn) self.old self.new }
+        ensures ended { result ≡ Did.Ended → HasEnded O.Opened (seen_of seat.new) self.new }
     {
         let next = mem::replace(&mut self.next, Step::Tell(Answer::OutOfMemory));
         let Step::Tell(answer) = next else {
@@ -80,19 +72,12 @@ impl<'s> LineAtWork<'s> {
         seat: &mut Seat<Ledger<O>>,
         by: u16,
     ) -> Option<Did>
-        requires ready { IsReady (turn_id turn.now) by seat.old }
-        requires seats { by < 64 }
-        requires of_line { IsLineSeat by }
-        requires works { O.coherent → IsAtWork O.coherent O.opening O.bytes O.script (seen_of seat.old) self.old }
-        ensures ready { IsReady (turn_id turn.now) by seat.new }
-        ensures room { room_of seat.new ≡ room_of seat.old }
-        ensures goes_on { BeginsWith (seen_of seat.new) (seen_of seat.old) }
-        ensures line { self.new.line ≡ self.old.line }
-        ensures works { O.coherent → IsAtWork O.coherent O.opening O.bytes O.script (seen_of seat.new) self.new }
+        requires part { IsLinePart (turn_id turn.now) by seat.old }
+        requires works { IsAtWorkIn O.Opened (seen_of seat.old) self.old }
+        ensures gone { Gone (turn_id turn.now) by seat.old seat.new }
+        ensures stays { StaysAtWork O.Opened (seen_of seat.new) (result ≡ Some Did.WentOn) self.old self.new }
         ensures tries { result ≡ None → self.new ≡ record self.old { refused = None } }
-        ensures went_on { result ≡ Some Did.WentOn → HasGoneOn self.old self.new }
-        ensures ended { result ≡ Some Did.Ended → O.coherent →
-            HasLeft O.coherent O.opening O.bytes O.script (seen_of seat.new) self.new.line (left_of self.new) }
+        ensures ended { result ≡ Some Did.Ended → HasEnded O.Opened (seen_of seat.new) self.new }
     {
         let Refused {
             answer,
@@ -142,13 +127,9 @@ impl<'s> LineAtWork<'s> {
         cause: Untold,
     ) -> Did
         requires ready { IsReady (turn_id turn.now) by seat.old }
-        requires works { O.coherent → IsAtWork O.coherent O.opening O.bytes O.script (seen_of seat.old) self.old }
-        ensures ready { IsReady (turn_id turn.now) by seat.new }
-        ensures room { room_of seat.new ≡ room_of seat.old }
-        ensures goes_on { BeginsWith (seen_of seat.new) (seen_of seat.old) }
-        ensures line { self.new.line ≡ self.old.line }
-        ensures works { O.coherent → IsAtWork O.coherent O.opening O.bytes O.script (seen_of seat.new) self.new }
-        ensures went_on { result ≡ Did.WentOn → HasGoneOn self.old self.new }
+        requires works { IsAtWorkIn O.Opened (seen_of seat.old) self.old }
+        ensures gone { Gone (turn_id turn.now) by seat.old seat.new }
+        ensures stays { StaysAtWork O.Opened (seen_of seat.new) (result ≡ Did.WentOn) self.old self.new }
         ensures unended { result ≢ Did.Ended }
     {
         match (cause, asked.checked_add(1)) {

@@ -1,10 +1,9 @@
 //! How a line waits, and why it stops waiting.
 
 ghost use Rattle.std.specs.Prelude.{◌≡◌, ◌≢◌};
-ghost use Rattle.oz_at_work.specs.AtWork.{HasGoneOn, IsAtWork};
+ghost use Rattle.oz_at_work.specs.Part.{Gone, IsAtWorkIn, StaysAtWork};
 ghost use Rattle.oz_at_work.specs.inner.Replied.{holds_where_said};
-ghost use Rattle.oz_turn.specs.Seat.{IsReady, room_of, seen_of};
-ghost use Rattle.oz_turn.specs.Told.{BeginsWith};
+ghost use Rattle.oz_turn.specs.Seat.{IsReady, seen_of};
 ghost use Rattle.oz_turn.specs.Turn.{turn_id};
 
 use crate::at_work::LineAtWork;
@@ -30,13 +29,9 @@ impl<'s> LineAtWork<'s> {
     ) -> Did
         requires ready { IsReady (turn_id turn.now) by seat.old }
         requires step { step ≢ 0 }
-        requires works { O.coherent → IsAtWork O.coherent O.opening O.bytes O.script (seen_of seat.old) self.old }
-        ensures ready { IsReady (turn_id turn.now) by seat.new }
-        ensures room { room_of seat.new ≡ room_of seat.old }
-        ensures goes_on { BeginsWith (seen_of seat.new) (seen_of seat.old) }
-        ensures line { self.new.line ≡ self.old.line }
-        ensures works { O.coherent → IsAtWork O.coherent O.opening O.bytes O.script (seen_of seat.new) self.new }
-        ensures went_on { result ≡ Did.WentOn → HasGoneOn self.old self.new }
+        requires works { IsAtWorkIn O.Opened (seen_of seat.old) self.old }
+        ensures gone { Gone (turn_id turn.now) by seat.old seat.new }
+        ensures stays { StaysAtWork O.Opened (seen_of seat.new) (result ≡ Did.WentOn) self.old self.new }
         ensures unended { result ≢ Did.Ended }
     {
         let asked = self.asked;
@@ -65,13 +60,9 @@ impl<'s> LineAtWork<'s> {
         by: u16,
     ) -> Did
         requires ready { IsReady (turn_id turn.now) by seat.old }
-        requires works { O.coherent → IsAtWork O.coherent O.opening O.bytes O.script (seen_of seat.old) self.old }
-        ensures ready { IsReady (turn_id turn.now) by seat.new }
-        ensures room { room_of seat.new ≡ room_of seat.old }
-        ensures goes_on { BeginsWith (seen_of seat.new) (seen_of seat.old) }
-        ensures line { self.new.line ≡ self.old.line }
-        ensures works { O.coherent → IsAtWork O.coherent O.opening O.bytes O.script (seen_of seat.new) self.new }
-        ensures went_on { result ≡ Did.WentOn → HasGoneOn self.old self.new }
+        requires works { IsAtWorkIn O.Opened (seen_of seat.old) self.old }
+        ensures gone { Gone (turn_id turn.now) by seat.old seat.new }
+        ensures stays { StaysAtWork O.Opened (seen_of seat.new) (result ≡ Did.WentOn) self.old self.new }
         ensures unended { result ≢ Did.Ended }
     {
         let said = times_said(rt, turn, seat, by, self.line.client, self.line.number);
@@ -103,13 +94,9 @@ impl<'s> LineAtWork<'s> {
         asked: u16,
     ) -> Did
         requires ready { IsReady (turn_id turn.now) by seat.old }
-        requires works { O.coherent → IsAtWork O.coherent O.opening O.bytes O.script (seen_of seat.old) self.old }
-        ensures ready { IsReady (turn_id turn.now) by seat.new }
-        ensures room { room_of seat.new ≡ room_of seat.old }
-        ensures goes_on { BeginsWith (seen_of seat.new) (seen_of seat.old) }
-        ensures line { self.new.line ≡ self.old.line }
-        ensures works { O.coherent → IsAtWork O.coherent O.opening O.bytes O.script (seen_of seat.new) self.new }
-        ensures went_on { result ≡ Did.WentOn → HasGoneOn self.old self.new }
+        requires works { IsAtWorkIn O.Opened (seen_of seat.old) self.old }
+        ensures gone { Gone (turn_id turn.now) by seat.old seat.new }
+        ensures stays { StaysAtWork O.Opened (seen_of seat.new) (result ≡ Did.WentOn) self.old self.new }
         ensures unended { result ≢ Did.Ended }
     {
         let (client, line, last) = (self.line.client, self.line.number, self.last_of(asked));
@@ -133,13 +120,9 @@ impl<'s> LineAtWork<'s> {
         step: u16,
     ) -> Did
         requires ready { IsReady (turn_id turn.now) by seat.old }
-        requires works { O.coherent → IsAtWork O.coherent O.opening O.bytes O.script (seen_of seat.old) self.old }
-        ensures ready { IsReady (turn_id turn.now) by seat.new }
-        ensures room { room_of seat.new ≡ room_of seat.old }
-        ensures goes_on { BeginsWith (seen_of seat.new) (seen_of seat.old) }
-        ensures line { self.new.line ≡ self.old.line }
-        ensures works { O.coherent → IsAtWork O.coherent O.opening O.bytes O.script (seen_of seat.new) self.new }
-        ensures went_on { result ≡ Did.WentOn → HasGoneOn self.old self.new }
+        requires works { IsAtWorkIn O.Opened (seen_of seat.old) self.old }
+        ensures gone { Gone (turn_id turn.now) by seat.old seat.new }
+        ensures stays { StaysAtWork O.Opened (seen_of seat.new) (result ≡ Did.WentOn) self.old self.new }
         ensures unended { result ≢ Did.Ended }
     {
         // Of no Ask the settlement says whether the manager has halted by now, and not when the line asked last.

@@ -1,4 +1,4 @@
-use Rattle.std.proofs.Common.{◌≡◌, false, Err, IfErr, Result, ap, ◌∙◌, subst}
+use Rattle.std.proofs.Common.{◌≡◌, false, Err, IfErr, Result, refl, ap, ◌∙◌, subst}
 use Rattle.oz_asker.specs.Decided.{IsDecideAt}
 use Rattle.oz_core.specs.Manager.{asked_late}
 use Rattle.oz_om.specs.declared.refusal.Refusal.{Refusal}
@@ -10,18 +10,17 @@ use Rattle.oz_requests.specs.declared.request.AskId.{AskId}
 use Rattle.oz_turn.specs.Seat.{seen_of}
 use Rattle.oz_underway.specs.laws.Going.{begins_itself}
 use Rattle.oz_at_work.specs.AtWork.{WorkView}
-use Rattle.oz_at_work.proofs.Cutting.{cut_goes_on, cut_so}
+use Rattle.oz_at_work.proofs.Cutting.{cut_stays}
 use Rattle.oz_at_work.proofs.Refusing.{is_short}
 use Rattle.oz_at_work.proofs.Stepping.{asks_fit, asks_same}
 use Rattle.oz_at_work.proofs.Staying.{work_still}
 use Rattle.oz_at_work.proofs.at_work.LineAtWork.ask_once.Goals as goal
 
-pub returns-in_default-clause-works : goal.returns-in_default-clause-works
-returns-in_default-clause-works g c coherent =
+pub returns-in_default-clause-stays : goal.returns-in_default-clause-stays
+returns-in_default-clause-stays g c =
     let O = g.O.Opened in
     let seen = seen_of c.args.seat.now in
-    cut_so O.coherent O.opening O.bytes O.script seen seen c.args.self.now c.cut-in_default.new.self _
-    answers.OutOfMemory coherent (begins_itself seen) tt c.cut-in_default.ensures (c.requires.works coherent)
+    cut_stays O seen seen c.args.self.now c.cut-in_default.new.self _ answers.OutOfMemory (begins_itself seen) tt c.cut-in_default.ensures c.requires.works
 
 pub refuse-requires-clause-works : goal.refuse-requires-clause-works
 refuse-requires-clause-works g c coherent =
@@ -56,13 +55,15 @@ reply-requires-clause-replied g c coherent =
       decided = subst (λ (i : AskId). IsDecideAt later so.place i c.in-Ok.reply) c.in-Some.ensures.id (_, so.index, so.batch, so.there);
     }
 
-pub returns-in_default-clause-went_on : goal.returns-in_default-clause-went_on
-returns-in_default-clause-went_on g c went = cut_goes_on c.args.self.now c.args.self.now c.cut-in_default.new.self _ _ c.cut-in_default.ensures
-
-pub returns-in-Err-PoolEmpty-clause-works : goal.returns-in-Err-PoolEmpty-clause-works
-returns-in-Err-PoolEmpty-clause-works g c coherent =
+pub returns-in-Err-PoolEmpty-clause-stays : goal.returns-in-Err-PoolEmpty-clause-stays
+returns-in-Err-PoolEmpty-clause-stays g c =
     let O = g.O.Opened in
-    work_still O.coherent O.opening O.bytes O.script (seen_of c.ask.new.seat) (seen_of c.args.seat.now) c.ask.ensures.goes_on c.args.self.now (c.requires.works coherent)
+    record {
+      line = refl;
+      works = λ coherent. work_still O.coherent O.opening O.bytes O.script (seen_of c.ask.new.seat) (seen_of c.args.seat.now) c.ask.ensures.goes_on c.args.self.now
+          (c.requires.works coherent);
+      went_on = λ wrong. absurd cc;
+    }
 
 pub returns-in-Err-PoolEmpty-clause-short : goal.returns-in-Err-PoolEmpty-clause-short
 returns-in-Err-PoolEmpty-clause-short g c same coherent =

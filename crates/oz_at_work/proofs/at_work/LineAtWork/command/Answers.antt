@@ -1,4 +1,4 @@
-use Rattle.std.proofs.Common.{◌≤◌, ◌<◌, length, ap, ◌∙◌, subst, arith}
+use Rattle.std.proofs.Common.{◌≡◌, ◌≤◌, ◌<◌, length, ap, ◌∙◌, subst, arith}
 use Rattle.std.specs.Prelude.{Err}
 use Rattle.oz_node_admin.specs.declared.fault.AdminFault.TheVariants.{Halted}
 use Rattle.oz_node_admin.specs.Came.{CameOf}
@@ -9,26 +9,30 @@ use Rattle.oz_at_work.specs.AtWork.{WorkView}
 use Rattle.oz_at_work.specs.inner.Commanded.{IsCommandOf}
 use Rattle.oz_at_work.specs.inner.Replied.{cut_with}
 use Rattle.oz_at_work.proofs.Commands.{due_done, due_halted, no_node_works}
-use Rattle.oz_at_work.proofs.Cutting.{cut_goes_on, cut_so}
+use Rattle.oz_at_work.proofs.Cutting.{cut_goes_on, cut_stays}
 use Rattle.oz_at_work.proofs.Staying.{work_still}
 use Rattle.oz_at_work.proofs.at_work.LineAtWork.command.Goals as goal
 
-pub returns-in_default-clause-works : goal.returns-in_default-clause-works
-returns-in_default-clause-works g c coherent =
+pub returns-in_default-clause-stays : goal.returns-in_default-clause-stays
+returns-in_default-clause-stays g c =
     let O = g.O.Opened in
     let seen = seen_of c.args.seat.now in
-    cut_so O.coherent O.opening O.bytes O.script seen seen c.args.self.now c.cut.new.self _
-    answers.OutOfMemory coherent (begins_itself seen) tt c.cut.ensures (c.requires.works coherent)
+    cut_stays O seen seen c.args.self.now c.cut.new.self _ answers.OutOfMemory (begins_itself seen) tt c.cut.ensures c.requires.works
 
-pub returns-then-dn-node_count-clause-works : goal.returns-then-dn-node_count-clause-works
-returns-then-dn-node_count-clause-works g c coherent =
+pub returns-then-dn-node_count-clause-stays : goal.returns-then-dn-node_count-clause-stays
+returns-then-dn-node_count-clause-stays g c =
     let O = g.O.Opened in
     let work : WorkView = c.args.self.now in
     let it = c.in-Some.field-0 in
     let its : IsCommandOf work.line it.dn it.done = subst (λ (w : WorkView). IsCommandOf w.line it.dn it.done) c.self.view_is c.in-Some.ensures.its in
     let out : length O.opening.nodes ≤ it.dn = omega (arith, c.if-dn-node_count.true, c.node_count.ensures.opened) in
-    no_node_works O.coherent O.opening O.bytes O.script (seen_of c.args.seat.now) work c.cut-then-dn-node_count.new.self it.dn it.done its out
-    (c.cut-then-dn-node_count.ensures ∙ ap (λ (w : WorkView). cut_with work w.asked answers.NoSuchNode) c.self.view_is) (c.requires.works coherent)
+    let cut = c.cut-then-dn-node_count in
+    let is : cut.new.self ≡ cut_with work work.asked answers.NoSuchNode = cut.ensures ∙ ap (λ (w : WorkView). cut_with work w.asked answers.NoSuchNode) c.self.view_is in
+    record {
+      line = ap (λ (w : WorkView). w.line) is;
+      works = λ coherent. no_node_works O.coherent O.opening O.bytes O.script (seen_of c.args.seat.now) work cut.new.self it.dn it.done its out is (c.requires.works coherent);
+      went_on = λ went. cut_goes_on work work cut.new.self _ _ is;
+    }
 
 pub tell_of-requires-clause-works : goal.tell_of-requires-clause-works
 tell_of-requires-clause-works g c coherent =
@@ -66,17 +70,16 @@ returns-in-Err-Repeated g c =
     let done = c.have_done.ensures in
     let cut = c.cut-in-Err-Repeated in
     record {
-      ready = record {
-        of_turn = done.ready.of_turn;
-        numbered = done.ready.numbered ∙ c.requires.ready.numbered;
-        free = done.ready.free;
+      gone = record {
+        ready = record {
+          of_turn = done.ready.of_turn;
+          numbered = done.ready.numbered ∙ c.requires.part.ready.numbered;
+          free = done.ready.free;
+        };
+        room = done.room;
+        goes_on = done.begins;
       };
-      room = done.room;
-      goes_on = done.begins;
-      line = ap (λ (w : WorkView). w.line) cut.ensures;
-      works = λ coherent.
-          cut_so O.coherent O.opening O.bytes O.script (seen_of c.have_done.new.seat) (seen_of c.args.seat.now) c.args.self.now cut.new.self _
-          answers.OutOfMemory coherent done.begins tt cut.ensures (c.requires.works coherent);
-      went_on = λ went. cut_goes_on c.args.self.now c.args.self.now cut.new.self _ _ cut.ensures;
+      stays = cut_stays O (seen_of c.have_done.new.seat) (seen_of c.args.seat.now) c.args.self.now cut.new.self _ answers.OutOfMemory done.begins tt cut.ensures
+          c.requires.works;
       ended = λ is. absurd (cc is);
     }

@@ -16,7 +16,7 @@ returns-then-not-is_as_known-clause-works g c coherent =
     let O = g.O.Opened in
     let later = seen_of c.is_as_known.new.seat in
     let was = c.requires.replied coherent in
-    let goes = begins_through later (seen_of c.args.seat.now) was.before c.is_as_known.ensures.goes_on was.goes_on in
+    let goes = begins_through later (seen_of c.args.seat.now) was.before c.is_as_known.ensures.gone.goes_on was.goes_on in
     cut_so O.coherent O.opening O.bytes O.script later was.before c.args.self.now c.cut.new.self c.args.step answers.OutOfMemory coherent goes tt c.cut.ensures was.at_work
 
 pub returns-clause-works : goal.returns-clause-works
@@ -34,5 +34,5 @@ returns-clause-works g c coherent =
     subst (λ (n : ℕ). IsTakenUp work (gots.Reply c.args.reply) n work.said work.gave_up c.take_up-taken.new.self) c.requires.step
     (subst (λ (n : ℕ). IsTakenUp work (gots.Reply c.args.reply) c.args.step n work.gave_up c.take_up-taken.new.self) said
     (subst (λ (b : Bool). IsTakenUp work (gots.Reply c.args.reply) c.args.step inside.said b c.take_up-taken.new.self) gave_up c.take_up-taken.ensures.taken)) in
-    reply_works O.coherent O.opening O.bytes O.script later (seen_of c.args.seat.now) work c.args.reply coherent c.requires.asks was c.is_as_known.ensures.goes_on
+    reply_works O.coherent O.opening O.bytes O.script later (seen_of c.args.seat.now) work c.args.reply coherent c.requires.asks was c.is_as_known.ensures.gone.goes_on
     (c.is_as_known.ensures.follow was.follow) as_said c.take_up-taken.new.self taken

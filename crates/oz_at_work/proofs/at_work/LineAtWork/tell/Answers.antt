@@ -35,20 +35,25 @@ put_off-requires-clause-works g c coherent =
     subst (λ (step : Step). IsAtWork O.coherent O.opening O.bytes O.script later (record work { next = step })) (sym same)
     (work_still O.coherent O.opening O.bytes O.script later seen c.in-Err.ensures.goes_on work at_work)
 
-pub returns-in-Ok-clause-works : goal.returns-in-Ok-clause-works
-returns-in-Ok-clause-works g c coherent =
+pub returns-in-Ok-clause-stays : goal.returns-in-Ok-clause-stays
+returns-in-Ok-clause-stays g c =
     let O = g.O.Opened in
     let inside = c.self.inside in
     let seen = seen_of c.args.seat.now in
     let later = seen_of c.tell.new.seat in
     let work : WorkView = record { line = inside.line.now; state = inside.steps; nodes = inside.nodes; asked = inside.asked; said = inside.said; next = inside.next; is_cut = inside.is_cut; gave_up = inside.gave_up; doubted = inside.doubted; refused = inside.refused } in
-    let at_work : IsAtWork O.coherent O.opening O.bytes O.script seen work =
-    subst (IsAtWork O.coherent O.opening O.bytes O.script seen) (sym c.self.view_is) (c.requires.works coherent) in
     let told = subst (λ (last : Option AskId). IsTold O.opening c.args.by work.line.client work.line.number last work.said [] c.in-Tell.answer seen (mine_of c.args.seat.now) later (mine_of c.tell.new.seat))
     c.last_of-last.ensures c.in-Ok.ensures.told in
-    subst (λ (step : Step). IsAtWork O.coherent O.opening O.bytes O.script later (record work { next = step })) (sym c.replace-next.ensures.after)
-    (told_works O.coherent O.opening O.bytes O.script seen later (mine_of c.args.seat.now) (mine_of c.tell.new.seat) work c.args.by c.in-Tell.answer
-    c.in-Ok.ensures.goes_on at_work (sym c.in-Tell.ensures.value) told)
+    record {
+      line = ap (λ (w : WorkView). w.line) c.self.view_is;
+      works = λ coherent.
+          let at_work : IsAtWork O.coherent O.opening O.bytes O.script seen work =
+          subst (IsAtWork O.coherent O.opening O.bytes O.script seen) (sym c.self.view_is) (c.requires.works coherent) in
+          subst (λ (step : Step). IsAtWork O.coherent O.opening O.bytes O.script later (record work { next = step })) (sym c.replace-next.ensures.after)
+          (told_works O.coherent O.opening O.bytes O.script seen later (mine_of c.args.seat.now) (mine_of c.tell.new.seat) work c.args.by c.in-Tell.answer
+          c.in-Ok.ensures.goes_on at_work (sym c.in-Tell.ensures.value) told);
+      went_on = λ wrong. absurd cc;
+    }
 
 pub returns-in-Ok-clause-ended : goal.returns-in-Ok-clause-ended
 returns-in-Ok-clause-ended g c ended coherent =

@@ -4,7 +4,7 @@ use Rattle.oz_turn.specs.Seat.{mine_of, seen_of}
 use Rattle.oz_at_work.specs.AtWork.{HasLeft, IsAtWork, WorkView, left_of}
 use Rattle.oz_at_work.specs.inner.Commanded.{IsCommandOf, IsDoneDue}
 use Rattle.oz_at_work.proofs.Commands.{done_left, due_fits}
-use Rattle.oz_at_work.proofs.Cutting.{cut_so}
+use Rattle.oz_at_work.proofs.Cutting.{cut_stays}
 use Rattle.oz_at_work.proofs.Staying.{work_still}
 use Rattle.oz_at_work.proofs.at_work.LineAtWork.tell_of.Goals as goal
 
@@ -25,11 +25,10 @@ put_off-requires-clause-works g c coherent =
     let O = g.O.Opened in
     work_still O.coherent O.opening O.bytes O.script (seen_of c.tell_done.new.seat) (seen_of c.args.seat.now) c.in-Err.ensures.goes_on c.args.self.now (c.requires.works coherent)
 
-pub returns-in-Ok-clause-works : goal.returns-in-Ok-clause-works
-returns-in-Ok-clause-works g c coherent =
+pub returns-in-Ok-clause-stays : goal.returns-in-Ok-clause-stays
+returns-in-Ok-clause-stays g c =
     let O = g.O.Opened in
-    cut_so O.coherent O.opening O.bytes O.script (seen_of c.tell_done.new.seat) (seen_of c.args.seat.now) c.args.self.now c.cut.new.self _
-    answers.OutOfMemory coherent c.in-Ok.ensures.goes_on tt c.cut.ensures (c.requires.works coherent)
+    cut_stays O (seen_of c.tell_done.new.seat) (seen_of c.args.seat.now) c.args.self.now c.cut.new.self _ answers.OutOfMemory c.in-Ok.ensures.goes_on tt c.cut.ensures c.requires.works
 
 pub returns-in-Ok-clause-ended : goal.returns-in-Ok-clause-ended
 returns-in-Ok-clause-ended g c ended coherent =

@@ -9,7 +9,7 @@ use Rattle.oz_turn.specs.Seat.{mine_of, seen_of}
 use Rattle.oz_underway.specs.laws.Going.{begins_through}
 use Rattle.oz_at_work.specs.declared.refused.Refused.{Refused}
 use Rattle.oz_at_work.specs.AtWork.{HasGoneOn, HasLeft, IsAtWork, IsRefusalFit, MayBeTold, WorkView, last_of, left_of}
-use Rattle.oz_at_work.proofs.Cutting.{cut_so}
+use Rattle.oz_at_work.proofs.Cutting.{cut_inside}
 use Rattle.oz_at_work.proofs.Leaving.{told_left}
 use Rattle.oz_at_work.proofs.Staying.{refusal_still, with_refused, work_still}
 use Rattle.oz_at_work.proofs.at_work.LineAtWork.tell_refused.Goals as goal
@@ -51,16 +51,14 @@ put_off-requires g c =
           (work_still O.coherent O.opening O.bytes O.script later seen c.in-Err.ensures.goes_on work at_work);
     }
 
-pub returns-in-Ok-clause-works : goal.returns-in-Ok-clause-works
-returns-in-Ok-clause-works g c coherent =
+pub returns-in-Ok-clause-stays : goal.returns-in-Ok-clause-stays
+returns-in-Ok-clause-stays g c =
     let O = g.O.Opened in
     let inside = c.self.inside in
     let seen = seen_of c.args.seat.now in
     let work : WorkView = record { line = inside.line.now; state = inside.steps; nodes = inside.nodes; asked = inside.asked; said = inside.said; next = inside.next; is_cut = inside.is_cut; gave_up = inside.gave_up; doubted = inside.doubted; refused = inside.refused } in
-    let at_work : IsAtWork O.coherent O.opening O.bytes O.script seen work =
-    subst (IsAtWork O.coherent O.opening O.bytes O.script seen) (sym c.self.view_is) (c.requires.works coherent) in
-    cut_so O.coherent O.opening O.bytes O.script (seen_of c.tell.new.seat) seen work c.cut.new.self _
-    answers.OutOfMemory coherent c.in-Ok.ensures.goes_on tt c.cut.ensures at_work
+    cut_inside O (seen_of c.tell.new.seat) seen work c.args.self.now c.cut.new.self _ answers.OutOfMemory c.self.view_is c.in-Ok.ensures.goes_on tt c.cut.ensures
+    c.requires.works
 
 pub returns-in-Ok-clause-ended : goal.returns-in-Ok-clause-ended
 returns-in-Ok-clause-ended g c ended coherent =
@@ -82,26 +80,36 @@ returns-in-Ok-clause-ended g c ended coherent =
     (told_left O.coherent O.opening O.bytes O.script seen later (mine_of c.args.seat.now) (mine_of c.tell.new.seat) work.line (last_of work.line refused.asked) inside.said c.args.by refused.still refused.answer
     c.in-Ok.ensures.goes_on told (λ said. Unit {0}) None tt fit)
 
-pub returns-in-Err-default-Moved-clause-works : goal.returns-in-Err-default-Moved-clause-works
-returns-in-Err-default-Moved-clause-works g c coherent =
+pub returns-in-Err-default-Moved-clause-stays : goal.returns-in-Err-default-Moved-clause-stays
+returns-in-Err-default-Moved-clause-stays g c =
     let O = g.O.Opened in
     let inside = c.self.inside in
     let seen = seen_of c.args.seat.now in
     let later = seen_of c.tell.new.seat in
     let work : WorkView = record { line = inside.line.now; state = inside.steps; nodes = inside.nodes; asked = inside.asked; said = inside.said; next = inside.next; is_cut = inside.is_cut; gave_up = inside.gave_up; doubted = inside.doubted; refused = inside.refused } in
-    let at_work : IsAtWork O.coherent O.opening O.bytes O.script seen work =
-    subst (IsAtWork O.coherent O.opening O.bytes O.script seen) (sym c.self.view_is) (c.requires.works coherent) in
-    subst (λ (refused : Option Refused). IsAtWork O.coherent O.opening O.bytes O.script later (record work { refused = refused })) (sym c.take.ensures.after)
-    (with_refused O.coherent O.opening O.bytes O.script later work None tt (work_still O.coherent O.opening O.bytes O.script later seen c.tell.ensures.goes_on work at_work))
+    record {
+      line = ap (λ (w : WorkView). w.line) c.self.view_is;
+      works = λ coherent.
+          let at_work : IsAtWork O.coherent O.opening O.bytes O.script seen work =
+          subst (IsAtWork O.coherent O.opening O.bytes O.script seen) (sym c.self.view_is) (c.requires.works coherent) in
+          subst (λ (refused : Option Refused). IsAtWork O.coherent O.opening O.bytes O.script later (record work { refused = refused })) (sym c.take.ensures.after)
+          (with_refused O.coherent O.opening O.bytes O.script later work None tt
+          (work_still O.coherent O.opening O.bytes O.script later seen c.tell.ensures.goes_on work at_work));
+      went_on = λ wrong. absurd cc;
+    }
 
 pub returns-in-Err : goal.returns-in-Err
 returns-in-Err g c = record {
-  ready = c.put_off.ensures.ready;
-  room = c.put_off.ensures.room ∙ c.in-Err.ensures.room;
-  goes_on = begins_through (seen_of c.put_off.new.seat) (seen_of c.tell.new.seat) (seen_of c.args.seat.now) c.put_off.ensures.goes_on c.in-Err.ensures.goes_on;
-  line = c.put_off.ensures.line ∙ ap (λ (w : WorkView). w.line) c.self.view_is;
-  works = c.put_off.ensures.works;
+  gone = record {
+    ready = c.put_off.ensures.gone.ready;
+    room = c.put_off.ensures.gone.room ∙ c.in-Err.ensures.room;
+    goes_on = begins_through (seen_of c.put_off.new.seat) (seen_of c.tell.new.seat) (seen_of c.args.seat.now) c.put_off.ensures.gone.goes_on c.in-Err.ensures.goes_on;
+  };
+  stays = record {
+    line = c.put_off.ensures.stays.line ∙ ap (λ (w : WorkView). w.line) c.self.view_is;
+    works = c.put_off.ensures.stays.works;
+    went_on = λ is. subst (λ (w : WorkView). HasGoneOn w c.put_off.new.self) c.self.view_is (c.put_off.ensures.stays.went_on (same_Some _ _ is));
+  };
   tries = λ wrong. absurd cc;
-  went_on = λ is. subst (λ (w : WorkView). HasGoneOn w c.put_off.new.self) c.self.view_is (c.put_off.ensures.went_on (same_Some _ _ is));
   ended = λ is. absurd (c.put_off.ensures.unended (same_Some _ _ is));
 }

@@ -1,29 +1,25 @@
 use Rattle.std.proofs.Common.{refl}
 use Rattle.oz_requests.specs.declared.answer.Answer.TheVariants as answers
 use Rattle.oz_turn.specs.Seat.{seen_of}
-use Rattle.oz_at_work.proofs.Cutting.{cut_goes_on, cut_so}
+use Rattle.oz_at_work.proofs.Cutting.{cut_stays}
 use Rattle.oz_at_work.proofs.Staying.{work_still}
 use Rattle.oz_at_work.proofs.at_work.LineAtWork.wait.Goals as goal
 
-pub returns-in-Unacknowledged-clause-works : goal.returns-in-Unacknowledged-clause-works
-returns-in-Unacknowledged-clause-works g c coherent =
+pub returns-in-Unacknowledged-clause-stays : goal.returns-in-Unacknowledged-clause-stays
+returns-in-Unacknowledged-clause-stays g c =
     let O = g.O.Opened in
-    cut_so O.coherent O.opening O.bytes O.script (seen_of c.settle_line.new.seat) (seen_of c.args.seat.now) c.args.self.now c.cut.new.self _
-    answers.Unacknowledged coherent c.settle_line.ensures.goes_on tt c.cut.ensures (c.requires.works coherent)
+    cut_stays O (seen_of c.settle_line.new.seat) (seen_of c.args.seat.now) c.args.self.now c.cut.new.self _ answers.Unacknowledged c.settle_line.ensures.goes_on tt c.cut.ensures c.requires.works
 
 pub returns-in-Stable : goal.returns-in-Stable
 returns-in-Stable g c =
     let O = g.O.Opened in
     record {
-      ready = c.settle_line.ensures.ready;
-      room = c.settle_line.ensures.room;
-      goes_on = c.settle_line.ensures.goes_on;
-      line = refl;
-      works = λ coherent. work_still O.coherent O.opening O.bytes O.script (seen_of c.settle_line.new.seat) (seen_of c.args.seat.now)
-          c.settle_line.ensures.goes_on c.args.self.now (c.requires.works coherent);
-      went_on = λ wrong. absurd cc;
+      gone = record { ready = c.settle_line.ensures.ready; room = c.settle_line.ensures.room; goes_on = c.settle_line.ensures.goes_on };
+      stays = record {
+        line = refl;
+        works = λ coherent. work_still O.coherent O.opening O.bytes O.script (seen_of c.settle_line.new.seat) (seen_of c.args.seat.now)
+            c.settle_line.ensures.goes_on c.args.self.now (c.requires.works coherent);
+        went_on = λ wrong. absurd cc;
+      };
       unended = λ wrong. cc;
     }
-
-pub returns-in-Unacknowledged-clause-went_on : goal.returns-in-Unacknowledged-clause-went_on
-returns-in-Unacknowledged-clause-went_on g c went = cut_goes_on c.args.self.now c.args.self.now c.cut.new.self _ _ c.cut.ensures

@@ -10,8 +10,8 @@ use Rattle.oz_worker.proofs.client.Client.go_on.Goals as goal
 pub returns-in-Ended-clause-served : goal.returns-in-Ended-clause-served
 returns-in-Ended-clause-served g c =
     let still = served_still g.O.Opened.coherent g.O.Opened.opening g.O.Opened.bytes g.O.Opened.script (seen_of c.go_on.new.seat) (seen_of c.args.seat.now)
-    (λ work. c.what_is_at_work_stays.ensures.works (seen_of c.args.seat.now) (seen_of c.go_on.new.seat) work (c.go_on.ensures.goes_on))
-    (λ line left. c.what_is_at_work_stays.ensures.left (seen_of c.args.seat.now) (seen_of c.go_on.new.seat) line left (c.go_on.ensures.goes_on))
+    (λ work. c.what_is_at_work_stays.ensures.works (seen_of c.args.seat.now) (seen_of c.go_on.new.seat) work c.go_on.ensures.gone.goes_on)
+    (λ line left. c.what_is_at_work_stays.ensures.left (seen_of c.args.seat.now) (seen_of c.go_on.new.seat) line left c.go_on.ensures.gone.goes_on)
     c.args.self.now c.requires.served in
     let none : c.take.new.self ≡ None = cc in
     c.end.ensures.served (seen_of c.go_on.new.seat)
@@ -21,16 +21,16 @@ returns-in-Ended-clause-served g c =
 pub returns-in_default-go_on : goal.returns-in_default-go_on
 returns-in_default-go_on g c =
     let still = served_still g.O.Opened.coherent g.O.Opened.opening g.O.Opened.bytes g.O.Opened.script (seen_of c.go_on.new.seat) (seen_of c.args.seat.now)
-    (λ work. c.what_is_at_work_stays.ensures.works (seen_of c.args.seat.now) (seen_of c.go_on.new.seat) work (c.go_on.ensures.goes_on))
-    (λ line left. c.what_is_at_work_stays.ensures.left (seen_of c.args.seat.now) (seen_of c.go_on.new.seat) line left (c.go_on.ensures.goes_on))
+    (λ work. c.what_is_at_work_stays.ensures.works (seen_of c.args.seat.now) (seen_of c.go_on.new.seat) work c.go_on.ensures.gone.goes_on)
+    (λ line left. c.what_is_at_work_stays.ensures.left (seen_of c.args.seat.now) (seen_of c.go_on.new.seat) line left c.go_on.ensures.gone.goes_on)
     c.args.self.now c.requires.served in
     let had : c.args.self.now.work ≡ Some c.in-Some.work = cc in
     let at = subst (λ (w : Option WorkView). IfSome w (λ work. next_line g.O.Opened.script c.args.self.now ≡ Some work.line)) had still.next in
     record {
-      ready = c.go_on.ensures.ready;
-      goes_on = c.go_on.ensures.goes_on;
+      ready = c.go_on.ensures.gone.ready;
+      goes_on = c.go_on.ensures.gone.goes_on;
       served = subst (λ (client : Client). IsServed g.O.Opened.coherent g.O.Opened.opening g.O.Opened.bytes g.O.Opened.script (seen_of c.go_on.new.seat) client) (sym c.keep.ensures)
           (with_work g.O.Opened.coherent g.O.Opened.opening g.O.Opened.bytes g.O.Opened.script (seen_of c.go_on.new.seat) c.args.self.now c.go_on.new.self still
-          (at ∙ ap (λ (l : Line). Some l) (sym c.go_on.ensures.line)) c.go_on.ensures.works);
+          (at ∙ ap (λ (l : Line). Some l) (sym c.go_on.ensures.stays.line)) c.go_on.ensures.stays.works);
       number = ap (λ (client : Client). client.number) c.keep.ensures;
     }

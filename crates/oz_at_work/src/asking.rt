@@ -8,11 +8,10 @@ ghost use Rattle.oz_client.specs.declared.step.Step.TheVariants as steps;
 ghost use Rattle.oz_core.specs.Asks.{is_script};
 ghost use Rattle.oz_om.specs.decider.Decided.{is_decided};
 ghost use Rattle.oz_turn.specs.Seat.{seen_of};
-ghost use Rattle.oz_turn.specs.Turn.{turn_id};
 
 use crate::at_work::LineAtWork;
 use crate::outcome::Did;
-use crate::servers::Servers;
+use crate::shared::Shared;
 use oz_asker::story_length;
 use oz_buffer::{Ledger, Opened};
 use oz_client::Step;
@@ -20,85 +19,74 @@ use oz_core::SERVICE_CLIENT;
 use oz_fields::TryClone;
 use oz_locks::Loaded;
 use oz_node_admin::take_down_halted;
-use oz_om::{Manager, Refusal};
+use oz_om::Refusal;
 use oz_requests::{Answer, AskId, Family, Request};
-use oz_turn::{Ring, Seat, Turn};
-use oz_world::Disk;
+use oz_turn::{Ring, Seat};
+use oz_world::{Disk, Gate};
 use std::alloc::Global;
 use std::sync::Wait;
 
 impl<'s> LineAtWork<'s> {
     /// The line asks its next request, for which its stripe is granted blocks where it has none. Where that is refused
     /// for good, or where no block is granted, it is told so next.
-    pub(crate) fn ask<D: Disk, O: Opened, L: Loaded, R: Ring, W: Wait>(
+    pub(crate) fn ask<D: Disk, O: Opened, L: Loaded, R: Ring, W: Wait, G: Gate>(
         &mut self,
-        rt: &W,
-        alloc: Global,
-        turn: &Turn<Ledger<O>>,
-        servers: &Servers<D, Ledger<O>, O, L, R>,
+        shared: &Shared<'_, D, O, L, R, W, G>,
         seat: &mut Seat<Ledger<O>>,
         by: u16,
     ) -> Did
-        requires turn { turn_id turn.now ≡ R.turn }
         requires part { IsLinePart R.turn by seat.old }
         requires works { IsAtWorkIn O.Opened (seen_of seat.old) self.old }
         ensures gone { Gone R.turn by seat.old seat.new }
         ensures stays { StaysAtWork O.Opened (seen_of seat.new) (result ≡ Did.WentOn) self.old self.new }
         ensures unended { result ≢ Did.Ended }
     {
-        match self.ask_once(rt, alloc, turn, &servers.manager, seat, by) {
+        match self.ask_once(shared, seat, by) {
             Some(did) => did,
-            None => self.ask_for_more(rt, alloc, turn, servers, seat, by),
+            None => self.ask_for_more(shared, seat, by),
         }
     }
 
     /// Its stripe had no block for it: datanodes that have halted are taken for down, and it asks again, knowing how long the
     /// story is, and where there is none still, once more behind a grant. Where others took what was granted it asks later.
-    fn ask_for_more<D: Disk, O: Opened, L: Loaded, R: Ring, W: Wait>(
+    fn ask_for_more<D: Disk, O: Opened, L: Loaded, R: Ring, W: Wait, G: Gate>(
         &mut self,
-        rt: &W,
-        alloc: Global,
-        turn: &Turn<Ledger<O>>,
-        servers: &Servers<D, Ledger<O>, O, L, R>,
+        shared: &Shared<'_, D, O, L, R, W, G>,
         seat: &mut Seat<Ledger<O>>,
         by: u16,
     ) -> Did
-        requires turn { turn_id turn.now ≡ R.turn }
         requires part { IsLinePart R.turn by seat.old }
         requires works { IsAtWorkIn O.Opened (seen_of seat.old) self.old }
         ensures gone { Gone R.turn by seat.old seat.new }
         ensures stays { StaysAtWork O.Opened (seen_of seat.new) (result ≡ Did.WentOn) self.old self.new }
         ensures unended { result ≢ Did.Ended }
     {
+        let (rt, turn, servers) = (shared.rt, shared.turn, shared.servers);
         let (scm, nodes, count) = (&servers.scm, &servers.nodes, servers.node_count());
-        if take_down_halted(rt, alloc, turn, scm, nodes, seat, count).is_err() {
+        if take_down_halted(rt, shared.alloc, turn, scm, nodes, seat, count).is_err() {
             self.cut(self.asked, Answer::OutOfMemory);
             return Did::WentOn;
         }
         let place = story_length(rt, turn, seat, by);
-        if let Some(did) = self.ask_once(rt, alloc, turn, &servers.manager, seat, by) {
+        if let Some(did) = self.ask_once(shared, seat, by) {
             return did;
         }
-        if let Some(did) = self.be_granted(rt, alloc, turn, servers, seat, by, place) {
+        if let Some(did) = self.be_granted(shared, seat, by, place) {
             return did;
         }
-        match self.ask_once(rt, alloc, turn, &servers.manager, seat, by) {
+        match self.ask_once(shared, seat, by) {
             Some(did) => did,
             None => Did::Waits,
         }
     }
 
     /// The line asks its next request once. Where its stripe has no block for it there is nothing to tell.
-    pub(crate) fn ask_once<O: Opened, L: Loaded, R: Ring, W: Wait>(
+    pub(crate) fn ask_once<D: Disk, O: Opened, L: Loaded, R: Ring, W: Wait, G: Gate>(
         &mut self,
-        rt: &W,
-        alloc: Global,
-        turn: &Turn<Ledger<O>>,
-        manager: &Manager<Ledger<O>, O, L, R>,
+        shared: &Shared<'_, D, O, L, R, W, G>,
         seat: &mut Seat<Ledger<O>>,
         by: u16,
     ) -> Option<Did>
-        requires turn { turn_id turn.now ≡ R.turn }
         requires part { IsLinePart R.turn by seat.old }
         requires works { IsAtWorkIn O.Opened (seen_of seat.old) self.old }
         ensures gone { Gone R.turn by seat.old seat.new }
@@ -107,17 +95,22 @@ impl<'s> LineAtWork<'s> {
         ensures short { result ≡ None → O.coherent → IsShort O.opening (seen_of seat.new) self.new }
         ensures unended { result ≢ Some Did.Ended }
     {
+        let (rt, alloc, turn) = (shared.rt, shared.alloc, shared.turn);
         let Some((id, request)) = self.next_ask(alloc) else {
             self.cut(self.asked, Answer::OutOfMemory);
             return Some(Did::WentOn);
         };
-        match manager.ask(rt, alloc, turn, seat, by, id, request, self.said) {
+        match shared
+            .servers
+            .manager
+            .ask(rt, alloc, turn, seat, by, id, request, self.said)
+        {
             Ok(reply) => {
-                self.reply(rt, alloc, turn, seat, by, id.step, reply);
+                self.reply(shared, seat, by, id.step, reply);
                 Some(Did::WentOn)
             }
             Err(Refusal::PoolEmpty { .. }) => None,
-            Err(refusal) => Some(self.refuse(rt, turn, seat, by, id.step, refusal)),
+            Err(refusal) => Some(self.refuse(shared, seat, by, id.step, refusal)),
         }
     }
 

@@ -8,12 +8,11 @@ ghost use Rattle.oz_core.specs.Asks.{is_script};
 ghost use Rattle.oz_core.specs.Steps.{was_told_ok};
 ghost use Rattle.oz_names.specs.declared.limits.TheConstants.{STRIPES};
 ghost use Rattle.oz_turn.specs.Seat.{IsReady, seen_of};
-ghost use Rattle.oz_turn.specs.Turn.{turn_id};
 
 use crate::at_work::LineAtWork;
 use crate::outcome::Did;
 use crate::refused::Refused;
-use crate::servers::Servers;
+use crate::shared::Shared;
 use crate::stills::Stills;
 use oz_buffer::{Ledger, Opened};
 use oz_client::Step;
@@ -21,9 +20,8 @@ use oz_line_blocks::{Granting, grant_for};
 use oz_locks::Loaded;
 use oz_names::stripe_of;
 use oz_requests::{Answer, AskId, Exclude, Request};
-use oz_turn::{Ring, Seat, Turn};
-use oz_world::Disk;
-use std::alloc::Global;
+use oz_turn::{Ring, Seat};
+use oz_world::{Disk, Gate};
 use std::sync::Wait;
 
 /// A block that is wanted: of this stripe, for this id, and none that is excluded.
@@ -36,17 +34,13 @@ struct Wanted<'e> {
 impl<'s> LineAtWork<'s> {
     /// Has its stripe granted blocks, which had none for its next Ask when the story had so many events, or more. Where none
     /// is granted the line knows with what it is refused. There is nothing to tell where it may ask again.
-    pub(crate) fn be_granted<D: Disk, O: Opened, L: Loaded, R: Ring, W: Wait>(
+    pub(crate) fn be_granted<D: Disk, O: Opened, L: Loaded, R: Ring, W: Wait, G: Gate>(
         &mut self,
-        rt: &W,
-        alloc: Global,
-        turn: &Turn<Ledger<O>>,
-        servers: &Servers<D, Ledger<O>, O, L, R>,
+        shared: &Shared<'_, D, O, L, R, W, G>,
         seat: &mut Seat<Ledger<O>>,
         by: u16,
         place: u64,
     ) -> Option<Did>
-        requires turn { turn_id turn.now ≡ R.turn }
         requires ready { IsReady R.turn by seat.old }
         requires works { IsAtWorkIn O.Opened (seen_of seat.old) self.old }
         requires short { O.coherent → IsShort O.opening (seen_of seat.old) self.old }
@@ -66,10 +60,10 @@ impl<'s> LineAtWork<'s> {
             exclude,
         } = wanted;
         match grant_for(
-            rt,
-            alloc,
-            turn,
-            &servers.scm,
+            shared.rt,
+            shared.alloc,
+            shared.turn,
+            &shared.servers.scm,
             seat,
             by,
             id,

@@ -12,13 +12,12 @@ ghost use Rattle.oz_core.specs.Scm.{containers, members};
 ghost use Rattle.oz_fields.specs.declared.block.Piece.{Piece as AnyPiece};
 ghost use Rattle.oz_line_blocks.specs.reading.Lacks.{doubted_in};
 ghost use Rattle.oz_turn.specs.Seat.{IsReady, mine_of, seen_of};
-ghost use Rattle.oz_turn.specs.Turn.{turn_id};
 
 use crate::at_work::LineAtWork;
 use crate::outcome::Did;
 use crate::piece::are_below;
 use crate::refused::Refused;
-use crate::servers::Servers;
+use crate::shared::Shared;
 use crate::stills::Stills;
 use oz_buffer::{Ledger, Opened};
 use oz_client::{Got, Step};
@@ -26,8 +25,8 @@ use oz_fields::Piece;
 use oz_line_blocks::{Doubted, Lack, Reading, read_at_members};
 use oz_locks::Loaded;
 use oz_requests::Answer;
-use oz_turn::{Ring, Seat, Turn};
-use oz_world::Disk;
+use oz_turn::{Ring, Seat};
+use oz_world::{Disk, Gate};
 use std::alloc::Global;
 use std::sync::Wait;
 
@@ -36,22 +35,19 @@ impl<'s> LineAtWork<'s> {
     /// told so next, as long as nobody comes to have them. Members that refused the block, or told that it is bad, when the line
     /// looked before aren't asked again. Where the members aren't known, or memory runs out, it is told next that
     /// there is none.
-    pub(crate) fn read<D: Disk, O: Opened, L: Loaded, R: Ring, W: Wait>(
+    pub(crate) fn read<D: Disk, O: Opened, L: Loaded, R: Ring, W: Wait, G: Gate>(
         &mut self,
-        rt: &W,
-        alloc: Global,
-        turn: &Turn<Ledger<O>>,
-        servers: &Servers<D, Ledger<O>, O, L, R>,
+        shared: &Shared<'_, D, O, L, R, W, G>,
         seat: &mut Seat<Ledger<O>>,
         by: u16,
     ) -> Did
-        requires turn { turn_id turn.now ≡ R.turn }
         requires ready { IsReady R.turn by seat.old }
         requires works { IsAtWorkIn O.Opened (seen_of seat.old) self.old }
         ensures gone { Gone R.turn by seat.old seat.new }
         ensures stays { StaysAtWork O.Opened (seen_of seat.new) (result ≡ Did.WentOn) self.old self.new }
         ensures unended { result ≢ Did.Ended }
     {
+        let (rt, alloc, turn, servers) = (shared.rt, shared.alloc, shared.turn, shared.servers);
         servers.manager.opens();
         let asked = self.asked;
         let Some(piece) = self.piece() else {
@@ -59,7 +55,7 @@ impl<'s> LineAtWork<'s> {
             return Did::WentOn;
         };
         let container = piece.block.container;
-        let Some(members) = members_of(rt, turn, servers, seat, by, container) else {
+        let Some(members) = members_of(shared, seat, by, container) else {
             self.cut(asked, Answer::OutOfMemory);
             return Did::WentOn;
         };
@@ -134,24 +130,22 @@ impl<'s> LineAtWork<'s> {
 
 /// The members of a container, for which the storage container manager is locked and let go again. There is nothing where the
 /// container wasn't made, or a member is no known datanode.
-fn members_of<D: Disk, O: Opened, L: Loaded, R: Ring, W: Wait>(
-    rt: &W,
-    turn: &Turn<Ledger<O>>,
-    servers: &Servers<D, Ledger<O>, O, L, R>,
+fn members_of<D: Disk, O: Opened, L: Loaded, R: Ring, W: Wait, G: Gate>(
+    shared: &Shared<'_, D, O, L, R, W, G>,
     seat: &mut Seat<Ledger<O>>,
     by: u16,
     container: u64,
 ) -> Option<[u8; 3]>
-    requires turn { turn_id turn.now ≡ R.turn }
     requires ready { IsReady R.turn by seat.old }
     ensures gone { Gone R.turn by seat.old seat.new }
     ensures mine { mine_of seat.new ≡ mine_of seat.old }
     ensures follow { AllFollow (Follows O.coherent O.opening O.bytes O.script) [] (seen_of seat.new) }
-    ensures known { IfSome result (λ dns. All (λ dn. dn < servers.now.nodes) dns) }
+    ensures known { IfSome result (λ dns. All (λ dn. dn < shared.now.servers.now.nodes) dns) }
     ensures are { O.coherent → IfSome result (λ dns. members O.opening (seen_of seat.new) container ≡ dns) }
     ensures none { O.coherent → result ≡ None → (get (containers O.opening (seen_of seat.new)) container ≡ None)
-        ⊎ (All (λ dn. dn < servers.now.nodes) (members O.opening (seen_of seat.new) container) → ⊥) }
+        ⊎ (All (λ dn. dn < shared.now.servers.now.nodes) (members O.opening (seen_of seat.new) container) → ⊥) }
 {
+    let (rt, turn, servers) = (shared.rt, shared.turn, shared.servers);
     let mut guard = servers.scm.lock(rt);
     let cell = &mut *guard;
     let members = cell.members(rt, turn, seat, container)?;

@@ -4,34 +4,33 @@ ghost use Rattle.std.specs.Prelude.{◌≡◌, ◌≢◌, None, Some};
 ghost use Rattle.oz_at_work.specs.AtWork.{IsTelling};
 ghost use Rattle.oz_at_work.specs.Part.{Gone, HasEnded, IsAtWorkIn, IsLinePart, StaysAtWork};
 ghost use Rattle.oz_turn.specs.Seat.{IsReady, seen_of};
-ghost use Rattle.oz_turn.specs.Turn.{turn_id};
 
 use crate::at_work::LineAtWork;
 use crate::outcome::Did;
 use crate::refused::Refused;
+use crate::shared::Shared;
 use oz_asker::{Untold, tell};
 use oz_buffer::{Ledger, Opened};
 use oz_client::Step;
+use oz_locks::Loaded;
 use oz_requests::Answer;
-use oz_turn::{Seat, Turn};
-use std::alloc::Global;
+use oz_turn::{Ring, Seat};
+use oz_world::{Disk, Gate};
 use std::mem;
 use std::sync::Wait;
 
 impl<'s> LineAtWork<'s> {
     /// The line is told its answer, if that may be.
-    pub(crate) fn tell<O: Opened, W: Wait>(
+    pub(crate) fn tell<D: Disk, O: Opened, L: Loaded, R: Ring, W: Wait, G: Gate>(
         &mut self,
-        rt: &W,
-        alloc: Global,
-        turn: &Turn<Ledger<O>>,
+        shared: &Shared<'_, D, O, L, R, W, G>,
         seat: &mut Seat<Ledger<O>>,
         by: u16,
     ) -> Did
-        requires part { IsLinePart (turn_id turn.now) by seat.old }
+        requires part { IsLinePart R.turn by seat.old }
         requires works { IsAtWorkIn O.Opened (seen_of seat.old) self.old }
         requires tells { IsTelling self.old.next }
-        ensures gone { Gone (turn_id turn.now) by seat.old seat.new }
+        ensures gone { Gone R.turn by seat.old seat.new }
         ensures stays { StaysAtWork O.Opened (seen_of seat.new) (result ≡ Did.WentOn) self.old self.new }
         ensures ended { result ≡ Did.Ended → HasEnded O.Opened (seen_of seat.new) self.new }
     {
@@ -42,9 +41,9 @@ impl<'s> LineAtWork<'s> {
         let asked = self.asked;
         let (client, line, last) = (self.line.client, self.line.number, self.last_of(asked));
         match tell(
-            rt,
-            alloc,
-            turn,
+            shared.rt,
+            shared.alloc,
+            shared.turn,
             seat,
             by,
             client,
@@ -57,24 +56,22 @@ impl<'s> LineAtWork<'s> {
             Ok(()) => Did::Ended,
             Err((answer, cause)) => {
                 self.next = Step::Tell(answer);
-                self.put_off(rt, turn, seat, by, asked, cause)
+                self.put_off(shared, seat, by, asked, cause)
             }
         }
     }
 
     /// Where it is refused the line is told so, if that may be. There is nothing to tell where it isn't refused, nor where
     /// something hasn't stayed as it had to: then it isn't refused any more.
-    pub(crate) fn tell_refused<O: Opened, W: Wait>(
+    pub(crate) fn tell_refused<D: Disk, O: Opened, L: Loaded, R: Ring, W: Wait, G: Gate>(
         &mut self,
-        rt: &W,
-        alloc: Global,
-        turn: &Turn<Ledger<O>>,
+        shared: &Shared<'_, D, O, L, R, W, G>,
         seat: &mut Seat<Ledger<O>>,
         by: u16,
     ) -> Option<Did>
-        requires part { IsLinePart (turn_id turn.now) by seat.old }
+        requires part { IsLinePart R.turn by seat.old }
         requires works { IsAtWorkIn O.Opened (seen_of seat.old) self.old }
-        ensures gone { Gone (turn_id turn.now) by seat.old seat.new }
+        ensures gone { Gone R.turn by seat.old seat.new }
         ensures stays { StaysAtWork O.Opened (seen_of seat.new) (result ≡ Some Did.WentOn) self.old self.new }
         ensures tries { result ≡ None → self.new ≡ record self.old { refused = None } }
         ensures ended { result ≡ Some Did.Ended → HasEnded O.Opened (seen_of seat.new) self.new }
@@ -86,9 +83,9 @@ impl<'s> LineAtWork<'s> {
         } = self.refused.take()?;
         let (client, line, last) = (self.line.client, self.line.number, self.last_of(asked));
         match tell(
-            rt,
-            alloc,
-            turn,
+            shared.rt,
+            shared.alloc,
+            shared.turn,
             seat,
             by,
             client,
@@ -109,7 +106,7 @@ impl<'s> LineAtWork<'s> {
                     asked,
                     still,
                 });
-                Some(self.put_off(rt, turn, seat, by, asked, cause))
+                Some(self.put_off(shared, seat, by, asked, cause))
             }
         }
     }
@@ -117,28 +114,27 @@ impl<'s> LineAtWork<'s> {
     /// What keeps the line from being told, that has asked so often: what isn't stable is waited for, what is said of its
     /// blocks is looked at, and where it asked once more than is known, as it may where memory ran out, it is told that there
     /// is none.
-    pub(crate) fn put_off<O: Opened, W: Wait>(
+    pub(crate) fn put_off<D: Disk, O: Opened, L: Loaded, R: Ring, W: Wait, G: Gate>(
         &mut self,
-        rt: &W,
-        turn: &Turn<Ledger<O>>,
+        shared: &Shared<'_, D, O, L, R, W, G>,
         seat: &mut Seat<Ledger<O>>,
         by: u16,
         asked: u16,
         cause: Untold,
     ) -> Did
-        requires ready { IsReady (turn_id turn.now) by seat.old }
+        requires ready { IsReady R.turn by seat.old }
         requires works { IsAtWorkIn O.Opened (seen_of seat.old) self.old }
-        ensures gone { Gone (turn_id turn.now) by seat.old seat.new }
+        ensures gone { Gone R.turn by seat.old seat.new }
         ensures stays { StaysAtWork O.Opened (seen_of seat.new) (result ≡ Did.WentOn) self.old self.new }
         ensures unended { result ≢ Did.Ended }
     {
         match (cause, asked.checked_add(1)) {
-            (Untold::Unstable, _) => self.wait(rt, turn, seat, by, asked),
+            (Untold::Unstable, _) => self.wait(shared, seat, by, asked),
             (Untold::OtherAsk, Some(more)) => {
                 self.cut(more, Answer::OutOfMemory);
                 Did::WentOn
             }
-            (Untold::OtherBlocks, _) => self.look_again(rt, turn, seat, by),
+            (Untold::OtherBlocks, _) => self.look_again(shared, seat, by),
             (Untold::OutOfMemory, _) => Did::OutOfMemory,
             (Untold::Told | Untold::Moved | Untold::NotDue | Untold::OtherAsk, _) => Did::Waits,
         }

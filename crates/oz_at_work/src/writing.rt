@@ -6,20 +6,19 @@ ghost use Rattle.oz_at_work.specs.Part.{Gone, IsAtWorkIn, IsLinePart, StaysAtWor
 ghost use Rattle.oz_at_work.specs.inner.Put.{WasWritten};
 ghost use Rattle.oz_core.specs.declared.event.Event.{Event as AnyEvent};
 ghost use Rattle.oz_turn.specs.Seat.{seen_of};
-ghost use Rattle.oz_turn.specs.Turn.{turn_id};
 ghost use Rattle.oz_line_blocks.specs.writing.Written.{is_quorum};
 
 use crate::at_work::LineAtWork;
 use crate::outcome::Did;
 use crate::piece::Put;
-use crate::servers::Servers;
+use crate::shared::Shared;
 use oz_asker::story_length;
 use oz_buffer::{Ledger, Opened};
 use oz_client::{Got, Written};
 use oz_line_blocks::write_to_members;
 use oz_locks::Loaded;
 use oz_requests::Answer;
-use oz_turn::{Ring, Seat, Turn};
+use oz_turn::{Ring, Seat};
 use oz_world::{Disk, Gate};
 use std::alloc::Global;
 use std::sync::Wait;
@@ -29,21 +28,17 @@ impl<'s> LineAtWork<'s> {
     /// known what came of the block it is told next that there is no memory.
     pub(crate) fn write<D: Disk, O: Opened, L: Loaded, R: Ring, W: Wait, G: Gate>(
         &mut self,
-        rt: &W,
-        alloc: Global,
-        turn: &Turn<Ledger<O>>,
-        servers: &Servers<D, Ledger<O>, O, L, R>,
-        gate: &G,
+        shared: &Shared<'_, D, O, L, R, W, G>,
         seat: &mut Seat<Ledger<O>>,
         by: u16,
     ) -> Did
-        requires turn { turn_id turn.now ≡ R.turn }
         requires part { IsLinePart R.turn by seat.old }
         requires works { IsAtWorkIn O.Opened (seen_of seat.old) self.old }
         ensures gone { Gone R.turn by seat.old seat.new }
         ensures stays { StaysAtWork O.Opened (seen_of seat.new) (result ≡ Did.WentOn) self.old self.new }
         ensures unended { result ≢ Did.Ended }
     {
+        let (rt, alloc, turn, servers) = (shared.rt, shared.alloc, shared.turn, shared.servers);
         servers.manager.opens();
         let asked = self.asked;
         let Ok(put) = self.put(alloc, servers.node_count()) else {
@@ -63,7 +58,7 @@ impl<'s> LineAtWork<'s> {
             alloc,
             turn,
             &servers.nodes,
-            gate,
+            shared.gate,
             seat,
             by,
             id,

@@ -28,6 +28,7 @@ use oz_locks::Loaded;
 use oz_scm::Scm;
 use oz_script::Script;
 use oz_turn::{Ring, Seat, Turn};
+use oz_worker::Shared;
 use oz_world::{Disk, Gate};
 use std::alloc::Global;
 use std::marker::Brand;
@@ -186,12 +187,8 @@ fn run_staffed<
     let _workers = workers;
     let flushing = Mutex::new(Flushing::<D, Ledger<O>, O, M, R>::make(flusher, seat));
     work(
-        rt,
-        alloc,
-        &turn,
-        &servers,
+        &Shared::new(rt, alloc, &turn, &servers, gate),
         &flushing,
-        gate,
         jobs.as_mut_slice(),
     );
     let left = all_leave(rt, servers, flushing.into_inner(), jobs, quiet, absent, all);

@@ -1,15 +1,13 @@
 //! The work of a run.
 
 ghost use Rattle.std.specs.Prelude.{◌≡◌};
-ghost use Rattle.oz_turn.specs.Turn.{turn_id};
 
 use oz_buffer::{Ledger, Opened};
 use oz_flusher::{Flushing, Mounted, flush_in_turn};
 use oz_locks::Loaded;
-use oz_turn::{Ring, Turn};
-use oz_worker::{Job, Servers, finish, work_together};
+use oz_turn::Ring;
+use oz_worker::{Job, Shared, finish, work_together};
 use oz_world::{Disk, Gate};
-use std::alloc::Global;
 use std::sync::{Mutex, Wait};
 use std::thread::Threads;
 
@@ -24,18 +22,13 @@ pub(crate) fn work<
     W: Threads + Wait + Sync,
     G: Gate + Sync,
 >(
-    rt: &W,
-    alloc: Global,
-    turn: &Turn<Ledger<O>>,
-    servers: &Servers<D, Ledger<O>, O, L, R>,
+    shared: &Shared<'_, D, O, L, R, W, G>,
     flushing: &Mutex<Flushing<D, Ledger<O>, O, M, R>>,
-    gate: &G,
     jobs: &mut [Job<'_, Ledger<O>, O, R>],
 )
-    requires { turn_id turn.now ≡ R.turn }
     ensures { jobs.new ≡ jobs.old }
 {
-    work_together(rt, alloc, turn, servers, flushing, gate, jobs);
-    let _all_done = finish(rt, alloc, turn, servers, flushing, gate, jobs);
-    let _flushed = flush_in_turn(rt, flushing, turn, gate);
+    work_together(shared, flushing, jobs);
+    let _all_done = finish(shared, flushing, jobs);
+    let _flushed = flush_in_turn(shared.rt, flushing, shared.turn, shared.gate);
 }

@@ -1,13 +1,12 @@
 //! The flusher's part of a run.
 
-ghost use Rattle.std.specs.Prelude.{◌≡◌};
-ghost use Rattle.oz_turn.specs.Turn.{turn_id};
-
 use crate::pausing::sleep;
 use crate::worker::MOST_LOOKS;
+use oz_at_work::Shared;
 use oz_buffer::{Ledger, Opened};
 use oz_flusher::{Flushing, Mounted, flush_in_turn};
-use oz_turn::{Ring, Turn};
+use oz_locks::Loaded;
+use oz_turn::Ring;
 use oz_world::{Disk, Gate};
 use std::sync::atomic::{AtomicU64, Ordering};
 use std::sync::{Mutex, Wait};
@@ -22,24 +21,20 @@ const LONGEST: u64 = 1_000;
 
 /// Flushes again and again, until no worker is at work, the manager halts, or there was nothing to flush so often in
 /// turn.
-pub(crate) fn flush_for<D: Disk, O: Opened, M: Mounted, R: Ring, W: Wait, G: Gate>(
-    rt: &W,
-    turn: &Turn<Ledger<O>>,
+pub(crate) fn flush_for<D: Disk, O: Opened, L: Loaded, M: Mounted, R: Ring, W: Wait, G: Gate>(
+    shared: &Shared<'_, D, O, L, R, W, G>,
     flushing: &Mutex<Flushing<D, Ledger<O>, O, M, R>>,
-    gate: &G,
     at_work: &AtomicU64,
-)
-    requires { turn_id turn.now ≡ R.turn }
-{
+) {
     let mut looks = MOST_LOOKS;
     let mut flushed_at = None;
-    for _ in rt.forever() {
+    for _ in shared.rt.forever() {
         if at_work.load(Ordering::SeqCst) == 0 || looks == 0 {
             return;
         }
-        let length = turn.length();
+        let length = shared.turn.length();
         if flushed_at != Some(length) {
-            match flush_in_turn(rt, flushing, turn, gate) {
+            match flush_in_turn(shared.rt, flushing, shared.turn, shared.gate) {
                 Ok(Some(_)) => {
                     looks = MOST_LOOKS;
                     continue;
@@ -49,7 +44,7 @@ pub(crate) fn flush_for<D: Disk, O: Opened, M: Mounted, R: Ring, W: Wait, G: Gat
             }
         }
         looks -= 1;
-        sleep(rt, pause_behind(MOST_LOOKS.saturating_sub(looks)));
+        sleep(shared.rt, pause_behind(MOST_LOOKS.saturating_sub(looks)));
     }
 }
 

@@ -1,18 +1,16 @@
 //! What a thread of a run does.
 
 ghost use Rattle.std.specs.Prelude.{◌≡◌};
-ghost use Rattle.oz_turn.specs.Turn.{turn_id};
 
 use crate::flusher::flush_for;
 use crate::worker::{FEWEST_LOOKS, Worker};
-use oz_at_work::Servers;
+use oz_at_work::Shared;
 use oz_buffer::{Ledger, Opened};
 use oz_core::Event;
 use oz_flusher::{Flushing, Mounted};
 use oz_locks::Loaded;
-use oz_turn::{Ring, Told, Turn};
+use oz_turn::{Ring, Told};
 use oz_world::{Disk, Gate};
-use std::alloc::Global;
 use std::sync::atomic::{AtomicU64, Ordering};
 use std::sync::{Mutex, Wait};
 
@@ -42,43 +40,31 @@ impl<'s, O: Opened, R: Ring> Job<'s, Ledger<O>, O, R> {
     /// Does it on a thread of its own. `at_work` is how many workers are at work.
     pub(crate) fn run<D: Disk, L: Loaded, M: Mounted, W: Wait, G: Gate>(
         &mut self,
-        rt: &W,
-        alloc: Global,
-        turn: &Turn<Ledger<O>>,
-        servers: &Servers<D, Ledger<O>, O, L, R>,
+        shared: &Shared<'_, D, O, L, R, W, G>,
         flushing: &Mutex<Flushing<D, Ledger<O>, O, M, R>>,
-        gate: &G,
         at_work: &AtomicU64,
     )
-        requires { turn_id turn.now ≡ R.turn }
         ensures { self.new ≡ self.old }
     {
         match self {
             Job::Worker(worker) => {
-                worker.work(rt, alloc, turn, servers, flushing, gate);
+                worker.work(shared, flushing);
                 at_work.fetch_sub(1, Ordering::SeqCst);
             }
-            Job::Flusher => flush_for(rt, turn, flushing, gate, at_work),
+            Job::Flusher => flush_for(shared, flushing, at_work),
         }
     }
 
     /// A worker serves its clients as far as they can go on without other workers. Says whether anything went on.
     pub(crate) fn go_on<D: Disk, L: Loaded, M: Mounted, W: Wait, G: Gate>(
         &mut self,
-        rt: &W,
-        alloc: Global,
-        turn: &Turn<Ledger<O>>,
-        servers: &Servers<D, Ledger<O>, O, L, R>,
+        shared: &Shared<'_, D, O, L, R, W, G>,
         flushing: &Mutex<Flushing<D, Ledger<O>, O, M, R>>,
-        gate: &G,
     ) -> bool
-        requires { turn_id turn.now ≡ R.turn }
         ensures { self.new ≡ self.old }
     {
         match self {
-            Job::Worker(worker) => {
-                worker.serve(rt, alloc, turn, servers, flushing, gate, FEWEST_LOOKS)
-            }
+            Job::Worker(worker) => { worker.serve(shared, flushing, FEWEST_LOOKS) }
             Job::Flusher => false,
         }
     }

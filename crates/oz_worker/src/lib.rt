@@ -17,6 +17,6 @@ pub use job::Job;
 pub use laws::{
     a_clients_lines_are_numbered, a_label_is_opened_by_the_last_line, each_client_has_one_worker,
 };
-pub use oz_at_work::{Parts, Servers};
+pub use oz_at_work::{Parts, Servers, Shared};
 pub use together::{finish, work_together};
 pub use worker::Worker;

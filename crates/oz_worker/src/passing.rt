@@ -4,18 +4,16 @@ ghost use Rattle.std.specs.Prelude.{◌≡◌, All, map};
 ghost use Rattle.oz_script.specs.lines.Numbered.{IsNumbered};
 ghost use Rattle.oz_turn.specs.Seat.{IsReady, seen_of};
 ghost use Rattle.oz_turn.specs.Told.{BeginsWith};
-ghost use Rattle.oz_turn.specs.Turn.{turn_id};
 ghost use Rattle.oz_worker.specs.Served.{IsServed};
 ghost use Rattle.oz_worker.specs.Workers.{IsOfWorker};
 
 use crate::client::Client;
 use crate::resting::{Care, Sight};
-use oz_at_work::{Did, Servers, what_is_at_work_stays};
+use oz_at_work::{Did, Shared, what_is_at_work_stays};
 use oz_buffer::{Ledger, Opened};
 use oz_locks::Loaded;
-use oz_turn::{Ring, Seat, Turn};
+use oz_turn::{Ring, Seat};
 use oz_world::{Disk, Gate};
-use std::alloc::Global;
 use std::sync::Wait;
 
 /// What came of the lines of all clients of a worker.
@@ -32,18 +30,13 @@ pub(crate) enum Pass {
 /// Each client's next line goes on by one thing, so that what many of them ask is flushed together. `by` is the seat's
 /// number, `nodes` that of the datanodes, and `care` says who is left out.
 pub(crate) fn each_goes_on<D: Disk, O: Opened, L: Loaded, R: Ring, W: Wait, G: Gate>(
-    rt: &W,
-    alloc: Global,
-    turn: &Turn<Ledger<O>>,
-    servers: &Servers<D, Ledger<O>, O, L, R>,
-    gate: &G,
+    shared: &Shared<'_, D, O, L, R, W, G>,
     seat: &mut Seat<Ledger<O>>,
     by: u16,
     nodes: u8,
     clients: &mut [Client<'_>],
     care: Care,
 ) -> Pass
-    requires turn { turn_id turn.now ≡ R.turn }
     requires ready { IsReady R.turn by seat.old }
     requires worker { IsOfWorker O.opening by nodes }
     requires numbered { IsNumbered O.script }
@@ -57,7 +50,7 @@ pub(crate) fn each_goes_on<D: Disk, O: Opened, L: Loaded, R: Ring, W: Wait, G: G
     let mut pass = Pass::Waits;
     let mut sight = Sight::new(care);
     for client in clients.iter_mut() {
-        match client.look(rt, alloc, turn, servers, gate, seat, by, nodes, &mut sight) {
+        match client.look(shared, seat, by, nodes, &mut sight) {
             Did::WentOn | Did::Ended => pass = Pass::WentOn,
             Did::Waits => {}
             Did::OutOfMemory => return Pass::OutOfMemory,

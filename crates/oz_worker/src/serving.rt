@@ -8,16 +8,15 @@ ghost use Rattle.oz_script.specs.lines.Numbered.{IsNumbered};
 ghost use Rattle.oz_nodes.specs.declared.nodes.TheConstants.{FEWEST_NODES, MOST_NODES};
 ghost use Rattle.oz_turn.specs.Seat.{IsReady, seen_of};
 ghost use Rattle.oz_turn.specs.Told.{BeginsWith};
-ghost use Rattle.oz_turn.specs.Turn.{turn_id};
 ghost use Rattle.oz_worker.specs.Served.{IsServed, next_line};
 
 use crate::client::Client;
 use crate::resting::Sight;
 use oz_asker::has_started;
-use oz_at_work::{Did, LineAtWork, Servers, a_label_was_left, what_is_at_work_stays};
+use oz_at_work::{Did, LineAtWork, Shared, a_label_was_left, what_is_at_work_stays};
 use oz_buffer::{Ledger, Opened};
 use oz_locks::Loaded;
-use oz_turn::{Ring, Seat, Turn};
+use oz_turn::{Ring, Seat};
 use oz_world::{Disk, Gate};
 use std::alloc::Global;
 use std::sync::Wait;
@@ -26,17 +25,12 @@ impl<'s> Client<'s> {
     /// The next line starts, or goes on by one thing, unless by a guess there is nothing to do: then the turn isn't taken.
     pub(crate) fn look<D: Disk, O: Opened, L: Loaded, R: Ring, W: Wait, G: Gate>(
         &mut self,
-        rt: &W,
-        alloc: Global,
-        turn: &Turn<Ledger<O>>,
-        servers: &Servers<D, Ledger<O>, O, L, R>,
-        gate: &G,
+        shared: &Shared<'_, D, O, L, R, W, G>,
         seat: &mut Seat<Ledger<O>>,
         by: u16,
         nodes: u8,
         sight: &mut Sight,
     ) -> Did
-        requires turn { turn_id turn.now ≡ R.turn }
         requires ready { IsReady R.turn by seat.old }
         requires seats { by < 64 }
         requires of_line { IsLineSeat by }
@@ -50,14 +44,16 @@ impl<'s> Client<'s> {
         ensures served { IsServed O.coherent O.opening O.bytes O.script (seen_of seat.new) self.new }
         ensures number { self.new.number ≡ self.old.number }
     {
-        let length = turn.length();
+        let length = shared.turn.length();
         if self.rests(length, sight) {
             self.note_in(sight);
             return Did::Waits;
         }
         let had_begun = self.work.is_some();
-        let did = self.go_on(rt, alloc, turn, servers, gate, seat, by, nodes);
-        self.rest = self.rest.behind(did, had_begun, length, turn.length());
+        let did = self.go_on(shared, seat, by, nodes);
+        self.rest = self
+            .rest
+            .behind(did, had_begun, length, shared.turn.length());
         if did == Did::Waits {
             self.note_in(sight);
         }
@@ -67,16 +63,11 @@ impl<'s> Client<'s> {
     /// The next line starts, or goes on by one thing. `by` is the seat's number, and `nodes` that of the datanodes.
     pub(crate) fn go_on<D: Disk, O: Opened, L: Loaded, R: Ring, W: Wait, G: Gate>(
         &mut self,
-        rt: &W,
-        alloc: Global,
-        turn: &Turn<Ledger<O>>,
-        servers: &Servers<D, Ledger<O>, O, L, R>,
-        gate: &G,
+        shared: &Shared<'_, D, O, L, R, W, G>,
         seat: &mut Seat<Ledger<O>>,
         by: u16,
         nodes: u8,
     ) -> Did
-        requires turn { turn_id turn.now ≡ R.turn }
         requires ready { IsReady R.turn by seat.old }
         requires seats { by < 64 }
         requires of_line { IsLineSeat by }
@@ -92,10 +83,10 @@ impl<'s> Client<'s> {
     {
         what_is_at_work_stays::<O>();
         let Some(mut work) = self.work.take() else {
-            return self.begin::<O, W>(rt, alloc, turn, seat, by, nodes);
+            return self.begin(shared, seat, by, nodes);
         };
-        match work.go_on(rt, alloc, turn, servers, gate, seat, by) {
-            Did::Ended => self.end::<O>(alloc, work),
+        match work.go_on(shared, seat, by) {
+            Did::Ended => self.end::<O>(shared.alloc, work),
             did => {
                 self.keep(work);
                 did
@@ -112,23 +103,21 @@ impl<'s> Client<'s> {
 
     /// The next line starts, if it may. A line that commits a label which no line opened never does: there is no such
     /// line in a script that was read, and where one stands it ends as where there is no memory.
-    fn begin<O: Opened, W: Wait>(
+    fn begin<D: Disk, O: Opened, L: Loaded, R: Ring, W: Wait, G: Gate>(
         &mut self,
-        rt: &W,
-        alloc: Global,
-        turn: &Turn<Ledger<O>>,
+        shared: &Shared<'_, D, O, L, R, W, G>,
         seat: &mut Seat<Ledger<O>>,
         by: u16,
         nodes: u8,
     ) -> Did
-        requires ready { IsReady (turn_id turn.now) by seat.old }
+        requires ready { IsReady R.turn by seat.old }
         requires least { FEWEST_NODES ≤ nodes }
         requires most { nodes ≤ MOST_NODES }
         requires opened { nodes ≡ length O.opening.nodes }
         requires numbered { IsNumbered O.script }
         requires none { self.old.work ≡ None }
         requires served { IsServed O.coherent O.opening O.bytes O.script (seen_of seat.old) self.old }
-        ensures ready { IsReady (turn_id turn.now) by seat.new }
+        ensures ready { IsReady R.turn by seat.new }
         ensures goes_on { BeginsWith (seen_of seat.new) (seen_of seat.old) }
         ensures served { IsServed O.coherent O.opening O.bytes O.script (seen_of seat.new) self.new }
         ensures number { self.new.number ≡ self.old.number }
@@ -138,13 +127,13 @@ impl<'s> Client<'s> {
         let Some(line) = self.next_line() else {
             return Did::Waits;
         };
-        if !has_started(rt, turn, seat, by, line) {
+        if !has_started(shared.rt, shared.turn, seat, by, line) {
             return Did::Waits;
         }
         let Some(label) = self.labels.label_for(&line.command) else {
             return Did::OutOfMemory;
         };
-        match LineAtWork::begin::<O>(alloc, line, nodes, label) {
+        match LineAtWork::begin::<O>(shared.alloc, line, nodes, label) {
             Ok(work) => {
                 self.keep(work);
                 Did::WentOn

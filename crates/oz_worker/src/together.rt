@@ -1,17 +1,15 @@
 //! The jobs of a run: on threads of their own, and what they leave on the caller's.
 
 ghost use Rattle.std.specs.Prelude.{◌≡◌};
-ghost use Rattle.oz_turn.specs.Turn.{turn_id};
 
 use crate::job::Job;
-use oz_at_work::Servers;
+use oz_at_work::Shared;
 use oz_buffer::{Ledger, Opened};
 use oz_core::Event;
 use oz_flusher::{Flushing, Mounted};
 use oz_locks::Loaded;
-use oz_turn::{Ring, Told, Turn};
+use oz_turn::{Ring, Told};
 use oz_world::{Disk, Gate};
-use std::alloc::Global;
 use std::sync::atomic::AtomicU64;
 use std::sync::{Mutex, Wait};
 use std::thread::{Threads, for_each_mut};
@@ -27,15 +25,10 @@ pub fn work_together<
     W: Threads + Wait + Sync,
     G: Gate + Sync,
 >(
-    rt: &W,
-    alloc: Global,
-    turn: &Turn<Ledger<O>>,
-    servers: &Servers<D, Ledger<O>, O, L, R>,
+    shared: &Shared<'_, D, O, L, R, W, G>,
     flushing: &Mutex<Flushing<D, Ledger<O>, O, M, R>>,
-    gate: &G,
     jobs: &mut [Job<'_, Ledger<O>, O, R>],
 )
-    requires { turn_id turn.now ≡ R.turn }
     ensures { jobs.new ≡ jobs.old }
 {
     if jobs.is_empty() {
@@ -44,29 +37,23 @@ pub fn work_together<
     let threads = jobs.len();
     let at_work = AtomicU64::new(workers_in(jobs));
     let run = |_: usize, job: &mut Job<'_, Ledger<O>, O, R>|
-        requires { turn_id turn.now ≡ R.turn }
         ensures { job.exit.now ≡ job.entry.now }
-    { job.run(rt, alloc, turn, servers, flushing, gate, &at_work) };
-    for_each_mut(rt, jobs, threads, &run);
+    { job.run(shared, flushing, &at_work) };
+    for_each_mut(shared.rt, jobs, threads, &run);
 }
 
 /// Serves on the caller's thread what the jobs have left, worker after worker, each from its own seat, until nothing
 /// goes on any more. Says whether all lines were told: else there was no memory, or a line waits for one that nobody
 /// serves.
 pub fn finish<D: Disk, O: Opened, L: Loaded, M: Mounted, R: Ring, W: Wait, G: Gate>(
-    rt: &W,
-    alloc: Global,
-    turn: &Turn<Ledger<O>>,
-    servers: &Servers<D, Ledger<O>, O, L, R>,
+    shared: &Shared<'_, D, O, L, R, W, G>,
     flushing: &Mutex<Flushing<D, Ledger<O>, O, M, R>>,
-    gate: &G,
     jobs: &mut [Job<'_, Ledger<O>, O, R>],
 ) -> bool
-    requires { turn_id turn.now ≡ R.turn }
     ensures { jobs.new ≡ jobs.old }
 {
-    for _ in rt.forever() {
-        if !each_goes_on(rt, alloc, turn, servers, flushing, gate, jobs) {
+    for _ in shared.rt.forever() {
+        if !each_goes_on(shared, flushing, jobs) {
             return jobs.iter().all(|job| job.is_done());
         }
     }
@@ -75,20 +62,15 @@ pub fn finish<D: Disk, O: Opened, L: Loaded, M: Mounted, R: Ring, W: Wait, G: Ga
 
 /// Each worker serves its clients as far as they can go on without other workers. Says whether anything went on.
 fn each_goes_on<D: Disk, O: Opened, L: Loaded, M: Mounted, R: Ring, W: Wait, G: Gate>(
-    rt: &W,
-    alloc: Global,
-    turn: &Turn<Ledger<O>>,
-    servers: &Servers<D, Ledger<O>, O, L, R>,
+    shared: &Shared<'_, D, O, L, R, W, G>,
     flushing: &Mutex<Flushing<D, Ledger<O>, O, M, R>>,
-    gate: &G,
     jobs: &mut [Job<'_, Ledger<O>, O, R>],
 ) -> bool
-    requires { turn_id turn.now ≡ R.turn }
     ensures { jobs.new ≡ jobs.old }
 {
     let mut went_on = false;
     for job in jobs.iter_mut() {
-        if job.go_on(rt, alloc, turn, servers, flushing, gate) {
+        if job.go_on(shared, flushing) {
             went_on = true;
         }
     }

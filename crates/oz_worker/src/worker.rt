@@ -4,7 +4,6 @@ ghost use Rattle.std.specs.Prelude.{◌≡◌, ◌<◌, All, List, length, map, 
 ghost use Rattle.oz_core.specs.declared.event.Event.{Event as AnyEvent};
 ghost use Rattle.oz_script.specs.lines.Numbered.{IsNumbered};
 ghost use Rattle.oz_turn.specs.Seat.{IsReady};
-ghost use Rattle.oz_turn.specs.Turn.{turn_id};
 ghost use Rattle.oz_worker.specs.Served.{IsServed};
 ghost use Rattle.oz_worker.specs.Workers.{IsOfWorker, clients_of};
 
@@ -12,14 +11,14 @@ use crate::client::Client;
 use crate::passing::{Pass, each_goes_on};
 use crate::pausing::pause;
 use crate::resting::Care;
-use oz_at_work::Servers;
+use oz_at_work::Shared;
 use oz_buffer::{Ledger, Opened};
 use oz_core::Event;
 use oz_fields::OutOfMemory;
 use oz_flusher::{Flushing, Mounted, flush_if_free};
 use oz_locks::Loaded;
 use oz_script::Script;
-use oz_turn::{Ring, Seat, Told, Turn};
+use oz_turn::{Ring, Seat, Told};
 use oz_world::{Disk, Gate};
 use std::alloc::Global;
 use std::marker::{Model, PhantomData};
@@ -146,42 +145,32 @@ impl<'s, O: Opened, R: Ring> Worker<'s, Ledger<O>, O, R> {
     /// nothing comes. It doesn't take the turn to see whether anything came.
     pub fn work<D: Disk, L: Loaded, M: Mounted, W: Wait, G: Gate>(
         &mut self,
-        rt: &W,
-        alloc: Global,
-        turn: &Turn<Ledger<O>>,
-        servers: &Servers<D, Ledger<O>, O, L, R>,
+        shared: &Shared<'_, D, O, L, R, W, G>,
         flushing: &Mutex<Flushing<D, Ledger<O>, O, M, R>>,
-        gate: &G,
     )
-        requires { turn_id turn.now ≡ R.turn }
         ensures { self.new ≡ self.old }
     {
-        self.serve(rt, alloc, turn, servers, flushing, gate, MOST_LOOKS);
+        self.serve(shared, flushing, MOST_LOOKS);
     }
 
     /// Serves its clients until nothing went on so often in turn, and once more. Says whether anything did. The last look is at
     /// each client.
     pub(crate) fn serve<D: Disk, L: Loaded, M: Mounted, W: Wait, G: Gate>(
         &mut self,
-        rt: &W,
-        alloc: Global,
-        turn: &Turn<Ledger<O>>,
-        servers: &Servers<D, Ledger<O>, O, L, R>,
+        shared: &Shared<'_, D, O, L, R, W, G>,
         flushing: &Mutex<Flushing<D, Ledger<O>, O, M, R>>,
-        gate: &G,
         most_looks: u32,
     ) -> bool
-        requires { turn_id turn.now ≡ R.turn }
         ensures { self.new ≡ self.old }
     {
         let mut went_on = false;
         let mut looks = most_looks;
         let mut flush = Flush::Elsewhere;
-        for _ in rt.forever() {
+        for _ in shared.rt.forever() {
             if self.is_over() {
                 return went_on;
             }
-            if self.go_on(rt, alloc, turn, servers, gate, flush.care(looks)) {
+            if self.go_on(shared, flush.care(looks)) {
                 went_on = true;
                 looks = most_looks;
                 flush = Flush::Elsewhere;
@@ -192,30 +181,27 @@ impl<'s, O: Opened, R: Ring> Worker<'s, Ledger<O>, O, R> {
             }
             looks -= 1;
             let before = flush;
-            flush = self.flush(rt, turn, flushing, gate);
+            flush = self.flush(shared, flushing);
             if flush.asks_to_pause(before) {
-                pause(rt, most_looks.saturating_sub(looks));
+                pause(shared.rt, most_looks.saturating_sub(looks));
             }
         }
         unreachable!()
     }
 
     /// Flushes, if there may be anything to flush and nobody else does.
-    fn flush<D: Disk, M: Mounted, W: Wait, G: Gate>(
+    fn flush<D: Disk, L: Loaded, M: Mounted, W: Wait, G: Gate>(
         &mut self,
-        rt: &W,
-        turn: &Turn<Ledger<O>>,
+        shared: &Shared<'_, D, O, L, R, W, G>,
         flushing: &Mutex<Flushing<D, Ledger<O>, O, M, R>>,
-        gate: &G,
     ) -> Flush
-        requires { turn_id turn.now ≡ R.turn }
         ensures { self.new ≡ self.old }
     {
-        let length = turn.length();
+        let length = shared.turn.length();
         if self.flushed_at == Some(length) {
             return Flush::Nothing;
         }
-        match flush_if_free(rt, flushing, turn, gate) {
+        match flush_if_free(shared.rt, flushing, shared.turn, shared.gate) {
             None => Flush::Elsewhere,
             Some(Ok(Some(_))) => Flush::Done,
             Some(Ok(None) | Err(_)) => {
@@ -233,23 +219,14 @@ impl<'s, O: Opened, R: Ring> Worker<'s, Ledger<O>, O, R> {
     /// Each client's next line goes on by one thing, if it is looked at. Says whether any did.
     fn go_on<D: Disk, L: Loaded, W: Wait, G: Gate>(
         &mut self,
-        rt: &W,
-        alloc: Global,
-        turn: &Turn<Ledger<O>>,
-        servers: &Servers<D, Ledger<O>, O, L, R>,
-        gate: &G,
+        shared: &Shared<'_, D, O, L, R, W, G>,
         care: Care,
     ) -> bool
-        requires { turn_id turn.now ≡ R.turn }
         ensures { self.new ≡ self.old }
     {
         let (by, nodes) = (self.number, self.nodes);
         match each_goes_on(
-            rt,
-            alloc,
-            turn,
-            servers,
-            gate,
+            shared,
             &mut self.seat,
             by,
             nodes,

@@ -29,27 +29,23 @@ tell-requires-clause-fits g c coherent story begins all may =
     (subst (λ (stills : List Still). MayTell O.opening story work.line.client work.line.number (last_of work.line refused.asked) inside.said stills refused.answer) c.as_slice.ensures
     (subst (λ (last : Option AskId). MayTell O.opening story work.line.client work.line.number last inside.said c.as_slice.result.now refused.answer) c.last_of-last.ensures may))
 
-pub put_off-requires : goal.put_off-requires
-put_off-requires g c =
+pub put_off-requires-clause-works : goal.put_off-requires-clause-works
+put_off-requires-clause-works g c coherent =
     let O = g.O.Opened in
     let inside = c.self.inside in
     let seen = seen_of c.args.seat.now in
     let later = seen_of c.tell.new.seat in
     let refused = c.in_ok-answer.field-0 in
     let work : WorkView = record { line = inside.line.now; state = inside.steps; nodes = inside.nodes; asked = inside.asked; said = inside.said; next = inside.next; is_cut = inside.is_cut; gave_up = inside.gave_up; doubted = inside.doubted; refused = inside.refused } in
-    record {
-      ready = c.in-Err.ensures.ready;
-      works = λ coherent.
-          let at_work : IsAtWork O.coherent O.opening O.bytes O.script seen work =
-          subst (IsAtWork O.coherent O.opening O.bytes O.script seen) (sym c.self.view_is) (c.requires.works coherent) in
-          let fit : IsRefusalFit O.coherent O.opening O.bytes O.script seen work.line (Some refused) =
-          subst (IsRefusalFit O.coherent O.opening O.bytes O.script seen work.line) (sym c.take.ensures.value ∙ c.in_ok-answer.was) at_work.refusal in
-          let still : MayBeTold O.coherent O.opening O.bytes O.script later work.line (last_of work.line refused.asked) (λ said. Unit {0}) refused.still refused.answer None =
-          refusal_still O.coherent O.opening O.bytes O.script later seen c.in-Err.ensures.goes_on work.line (Some refused) fit in
-          with_refused O.coherent O.opening O.bytes O.script later work (Some (record { answer = c.in-Err.answer; asked = refused.asked; still = refused.still }))
-          (subst (λ (a : Answer). MayBeTold O.coherent O.opening O.bytes O.script later work.line (last_of work.line refused.asked) (λ said. Unit {0}) refused.still a None) (sym c.in-Err.ensures.answer) still)
-          (work_still O.coherent O.opening O.bytes O.script later seen c.in-Err.ensures.goes_on work at_work);
-    }
+    let at_work : IsAtWork O.coherent O.opening O.bytes O.script seen work =
+    subst (IsAtWork O.coherent O.opening O.bytes O.script seen) (sym c.self.view_is) (c.requires.works coherent) in
+    let fit : IsRefusalFit O.coherent O.opening O.bytes O.script seen work.line (Some refused) =
+    subst (IsRefusalFit O.coherent O.opening O.bytes O.script seen work.line) (sym c.take.ensures.value ∙ c.in_ok-answer.was) at_work.refusal in
+    let still : MayBeTold O.coherent O.opening O.bytes O.script later work.line (last_of work.line refused.asked) (λ said. Unit {0}) refused.still refused.answer None =
+    refusal_still O.coherent O.opening O.bytes O.script later seen c.in-Err.ensures.goes_on work.line (Some refused) fit in
+    with_refused O.coherent O.opening O.bytes O.script later work (Some (record { answer = c.in-Err.answer; asked = refused.asked; still = refused.still }))
+    (subst (λ (a : Answer). MayBeTold O.coherent O.opening O.bytes O.script later work.line (last_of work.line refused.asked) (λ said. Unit {0}) refused.still a None) (sym c.in-Err.ensures.answer) still)
+    (work_still O.coherent O.opening O.bytes O.script later seen c.in-Err.ensures.goes_on work at_work)
 
 pub returns-in-Ok-clause-stays : goal.returns-in-Ok-clause-stays
 returns-in-Ok-clause-stays g c =

@@ -10,16 +10,12 @@ returns-in-Unacknowledged-clause-stays g c =
     let O = g.O.Opened in
     cut_stays O (seen_of c.settle_line.new.seat) (seen_of c.args.seat.now) c.args.self.now c.cut.new.self _ answers.Unacknowledged c.settle_line.ensures.goes_on tt c.cut.ensures c.requires.works
 
-pub returns-in-Stable : goal.returns-in-Stable
-returns-in-Stable g c =
+pub returns-in-Stable-clause-stays : goal.returns-in-Stable-clause-stays
+returns-in-Stable-clause-stays g c =
     let O = g.O.Opened in
     record {
-      gone = record { ready = c.settle_line.ensures.ready; room = c.settle_line.ensures.room; goes_on = c.settle_line.ensures.goes_on };
-      stays = record {
-        line = refl;
-        works = λ coherent. work_still O.coherent O.opening O.bytes O.script (seen_of c.settle_line.new.seat) (seen_of c.args.seat.now)
-            c.settle_line.ensures.goes_on c.args.self.now (c.requires.works coherent);
-        went_on = λ wrong. absurd cc;
-      };
-      unended = λ wrong. cc;
+      line = refl;
+      works = λ coherent. work_still O.coherent O.opening O.bytes O.script (seen_of c.settle_line.new.seat) (seen_of c.args.seat.now)
+          c.settle_line.ensures.goes_on c.args.self.now (c.requires.works coherent);
+      went_on = λ wrong. absurd cc;
     }

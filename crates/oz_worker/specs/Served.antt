@@ -9,6 +9,11 @@ use Rattle.oz_core.specs.Steps.{opening_line}
 use Rattle.oz_script.specs.declared.lines.script.Line.{Line}
 use Rattle.oz_script.specs.declared.lines.script.Script.{Script}
 use Rattle.oz_steps.specs.declared.label.Label.{Label}
+use Rattle.oz_turn.specs.declared.seat.Seat.{Seat}
+use Rattle.oz_turn.specs.declared.told.Told.{Ghosts as Tells}
+use Rattle.oz_turn.specs.Ring.{TurnId}
+use Rattle.oz_turn.specs.Seat.{IsReady, seen_of}
+use Rattle.oz_turn.specs.Told.{BeginsWith}
 use Rattle.oz_worker.specs.declared.client.Client.{Client}
 use Rattle.oz_worker.specs.ClientLines.{lines_of_client}
 use Rattle.oz_worker.specs.Labels.{LabelMap}
@@ -16,6 +21,11 @@ use Rattle.oz_worker.specs.Labels.{LabelMap}
 -- the first line of a client that wasn't told yet
 abbrev pub next_line : Script → Client → Option Line
 next_line script client = slice_get (lines_of_client script client.number) client.told
+
+-- The seat is ready again, and has seen what it had seen, or more.
+pub record StaysReady {T : Type 0} {told : Tells T Event} (turn : TurnId) (number : ℕ) (old new : Seat T Event told) : Type 0 where
+  pub ready : IsReady turn number new
+  pub goes_on : BeginsWith (seen_of new) (seen_of old)
 
 -- That the disks agree, with what was loaded; the script; and what the worker's seat has seen.
 module _ (Coherent : Type 0) (opening : Opening) (bytes : OpeningBytes) (script : Script) (seen : List Event) where

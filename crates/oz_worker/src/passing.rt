@@ -3,8 +3,7 @@
 ghost use Rattle.std.specs.Prelude.{◌≡◌, All, map};
 ghost use Rattle.oz_script.specs.lines.Numbered.{IsNumbered};
 ghost use Rattle.oz_turn.specs.Seat.{IsReady, seen_of};
-ghost use Rattle.oz_turn.specs.Told.{BeginsWith};
-ghost use Rattle.oz_worker.specs.Served.{IsServed};
+ghost use Rattle.oz_worker.specs.Served.{IsServed, StaysReady};
 ghost use Rattle.oz_worker.specs.Workers.{IsOfWorker};
 
 use crate::client::Client;
@@ -41,8 +40,7 @@ pub(crate) fn each_goes_on<D: Disk, O: Opened, L: Loaded, R: Ring, W: Wait, G: G
     requires worker { IsOfWorker O.opening by nodes }
     requires numbered { IsNumbered O.script }
     requires served { All (IsServed O.coherent O.opening O.bytes O.script (seen_of seat.old)) clients.old }
-    ensures ready { IsReady R.turn by seat.new }
-    ensures goes_on { BeginsWith (seen_of seat.new) (seen_of seat.old) }
+    ensures gone { StaysReady R.turn by seat.old seat.new }
     ensures served { All (IsServed O.coherent O.opening O.bytes O.script (seen_of seat.new)) clients.new }
     ensures same { map (λ client. client.number) clients.new ≡ map (λ client. client.number) clients.old }
 {

@@ -1,14 +1,13 @@
 //! How a client's next line starts, goes on and ends.
 
-ghost use Rattle.std.specs.Prelude.{◌≡◌, ◌≤◌, ◌<◌, List, length, None, Some};
+ghost use Rattle.std.specs.Prelude.{◌≡◌, ◌≤◌, List, length, None, Some};
 ghost use Rattle.oz_at_work.specs.AtWork.{HasLeft, left_of};
+ghost use Rattle.oz_at_work.specs.Part.{IsLinePart};
 ghost use Rattle.oz_core.specs.declared.event.Event.{Event as AnyEvent};
-ghost use Rattle.oz_core.specs.Seats.{IsLineSeat};
 ghost use Rattle.oz_script.specs.lines.Numbered.{IsNumbered};
 ghost use Rattle.oz_nodes.specs.declared.nodes.TheConstants.{FEWEST_NODES, MOST_NODES};
 ghost use Rattle.oz_turn.specs.Seat.{IsReady, seen_of};
-ghost use Rattle.oz_turn.specs.Told.{BeginsWith};
-ghost use Rattle.oz_worker.specs.Served.{IsServed, next_line};
+ghost use Rattle.oz_worker.specs.Served.{IsServed, StaysReady, next_line};
 
 use crate::client::Client;
 use crate::resting::Sight;
@@ -31,16 +30,13 @@ impl<'s> Client<'s> {
         nodes: u8,
         sight: &mut Sight,
     ) -> Did
-        requires ready { IsReady R.turn by seat.old }
-        requires seats { by < 64 }
-        requires of_line { IsLineSeat by }
+        requires part { IsLinePart R.turn by seat.old }
         requires least { FEWEST_NODES ≤ nodes }
         requires most { nodes ≤ MOST_NODES }
         requires opened { nodes ≡ length O.opening.nodes }
         requires numbered { IsNumbered O.script }
         requires served { IsServed O.coherent O.opening O.bytes O.script (seen_of seat.old) self.old }
-        ensures ready { IsReady R.turn by seat.new }
-        ensures goes_on { BeginsWith (seen_of seat.new) (seen_of seat.old) }
+        ensures gone { StaysReady R.turn by seat.old seat.new }
         ensures served { IsServed O.coherent O.opening O.bytes O.script (seen_of seat.new) self.new }
         ensures number { self.new.number ≡ self.old.number }
     {
@@ -68,16 +64,13 @@ impl<'s> Client<'s> {
         by: u16,
         nodes: u8,
     ) -> Did
-        requires ready { IsReady R.turn by seat.old }
-        requires seats { by < 64 }
-        requires of_line { IsLineSeat by }
+        requires part { IsLinePart R.turn by seat.old }
         requires least { FEWEST_NODES ≤ nodes }
         requires most { nodes ≤ MOST_NODES }
         requires opened { nodes ≡ length O.opening.nodes }
         requires numbered { IsNumbered O.script }
         requires served { IsServed O.coherent O.opening O.bytes O.script (seen_of seat.old) self.old }
-        ensures ready { IsReady R.turn by seat.new }
-        ensures goes_on { BeginsWith (seen_of seat.new) (seen_of seat.old) }
+        ensures gone { StaysReady R.turn by seat.old seat.new }
         ensures served { IsServed O.coherent O.opening O.bytes O.script (seen_of seat.new) self.new }
         ensures number { self.new.number ≡ self.old.number }
     {
@@ -117,8 +110,7 @@ impl<'s> Client<'s> {
         requires numbered { IsNumbered O.script }
         requires none { self.old.work ≡ None }
         requires served { IsServed O.coherent O.opening O.bytes O.script (seen_of seat.old) self.old }
-        ensures ready { IsReady R.turn by seat.new }
-        ensures goes_on { BeginsWith (seen_of seat.new) (seen_of seat.old) }
+        ensures gone { StaysReady R.turn by seat.old seat.new }
         ensures served { IsServed O.coherent O.opening O.bytes O.script (seen_of seat.new) self.new }
         ensures number { self.new.number ≡ self.old.number }
     {

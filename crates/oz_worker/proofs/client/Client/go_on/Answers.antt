@@ -27,8 +27,7 @@ returns-in_default-go_on g c =
     let had : c.args.self.now.work ≡ Some c.in-Some.work = cc in
     let at = subst (λ (w : Option WorkView). IfSome w (λ work. next_line g.O.Opened.script c.args.self.now ≡ Some work.line)) had still.next in
     record {
-      ready = c.go_on.ensures.gone.ready;
-      goes_on = c.go_on.ensures.gone.goes_on;
+      gone = record { ready = c.go_on.ensures.gone.ready; goes_on = c.go_on.ensures.gone.goes_on };
       served = subst (λ (client : Client). IsServed g.O.Opened.coherent g.O.Opened.opening g.O.Opened.bytes g.O.Opened.script (seen_of c.go_on.new.seat) client) (sym c.keep.ensures)
           (with_work g.O.Opened.coherent g.O.Opened.opening g.O.Opened.bytes g.O.Opened.script (seen_of c.go_on.new.seat) c.args.self.now c.go_on.new.self still
           (at ∙ ap (λ (l : Line). Some l) (sym c.go_on.ensures.stays.line)) c.go_on.ensures.stays.works);

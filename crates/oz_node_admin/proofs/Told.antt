@@ -1,5 +1,5 @@
 -- What a command comes to, from what the seats have told.
-use Rattle.std.proofs.Common.{◌≡◌, ℕ, Bool, true, false, ◌==◌, cond, List, [], ◌∷◌, ◌++◌, Option, None, Some, Ok, eq-eqb, refl, sym, ap, ◌∙◌, subst, append_assoc}
+use Rattle.std.proofs.Common.{◌≡◌, ℕ, Bool, true, false, ◌==◌, cond, List, [], ◌∷◌, ◌++◌, Option, None, Some, Ok, eq-eqb, refl, sym, ap, ◌∙◌, append_assoc}
 use Rattle.std.specs.Prelude.{not, slice_set}
 use Rattle.oz_buffer.specs.Buffer.{AllFollow, Follows}
 use Rattle.oz_buffer.specs.laws.Following.{told-push}
@@ -12,6 +12,7 @@ use Rattle.oz_core.specs.Seats.{datanode_seat, scm_seat}
 use Rattle.oz_core.specs.Stories.{newer}
 use Rattle.oz_script.specs.declared.lines.script.Script.{Script}
 use Rattle.oz_node_events.specs.Beside.{ShareAPlace}
+use Rattle.oz_node_events.specs.NodeSeat.{IsAppended}
 use Rattle.oz_scm.specs.Scm.{State}
 use Rattle.oz_scm_events.specs.Granted.{by_scm}
 use Rattle.oz_scm_events.specs.Tracked.{IsTracked, up_event}
@@ -22,6 +23,11 @@ use Rattle.oz_node_admin.specs.Commands.{HasBeen, IsAsCommanded, is_wanted, run_
 
 pub begins_through : (a b c : List Event) → BeginsWith a b → BeginsWith b c → BeginsWith a c
 begins_through a b c first then = (then.0 ++ first.0, first.1 ∙ (ap (λ l. l ++ first.0) then.1 ∙ append_assoc c then.0 first.0))
+
+-- behind an event that was appended the seat has seen what it had seen
+pub appended_on : (event : Event) (seen other after : List Event) → IsAppended event seen other after → BeginsWith after seen
+appended_on event seen other after told =
+    begins_through after told.before seen (event ∷ told.goes_on.0, told.goes_on.1 ∙ append_assoc told.before (event ∷ []) told.goes_on.0) told.begins
 
 -- a datanode that runs isn't stopped by a line
 pub runs_back : (runs : Bool) → not (not runs) ≡ runs

@@ -1,3 +1,4 @@
+pub mod Seats
 pub mod Commands
 pub mod Wipes
 pub mod Came

@@ -1,13 +1,12 @@
 //! Having a datanode run or not, and telling so.
 
-ghost use Rattle.std.specs.Prelude.{◌≡◌, ◌+◌, ◌≤◌, ◌<◌, None, not, true, false, slice_index};
+ghost use Rattle.std.specs.Prelude.{◌≡◌, ◌≤◌, ◌<◌, not, false, slice_index};
 ghost use Rattle.oz_datanode.specs.Datanode.{is_halted};
 ghost use Rattle.oz_script.specs.declared.lines.script.TheConstants.{MOST_CLIENTS as MOST};
 ghost use Rattle.oz_node_admin.specs.Commands.{last_after, own_after, run_done};
+ghost use Rattle.oz_node_admin.specs.Seats.{MayChange, MayTake, OnlyLooked, StillStands};
 ghost use Rattle.oz_node_events.specs.Led.{HasItDone};
-ghost use Rattle.oz_node_events.specs.NodeSeat.{IsKept, StandsFor};
-ghost use Rattle.oz_turn.specs.Seat.{IsSameSeat, mine_of, room_of, seen_of, taken_of, turn_of};
-ghost use Rattle.oz_turn.specs.Told.{BeginsWith};
+ghost use Rattle.oz_turn.specs.Seat.{seen_of};
 ghost use Rattle.oz_turn.specs.Turn.{turn_id};
 
 use oz_buffer::{Ledger, Opened};
@@ -30,29 +29,17 @@ pub(crate) fn see_to<D: Disk, O: Opened, R: Ring, W: Wait>(
     line: &Line,
     runs: bool,
 )
-    requires turn { turn_id turn.now ≡ R.turn }
-    requires seat_turn { turn_of seat.old ≡ R.turn }
-    requires seat_free { taken_of seat.old ≡ None }
-    requires room { 1 ≤ kept.old.room }
-    requires unhalted { is_halted node.old ≡ false }
-    requires kept { IsKept O.coherent O.opening O.bytes O.script kept.old }
-    requires stood { StandsFor D.told D.clock D.image D.faults O.coherent O.opening O.bytes O.script O.faults kept.old node.old }
+    requires seat { MayTake R.turn (turn_id turn.now) seat.old }
+    requires able { MayChange D.Disk O.Opened kept.old node.old }
     requires client { line.now.client ≤ MOST }
     requires behind { node.old.stopped ≡ runs → slice_index kept.old.last line.now.client < line.now.number }
     requires line { O.coherent → HasItDone O.script (seen_of seat.old) kept.old.dn (run_done runs) line.now }
     ensures node { node.new ≡ record node.old { stopped = not runs } }
-    ensures number { kept.new.dn ≡ kept.old.dn }
     ensures its { kept.new.mine ≡ own_after kept.old.dn runs node.old.stopped kept.old.mine }
     ensures last { kept.new.last ≡ last_after runs node.old.stopped line.now kept.old.last }
-    ensures kept { IsKept O.coherent O.opening O.bytes O.script kept.new }
-    ensures stands { StandsFor D.told D.clock D.image D.faults O.coherent O.opening O.bytes O.script O.faults kept.new node.new }
-    ensures goes_on { BeginsWith kept.new.seen kept.old.seen }
-    ensures seat { IsSameSeat seat.old seat.new }
-    ensures seat_free { taken_of seat.new ≡ None }
-    ensures begins { BeginsWith kept.new.seen (seen_of seat.old) }
+    ensures stays { StillStands D.Disk O.Opened kept.old kept.new node.new }
+    ensures looked { OnlyLooked R.turn seat.old seat.new }
     ensures seen { seen_of seat.new ≡ kept.new.seen }
-    ensures mine { mine_of seat.new ≡ mine_of seat.old }
-    ensures seat_room { room_of seat.new ≡ room_of seat.old }
 {
     it_stands_where_it_saw_more::<D, O>();
     if node.running() != runs {
@@ -72,30 +59,18 @@ fn change<D: Disk, O: Opened, R: Ring, W: Wait>(
     line: &Line,
     runs: bool,
 )
-    requires turn { turn_id turn.now ≡ R.turn }
-    requires seat_turn { turn_of seat.old ≡ R.turn }
-    requires seat_free { taken_of seat.old ≡ None }
-    requires room { 1 ≤ kept.old.room }
-    requires unhalted { is_halted node.old ≡ false }
+    requires seat { MayTake R.turn (turn_id turn.now) seat.old }
+    requires able { MayChange D.Disk O.Opened kept.old node.old }
     requires other { node.old.stopped ≡ runs }
-    requires kept { IsKept O.coherent O.opening O.bytes O.script kept.old }
-    requires stood { StandsFor D.told D.clock D.image D.faults O.coherent O.opening O.bytes O.script O.faults kept.old node.old }
     requires client { line.now.client ≤ MOST }
     requires behind { slice_index kept.old.last line.now.client < line.now.number }
     requires line { O.coherent → HasItDone O.script (seen_of seat.old) kept.old.dn (run_done runs) line.now }
     ensures node { node.new ≡ record node.old { stopped = not runs } }
-    ensures number { kept.new.dn ≡ kept.old.dn }
     ensures its { kept.new.mine ≡ own_after kept.old.dn runs node.old.stopped kept.old.mine }
     ensures last { kept.new.last ≡ last_after runs node.old.stopped line.now kept.old.last }
-    ensures kept { IsKept O.coherent O.opening O.bytes O.script kept.new }
-    ensures stands { StandsFor D.told D.clock D.image D.faults O.coherent O.opening O.bytes O.script O.faults kept.new node.new }
-    ensures goes_on { BeginsWith kept.new.seen kept.old.seen }
-    ensures seat { IsSameSeat seat.old seat.new }
-    ensures seat_free { taken_of seat.new ≡ None }
-    ensures begins { BeginsWith kept.new.seen (seen_of seat.old) }
+    ensures stays { StillStands D.Disk O.Opened kept.old kept.new node.new }
+    ensures looked { OnlyLooked R.turn seat.old seat.new }
     ensures seen { seen_of seat.new ≡ kept.new.seen }
-    ensures mine { mine_of seat.new ≡ mine_of seat.old }
-    ensures seat_room { room_of seat.new ≡ room_of seat.old }
 {
     a_line_has_it_run_or_not::<D, O>();
     have_run(node, runs);

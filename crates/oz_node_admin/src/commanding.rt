@@ -1,13 +1,13 @@
 //! What a line's command to have a datanode run, or not, comes to.
 
-ghost use Rattle.std.specs.Prelude.{◌≡◌, ◌+◌, ◌≤◌, ◌<◌, None, Ok, not, false, slice_index, slice_set};
-ghost use Rattle.oz_datanode.specs.Datanode.{is_halted};
+ghost use Rattle.std.specs.Prelude.{◌≡◌, ◌+◌, ◌≤◌, ◌<◌, Ok, not, slice_index, slice_set};
 ghost use Rattle.oz_script.specs.declared.lines.script.TheConstants.{MOST_CLIENTS as MOST};
 ghost use Rattle.oz_node_admin.specs.Commands.{ComesTo, HasBeen, last_after, own_after, run_done};
+ghost use Rattle.oz_node_admin.specs.Seats.{MayChange, MayCommand, MayTake, OnlyLooked, ScmWentOn, StillStands};
 ghost use Rattle.oz_node_events.specs.Led.{HasItDone};
-ghost use Rattle.oz_node_events.specs.NodeSeat.{IsKept, StandsFor};
+ghost use Rattle.oz_node_events.specs.NodeSeat.{StandsFor};
 ghost use Rattle.oz_scm_events.specs.Tracked.{IsTracked};
-ghost use Rattle.oz_turn.specs.Seat.{IsReady, IsSameSeat, mine_of, number_of, room_of, seen_of, taken_of, turn_of};
+ghost use Rattle.oz_turn.specs.Seat.{seen_of};
 ghost use Rattle.oz_turn.specs.Told.{BeginsWith};
 ghost use Rattle.oz_turn.specs.Turn.{turn_id};
 
@@ -37,24 +37,15 @@ pub(crate) fn command<D: Disk, S: Disk, O: Opened, R: Ring, W: Wait>(
     line: &Line,
     runs: bool,
 ) -> Result<(), AdminFault>
-    requires turn { turn_id turn.now ≡ R.turn }
-    requires ready { IsReady R.turn (number_of seat.old) seat.old }
+    requires seat { MayTake R.turn (turn_id turn.now) seat.old }
     requires stood { StandsFor D.told D.clock D.image D.faults O.coherent O.opening O.bytes O.script O.faults kept.old node.old }
-    requires client { line.now.client ≤ MOST }
-    requires some { 1 ≤ line.now.number }
-    requires line { O.coherent → HasItDone O.script (seen_of seat.old) kept.old.dn (run_done runs) line.now }
+    requires may { MayCommand O.Opened (seen_of seat.old) kept.old.dn (run_done runs) line.now }
     ensures comes_to { ComesTo (record { node = node.old; kept = kept.old }) (record { node = node.new; kept = kept.new })
         scm.old scm.new D.faults O.coherent O.script runs line.now (seen_of seat.old) (seen_of seat.new) result }
-    ensures number { kept.new.dn ≡ kept.old.dn }
     ensures shelf { node.new.shelf ≡ node.old.shelf }
-    ensures stands { StandsFor D.told D.clock D.image D.faults O.coherent O.opening O.bytes O.script O.faults kept.new node.new }
-    ensures scm_goes_on { BeginsWith scm.new.seen scm.old.seen }
-    ensures goes_on { BeginsWith kept.new.seen kept.old.seen }
-    ensures scm_room { scm.new.room ≡ scm.old.room }
-    ensures ready { IsReady R.turn (number_of seat.old) seat.new }
-    ensures begins { BeginsWith (seen_of seat.new) (seen_of seat.old) }
-    ensures mine { mine_of seat.new ≡ mine_of seat.old }
-    ensures room { room_of seat.new ≡ room_of seat.old }
+    ensures stays { StillStands D.Disk O.Opened kept.old kept.new node.new }
+    ensures scm { ScmWentOn scm.old scm.new }
+    ensures looked { OnlyLooked R.turn seat.old seat.new }
 {
     its_seat_alone_tells::<D, O>();
     it_stands_where_it_saw_more::<D, O>();
@@ -65,6 +56,7 @@ pub(crate) fn command<D: Disk, S: Disk, O: Opened, R: Ring, W: Wait>(
         });
     }
     if node.running() != runs && kept.last(line.client) >= line.number {
+        kept.is_kept();
         kept.is_led();
         return Err(AdminFault::Repeated);
     }
@@ -85,33 +77,22 @@ fn carry_out<D: Disk, S: Disk, O: Opened, R: Ring, W: Wait>(
     line: &Line,
     runs: bool,
 ) -> bool
-    requires turn { turn_id turn.now ≡ R.turn }
-    requires seat_turn { turn_of seat.old ≡ R.turn }
-    requires seat_free { taken_of seat.old ≡ None }
-    requires room { 1 ≤ kept.old.room }
+    requires seat { MayTake R.turn (turn_id turn.now) seat.old }
+    requires able { MayChange D.Disk O.Opened kept.old node.old }
     requires scm_room { 1 ≤ scm.old.room }
-    requires unhalted { is_halted node.old ≡ false }
-    requires kept { IsKept O.coherent O.opening O.bytes O.script kept.old }
-    requires stood { StandsFor D.told D.clock D.image D.faults O.coherent O.opening O.bytes O.script O.faults kept.old node.old }
     requires client { line.now.client ≤ MOST }
     requires behind { node.old.stopped ≡ runs → slice_index kept.old.last line.now.client < line.now.number }
     requires line { O.coherent → HasItDone O.script (seen_of seat.old) kept.old.dn (run_done runs) line.now }
     ensures node { node.new ≡ record node.old { stopped = not runs } }
-    ensures number { kept.new.dn ≡ kept.old.dn }
     ensures its { kept.new.mine ≡ own_after kept.old.dn runs node.old.stopped kept.old.mine }
     ensures last { kept.new.last ≡ last_after runs node.old.stopped line.now kept.old.last }
-    ensures stands { StandsFor D.told D.clock D.image D.faults O.coherent O.opening O.bytes O.script O.faults kept.new node.new }
-    ensures goes_on { BeginsWith kept.new.seen kept.old.seen }
+    ensures stays { StillStands D.Disk O.Opened kept.old kept.new node.new }
     ensures of_the_scm { IsTracked {E = Unit {0}} kept.old.dn runs scm.old.mine scm.new.mine (Ok result) }
     ensures scm { scm.new.scm ≡ record scm.old.scm { up = slice_set scm.old.scm.up kept.old.dn runs } }
     ensures left { scm.new.room + 1 ≡ scm.old.room }
     ensures scm_goes_on { BeginsWith scm.new.seen scm.old.seen }
     ensures has_been { HasBeen O.coherent kept.old.dn runs (seen_of seat.old) (seen_of seat.new) }
-    ensures seat { IsSameSeat seat.old seat.new }
-    ensures seat_free { taken_of seat.new ≡ None }
-    ensures begins { BeginsWith (seen_of seat.new) (seen_of seat.old) }
-    ensures mine { mine_of seat.new ≡ mine_of seat.old }
-    ensures seat_room { room_of seat.new ≡ room_of seat.old }
+    ensures looked { OnlyLooked R.turn seat.old seat.new }
 {
     a_line_has_it_run_or_not::<D, O>();
     it_stands_where_it_saw_more::<D, O>();

@@ -5,8 +5,9 @@ ghost use Rattle.oz_core.specs.declared.event.Node.TheVariants.{Datanode};
 ghost use Rattle.oz_core.specs.Manager.{halt_of};
 ghost use Rattle.oz_node_admin.specs.Commands.{HasBeen};
 ghost use Rattle.oz_node_admin.specs.Halts.{AreDown, is_left_up};
+ghost use Rattle.oz_node_admin.specs.Seats.{MayTake, OnlyLooked};
 ghost use Rattle.oz_node_events.specs.NodeSeat.{IsKept};
-ghost use Rattle.oz_turn.specs.Seat.{IsReady, mine_of, number_of, room_of, seen_of};
+ghost use Rattle.oz_turn.specs.Seat.{IsReady, number_of, seen_of};
 ghost use Rattle.oz_turn.specs.Told.{BeginsWith};
 ghost use Rattle.oz_turn.specs.Turn.{turn_id};
 
@@ -35,14 +36,10 @@ pub fn take_down_halted<D: Disk, O: Opened, R: Ring, W: Wait>(
     seat: &mut Seat<Ledger<O>>,
     count: u8,
 ) -> Result<(), OutOfMemory>
-    requires turn { turn_id turn.now ≡ R.turn }
-    requires ready { IsReady R.turn (number_of seat.old) seat.old }
+    requires seat { MayTake R.turn (turn_id turn.now) seat.old }
     requires there { count ≤ nodes.now }
     ensures down { OnOk result (AreDown O.coherent count (seen_of seat.old) (seen_of seat.new)) }
-    ensures ready { IsReady R.turn (number_of seat.old) seat.new }
-    ensures begins { BeginsWith (seen_of seat.new) (seen_of seat.old) }
-    ensures mine { mine_of seat.new ≡ mine_of seat.old }
-    ensures room { room_of seat.new ≡ room_of seat.old }
+    ensures looked { OnlyLooked R.turn seat.old seat.new }
 {
     for dn in 0..count {
         take_down_where_halted(rt, alloc, turn, scm, nodes, seat, dn)?;
@@ -60,15 +57,11 @@ fn take_down_where_halted<D: Disk, O: Opened, R: Ring, W: Wait>(
     seat: &mut Seat<Ledger<O>>,
     dn: u8,
 ) -> Result<(), OutOfMemory>
-    requires turn { turn_id turn.now ≡ R.turn }
-    requires ready { IsReady R.turn (number_of seat.old) seat.old }
+    requires seat { MayTake R.turn (turn_id turn.now) seat.old }
     requires there { dn < nodes.now }
     ensures down { OnOk result (halt_of (Datanode dn) (seen_of seat.old) ≢ None
         → HasBeen O.coherent dn false (seen_of seat.old) (seen_of seat.new)) }
-    ensures ready { IsReady R.turn (number_of seat.old) seat.new }
-    ensures begins { BeginsWith (seen_of seat.new) (seen_of seat.old) }
-    ensures mine { mine_of seat.new ≡ mine_of seat.old }
-    ensures room { room_of seat.new ≡ room_of seat.old }
+    ensures looked { OnlyLooked R.turn seat.old seat.new }
 {
     if !is_left_up(rt, turn, seat, dn) {
         return Ok(());
@@ -87,10 +80,7 @@ fn is_left_up<O: Opened, W: Wait>(
 ) -> bool
     requires { IsReady (turn_id turn.now) (number_of seat.old) seat.old }
     ensures left { result ≡ is_left_up dn (seen_of seat.new) }
-    ensures ready { IsReady (turn_id turn.now) (number_of seat.old) seat.new }
-    ensures begins { BeginsWith (seen_of seat.new) (seen_of seat.old) }
-    ensures mine { mine_of seat.new ≡ mine_of seat.old }
-    ensures room { room_of seat.new ≡ room_of seat.old }
+    ensures looked { OnlyLooked (turn_id turn.now) seat.old seat.new }
 {
     let (ledger, held) = turn.take(rt, seat);
     let halted = ledger.halt(Node::Datanode(dn)).is_some();
@@ -109,15 +99,11 @@ fn take_down_locked<D: Disk, O: Opened, R: Ring, W: Wait>(
     seat: &mut Seat<Ledger<O>>,
     dn: u8,
 ) -> Result<(), OutOfMemory>
-    requires turn { turn_id turn.now ≡ R.turn }
-    requires ready { IsReady R.turn (number_of seat.old) seat.old }
+    requires seat { MayTake R.turn (turn_id turn.now) seat.old }
     requires its { cell.old.node.id ≡ dn }
     requires halted { halt_of (Datanode dn) (seen_of seat.old) ≢ None }
     ensures down { OnOk result (HasBeen O.coherent dn false (seen_of seat.old) (seen_of seat.new)) }
-    ensures ready { IsReady R.turn (number_of seat.old) seat.new }
-    ensures begins { BeginsWith (seen_of seat.new) (seen_of seat.old) }
-    ensures mine { mine_of seat.new ≡ mine_of seat.old }
-    ensures room { room_of seat.new ≡ room_of seat.old }
+    ensures looked { OnlyLooked R.turn seat.old seat.new }
 {
     it_stands_where_it_saw_more::<D, O>();
     tell_down(rt, alloc, turn, scm, &mut cell.kept, seat)
@@ -132,8 +118,7 @@ fn tell_down<D: Disk, O: Opened, R: Ring, W: Wait>(
     kept: &mut NodeSeat<Ledger<O>, O, R>,
     seat: &mut Seat<Ledger<O>>,
 ) -> Result<(), OutOfMemory>
-    requires turn { turn_id turn.now ≡ R.turn }
-    requires ready { IsReady R.turn (number_of seat.old) seat.old }
+    requires seat { MayTake R.turn (turn_id turn.now) seat.old }
     requires halted { halt_of (Datanode kept.old.dn) (seen_of seat.old) ≢ None }
     ensures down { OnOk result (HasBeen O.coherent kept.old.dn false (seen_of seat.old) (seen_of seat.new)) }
 
@@ -143,10 +128,7 @@ fn tell_down<D: Disk, O: Opened, R: Ring, W: Wait>(
     ensures goes_on { BeginsWith kept.new.seen kept.old.seen }
     ensures kept { IsKept O.coherent O.opening O.bytes O.script kept.new }
     ensures kept_before { IsKept O.coherent O.opening O.bytes O.script kept.old }
-    ensures ready { IsReady R.turn (number_of seat.old) seat.new }
-    ensures begins { BeginsWith (seen_of seat.new) (seen_of seat.old) }
-    ensures mine { mine_of seat.new ≡ mine_of seat.old }
-    ensures room { room_of seat.new ≡ room_of seat.old }
+    ensures looked { OnlyLooked R.turn seat.old seat.new }
 {
     its_seat_alone_tells::<D, O>();
     a_datanode_alone_tells_that_it_runs::<O>();

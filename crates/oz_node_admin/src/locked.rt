@@ -1,11 +1,9 @@
 //! Having something done to a datanode under its locks.
 
-ghost use Rattle.std.specs.Prelude.{◌≡◌, ◌≤◌, ◌<◌};
-ghost use Rattle.oz_script.specs.declared.lines.script.TheConstants.{MOST_CLIENTS as MOST};
+ghost use Rattle.std.specs.Prelude.{◌≡◌, ◌<◌};
 ghost use Rattle.oz_node_admin.specs.Came.{CameOf};
-ghost use Rattle.oz_node_events.specs.Led.{HasItDone};
-ghost use Rattle.oz_turn.specs.Seat.{IsReady, mine_of, number_of, room_of, seen_of};
-ghost use Rattle.oz_turn.specs.Told.{BeginsWith};
+ghost use Rattle.oz_node_admin.specs.Seats.{MayCommand, MayTake, OnlyLooked};
+ghost use Rattle.oz_turn.specs.Seat.{seen_of};
 ghost use Rattle.oz_turn.specs.Turn.{turn_id};
 
 use crate::fault::AdminFault;
@@ -38,17 +36,11 @@ pub fn have_done<D: Disk, O: Opened, R: Ring, W: Wait>(
     dn: u8,
     done: NodeCommand,
 ) -> Result<(), AdminFault>
-    requires turn { turn_id turn.now ≡ R.turn }
-    requires ready { IsReady R.turn (number_of seat.old) seat.old }
+    requires seat { MayTake R.turn (turn_id turn.now) seat.old }
     requires there { dn < nodes.now }
-    requires client { line.now.client ≤ MOST }
-    requires some { 1 ≤ line.now.number }
-    requires line { O.coherent → HasItDone O.script (seen_of seat.old) dn done line.now }
+    requires may { MayCommand O.Opened (seen_of seat.old) dn done line.now }
     ensures came { CameOf O.coherent O.opening O.bytes O.script dn done line.now (seen_of seat.old) (seen_of seat.new) result }
-    ensures ready { IsReady R.turn (number_of seat.old) seat.new }
-    ensures begins { BeginsWith (seen_of seat.new) (seen_of seat.old) }
-    ensures mine { mine_of seat.new ≡ mine_of seat.old }
-    ensures room { room_of seat.new ≡ room_of seat.old }
+    ensures looked { OnlyLooked R.turn seat.old seat.new }
 {
     let mut manager = scm.lock(rt);
     let mut cell = nodes.lock(rt, dn);
@@ -77,17 +69,11 @@ fn done_locked<D: Disk, O: Opened, R: Ring, W: Wait>(
     dn: u8,
     done: NodeCommand,
 ) -> Result<(), AdminFault>
-    requires turn { turn_id turn.now ≡ R.turn }
-    requires ready { IsReady R.turn (number_of seat.old) seat.old }
+    requires seat { MayTake R.turn (turn_id turn.now) seat.old }
     requires its { cell.old.node.id ≡ dn }
-    requires client { line.now.client ≤ MOST }
-    requires some { 1 ≤ line.now.number }
-    requires line { O.coherent → HasItDone O.script (seen_of seat.old) dn done line.now }
+    requires may { MayCommand O.Opened (seen_of seat.old) dn done line.now }
     ensures came { CameOf O.coherent O.opening O.bytes O.script dn done line.now (seen_of seat.old) (seen_of seat.new) result }
-    ensures ready { IsReady R.turn (number_of seat.old) seat.new }
-    ensures begins { BeginsWith (seen_of seat.new) (seen_of seat.old) }
-    ensures mine { mine_of seat.new ≡ mine_of seat.old }
-    ensures room { room_of seat.new ≡ room_of seat.old }
+    ensures looked { OnlyLooked R.turn seat.old seat.new }
 {
     cell.kept.is_kept();
     match done {

@@ -1,13 +1,11 @@
 //! Stopping and starting a datanode.
 
-ghost use Rattle.std.specs.Prelude.{◌≡◌, ◌≤◌, true, false};
-ghost use Rattle.oz_script.specs.declared.lines.script.TheConstants.{MOST_CLIENTS as MOST};
+ghost use Rattle.std.specs.Prelude.{true, false};
 ghost use Rattle.oz_node_admin.specs.Commands.{ComesTo};
+ghost use Rattle.oz_node_admin.specs.Seats.{MayCommand, MayTake, OnlyLooked, ScmWentOn, StillStands};
 ghost use Rattle.oz_node_events.specs.declared.command.NodeCommand.TheVariants.{Start, Stop};
-ghost use Rattle.oz_node_events.specs.Led.{HasItDone};
 ghost use Rattle.oz_node_events.specs.NodeSeat.{StandsFor};
-ghost use Rattle.oz_turn.specs.Seat.{IsReady, mine_of, number_of, room_of, seen_of};
-ghost use Rattle.oz_turn.specs.Told.{BeginsWith};
+ghost use Rattle.oz_turn.specs.Seat.{seen_of};
 ghost use Rattle.oz_turn.specs.Turn.{turn_id};
 
 use crate::commanding::command;
@@ -40,22 +38,14 @@ pub fn stop_at<D: Disk, S: Disk, O: Opened, R: Ring, W: Wait>(
     seat: &mut Seat<Ledger<O>>,
     line: &Line,
 ) -> Result<(), AdminFault>
-    requires turn { turn_id turn.now ≡ R.turn }
-    requires ready { IsReady R.turn (number_of seat.old) seat.old }
-    requires client { line.now.client ≤ MOST }
-    requires some { 1 ≤ line.now.number }
-    requires line { O.coherent → HasItDone O.script (seen_of seat.old) cell.old.kept.dn Stop line.now }
+    requires seat { MayTake R.turn (turn_id turn.now) seat.old }
+    requires may { MayCommand O.Opened (seen_of seat.old) cell.old.kept.dn Stop line.now }
     ensures comes_to { ComesTo cell.old cell.new scm.old scm.new D.faults O.coherent O.script false line.now (seen_of seat.old)
         (seen_of seat.new) result }
-    ensures number { cell.new.kept.dn ≡ cell.old.kept.dn }
-    ensures goes_on { BeginsWith scm.new.seen scm.old.seen × BeginsWith cell.new.kept.seen cell.old.kept.seen }
-    ensures scm_room { scm.new.room ≡ scm.old.room }
-    ensures ready { IsReady R.turn (number_of seat.old) seat.new }
-    ensures begins { BeginsWith (seen_of seat.new) (seen_of seat.old) }
-    ensures mine { mine_of seat.new ≡ mine_of seat.old }
-    ensures room { room_of seat.new ≡ room_of seat.old }
     ensures stood { StandsFor D.told D.clock D.image D.faults O.coherent O.opening O.bytes O.script O.faults cell.old.kept cell.old.node }
-    ensures stands { StandsFor D.told D.clock D.image D.faults O.coherent O.opening O.bytes O.script O.faults cell.new.kept cell.new.node }
+    ensures stays { StillStands D.Disk O.Opened cell.old.kept cell.new.kept cell.new.node }
+    ensures scm { ScmWentOn scm.old scm.new }
+    ensures looked { OnlyLooked R.turn seat.old seat.new }
 {
     command(
         rt,
@@ -83,22 +73,14 @@ pub fn start_at<D: Disk, S: Disk, O: Opened, R: Ring, W: Wait>(
     seat: &mut Seat<Ledger<O>>,
     line: &Line,
 ) -> Result<(), AdminFault>
-    requires turn { turn_id turn.now ≡ R.turn }
-    requires ready { IsReady R.turn (number_of seat.old) seat.old }
-    requires client { line.now.client ≤ MOST }
-    requires some { 1 ≤ line.now.number }
-    requires line { O.coherent → HasItDone O.script (seen_of seat.old) cell.old.kept.dn Start line.now }
+    requires seat { MayTake R.turn (turn_id turn.now) seat.old }
+    requires may { MayCommand O.Opened (seen_of seat.old) cell.old.kept.dn Start line.now }
     ensures comes_to { ComesTo cell.old cell.new scm.old scm.new D.faults O.coherent O.script true line.now (seen_of seat.old)
         (seen_of seat.new) result }
-    ensures number { cell.new.kept.dn ≡ cell.old.kept.dn }
-    ensures goes_on { BeginsWith scm.new.seen scm.old.seen × BeginsWith cell.new.kept.seen cell.old.kept.seen }
-    ensures scm_room { scm.new.room ≡ scm.old.room }
-    ensures ready { IsReady R.turn (number_of seat.old) seat.new }
-    ensures begins { BeginsWith (seen_of seat.new) (seen_of seat.old) }
-    ensures mine { mine_of seat.new ≡ mine_of seat.old }
-    ensures room { room_of seat.new ≡ room_of seat.old }
     ensures stood { StandsFor D.told D.clock D.image D.faults O.coherent O.opening O.bytes O.script O.faults cell.old.kept cell.old.node }
-    ensures stands { StandsFor D.told D.clock D.image D.faults O.coherent O.opening O.bytes O.script O.faults cell.new.kept cell.new.node }
+    ensures stays { StillStands D.Disk O.Opened cell.old.kept cell.new.kept cell.new.node }
+    ensures scm { ScmWentOn scm.old scm.new }
+    ensures looked { OnlyLooked R.turn seat.old seat.new }
 {
     command(
         rt,

@@ -1,15 +1,16 @@
 //! Wiping a datanode.
 
-ghost use Rattle.std.specs.Prelude.{◌≡◌, ◌+◌, ◌≤◌, ◌<◌, ◌++◌, ◌∷◌, [], None, IsSome, false, slice_index};
+ghost use Rattle.std.specs.Prelude.{◌≡◌, ◌+◌, ◌≤◌, ◌<◌, ◌++◌, ◌∷◌, [], IsSome, false, slice_index};
 ghost use Rattle.oz_datanode.specs.Datanode.{is_halted, meta_of, slots_of};
 ghost use Rattle.oz_script.specs.declared.lines.script.TheConstants.{MOST_CLIENTS as MOST};
+ghost use Rattle.oz_node_admin.specs.Seats.{MayChange, MayCommand, MayTake, OnlyLooked, ScmWentOn, StillStands};
 ghost use Rattle.oz_node_admin.specs.Wipes.{Empties, HasTold, HaveTold, WipeComesTo, last_wiped, runs_now, wipe_event};
 ghost use Rattle.oz_node_events.specs.declared.command.NodeCommand.TheVariants as done;
 ghost use Rattle.oz_node_events.specs.Commands.{by_node};
 ghost use Rattle.oz_node_events.specs.Led.{HasItDone};
-ghost use Rattle.oz_node_events.specs.NodeSeat.{IsAppended, IsKept, StandsFor};
+ghost use Rattle.oz_node_events.specs.NodeSeat.{IsAppended, StandsFor};
 ghost use Rattle.oz_replicas.specs.Stays.{IsIdle};
-ghost use Rattle.oz_turn.specs.Seat.{IsReady, IsSameSeat, mine_of, number_of, room_of, seen_of, taken_of, turn_of};
+ghost use Rattle.oz_turn.specs.Seat.{seen_of};
 ghost use Rattle.oz_turn.specs.Told.{BeginsWith};
 ghost use Rattle.oz_turn.specs.Turn.{turn_id};
 
@@ -50,24 +51,15 @@ pub fn wipe_at<D: Disk, S: Disk, O: Opened, R: Ring, W: Wait>(
     seat: &mut Seat<Ledger<O>>,
     line: &Line,
 ) -> Result<(), AdminFault>
-    requires turn { turn_id turn.now ≡ R.turn }
-    requires ready { IsReady R.turn (number_of seat.old) seat.old }
-    requires client { line.now.client ≤ MOST }
-    requires some { 1 ≤ line.now.number }
-    requires line { O.coherent → HasItDone O.script (seen_of seat.old) cell.old.kept.dn done.Wipe line.now }
-    ensures number { cell.new.kept.dn ≡ cell.old.kept.dn }
+    requires seat { MayTake R.turn (turn_id turn.now) seat.old }
+    requires may { MayCommand O.Opened (seen_of seat.old) cell.old.kept.dn done.Wipe line.now }
     ensures comes_to { WipeComesTo cell.old cell.new scm.old scm.new D.told D.clock D.image D.faults O.coherent
         O.script line.now (seen_of seat.old) (seen_of seat.new) result }
-    ensures goes_on { BeginsWith scm.new.seen scm.old.seen × BeginsWith cell.new.kept.seen cell.old.kept.seen }
-    ensures scm_room { scm.new.room ≡ scm.old.room }
-    ensures ready { IsReady R.turn (number_of seat.old) seat.new }
-    ensures begins { BeginsWith (seen_of seat.new) (seen_of seat.old) }
-    ensures mine { mine_of seat.new ≡ mine_of seat.old }
-    ensures room { room_of seat.new ≡ room_of seat.old }
     ensures stood { StandsFor D.told D.clock D.image D.faults O.coherent O.opening O.bytes O.script O.faults
         cell.old.kept cell.old.node }
-    ensures stands { StandsFor D.told D.clock D.image D.faults O.coherent O.opening O.bytes O.script O.faults
-        cell.new.kept cell.new.node }
+    ensures stays { StillStands D.Disk O.Opened cell.old.kept cell.new.kept cell.new.node }
+    ensures scm { ScmWentOn scm.old scm.new }
+    ensures looked { OnlyLooked R.turn seat.old seat.new }
 {
     wipe(
         rt,
@@ -92,28 +84,18 @@ fn wipe<D: Disk, S: Disk, O: Opened, R: Ring, W: Wait>(
     seat: &mut Seat<Ledger<O>>,
     line: &Line,
 ) -> Result<(), AdminFault>
-    requires turn { turn_id turn.now ≡ R.turn }
-    requires ready { IsReady R.turn (number_of seat.old) seat.old }
+    requires seat { MayTake R.turn (turn_id turn.now) seat.old }
     requires idle { IsIdle node.old }
     requires stood { StandsFor D.told D.clock D.image D.faults O.coherent O.opening O.bytes O.script O.faults
         kept.old node.old }
-    requires client { line.now.client ≤ MOST }
-    requires some { 1 ≤ line.now.number }
-    requires line { O.coherent → HasItDone O.script (seen_of seat.old) kept.old.dn done.Wipe line.now }
-    ensures number { kept.new.dn ≡ kept.old.dn }
+    requires may { MayCommand O.Opened (seen_of seat.old) kept.old.dn done.Wipe line.now }
     ensures comes_to { WipeComesTo (record { node = node.old; kept = kept.old })
         (record { node = node.new; kept = kept.new }) scm.old scm.new D.told D.clock D.image D.faults O.coherent
         O.script line.now (seen_of seat.old) (seen_of seat.new) result }
     ensures idle { IsIdle node.new }
-    ensures stands { StandsFor D.told D.clock D.image D.faults O.coherent O.opening O.bytes O.script O.faults
-        kept.new node.new }
-    ensures scm_goes_on { BeginsWith scm.new.seen scm.old.seen }
-    ensures goes_on { BeginsWith kept.new.seen kept.old.seen }
-    ensures scm_room { scm.new.room ≡ scm.old.room }
-    ensures ready { IsReady R.turn (number_of seat.old) seat.new }
-    ensures begins { BeginsWith (seen_of seat.new) (seen_of seat.old) }
-    ensures mine { mine_of seat.new ≡ mine_of seat.old }
-    ensures room { room_of seat.new ≡ room_of seat.old }
+    ensures stays { StillStands D.Disk O.Opened kept.old kept.new node.new }
+    ensures scm { ScmWentOn scm.old scm.new }
+    ensures looked { OnlyLooked R.turn seat.old seat.new }
 {
     its_seat_alone_tells::<D, O>();
     it_stands_where_it_saw_more::<D, O>();
@@ -124,6 +106,7 @@ fn wipe<D: Disk, S: Disk, O: Opened, R: Ring, W: Wait>(
         });
     }
     if kept.last(line.client) >= line.number {
+        kept.is_kept();
         kept.is_led();
         return Err(AdminFault::Repeated);
     }
@@ -146,16 +129,10 @@ fn carry_out<D: Disk, S: Disk, O: Opened, R: Ring, W: Wait>(
     seat: &mut Seat<Ledger<O>>,
     line: &Line,
 ) -> Result<(), u64>
-    requires turn { turn_id turn.now ≡ R.turn }
-    requires seat_turn { turn_of seat.old ≡ R.turn }
-    requires seat_free { taken_of seat.old ≡ None }
-    requires room { 1 ≤ kept.old.room }
+    requires seat { MayTake R.turn (turn_id turn.now) seat.old }
+    requires able { MayChange D.Disk O.Opened kept.old node.old }
     requires scm_room { 1 ≤ scm.old.room }
-    requires unhalted { is_halted node.old ≡ false }
     requires idle { IsIdle node.old }
-    requires kept { IsKept O.coherent O.opening O.bytes O.script kept.old }
-    requires stood { StandsFor D.told D.clock D.image D.faults O.coherent O.opening O.bytes O.script O.faults
-        kept.old node.old }
     requires client { line.now.client ≤ MOST }
     requires behind { slice_index kept.old.last line.now.client < line.now.number }
     requires line { O.coherent → HasItDone O.script (seen_of seat.old) kept.old.dn done.Wipe line.now }
@@ -165,18 +142,11 @@ fn carry_out<D: Disk, S: Disk, O: Opened, R: Ring, W: Wait>(
     ensures last { kept.new.last ≡ last_wiped line.now kept.old.last result }
     ensures has_told { HasTold O.coherent kept.old.dn (wipe_event kept.old.dn result) (seen_of seat.old)
         (seen_of seat.new) }
-    ensures kept { IsKept O.coherent O.opening O.bytes O.script kept.new }
-    ensures stands { StandsFor D.told D.clock D.image D.faults O.coherent O.opening O.bytes O.script O.faults
-        kept.new node.new }
-    ensures goes_on { BeginsWith kept.new.seen kept.old.seen }
+    ensures stays { StillStands D.Disk O.Opened kept.old kept.new node.new }
     ensures left { scm.new.room + 1 ≡ scm.old.room }
     ensures scm_goes_on { BeginsWith scm.new.seen scm.old.seen }
-    ensures seat { IsSameSeat seat.old seat.new }
-    ensures seat_free { taken_of seat.new ≡ None }
-    ensures begins { BeginsWith (seen_of seat.new) (seen_of seat.old) }
+    ensures looked { OnlyLooked R.turn seat.old seat.new }
     ensures seen { seen_of seat.new ≡ kept.new.seen }
-    ensures mine { mine_of seat.new ≡ mine_of seat.old }
-    ensures seat_room { room_of seat.new ≡ room_of seat.old }
 {
     it_stands_where_it_saw_more::<D, O>();
     a_datanode_alone_tells_that_it_runs::<O>();
@@ -195,35 +165,21 @@ fn see_to<D: Disk, O: Opened, R: Ring, W: Wait>(
     seat: &mut Seat<Ledger<O>>,
     line: &Line,
 ) -> Result<(), u64>
-    requires turn { turn_id turn.now ≡ R.turn }
-    requires seat_turn { turn_of seat.old ≡ R.turn }
-    requires seat_free { taken_of seat.old ≡ None }
-    requires room { 1 ≤ kept.old.room }
-    requires unhalted { is_halted node.old ≡ false }
+    requires seat { MayTake R.turn (turn_id turn.now) seat.old }
+    requires able { MayChange D.Disk O.Opened kept.old node.old }
     requires idle { IsIdle node.old }
-    requires kept { IsKept O.coherent O.opening O.bytes O.script kept.old }
-    requires stood { StandsFor D.told D.clock D.image D.faults O.coherent O.opening O.bytes O.script O.faults
-        kept.old node.old }
     requires client { line.now.client ≤ MOST }
     requires behind { slice_index kept.old.last line.now.client < line.now.number }
     requires line { O.coherent → HasItDone O.script (seen_of seat.old) kept.old.dn done.Wipe line.now }
     ensures empties { Empties D.told D.clock D.image D.faults O.coherent node.old node.new result }
     ensures idle { IsIdle node.new }
-    ensures number { kept.new.dn ≡ kept.old.dn }
     ensures its { kept.new.mine ≡ kept.old.mine ++ by_node kept.old.dn (wipe_event kept.old.dn result) ∷ [] }
     ensures last { kept.new.last ≡ last_wiped line.now kept.old.last result }
     ensures told { IsAppended (by_node kept.old.dn (wipe_event kept.old.dn result)) kept.old.seen (seen_of seat.old)
         kept.new.seen }
-    ensures kept { IsKept O.coherent O.opening O.bytes O.script kept.new }
-    ensures stands { StandsFor D.told D.clock D.image D.faults O.coherent O.opening O.bytes O.script O.faults
-        kept.new node.new }
-    ensures goes_on { BeginsWith kept.new.seen kept.old.seen }
-    ensures seat { IsSameSeat seat.old seat.new }
-    ensures seat_free { taken_of seat.new ≡ None }
-    ensures begins { BeginsWith kept.new.seen (seen_of seat.old) }
+    ensures stays { StillStands D.Disk O.Opened kept.old kept.new node.new }
+    ensures looked { OnlyLooked R.turn seat.old seat.new }
     ensures seen { seen_of seat.new ≡ kept.new.seen }
-    ensures mine { mine_of seat.new ≡ mine_of seat.old }
-    ensures seat_room { room_of seat.new ≡ room_of seat.old }
 {
     a_line_wipes_it::<D, O>();
     a_failed_disk_halts_it::<D, O>();

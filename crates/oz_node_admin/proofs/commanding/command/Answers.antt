@@ -1,5 +1,5 @@
 use Rattle.std.specs.Prelude.{Ok}
-use Rattle.std.proofs.Common.{sym, ap, ◌∙◌, subst}
+use Rattle.std.proofs.Common.{sym, ap, ◌∙◌, subst, arith}
 use Rattle.oz_scm_events.specs.Tracked.{IsTracked}
 use Rattle.oz_turn.specs.Seat.{seen_of}
 use Rattle.oz_node_events.specs.Led.{HasItDone}
@@ -8,25 +8,45 @@ use Rattle.oz_node_admin.specs.Commands.{HasBeen, last_after, own_after, run_don
 use Rattle.oz_node_admin.proofs.Told.{has_been_since, scm_as}
 use Rattle.oz_node_admin.proofs.commanding.command.Goals as goal
 
-pub returns-then-halted-clause-stands : goal.returns-then-halted-clause-stands
-returns-then-halted-clause-stands g c =
+pub returns-then-halted-clause-stays : goal.returns-then-halted-clause-stays
+returns-then-halted-clause-stays g c =
     let show = c.show.ensures in
-    c.it_stands_where_it_saw_more.ensures c.args.kept.now c.show.new.self c.args.node.now show.kept_before show.kept c.requires.stood show.number show.mine show.goes_on
+    record {
+      number = show.number;
+      kept = show.kept;
+      stands = c.it_stands_where_it_saw_more.ensures c.args.kept.now c.show.new.self c.args.node.now show.kept_before show.kept c.requires.stood show.number show.mine show.goes_on;
+      goes_on = show.goes_on;
+    }
 
-pub returns-in_err-ready-clause-stands : goal.returns-in_err-ready-clause-stands
-returns-in_err-ready-clause-stands g c =
+pub returns-in_err-ready-clause-stays : goal.returns-in_err-ready-clause-stays
+returns-in_err-ready-clause-stays g c =
     let ready = c.ready.ensures in
-    c.it_stands_where_it_saw_more.ensures c.args.kept.now c.ready.new.self c.args.node.now ready.kept_before ready.kept c.requires.stood ready.number ready.mine ready.goes_on
+    record {
+      number = ready.number;
+      kept = ready.kept;
+      stands = c.it_stands_where_it_saw_more.ensures c.args.kept.now c.ready.new.self c.args.node.now ready.kept_before ready.kept c.requires.stood ready.number ready.mine ready.goes_on;
+      goes_on = ready.goes_on;
+    }
 
-pub returns-in_err-ready-2-clause-stands : goal.returns-in_err-ready-2-clause-stands
-returns-in_err-ready-2-clause-stands g c =
+pub returns-in_err-ready-2-clause-stays : goal.returns-in_err-ready-2-clause-stays
+returns-in_err-ready-2-clause-stays g c =
     let ready = c.ready.ensures in
-    c.it_stands_where_it_saw_more.ensures c.args.kept.now c.ready.new.self c.args.node.now ready.kept_before ready.kept c.requires.stood ready.number ready.mine ready.goes_on
+    record {
+      number = ready.number;
+      kept = ready.kept;
+      stands = c.it_stands_where_it_saw_more.ensures c.args.kept.now c.ready.new.self c.args.node.now ready.kept_before ready.kept c.requires.stood ready.number ready.mine ready.goes_on;
+      goes_on = ready.goes_on;
+    }
 
-pub carry_out-requires-clause-stood : goal.carry_out-requires-clause-stood
-carry_out-requires-clause-stood g c =
+pub carry_out-requires-clause-able : goal.carry_out-requires-clause-able
+carry_out-requires-clause-able g c =
     let ready = c.ready.ensures in
-    c.it_stands_where_it_saw_more.ensures c.args.kept.now c.ready.new.self c.args.node.now ready.kept_before ready.kept c.requires.stood ready.number ready.mine ready.goes_on
+    record {
+      room = omega (arith, c.in_ok-ready.ensures.room);
+      unhalted = sym c.halted.ensures.halted ∙ c.if-halted.false;
+      kept = ready.kept;
+      stood = c.it_stands_where_it_saw_more.ensures c.args.kept.now c.ready.new.self c.args.node.now ready.kept_before ready.kept c.requires.stood ready.number ready.mine ready.goes_on;
+    }
 
 pub carry_out-requires-clause-line : goal.carry_out-requires-clause-line
 carry_out-requires-clause-line g c =
@@ -35,7 +55,7 @@ carry_out-requires-clause-line g c =
     let done = run_done c.args.runs in
     let line = c.args.line.now in
     λ coherent. subst (λ n. HasItDone O.script (seen_of c.ready.new.other) n done line) (sym ready.number)
-    (done_later O.script (seen_of c.args.seat.now) (seen_of c.ready.new.other) c.args.kept.now.dn done line ready.other_begins (c.requires.line coherent))
+    (done_later O.script (seen_of c.args.seat.now) (seen_of c.ready.new.other) c.args.kept.now.dn done line ready.other_begins (c.requires.may.line coherent))
 
 pub returns-clause-comes_to : goal.returns-clause-comes_to
 returns-clause-comes_to g c =
@@ -50,7 +70,7 @@ returns-clause-comes_to g c =
     record {
       unhalted = sym c.halted.ensures.halted ∙ c.if-halted.false;
       node = done.node;
-      number = done.number ∙ ready.number;
+      number = done.stays.number ∙ ready.number;
       its = done.its
           ∙ (ap (λ n. own_after n runs c.args.node.now.stopped c.ready.new.self.mine) ready.number
           ∙ ap (λ l. own_after view.dn runs c.args.node.now.stopped l) ready.mine);

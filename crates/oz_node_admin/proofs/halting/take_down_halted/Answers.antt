@@ -7,10 +7,7 @@ use Rattle.oz_node_admin.proofs.halting.take_down_halted.Goals as goal
 pub loop-dn-init : goal.loop-dn-init
 loop-dn-init g c = record {
   down = λ dn less some. absurd (omega (arith, less));
-  ready = c.requires.ready;
-  begins = ([], sym (append-nil (seen_of c.args.seat.now)));
-  mine = refl;
-  room = refl;
+  looked = record { ready = c.requires.seat.ready; begins = ([], sym (append-nil (seen_of c.args.seat.now))); mine = refl; room = refl };
 }
 
 pub loop-dn-preserved : goal.loop-dn-preserved
@@ -20,13 +17,15 @@ loop-dn-preserved g c =
     let mid = seen_of c.loop-dn.seat in
     let last = seen_of c.take_down_where_halted.new.seat in
     let kept = c.loop-dn.invariant in
-    let one = c.take_down_where_halted.ensures in
+    let one = c.take_down_where_halted.ensures.looked in
     record {
-      down = next_down O.coherent O.opening O.bytes O.script c.loop-dn.dn first mid last kept.begins one.begins kept.down c.in_ok-take_down_where_halted.ensures.down;
-      ready = subst (λ n. IsReady g.R.Ring.turn n c.take_down_where_halted.new.seat) kept.ready.numbered one.ready;
-      begins = begins_through last mid first one.begins kept.begins;
-      mine = one.mine ∙ kept.mine;
-      room = one.room ∙ kept.room;
+      down = next_down O.coherent O.opening O.bytes O.script c.loop-dn.dn first mid last kept.looked.begins one.begins kept.down c.in_ok-take_down_where_halted.ensures.down;
+      looked = record {
+        ready = subst (λ n. IsReady g.R.Ring.turn n c.take_down_where_halted.new.seat) kept.looked.ready.numbered one.ready;
+        begins = begins_through last mid first one.begins kept.looked.begins;
+        mine = one.mine ∙ kept.looked.mine;
+        room = one.room ∙ kept.looked.room;
+      };
     }
 
 pub returns-clause-down : goal.returns-clause-down

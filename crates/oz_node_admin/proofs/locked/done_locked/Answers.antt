@@ -1,4 +1,4 @@
-use Rattle.std.proofs.Common.{◌≡◌, true, false, sym, ◌∙◌, subst}
+use Rattle.std.proofs.Common.{true, false, sym, ◌∙◌, subst}
 use Rattle.oz_node_events.specs.declared.command.NodeCommand.{NodeCommand}
 use Rattle.oz_node_events.specs.NodeSeat.{IsKept}
 use Rattle.oz_turn.specs.Seat.{seen_of}

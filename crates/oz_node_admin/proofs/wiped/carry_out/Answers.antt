@@ -7,21 +7,27 @@ use Rattle.oz_scm_events.specs.Tracked.{IsTracked}
 use Rattle.oz_turn.specs.Seat.{seen_of}
 use Rattle.oz_node_admin.specs.Wipes.{HasTold, runs_now, wipe_event}
 use Rattle.oz_node_admin.proofs.Emptying.{has_told, runs_told}
-use Rattle.oz_node_admin.proofs.Told.{scm_as}
+use Rattle.oz_node_admin.proofs.Told.{begins_through, scm_as}
 use Rattle.oz_node_admin.proofs.wiped.carry_out.Goals as goal
 
 pub track-requires-clause-runs : goal.track-requires-clause-runs
 track-requires-clause-runs g c =
     let O = g.O.Opened in
     let D = g.D.Disk in
-    runs_told O.coherent O.opening O.bytes O.script O.faults D.told D.clock D.image D.faults c.see_to-done.new.kept c.see_to-done.new.node c.see_to-done.ensures.stands
+    runs_told O.coherent O.opening O.bytes O.script O.faults D.told D.clock D.image D.faults c.see_to-done.new.kept c.see_to-done.new.node c.see_to-done.ensures.stays.stands
     ∙ sym c.runs.ensures
 
-pub returns-clause-stands : goal.returns-clause-stands
-returns-clause-stands g c =
+pub returns-clause-stays : goal.returns-clause-stays
+returns-clause-stays g c =
+    let done = c.see_to-done.ensures.stays in
     let track = c.track.ensures in
-    c.it_stands_where_it_saw_more.ensures c.see_to-done.new.kept c.track.new.self c.see_to-done.new.node track.kept_before track.kept c.see_to-done.ensures.stands
-    track.number track.mine track.goes_on
+    record {
+      number = track.number ∙ done.number;
+      kept = track.kept;
+      stands = c.it_stands_where_it_saw_more.ensures c.see_to-done.new.kept c.track.new.self c.see_to-done.new.node track.kept_before track.kept done.stands
+          track.number track.mine track.goes_on;
+      goes_on = begins_through c.track.new.self.seen c.see_to-done.new.kept.seen c.args.kept.now.seen track.goes_on done.goes_on;
+    }
 
 pub returns-clause-seats : goal.returns-clause-seats
 returns-clause-seats g c =
@@ -32,13 +38,13 @@ returns-clause-seats g c =
     let before = c.args.scm.now in
     let after = c.track.new.scm in
     record {
-      number = track.number ∙ done.number;
+      number = track.number ∙ done.stays.number;
       its = track.mine ∙ done.its;
       changed = c.track.result;
-      of_the_scm = subst (λ n. IsTracked {E = Unit {0}} n (runs_now node) before.mine after.mine (Ok c.track.result)) done.number
+      of_the_scm = subst (λ n. IsTracked {E = Unit {0}} n (runs_now node) before.mine after.mine (Ok c.track.result)) done.stays.number
           (subst (λ r. IsTracked {E = Unit {0}} kept.dn r before.mine after.mine (Ok c.track.result)) c.runs.ensures track.own);
       scm = scm_as after.scm before.scm before.scm kept.dn c.args.kept.now.dn (runs_now node)
-          (subst (λ r. after.scm ≡ record before.scm { up = slice_set before.scm.up kept.dn r }) c.runs.ensures track.scm) refl done.number;
+          (subst (λ r. after.scm ≡ record before.scm { up = slice_set before.scm.up kept.dn r }) c.runs.ensures track.scm) refl done.stays.number;
     }
 
 pub returns-clause-has_told : goal.returns-clause-has_told
@@ -52,11 +58,11 @@ returns-clause-has_told g c =
     let result = c.see_to-done.result in
     let seen = seen_of c.args.seat.now in
     let running : is_running kept.dn kept.mine ≡ c.runs.result =
-    runs_told O.coherent O.opening O.bytes O.script O.faults D.told D.clock D.image D.faults kept c.see_to-done.new.node done.stands ∙ sym c.runs.ensures in
-    subst (λ n. HasTold O.coherent n (wipe_event n result) seen (seen_of c.track.new.other)) done.number
+    runs_told O.coherent O.opening O.bytes O.script O.faults D.told D.clock D.image D.faults kept c.see_to-done.new.node done.stays.stands ∙ sym c.runs.ensures in
+    subst (λ n. HasTold O.coherent n (wipe_event n result) seen (seen_of c.track.new.other)) done.stays.number
     (has_told O.coherent O.opening O.bytes O.script kept.dn c.runs.result c.track.result (wipe_event kept.dn result) view.seen seen kept.seen c.track.new.self.mine
     c.args.scm.now.mine c.track.new.scm.mine (seen_of c.track.new.other)
-    (subst (λ n. IsAppended (by_node n (wipe_event n result)) view.seen seen kept.seen) (sym done.number) done.told)
+    (subst (λ n. IsAppended (by_node n (wipe_event n result)) view.seen seen kept.seen) (sym done.stays.number) done.told)
     track.shared
     (λ place coherent all. c.a_datanode_alone_tells_that_it_runs.ensures place kept.dn coherent all)
     (λ place coherent all. c.the_scm_alone_tells.ensures.up place kept.dn coherent all)

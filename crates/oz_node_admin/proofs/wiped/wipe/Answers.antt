@@ -1,5 +1,5 @@
 use Rattle.std.specs.Prelude.{Some, not, slice_set}
-use Rattle.std.proofs.Common.{◌≡◌, inl, inr, ℕ, false, refl, sym, ap, ◌∙◌, subst}
+use Rattle.std.proofs.Common.{◌≡◌, inl, inr, ℕ, false, refl, sym, ap, ◌∙◌, subst, arith}
 use Rattle.oz_core.specs.declared.event.EventKind.TheVariants.{Halt, Wipe}
 use Rattle.oz_core.specs.declared.event.Node.TheVariants.{Datanode}
 use Rattle.oz_core.specs.Manager.{halt_of}
@@ -12,10 +12,15 @@ use Rattle.oz_node_admin.specs.Wipes.{HasTold, runs_now}
 use Rattle.oz_node_admin.proofs.Emptying.{halt_told, has_told_since, still_halted, still_runs, told_before}
 use Rattle.oz_node_admin.proofs.wiped.wipe.Goals as goal
 
-pub returns-then-halted-clause-stands : goal.returns-then-halted-clause-stands
-returns-then-halted-clause-stands g c =
+pub returns-then-halted-clause-stays : goal.returns-then-halted-clause-stays
+returns-then-halted-clause-stays g c =
     let show = c.show.ensures in
-    c.it_stands_where_it_saw_more.ensures c.args.kept.now c.show.new.self c.args.node.now show.kept_before show.kept c.requires.stood show.number show.mine show.goes_on
+    record {
+      number = show.number;
+      kept = show.kept;
+      stands = c.it_stands_where_it_saw_more.ensures c.args.kept.now c.show.new.self c.args.node.now show.kept_before show.kept c.requires.stood show.number show.mine show.goes_on;
+      goes_on = show.goes_on;
+    }
 
 pub returns-then-halted-clause-comes_to : goal.returns-then-halted-clause-comes_to
 returns-then-halted-clause-comes_to g c =
@@ -38,20 +43,35 @@ returns-then-halted-clause-comes_to g c =
       untouched = record { node = refl; number = show.number; its = show.mine; last = show.last; scm = refl; of_the_scm = refl };
     })
 
-pub returns-in_err-ready-clause-stands : goal.returns-in_err-ready-clause-stands
-returns-in_err-ready-clause-stands g c =
+pub returns-in_err-ready-clause-stays : goal.returns-in_err-ready-clause-stays
+returns-in_err-ready-clause-stays g c =
     let ready = c.ready.ensures in
-    c.it_stands_where_it_saw_more.ensures c.args.kept.now c.ready.new.self c.args.node.now ready.kept_before ready.kept c.requires.stood ready.number ready.mine ready.goes_on
+    record {
+      number = ready.number;
+      kept = ready.kept;
+      stands = c.it_stands_where_it_saw_more.ensures c.args.kept.now c.ready.new.self c.args.node.now ready.kept_before ready.kept c.requires.stood ready.number ready.mine ready.goes_on;
+      goes_on = ready.goes_on;
+    }
 
-pub returns-in_err-ready-2-clause-stands : goal.returns-in_err-ready-2-clause-stands
-returns-in_err-ready-2-clause-stands g c =
+pub returns-in_err-ready-2-clause-stays : goal.returns-in_err-ready-2-clause-stays
+returns-in_err-ready-2-clause-stays g c =
     let ready = c.ready.ensures in
-    c.it_stands_where_it_saw_more.ensures c.args.kept.now c.ready.new.self c.args.node.now ready.kept_before ready.kept c.requires.stood ready.number ready.mine ready.goes_on
+    record {
+      number = ready.number;
+      kept = ready.kept;
+      stands = c.it_stands_where_it_saw_more.ensures c.args.kept.now c.ready.new.self c.args.node.now ready.kept_before ready.kept c.requires.stood ready.number ready.mine ready.goes_on;
+      goes_on = ready.goes_on;
+    }
 
-pub carry_out-requires-clause-stood : goal.carry_out-requires-clause-stood
-carry_out-requires-clause-stood g c =
+pub carry_out-requires-clause-able : goal.carry_out-requires-clause-able
+carry_out-requires-clause-able g c =
     let ready = c.ready.ensures in
-    c.it_stands_where_it_saw_more.ensures c.args.kept.now c.ready.new.self c.args.node.now ready.kept_before ready.kept c.requires.stood ready.number ready.mine ready.goes_on
+    record {
+      room = omega (arith, c.in_ok-ready.ensures.room);
+      unhalted = sym c.halted.ensures.halted ∙ c.if-halted.false;
+      kept = ready.kept;
+      stood = c.it_stands_where_it_saw_more.ensures c.args.kept.now c.ready.new.self c.args.node.now ready.kept_before ready.kept c.requires.stood ready.number ready.mine ready.goes_on;
+    }
 
 pub carry_out-requires-clause-line : goal.carry_out-requires-clause-line
 carry_out-requires-clause-line g c =
@@ -59,7 +79,7 @@ carry_out-requires-clause-line g c =
     let ready = c.ready.ensures in
     let line = c.args.line.now in
     λ coherent. subst (λ n. HasItDone O.script (seen_of c.ready.new.other) n command.Wipe line) (sym ready.number)
-    (done_later O.script (seen_of c.args.seat.now) (seen_of c.ready.new.other) c.args.kept.now.dn command.Wipe line ready.other_begins (c.requires.line coherent))
+    (done_later O.script (seen_of c.args.seat.now) (seen_of c.ready.new.other) c.args.kept.now.dn command.Wipe line ready.other_begins (c.requires.may.line coherent))
 
 pub returns-in-Ok-clause-comes_to : goal.returns-in-Ok-clause-comes_to
 returns-in-Ok-clause-comes_to g c =
@@ -100,6 +120,6 @@ returns-in-Err-clause-comes_to g c =
       seen = ap (halt_of (Datanode view.dn)) done.seen
           ∙ (subst (λ n. halt_of (Datanode n) kept.seen ≡ Some (count_of D.faults new)) (done.seats.number ∙ ready.number)
           (halt_told O.coherent O.opening O.bytes O.script O.faults D.told D.clock D.image D.faults kept new
-          (λ story dn all. c.its_seat_alone_tells.ensures.halt story dn all) done.kept done.stands done.empties.halted)
+          (λ story dn all. c.its_seat_alone_tells.ensures.halt story dn all) done.stays.kept done.stays.stands done.empties.halted)
           ∙ ap (λ (n : ℕ). Some n) (sym done.empties.counted));
     })

@@ -37,7 +37,7 @@ returns-then-dn-node_count-clause-stays g c =
 pub tell_of-requires-clause-works : goal.tell_of-requires-clause-works
 tell_of-requires-clause-works g c coherent =
     let O = g.O.Opened in
-    work_still O.coherent O.opening O.bytes O.script (seen_of c.have_done.new.seat) (seen_of c.args.seat.now) c.have_done.ensures.begins c.args.self.now (c.requires.works coherent)
+    work_still O.coherent O.opening O.bytes O.script (seen_of c.have_done.new.seat) (seen_of c.args.seat.now) c.have_done.ensures.looked.begins c.args.self.now (c.requires.works coherent)
 
 pub tell_of-requires-clause-due : goal.tell_of-requires-clause-due
 tell_of-requires-clause-due g c coherent =
@@ -52,7 +52,7 @@ tell_of-requires-clause-due g c coherent =
 pub tell_of-requires-in-Err-Halted-clause-works : goal.tell_of-requires-in-Err-Halted-clause-works
 tell_of-requires-in-Err-Halted-clause-works g c coherent =
     let O = g.O.Opened in
-    work_still O.coherent O.opening O.bytes O.script (seen_of c.have_done.new.seat) (seen_of c.args.seat.now) c.have_done.ensures.begins c.args.self.now (c.requires.works coherent)
+    work_still O.coherent O.opening O.bytes O.script (seen_of c.have_done.new.seat) (seen_of c.args.seat.now) c.have_done.ensures.looked.begins c.args.self.now (c.requires.works coherent)
 
 pub tell_of-requires-in-Err-Halted-clause-due : goal.tell_of-requires-in-Err-Halted-clause-due
 tell_of-requires-in-Err-Halted-clause-due g c coherent =
@@ -67,7 +67,7 @@ tell_of-requires-in-Err-Halted-clause-due g c coherent =
 pub returns-in-Err-Repeated : goal.returns-in-Err-Repeated
 returns-in-Err-Repeated g c =
     let O = g.O.Opened in
-    let done = c.have_done.ensures in
+    let done = c.have_done.ensures.looked in
     let cut = c.cut-in-Err-Repeated in
     record {
       gone = record {

@@ -53,10 +53,7 @@ pub fn judge<S: Subject>(
         told.line = row.line;
         judge_row(subject, &mut told, &mut way, row)?;
     }
-    Ok(Judged {
-        differs: told.differs,
-        is_last: false,
-    })
+    Ok(told.judged())
 }
 
 fn judge_row<S: Subject>(

@@ -1,5 +1,6 @@
 //! What is told of a case that doesn't hold.
 
+use case_files::Judged;
 use std::alloc::{AllocError, AllocFailed, Global};
 
 /// Why a call gave nothing.
@@ -74,6 +75,13 @@ impl Told {
             Ok(()) if wanted == came => Ok(()),
             Ok(()) => self.tell(line, came),
             Err(why) => self.stuck(line, why),
+        }
+    }
+    /// All that was told of a case.
+    pub fn judged(self) -> Judged {
+        Judged {
+            differs: self.differs,
+            is_last: false,
         }
     }
 }

@@ -1,8 +1,8 @@
 //! Words and numbers in a line.
 
 use crate::told::Stuck;
-use case_files::bytes_of;
-use std::alloc::Global;
+use case_files::{bytes_of, values_of};
+use std::alloc::{AllocError, Global};
 
 /// The first word, and those behind it.
 pub fn parted(text: &str) -> (&str, &str) {
@@ -43,16 +43,35 @@ pub fn small(word: &str) -> Result<u8, Stuck> {
     }
 }
 
-/// Numbers between commas, none for `-`.
-pub fn numbers(alloc: Global, word: &str) -> Result<Vec<u64>, Stuck> {
-    let mut found = Vec::new(alloc);
-    if word == "-" {
-        return Ok(found);
-    }
+fn parts_of(alloc: Global, word: &str) -> Result<Vec<String>, AllocError> {
+    let mut parts = Vec::new(alloc);
     for part in word.split(',') {
-        found.push(number(part)?)?;
+        parts.push(String::from_str(alloc, part)?)?;
     }
-    Ok(found)
+    Ok(parts)
+}
+
+/// The numbers of a word as `0,3..5`, none for `-`.
+pub fn numbers(alloc: Global, word: &str) -> Result<Vec<u64>, Stuck> {
+    if word == "-" {
+        return Ok(Vec::new(alloc));
+    }
+    match values_of(alloc, &parts_of(alloc, word)?)? {
+        Some(numbers) => Ok(numbers),
+        None => Err(Stuck::Unread),
+    }
+}
+
+/// The same of numbers that have 8 bits.
+pub fn smalls(alloc: Global, word: &str) -> Result<Vec<u8>, Stuck> {
+    let mut smalls = Vec::new(alloc);
+    for number in &numbers(alloc, word)? {
+        match u8::try_from(*number) {
+            Ok(small) => smalls.push(small)?,
+            Err(_) => return Err(Stuck::Unread),
+        }
+    }
+    Ok(smalls)
 }
 
 /// The bytes that words say.

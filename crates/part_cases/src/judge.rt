@@ -1,11 +1,6 @@
 //! Which part of the store a case is of.
 
 use crate::commands::judge_commands;
-use crate::containers::judge_containers;
-use crate::logs::judge_logs;
-use crate::nodes::judge_nodes;
-use crate::requests::judge_requests;
-use crate::scm::judge_scm;
 use crate::scripts::judge_scripts;
 use crate::steps::judge_steps;
 use crate::stories::judge_stories;
@@ -13,7 +8,10 @@ use crate::unread::{holds, unread};
 use crate::views::judge_views;
 use crate::words::judge_words;
 use case_files::{Judged, Statement};
-use node_parts::{judge_datanode, judge_journal};
+use node_parts::{
+    judge_containers, judge_datanode, judge_journal, judge_logs, judge_nodes, judge_scm,
+};
+use request_parts::judge_requests;
 use row_parts::judge_rows;
 use std::alloc::{AllocError, Global};
 

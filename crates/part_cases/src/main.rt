@@ -1,34 +1,18 @@
 //! Goes through the cases in its folder that call parts of the store below a run, and prints what came of each.
 #![tactic(auto)]
 
-mod asked;
-mod calls;
 mod commands;
-mod containers;
-mod drawn;
 mod due;
 mod found;
-mod full;
-mod given;
 mod judge;
-mod logs;
 mod names;
-mod nodes;
 mod parts;
-mod reclaiming;
-mod requests;
-mod rows;
-mod said;
-mod scm;
 mod scripts;
 mod steps;
-mod store;
 mod stories;
-mod sweeping;
 mod unread;
 mod views;
 mod words;
-mod wrong;
 
 use case_files::{Counts, Statement, go_through};
 use judge::judge;

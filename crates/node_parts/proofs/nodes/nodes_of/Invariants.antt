@@ -1,5 +1,5 @@
 use Rattle.std.proofs.Common.{◌≡◌, length}
-use Rattle.part_cases.proofs.nodes.nodes_of.Given as goal
+use Rattle.node_parts.proofs.nodes.nodes_of.Given as goal
 
 abbrev pub invariant-loop-dn : goal.invariant-loop-dn
 invariant-loop-dn l = length l.nodes ≡ l.count

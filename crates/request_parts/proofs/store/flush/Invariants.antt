@@ -1,4 +1,4 @@
-use Rattle.part_cases.proofs.store.flush.Given as goal
+use Rattle.request_parts.proofs.store.flush.Given as goal
 
 -- the ledger of the counter
 abbrev pub ghosts-bring_down : goal.ghosts-bring_down

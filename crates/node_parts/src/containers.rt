@@ -1,7 +1,7 @@
 //! What happens to containers: a call `STATE EVENT` gives the state that follows, or that none does.
 
-use crate::calls::{calls_of, given};
-use crate::found::{Found, judged, no_such, tell};
+use crate::calls::{calls_of, judge_call};
+use crate::told::{Stuck, Told};
 use case_files::{Judged, Statement};
 use oz_container::{Event, State, event};
 use std::alloc::{AllocError, Global};
@@ -30,22 +30,24 @@ fn event_of(word: &str) -> Option<Event> {
     }
 }
 
-/// What a call comes to.
-fn found(alloc: Global, call: &Statement) -> Found {
+/// Writes what a call comes to.
+fn make(call: &Statement, came: &mut String) -> Result<(), Stuck> {
     match (state_of(call.word(0)), event_of(call.word(1))) {
         (Some(state), Some(step)) => {
-            let next = event(state, step);
-            given(alloc, call, format!(in alloc; "{next:?}")?.as_str())
+            write!(came, "{:?}", event(state, step))?;
+            Ok(())
         }
-        _ => Err(no_such(alloc, call.word(0))),
+        _ => Err(Stuck::Unread),
     }
 }
 
 /// Judges a case of containers.
 pub fn judge_containers(alloc: Global, case: &[Statement]) -> Result<Judged, AllocError> {
-    let mut told = Vec::new(alloc);
-    for call in &calls_of(alloc, &mut told, case)? {
-        tell(alloc, &mut told, call, found(alloc, call))?;
+    let mut told = Told::new(alloc);
+    for call in &calls_of(&mut told, case)? {
+        let mut came = String::new(alloc);
+        let made = make(call, &mut came);
+        judge_call(&mut told, call, made, came.as_str())?;
     }
-    Ok(judged(told))
+    Ok(told.judged())
 }

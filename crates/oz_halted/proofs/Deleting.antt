@@ -22,6 +22,7 @@ use Rattle.oz_core.specs.Stories.{all_told}
 use Rattle.oz_kept.specs.laws.Reached.{in_none}
 use Rattle.oz_kept.specs.laws.Deleted.{first_or_later, one_passes}
 use Rattle.oz_kept.specs.reopened.laws.Logged.{is_going, going_away}
+use Rattle.oz_halted.specs.halting.laws.OneLog.{log_grows}
 use Rattle.oz_halted.specs.Further.{HasOneMore, MayBeLeftByAll, IsOfLog}
 
 pub of_filtered : {A : Type 0} (p : A → Bool) (l : List A) (x : A) → Contains (filter p l) x → Contains l x
@@ -34,17 +35,6 @@ of_filtered {A} p (first ∷ l) x among = by (p first) among (of_filtered p l x)
     by : (t : Bool) → Contains (cond t (first ∷ filter p l) (filter p l)) x → (Contains (filter p l) x → Contains l x) → Contains (first ∷ l) x
     by true among rest = ⊎_elim (λ same. (0, omega arith, same)) (λ later. behind (rest later)) (first_or_later first x (filter p l) among)
     by false among rest = behind (rest among)
-
--- what is logged stays in the log
-pub logs_grow : (opening : Opening) (before behind : List Event) (txn : Txn) → Contains (logs opening before) txn → Contains (logs opening (before ++ behind)) txn
-logs_grow opening before behind txn there =
-    let all = map (λ (unretired : Unretired). unretired.txn) opening.unretired in
-    ⊎_elim
-    (λ old. Contains-append_left all (all_told logged (before ++ behind)) txn old)
-    (λ new. Contains-append_right all (all_told logged (before ++ behind)) txn
-    (subst (λ (l : List Txn). Contains l txn) (sym (filter_map-append (λ (event : Event). logged event.kind) before behind))
-    (Contains-append_left (all_told logged before) (all_told logged behind) txn new)))
-    (Contains-append_cases all (all_told logged before) txn there)
 
 pub names_it : (txn : Txn) (local : ℕ) → Contains txn.locals local → names_block (record { container = txn.container; local = local }) txn ≡ true
 names_it txn local among =
@@ -64,7 +54,7 @@ module _ (opening : Opening) (bytes : OpeningBytes) (script : Script) (story : L
   delete_takes dn number local locals longer more is_delete among =
       let enabled : DeleteIsEnabled opening more.before more.seat dn number locals = subst (λ (kind : EventKind). KindIsEnabled opening more.before more.seat kind) is_delete more.enabled in
       let halt : Event = record { seat = more.seat; kind = Halt (Datanode dn) more.count } in
-      let there : Contains (logs opening story) enabled.txn = subst (λ (l : List Event). Contains (logs opening l) enabled.txn) (sym more.halted) (logs_grow opening more.before (halt ∷ more.behind) enabled.txn enabled.logged) in
+      let there : Contains (logs opening story) enabled.txn = subst (λ (l : List Event). Contains (logs opening l) enabled.txn) (sym more.halted) (log_grows opening more.before (halt ∷ more.behind) enabled.txn enabled.logged) in
       let its : Contains enabled.txn.locals local = of_filtered (λ local. holds opening more.before dn (record { container = enabled.txn.container; local = local })) enabled.txn.locals local (subst (λ (l : List ℕ). Contains l local) enabled.held among) in
       record {
         txn = enabled.txn;

@@ -34,7 +34,7 @@ use Rattle.oz_kept.specs.reopened.laws.Rising.{member_stays}
 use Rattle.oz_kept.specs.reopened.laws.Whole.{fronts_fit}
 use Rattle.oz_kept.specs.reopened.laws.Committed.{granted_lasts}
 use Rattle.oz_halted.specs.Further.{PutsContent, HasOneMore, MayBeLeftByNode, pieces_on}
-use Rattle.oz_halted.proofs.Resting.{legal_on, fits_on, halted_by, node_rests, had_still, had_in_parts}
+use Rattle.oz_halted.specs.laws.Resting.{legal_on, fits_on, halted_by, node_rests, had_still, had_in_parts}
 
 -- ---- fronts
 

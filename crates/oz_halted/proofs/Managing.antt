@@ -22,7 +22,7 @@ use Rattle.oz_kept.specs.reopened.Left.{IsLeftByScm}
 use Rattle.oz_kept.specs.reopened.laws.Logged.{IsGoing, is_going, left_going, txn_of}
 use Rattle.oz_kept.specs.reopened.laws.Rising.{IsOn, stays_on, ids_rise}
 use Rattle.oz_halted.specs.Further.{HasOneMore, MayBeLeftByScm}
-use Rattle.oz_halted.proofs.Resting.{legal_on, halted_by, ScmRests, scm_rests}
+use Rattle.oz_halted.specs.laws.Resting.{legal_on, halted_by, ScmRests, scm_rests}
 
 -- what is so of its disk, by the story
 pub record ScmIsWell (opening : Opening) (story : List Event) (left : Opening) : Type 0 where

@@ -25,11 +25,12 @@ use Rattle.oz_kept.specs.laws.Places.{legal_behind, legal_first, legal_rest}
 use Rattle.oz_kept.specs.laws.Deleted.{one_passes}
 use Rattle.oz_halted.specs.Further.{HasOneMore, MayBeLeftByAll, MayBeLeftByNode}
 use Rattle.oz_halted.specs.Missing.{LogIsNumbered, MayHaveLost}
-use Rattle.oz_halted.proofs.Resting.{IsHalted, halted_by, halted_still, unhalted_not, running_not}
+use Rattle.oz_halted.specs.laws.Resting.{IsHalted, halted_by, halted_still, unhalted_not, running_not}
 use Rattle.oz_halted.proofs.Holding.{held_as}
 use Rattle.oz_halted.proofs.Managing.{passing}
-use Rattle.oz_halted.proofs.Deleting.{of_filtered, logs_grow, names_it}
-use Rattle.oz_halted.proofs.Numbered.{are_numbered}
+use Rattle.oz_halted.proofs.Deleting.{of_filtered, names_it}
+use Rattle.oz_halted.specs.halting.laws.OneLog.{log_grows}
+use Rattle.oz_halted.specs.laws.Numbered.{are_numbered}
 
 -- ---- behind its Halt a datanode holds what it held
 
@@ -122,7 +123,7 @@ module _ (opening : Opening) (bytes : OpeningBytes) (script : Script) (story : L
       let both = and_parts (found.item.number == number) (found.item.container == block.container) found.so in
       let local = passing (λ local. local == block.local) locals parts.1 in
       let its_local = of_filtered (λ local. holds opening more.before other (record { container = enabled.txn.container; local = local })) enabled.txn.locals local.item (subst (λ (l : List ℕ). Contains l local.item) enabled.held local.there) in
-      let there : Contains (logs opening story) enabled.txn = subst (λ (l : List Event). Contains (logs opening l) enabled.txn) (sym more.halted) (logs_grow opening more.before (halt ∷ more.behind) enabled.txn enabled.logged) in
+      let there : Contains (logs opening story) enabled.txn = subst (λ (l : List Event). Contains (logs opening l) enabled.txn) (sym more.halted) (log_grows opening more.before (halt ∷ more.behind) enabled.txn enabled.logged) in
       let one = (are_numbered opening story numbered legal).apart enabled.txn found.item there found.there (enabled.of_number ∙ sym (eqb-true found.item.number number both.0)) in
       let container : enabled.txn.container ≡ block.container = ap (λ (t : Txn). t.container) one ∙ eqb-true found.item.container block.container both.1 in
       let names = names_it enabled.txn local.item its_local in

@@ -11,6 +11,7 @@ use Rattle.oz_core.specs.declared.opening.Opening.{Opening}
 use Rattle.oz_core.specs.Law.{IsLegal, KindIsEnabled}
 use Rattle.oz_core.specs.Stories.{last_told, newer}
 use Rattle.oz_kept.specs.laws.Deleted.{found_at, enabled_at}
+use Rattle.oz_halted.specs.halting.laws.Unchanged.{changes}
 
 -- the datanodes from a number on, so many
 module _ (make : ℕ → NodeOpening) where
@@ -51,15 +52,6 @@ stays_zero step (event ∷ story) first is each =
     (λ other there. each other (suc there.0, omega (arith, there.1), there.2))
 
 -- ---- its number in an event
-
--- the datanode that an event changes
-abbrev pub changes : ℕ → EventKind → Bool
-changes dn (Put other put id first count) = other == dn
-changes dn (Copy source target copied) = target == dn
-changes dn (Delete other number locals) = other == dn
-changes dn (CloseCommand other container) = other == dn
-changes dn (Wipe other) = other == dn
-changes dn _ = false
 
 kind_there : (opening : Opening) (before : List Event) (seat dn : ℕ) (kind : EventKind) → KindIsEnabled opening before seat kind → changes dn kind ≡ true → dn < length opening.nodes
 kind_there opening before seat dn (Put other put id first count) enabled is = subst (λ (n : ℕ). n < length opening.nodes) (eqb-true other dn is) enabled.of_datanode.there

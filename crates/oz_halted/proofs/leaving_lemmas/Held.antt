@@ -25,7 +25,8 @@ use Rattle.oz_kept.specs.laws.Reached.{in_none}
 use Rattle.oz_kept.specs.reopened.Left.{lengths_of}
 use Rattle.oz_kept.specs.reopened.laws.Named.{told_event}
 use Rattle.oz_model.specs.laws.Members.{joins, comes, filtered, of_filtered, passing, same_test}
-use Rattle.oz_halted.proofs.leaving_lemmas.Absent.{changes, none_changes, stays_false, beyond}
+use Rattle.oz_halted.specs.halting.laws.Unchanged.{changes}
+use Rattle.oz_halted.proofs.leaving_lemmas.Absent.{none_changes, stays_false, beyond}
 
 -- a Put's piece
 abbrev pub put_piece : EventKind → Option Piece

@@ -21,7 +21,8 @@ use Rattle.oz_core.specs.Stories.{all_told, newer}
 use Rattle.oz_kept.specs.laws.Granted.{told_among}
 use Rattle.oz_kept.specs.reopened.Left.{greatest_in, was_greatest, greatest_of, greatest_after, is_txn_of}
 use Rattle.oz_model.specs.laws.Members.{joins, mapped, of_mapped, passing, same_test}
-use Rattle.oz_halted.proofs.leaving_lemmas.Absent.{changes, none_changes, stays_false, stays_zero, beyond}
+use Rattle.oz_halted.specs.halting.laws.Unchanged.{changes}
+use Rattle.oz_halted.proofs.leaving_lemmas.Absent.{none_changes, stays_false, stays_zero, beyond}
 use Rattle.oz_halted.proofs.leaving_lemmas.Held.{found_get, passes_some}
 
 -- a container that is closed on a datanode

@@ -1,0 +1,3 @@
+pub mod Story
+pub mod Leaves
+pub mod laws

@@ -34,29 +34,8 @@ use Rattle.oz_kept.specs.reopened.laws.Rising.{member_stays}
 use Rattle.oz_kept.specs.reopened.laws.Whole.{fronts_fit}
 use Rattle.oz_kept.specs.reopened.laws.Committed.{granted_lasts}
 use Rattle.oz_halted.specs.Further.{PutsContent, HasOneMore, MayBeLeftByNode, pieces_on}
+use Rattle.oz_halted.specs.laws.Lasting.{content_behind, held_as}
 use Rattle.oz_halted.specs.laws.Resting.{legal_on, fits_on, halted_by, node_rests, had_still, had_in_parts}
-
--- ---- fronts
-
-pub content_lasts : (opening : Opening) (bytes : OpeningBytes) (script : Script) (story : List Event) → IsLegal opening story → FitsFrom opening bytes script [] story → (place : ℕ) (block : Block) (content : List ℕ)
-    → HasContent opening bytes script (take place story) block content → HasContent opening bytes script story block content
-content_lasts opening bytes script story legal fits place block content (inl had) = inl had
-content_lasts opening bytes script story legal fits place block content (inr of) = inr (record {
-  new = of.new;
-  id = of.id;
-  before = of.before;
-  granted = granted_lasts opening bytes script story legal fits (fronts_fit opening bytes script story fits) of.id block of.before place of.granted;
-  line = of.line;
-  its = of.its;
-  are = of.are;
-})
-
--- the same of a front by its events
-content_behind : (opening : Opening) (bytes : OpeningBytes) (script : Script) (before behind : List Event) → IsLegal opening (before ++ behind) → FitsFrom opening bytes script [] (before ++ behind) → (block : Block) (content : List ℕ)
-    → HasContent opening bytes script before block content → HasContent opening bytes script (before ++ behind) block content
-content_behind opening bytes script before behind legal fits block content has =
-    content_lasts opening bytes script (before ++ behind) legal fits (length before) block content
-    (subst (λ (l : List Event). HasContent opening bytes script l block content) (sym (take-append_seam before behind)) has)
 
 -- ---- who got a block is a member
 
@@ -80,19 +59,6 @@ got_by_member opening bytes story block dn legal coherent (inl got) =
     subst (λ (l : List Event). Contains (members opening l block.container) dn) (take-append-drop it.there.0 story)
     (member_stays opening (take it.there.0 story) (drop it.there.0 story) block.container dn member)
 got_by_member opening bytes story block dn legal coherent (inr was) = member_stays opening [] story block.container dn (coherent.blocks.placed block dn was)
-
--- ---- what two openings have alike
-
-module _ (dn : ℕ) (block : Block) where
-  held_in : (o : Option NodeOpening) → option_map_or (has_piece block) o false ≡ option_map_or (λ (held : List Piece). list_any (λ (piece : Piece). is_block block piece.block) held) (option_map (λ (node : NodeOpening). node.held) o) false
-  held_in None = refl
-  held_in (Some node) = refl
-
-  pub held_as : (one other : Opening) → pieces_on one dn ≡ pieces_on other dn → was_held one dn block ≡ was_held other dn block
-  held_as one other same =
-      held_in (slice_get one.nodes dn)
-      ∙ ap (λ (o : Option (List Piece)). option_map_or (λ (held : List Piece). list_any (λ (piece : Piece). is_block block piece.block) held) o false) same
-      ∙ sym (held_in (slice_get other.nodes dn))
 
 -- ---- what is left of a block on a datanode
 

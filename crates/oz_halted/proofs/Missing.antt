@@ -26,7 +26,7 @@ use Rattle.oz_kept.specs.laws.Deleted.{one_passes}
 use Rattle.oz_halted.specs.Further.{HasOneMore, MayBeLeftByAll, MayBeLeftByNode}
 use Rattle.oz_halted.specs.Missing.{LogIsNumbered, MayHaveLost}
 use Rattle.oz_halted.specs.laws.Resting.{IsHalted, halted_by, halted_still, unhalted_not, running_not}
-use Rattle.oz_halted.proofs.Holding.{held_as}
+use Rattle.oz_halted.specs.laws.Lasting.{held_as}
 use Rattle.oz_halted.proofs.Managing.{passing}
 use Rattle.oz_halted.proofs.Deleting.{of_filtered, names_it}
 use Rattle.oz_halted.specs.halting.laws.OneLog.{log_grows}

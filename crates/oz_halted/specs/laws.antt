@@ -1,3 +1,4 @@
 -- Laws with their proofs, which proofs cite, those of other crates too. A reader has nothing to believe here.
 pub mod Resting
 pub mod Numbered
+pub mod Lasting

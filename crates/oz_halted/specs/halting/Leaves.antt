@@ -46,6 +46,16 @@ abbrev pub GivesContents : Opening → OpeningBytes → Script → List Event �
 GivesContents opening bytes script story node given =
     (block : Block) → is_held node block ≡ true → GivesContent opening bytes script story given block
 
+-- No call on its disks has failed: a stop leaves a journal that stands for what the story makes of the datanode. The slots
+-- give the content of each of its blocks.
+pub record Rests (opening : Opening) (bytes : OpeningBytes) (script : Script) (story : List Event) (dn : ℕ)
+    (remains : Remains) : Type 0 where
+  pub was : Node
+  pub stands : IsOfStory opening story dn was
+  pub kept : (node : Node) (given : GivenBytes) → remains node given → node ≡ was
+  pub contents : (node : Node) (given : GivenBytes) → remains node given
+      → GivesContents opening bytes script story node given
+
 -- Whatever a stop leaves of the journal stands for what the story makes of the datanode, or for that and one entry more,
 -- which it was to make. The slots give the content of each block that the journal has then.
 pub record Leaves (opening : Opening) (bytes : OpeningBytes) (script : Script) (story : List Event) (dn : ℕ)

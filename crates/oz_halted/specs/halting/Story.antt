@@ -1,5 +1,5 @@
 -- What a story makes of a datanode, as its journal has it, and which entries an event may have made right behind a story.
-use Rattle.std.specs.Prelude.{◌≡◌, ◌≢◌, ◌⊎◌, ℕ, false, not, List, Some, Contains}
+use Rattle.std.specs.Prelude.{◌≡◌, ◌≢◌, ◌⊎◌, ℕ, false, not, List, [], ◌∷◌, ◌++◌, Some, Contains}
 use Rattle.oz_dellog.specs.declared.txn.Txn.{Txn}
 use Rattle.oz_fields.specs.declared.block.Block.{Block}
 use Rattle.oz_requests.specs.declared.request.AskId.{AskId}
@@ -9,13 +9,15 @@ use Rattle.oz_entries.specs.declared.entry.Entry.TheVariants.{Put, SetState, App
 use Rattle.oz_entries.specs.declared.row.BlockRow.{BlockRow}
 use Rattle.oz_entries.specs.Node.{Node, is_held}
 use Rattle.oz_core.specs.declared.event.Event.{Event}
+use Rattle.oz_core.specs.declared.event.EventKind.{EventKind}
 use Rattle.oz_core.specs.declared.opening.Opening.{Opening}
 use Rattle.oz_core.specs.Contents.{OpeningBytes}
 use Rattle.oz_core.specs.Fits.{HasLength}
-use Rattle.oz_core.specs.Law.{PutIsEnabled, CopyIsEnabled, DeleteIsEnabled}
+use Rattle.oz_core.specs.Law.{KindIsEnabled, PutIsEnabled, CopyIsEnabled, DeleteIsEnabled}
 use Rattle.oz_core.specs.Nodes.{holds, is_open, is_closed}
 use Rattle.oz_core.specs.Seats.{datanode_seat}
 use Rattle.oz_kept.specs.reopened.Left.{lengths_of, greatest_of}
+use Rattle.oz_halted.specs.Further.{PutsContent}
 
 -- ---- what a story makes of a datanode
 
@@ -68,3 +70,18 @@ WasToMake opening bytes script story dn node (Put block row) =
 WasToMake opening bytes script story dn node (SetState container state) = Unit {0}
 WasToMake opening bytes script story dn node (Apply txn) = WasToApply opening story dn txn
 WasToMake opening bytes script story dn node (Drop container) = HoldsNoneOf container node
+
+-- ---- what the law allows
+
+-- the node is what the story and one event more make of the datanode: an event of its own, which the law allows there
+pub record IsOfOneMore (opening : Opening) (bytes : OpeningBytes) (script : Script) (story : List Event) (dn : ℕ)
+    (node : Node) : Type 0 where
+  pub further : EventKind
+  pub enabled : KindIsEnabled opening story (datanode_seat dn) further
+  pub content : PutsContent opening bytes script story further
+  pub is : IsOfStory opening (story ++ record { seat = datanode_seat dn; kind = further } ∷ []) dn node
+
+-- or it is what the story makes of it, but that one replica may have another state
+abbrev pub IsAllowed : Opening → OpeningBytes → Script → List Event → ℕ → Node → Node → Type 0
+IsAllowed opening bytes script story dn was node =
+    IsOfOneMore opening bytes script story dn node ⊎ ((container : ℕ) × AreSameButForAState container was node)

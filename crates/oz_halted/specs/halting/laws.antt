@@ -2,3 +2,5 @@
 pub mod Unchanged
 pub mod OneLog
 pub mod Making
+pub mod Usual
+pub mod Left

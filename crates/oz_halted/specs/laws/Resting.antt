@@ -71,6 +71,10 @@ halted_still node before event halted =
     let next = kind_still node event.kind (halt_of node before) halted in
     (next.0, halt_next node before event ∙ next.1)
 
+pub last_count : (node : Node) (story : List Event) → IsHalted node story → (count : ℕ) × (halt_of node story ≡ Some count)
+unfolding IsHalted
+last_count node story halted = halted
+
 pub unhalted_not : (node : Node) (story : List Event) → IsHalted node story → halt_of node story ≡ None → ⊥
 unfolding IsHalted
 unhalted_not node story halted none = let both : Some halted.0 ≡ None = sym halted.1 ∙ none in absurd cc

@@ -4,3 +4,5 @@ pub mod OneLog
 pub mod Making
 pub mod Usual
 pub mod Left
+pub mod Going
+pub mod Lost

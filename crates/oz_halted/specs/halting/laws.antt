@@ -6,3 +6,4 @@ pub mod Usual
 pub mod Left
 pub mod Going
 pub mod Lost
+pub mod Beside

@@ -38,7 +38,7 @@ use Rattle.oz_halted.specs.laws.Resting.{fits_on, legal_on}
 
 module _ (opening : Opening) (bytes : OpeningBytes) (script : Script) (before : List Event) (legal : IsLegal opening before)
     (fits : FitsFrom opening bytes script [] before) (event : Event) (enabled : IsEnabled opening before event)
-    (its_fit : EventFits opening bytes script before event.kind) (dn : ℕ) where
+    (its_fit : EventFits opening bytes script before event.kind) where
   abbrev then : List Event
   then = before ++ event ∷ []
 
@@ -56,33 +56,33 @@ module _ (opening : Opening) (bytes : OpeningBytes) (script : Script) (before : 
       }
 
   -- An event that changes nothing on its disks: one of another seat is such.
-  pub rests_still : LogIsNumbered opening → changes dn event.kind ≡ false → (remains : Remains)
+  pub rests_still : (dn : ℕ) → LogIsNumbered opening → changes dn event.kind ≡ false → (remains : Remains)
       → Rests opening bytes script before dn remains → Rests opening bytes script then dn remains
-  rests_still numbered none remains rests = record {
+  rests_still dn numbered none remains rests = record {
     was = rests.was;
     stands = of_unchanged opening numbered before legal dn event.seat event.kind enabled none rests.was rests.stands;
     kept = rests.kept;
     contents = λ node given remain. contents_last node given (rests.contents node given remain);
   }
 
-  pub rests_beside : LogIsNumbered opening → event.seat ≢ datanode_seat dn → (remains : Remains)
+  pub rests_beside : (dn : ℕ) → LogIsNumbered opening → event.seat ≢ datanode_seat dn → (remains : Remains)
       → Rests opening bytes script before dn remains → Rests opening bytes script then dn remains
-  rests_beside numbered other remains rests =
-      rests_still numbered (others_change_nothing dn opening before event.seat event.kind enabled other) remains rests
+  rests_beside dn numbered other remains rests =
+      rests_still dn numbered (others_change_nothing dn opening before event.seat event.kind enabled other) remains rests
 
   -- one that changes them, where a stop leaves what it makes
-  pub rests_anew : (node : Node) → IsOfStory opening then dn node → (remains : Remains)
+  pub rests_anew : (dn : ℕ) (node : Node) → IsOfStory opening then dn node → (remains : Remains)
       → ((kept : Node) (given : GivenBytes) → remains kept given → kept ≡ node)
       → ((kept : Node) (given : GivenBytes) → remains kept given → GivesContents opening bytes script before kept given)
       → Rests opening bytes script then dn remains
-  rests_anew node is remains same contents = record {
+  rests_anew dn node is remains same contents = record {
     was = node;
     stands = is;
     kept = same;
     contents = λ kept given remain. contents_last kept given (contents kept given remain);
   }
 
--- ---- which events change nothing of a datanode, and what one entry more comes to
+-- ---- what one entry more comes to
 
 -- an entry that it was to make gives a node that the law allows
 pub entry_is_allowed : (opening : Opening) (bytes : OpeningBytes) (script : Script) → LogIsNumbered opening → (before : List Event)

@@ -1,11 +1,12 @@
 -- What a datanode that halted leaves is what the law allows.
-use Rattle.std.proofs.Common.{◌≡◌, ℕ, ◌==◌, Bool, true, false, not, ◌||◌, ◌&&◌, List, [], ◌∷◌, ◌++◌, length, map, take, Option, None, Some, is_some, Contains, inl, inr, refl, sym, ◌∙◌, ap, subst, take_all, append-nil, arith}
+use Rattle.std.proofs.Common.{◌≡◌, ◌⊎◌, ℕ, ◌==◌, Bool, true, false, not, ◌||◌, ◌&&◌, List, [], ◌∷◌, ◌++◌, length, map, take, Option, None, Some, is_some, Contains, inl, inr, refl, sym, ◌∙◌, ap, subst, take_all, append-nil, arith}
 use mathlib.Core.Bool.{false≢true}
 use Rattle.std.proofs.lemmas.Bool.{eq-eqb}
 use Rattle.std.proofs.lemmas.List.Elements.{filter_map-append}
 use Rattle.std.specs.Prelude.{IfSome}
 use Rattle.std.specs.List.{cons_option, slice_get}
 use Rattle.std.specs.Option.{option_map_or}
+use Rattle.oz_command.specs.declared.command.AdminCommand.TheVariants as admin
 use Rattle.oz_dellog.specs.declared.txn.Txn.{Txn}
 use Rattle.oz_fields.specs.declared.block.Block.{Block}
 use Rattle.oz_fields.specs.declared.block.Piece.{Piece}
@@ -23,7 +24,7 @@ use Rattle.oz_core.specs.declared.opening.Opening.{Opening}
 use Rattle.oz_core.specs.declared.opening.Unretired.{Unretired}
 use Rattle.oz_core.specs.Coherent.{IsCoherent}
 use Rattle.oz_core.specs.Contents.{OpeningBytes}
-use Rattle.oz_core.specs.Fits.{EventFits, FitsFrom}
+use Rattle.oz_core.specs.Fits.{EventFits, FitsFrom, IsAtWork}
 use Rattle.oz_core.specs.Law.{IsLegal, IsLegalFrom, KindIsEnabled, DeleteIsEnabled, puts_or_copies}
 use Rattle.oz_core.specs.Nodes.{is_block, has_piece, was_held, holds}
 use Rattle.oz_core.specs.Scm.{logs, logged}
@@ -36,7 +37,7 @@ use Rattle.oz_kept.specs.laws.Contents.{GotIt, HasIts, at_each, fits_to, holder_
 use Rattle.oz_kept.specs.laws.Deleted.{legal_to, one_passes}
 use Rattle.oz_halted.specs.Further.{PutsContent, MayBeLeftByNode}
 use Rattle.oz_halted.specs.Missing.{LogIsNumbered}
-use Rattle.oz_halted.specs.halting.Leaves.{GivenBytes, GivesContents, IsOpenedOf, Leaves, MayHaveEntry, Remains}
+use Rattle.oz_halted.specs.halting.Leaves.{GivenBytes, GivesContents, IsOpenedOf, Leaves, MayHaveEntry, NodeHalted, Remains}
 use Rattle.oz_halted.specs.halting.Story.{IsOfStory, AreSameButForAState, WasToMake}
 use Rattle.oz_halted.specs.halting.laws.Making.{of_put, of_copy, of_delete, same_but_for_a_state, dropped_is_the_same}
 use Rattle.oz_halted.specs.halting.laws.OneLog.{AreApart, of_story_still}
@@ -276,3 +277,19 @@ pub may_be_left : (opening : Opening) (bytes : OpeningBytes) (script : Script) �
 may_be_left opening bytes script coherent apart numbered dn before behind count legal fits remains leaves node given remain left gives opened =
     by_entry opening bytes script coherent apart dn numbered before behind count legal fits left gives node given
     (leaves.contents node given remain) opened leaves.was leaves.stands leaves.entry leaves.to_make (leaves.kept node given remain)
+
+-- so of each datanode that halted, unless a line that wipes it was at work
+pub halted_may_leave : (opening : Opening) (bytes : OpeningBytes) (script : Script) (story : List Event) (dn : ℕ) (remains : Remains)
+    → (halted : NodeHalted opening bytes script story dn remains) → (node : Node) (given : GivenBytes) (left : Opening) (gives : OpeningBytes)
+    → IsCoherent opening bytes → LinesAreApart script → LogIsNumbered opening → IsLegal opening story → FitsFrom opening bytes script [] story
+    → remains node given → IsOpenedOf left gives dn node given
+    → MayBeLeftByNode opening bytes script story dn left gives ⊎ IsAtWork script halted.before (admin.Wipe dn)
+halted_may_leave opening bytes script story dn remains halted node given left gives coherent apart numbered legal fits remain opened = by halted.left
+  where
+    by : Leaves opening bytes script halted.before dn remains ⊎ IsAtWork script halted.before (admin.Wipe dn)
+        → MayBeLeftByNode opening bytes script story dn left gives ⊎ IsAtWork script halted.before (admin.Wipe dn)
+    by (inr wiped) = inr wiped
+    by (inl leaves) = inl (subst (λ (l : List Event). MayBeLeftByNode opening bytes script l dn left gives) (sym halted.parts)
+        (may_be_left opening bytes script coherent apart numbered dn halted.before halted.behind halted.count
+        (subst (IsLegal opening) halted.parts legal) (subst (FitsFrom opening bytes script []) halted.parts fits)
+        remains leaves node given remain left gives opened))

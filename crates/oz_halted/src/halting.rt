@@ -1,0 +1,8 @@
+//! What a stop leaves on the two disks of a datanode that halted: laws alone.
+mod laws;
+
+pub use laws::{
+    a_halted_datanode_leaves_what_is_allowed, an_entry_makes_what_its_event_makes,
+    an_entry_more_is_allowed, only_what_is_logged_is_missing, what_is_loaded_stays,
+    what_was_to_come_still_is,
+};

@@ -1,7 +1,6 @@
 -- A further Delete takes what nothing reaches that is left.
-use Rattle.std.proofs.Common.{◌≡◌, ⊎_elim, ℕ, suc, ◌==◌, Bool, true, false, ◌&&◌, List, [], ◌∷◌, ◌++◌, map, filter, Contains, cond, refl, sym, ◌∙◌, ap, subst, arith}
+use Rattle.std.proofs.Common.{◌≡◌, ⊎_elim, ℕ, suc, ◌==◌, Bool, true, false, ◌&&◌, List, [], ◌∷◌, filter, Contains, cond, refl, sym, ◌∙◌, ap, subst, arith}
 use Rattle.std.proofs.lemmas.Bool.{eq-eqb}
-use Rattle.std.proofs.lemmas.List.Elements.{filter_map-append, Contains-append_cases, Contains-append_left, Contains-append_right}
 use Rattle.std.specs.List.{list_any}
 use Rattle.oz_dellog.specs.declared.txn.Txn.{Txn}
 use Rattle.oz_fields.specs.declared.block.Block.{Block}
@@ -12,13 +11,11 @@ use Rattle.oz_core.specs.declared.event.EventKind.{EventKind}
 use Rattle.oz_core.specs.declared.event.EventKind.TheVariants.{Halt, Delete}
 use Rattle.oz_core.specs.declared.event.Node.TheVariants.{Datanode}
 use Rattle.oz_core.specs.declared.opening.Opening.{Opening}
-use Rattle.oz_core.specs.declared.opening.Unretired.{Unretired}
 use Rattle.oz_core.specs.Coherent.{IsCoherent}
 use Rattle.oz_core.specs.Contents.{OpeningBytes}
 use Rattle.oz_core.specs.Law.{IsLegal, KindIsEnabled, DeleteIsEnabled}
 use Rattle.oz_core.specs.Nodes.{holds}
-use Rattle.oz_core.specs.Scm.{logs, logged, names_block}
-use Rattle.oz_core.specs.Stories.{all_told}
+use Rattle.oz_core.specs.Scm.{logs, names_block}
 use Rattle.oz_kept.specs.laws.Reached.{in_none}
 use Rattle.oz_kept.specs.laws.Deleted.{first_or_later, one_passes}
 use Rattle.oz_kept.specs.reopened.laws.Logged.{is_going, going_away}

@@ -1,26 +1,21 @@
 -- What datanodes may be left with: each block with its content, on a member of its container.
-use Rattle.std.proofs.Common.{◌≡◌, ◌⊎◌, ℕ, ◌==◌, Bool, true, false, ◌||◌, List, [], ◌∷◌, ◌++◌, length, take, drop, Option, None, Some, Contains, inl, inr, refl, sym, ◌∙◌, ap, subst, take_all, arith}
+use Rattle.std.proofs.Common.{◌≡◌, ◌⊎◌, ℕ, ◌==◌, Bool, true, false, ◌||◌, List, [], ◌∷◌, ◌++◌, length, take, drop, Some, Contains, inl, inr, refl, sym, ◌∙◌, ap, subst, take_all, arith}
 use mathlib.Core.Bool.{false≢true}
-use Rattle.std.proofs.Math.Seq.{take-append_seam}
 use Rattle.std.proofs.lemmas.Bool.{eqb-true, and_parts}
 use Rattle.std.proofs.lemmas.List.{take-append-drop}
 use Rattle.std.proofs.lemmas.List.Folds.{list_any-append}
-use Rattle.std.specs.List.{list_any, slice_get}
-use Rattle.std.specs.Option.{option_map, option_map_or}
 use Rattle.oz_fields.specs.declared.block.Block.{Block}
-use Rattle.oz_fields.specs.declared.block.Piece.{Piece}
 use Rattle.oz_script.specs.declared.lines.script.Script.{Script}
 use Rattle.oz_core.specs.declared.event.Event.{Event}
 use Rattle.oz_core.specs.declared.event.EventKind.{EventKind}
 use Rattle.oz_core.specs.declared.event.EventKind.TheVariants.{Halt, Put, Copy}
 use Rattle.oz_core.specs.declared.event.Node.TheVariants.{Datanode}
-use Rattle.oz_core.specs.declared.opening.NodeOpening.{NodeOpening}
 use Rattle.oz_core.specs.declared.opening.Opening.{Opening}
 use Rattle.oz_core.specs.Coherent.{IsCoherent}
 use Rattle.oz_core.specs.Contents.{OpeningBytes, HasContent}
 use Rattle.oz_core.specs.Fits.{EventFits, FitsFrom}
 use Rattle.oz_core.specs.Law.{IsLegal, KindIsEnabled, puts_or_copies}
-use Rattle.oz_core.specs.Nodes.{is_block, was_held, has_piece, holds}
+use Rattle.oz_core.specs.Nodes.{is_block, was_held, holds}
 use Rattle.oz_core.specs.Scm.{members}
 use Rattle.oz_core.specs.Stories.{has_event}
 use Rattle.oz_kept.specs.Held.{LinesAreApart, Having, HadAtOpening, HavingFrom, HasBytes}
@@ -31,9 +26,7 @@ use Rattle.oz_kept.specs.reopened.Left.{GivesBack}
 use Rattle.oz_kept.specs.reopened.laws.Given.{gives_content, one_value}
 use Rattle.oz_kept.specs.reopened.laws.Placed.{event_there, held_by_member}
 use Rattle.oz_kept.specs.reopened.laws.Rising.{member_stays}
-use Rattle.oz_kept.specs.reopened.laws.Whole.{fronts_fit}
-use Rattle.oz_kept.specs.reopened.laws.Committed.{granted_lasts}
-use Rattle.oz_halted.specs.Further.{PutsContent, HasOneMore, MayBeLeftByNode, pieces_on}
+use Rattle.oz_halted.specs.Further.{PutsContent, HasOneMore, MayBeLeftByNode}
 use Rattle.oz_halted.specs.laws.Lasting.{content_behind, held_as}
 use Rattle.oz_halted.specs.laws.Resting.{legal_on, fits_on, halted_by, node_rests, had_still, had_in_parts}
 

@@ -1,6 +1,5 @@
 -- What a datanode was to make it still may, as others go on.
-use Rattle.std.proofs.Common.{◌≡◌, ◌≢◌, ⊎_elim, ℕ, ◌==◌, Bool, true, false, ◌&&◌, ◌||◌, List, [], ◌∷◌, ◌++◌, filter, Option, None, Some, is_none, Contains, cond, inl, inr, refl, sym, ◌∙◌, ap, subst, append-nil}
-use mathlib.Core.Bool.{false≢true}
+use Rattle.std.proofs.Common.{◌≡◌, ◌≢◌, ⊎_elim, ℕ, ◌==◌, Bool, true, false, ◌&&◌, ◌||◌, List, [], ◌∷◌, ◌++◌, filter, Option, None, Some, is_none, cond, inl, inr, refl, sym, ◌∙◌, ap, append-nil}
 use Rattle.std.proofs.lemmas.Bool.{eqb-true}
 use Rattle.std.proofs.lemmas.List.Folds.{list_any-append}
 use Rattle.std.proofs.lemmas.List.Sums.{fold_push}
@@ -18,7 +17,6 @@ use Rattle.oz_entries.specs.Node.{Node}
 use Rattle.oz_core.specs.declared.event.Event.{Event}
 use Rattle.oz_core.specs.declared.event.EventKind.{EventKind}
 use Rattle.oz_core.specs.declared.event.EventKind.TheVariants.{Halt, Stop, Start}
-use Rattle.oz_core.specs.declared.event.Node.{Node as AnyNode}
 use Rattle.oz_core.specs.declared.event.Node.TheVariants.{Manager, Scm, Datanode}
 use Rattle.oz_core.specs.declared.opening.Opening.{Opening}
 use Rattle.oz_core.specs.declared.opening.Unretired.{Unretired}
@@ -27,7 +25,7 @@ use Rattle.oz_core.specs.Fits.{EventFits, FitsFrom, HasLength}
 use Rattle.oz_core.specs.Law.{IsLegal, IsEnabled, KindIsEnabled, puts_or_copies, comes_to_copies}
 use Rattle.oz_core.specs.Manager.{halt_count, halt_of}
 use Rattle.oz_core.specs.Nodes.{holds, is_closed, is_running, stopped_or_started}
-use Rattle.oz_core.specs.Scm.{logs, logged, is_in_logs, is_logged, members}
+use Rattle.oz_core.specs.Scm.{logs, logged, is_in_logs, is_logged}
 use Rattle.oz_core.specs.Seats.{datanode_seat}
 use Rattle.oz_core.specs.Stories.{all_told, has_event, last_told, newer}
 use Rattle.oz_kept.specs.laws.Contents.{granted_still, unasked_again}

@@ -1,5 +1,5 @@
 -- What a datanode that halted leaves is what the law allows.
-use Rattle.std.proofs.Common.{◌≡◌, ◌⊎◌, ℕ, ◌==◌, Bool, true, false, not, ◌||◌, ◌&&◌, List, [], ◌∷◌, ◌++◌, length, map, take, Option, None, Some, is_some, Contains, inl, inr, refl, sym, ◌∙◌, ap, subst, take_all, append-nil, arith}
+use Rattle.std.proofs.Common.{◌≡◌, ◌⊎◌, ℕ, ◌==◌, Bool, true, false, ◌&&◌, List, [], ◌∷◌, ◌++◌, length, map, Option, None, Some, is_some, Contains, inl, inr, refl, sym, ◌∙◌, ap, subst, take_all, append-nil, arith}
 use mathlib.Core.Bool.{false≢true}
 use Rattle.std.proofs.lemmas.Bool.{eq-eqb}
 use Rattle.std.proofs.lemmas.List.Elements.{filter_map-append}
@@ -25,7 +25,7 @@ use Rattle.oz_core.specs.declared.opening.Unretired.{Unretired}
 use Rattle.oz_core.specs.Coherent.{IsCoherent}
 use Rattle.oz_core.specs.Contents.{OpeningBytes}
 use Rattle.oz_core.specs.Fits.{EventFits, FitsFrom, IsAtWork}
-use Rattle.oz_core.specs.Law.{IsLegal, IsLegalFrom, KindIsEnabled, DeleteIsEnabled, puts_or_copies}
+use Rattle.oz_core.specs.Law.{IsLegal, IsLegalFrom, KindIsEnabled, puts_or_copies}
 use Rattle.oz_core.specs.Nodes.{is_block, has_piece, was_held, holds}
 use Rattle.oz_core.specs.Scm.{logs, logged}
 use Rattle.oz_core.specs.Seats.{datanode_seat}

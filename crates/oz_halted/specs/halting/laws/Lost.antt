@@ -10,7 +10,6 @@ use Rattle.oz_script.specs.declared.lines.script.Script.{Script}
 use Rattle.oz_model.specs.laws.Members.{passing}
 use Rattle.oz_entries.specs.declared.entry.Entry.{Entry}
 use Rattle.oz_entries.specs.declared.entry.Entry.TheVariants.{Put, SetState, Apply, Drop}
-use Rattle.oz_entries.specs.declared.row.BlockRow.{BlockRow}
 use Rattle.oz_entries.specs.Node.{Node, is_held, is_same_block, is_in, names, after_entry}
 use Rattle.oz_core.specs.declared.event.Event.{Event}
 use Rattle.oz_core.specs.declared.event.EventKind.TheVariants.{Halt}

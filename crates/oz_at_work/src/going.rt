@@ -9,7 +9,7 @@ use crate::outcome::Did;
 use crate::shared::Shared;
 use oz_buffer::{Ledger, Opened};
 use oz_client::Step;
-use oz_locks::Loaded;
+use oz_om::Loaded;
 use oz_turn::{Ring, Seat};
 use oz_world::{Disk, Gate};
 use std::sync::Wait;

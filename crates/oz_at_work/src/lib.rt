@@ -25,5 +25,7 @@ mod writing;
 pub use at_work::LineAtWork;
 pub use laws::{a_label_was_left, what_is_at_work_stays};
 pub use outcome::Did;
+pub use oz_asker::has_started;
+pub use oz_om::Loaded;
 pub use servers::{Parts, Servers};
 pub use shared::Shared;

@@ -23,7 +23,7 @@ use oz_buffer::{Ledger, Opened};
 use oz_client::{Got, Step};
 use oz_fields::Piece;
 use oz_line_blocks::{Doubted, Lack, Reading, read_at_members};
-use oz_locks::Loaded;
+use oz_om::Loaded;
 use oz_requests::Answer;
 use oz_turn::{Ring, Seat};
 use oz_world::{Disk, Gate};

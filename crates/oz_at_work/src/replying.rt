@@ -14,7 +14,7 @@ use crate::shared::Shared;
 use oz_asker::times_said;
 use oz_buffer::{Ledger, Opened};
 use oz_client::Got;
-use oz_locks::Loaded;
+use oz_om::Loaded;
 use oz_requests::{Answer, Reply};
 use oz_turn::{Ring, Seat};
 use oz_world::{Disk, Gate};

@@ -5,7 +5,7 @@ ghost use Rattle.oz_turn.specs.Turn.{turn_id};
 
 use crate::servers::Servers;
 use oz_buffer::{Ledger, Opened};
-use oz_locks::Loaded;
+use oz_om::Loaded;
 use oz_turn::{Ring, Turn};
 use oz_world::{Disk, Gate};
 use std::alloc::Global;

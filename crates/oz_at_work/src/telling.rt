@@ -12,7 +12,7 @@ use crate::shared::Shared;
 use oz_asker::{Untold, tell};
 use oz_buffer::{Ledger, Opened};
 use oz_client::Step;
-use oz_locks::Loaded;
+use oz_om::Loaded;
 use oz_requests::Answer;
 use oz_turn::{Ring, Seat};
 use oz_world::{Disk, Gate};

@@ -16,7 +16,7 @@ use oz_asker::story_length;
 use oz_buffer::{Ledger, Opened};
 use oz_client::{Got, Written};
 use oz_line_blocks::write_to_members;
-use oz_locks::Loaded;
+use oz_om::Loaded;
 use oz_requests::Answer;
 use oz_turn::{Ring, Seat};
 use oz_world::{Disk, Gate};

@@ -22,7 +22,7 @@ use Rattle.oz_script.specs.declared.lines.script.Line.{Line}
 use Rattle.oz_script.specs.declared.lines.script.Script.{Script}
 use Rattle.oz_script.specs.lines.Numbered.{IsNumbered}
 use Rattle.oz_steps.specs.declared.label.Label.{Label}
-use Rattle.oz_underway.specs.UnderWay.{LabelStays}
+use Rattle.oz_at_work.specs.UnderWay.{LabelStays}
 use Rattle.oz_worker.specs.declared.client.Client.{Client}
 use Rattle.oz_worker.specs.declared.resting.Rest.{Rest}
 use Rattle.oz_worker.specs.ClientLines.{lines_of_client}

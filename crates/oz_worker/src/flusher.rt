@@ -2,10 +2,9 @@
 
 use crate::pausing::sleep;
 use crate::worker::MOST_LOOKS;
-use oz_at_work::Shared;
+use oz_at_work::{Loaded, Shared};
 use oz_buffer::{Ledger, Opened};
 use oz_flusher::{Flushing, Mounted, flush_in_turn};
-use oz_locks::Loaded;
 use oz_turn::Ring;
 use oz_world::{Disk, Gate};
 use std::sync::atomic::{AtomicU64, Ordering};

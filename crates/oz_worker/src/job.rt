@@ -4,11 +4,10 @@ ghost use Rattle.std.specs.Prelude.{◌≡◌};
 
 use crate::flusher::flush_for;
 use crate::worker::{FEWEST_LOOKS, Worker};
-use oz_at_work::Shared;
+use oz_at_work::{Loaded, Shared};
 use oz_buffer::{Ledger, Opened};
 use oz_core::Event;
 use oz_flusher::{Flushing, Mounted};
-use oz_locks::Loaded;
 use oz_turn::{Ring, Told};
 use oz_world::{Disk, Gate};
 use std::sync::atomic::{AtomicU64, Ordering};

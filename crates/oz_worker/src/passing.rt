@@ -8,9 +8,8 @@ ghost use Rattle.oz_worker.specs.Workers.{IsOfWorker};
 
 use crate::client::Client;
 use crate::resting::{Care, Sight};
-use oz_at_work::{Did, Shared, what_is_at_work_stays};
+use oz_at_work::{Did, Loaded, Shared, what_is_at_work_stays};
 use oz_buffer::{Ledger, Opened};
-use oz_locks::Loaded;
 use oz_turn::{Ring, Seat};
 use oz_world::{Disk, Gate};
 use std::sync::Wait;

@@ -11,10 +11,10 @@ ghost use Rattle.oz_worker.specs.Served.{IsServed, StaysReady, next_line};
 
 use crate::client::Client;
 use crate::resting::Sight;
-use oz_asker::has_started;
-use oz_at_work::{Did, LineAtWork, Shared, a_label_was_left, what_is_at_work_stays};
+use oz_at_work::{
+    Did, LineAtWork, Loaded, Shared, a_label_was_left, has_started, what_is_at_work_stays,
+};
 use oz_buffer::{Ledger, Opened};
-use oz_locks::Loaded;
 use oz_turn::{Ring, Seat};
 use oz_world::{Disk, Gate};
 use std::alloc::Global;

@@ -3,11 +3,10 @@
 ghost use Rattle.std.specs.Prelude.{◌≡◌};
 
 use crate::job::Job;
-use oz_at_work::Shared;
+use oz_at_work::{Loaded, Shared};
 use oz_buffer::{Ledger, Opened};
 use oz_core::Event;
 use oz_flusher::{Flushing, Mounted};
-use oz_locks::Loaded;
 use oz_turn::{Ring, Told};
 use oz_world::{Disk, Gate};
 use std::sync::atomic::AtomicU64;

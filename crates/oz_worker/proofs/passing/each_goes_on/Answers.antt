@@ -1,7 +1,7 @@
 use Rattle.std.proofs.Common.{◌∙◌}
 use Rattle.std.proofs.lemmas.List.Elements.{All-set, All-weaker}
 use Rattle.oz_turn.specs.Seat.{seen_of}
-use Rattle.oz_underway.specs.laws.Going.{begins_through}
+use Rattle.oz_at_work.specs.Going.{begins_through}
 use Rattle.oz_worker.specs.Served.{IsServed}
 use Rattle.oz_worker.proofs.Dealt.{same_numbers}
 use Rattle.oz_worker.proofs.Served.{served_still}

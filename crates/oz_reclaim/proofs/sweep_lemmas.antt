@@ -3,6 +3,7 @@ pub mod Notes
 pub mod Sets
 pub mod Parts
 pub mod Filed
+pub mod Homes
 pub mod Dates
 pub mod Swept
 pub mod Found

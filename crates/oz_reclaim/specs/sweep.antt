@@ -8,3 +8,4 @@ pub mod Found
 pub mod Changes
 pub mod History
 pub mod Filing
+pub mod Homes

@@ -3,6 +3,7 @@ mod births;
 mod dating;
 mod filing;
 mod found;
+mod homes;
 mod kept;
 mod laws;
 mod marks;

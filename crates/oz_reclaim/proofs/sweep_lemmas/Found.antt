@@ -12,10 +12,12 @@ use Rattle.oz_reclaim.specs.Found.{AreFirstFree, HasFree}
 use Rattle.oz_reclaim.specs.Gathered.{AreAllOf, IsOfKind}
 use Rattle.oz_reclaim.specs.Reach.{is_shown}
 use Rattle.oz_reclaim.specs.Reclaimable.{IsAmongFirst, IsReclaimable}
+use Rattle.oz_reclaim.specs.declared.sweep.homes.Homes.{Homes}
 use Rattle.oz_reclaim.specs.laws.Reach.{among, contains, live_row, reached_is_shown, shown_is_reached}
 use Rattle.oz_reclaim.specs.sweep.Dead.{HasDead, IsDead, IsDeadRow, first_of}
 use Rattle.oz_reclaim.specs.sweep.Dates.{AreDated, Dates, date_in, or_zero}
-use Rattle.oz_reclaim.specs.sweep.Found.{IsBacked, IsPartlyPinned, TellsPartly, is_partly, keyed}
+use Rattle.oz_reclaim.specs.sweep.Found.{IsBacked, IsPartlyPinned, TellsPartly, is_partly, is_partly_at, is_partly_row, keyed}
+use Rattle.oz_reclaim.specs.sweep.Homes.{AreHomes, Keys, has_block, home_of}
 use Rattle.oz_reclaim.specs.sweep.Kept.{IsKept}
 use Rattle.oz_reclaim.proofs.Between.{back, both, front}
 use Rattle.oz_reclaim.proofs.FreeRows.{fails, is_one, none_passes}
@@ -222,9 +224,37 @@ module _ (all : Rows) (namespace : Namespace) (backed : IsBacked all namespace) 
     nothing_pinned : pinned ≡ [] → IsPartlyPinned all namespace pinned → ⊥
     nothing_pinned none it = absurd (omega (arith, (subst (λ (l : List Block). Contains l it.one) none it.pinned_one.1).1))
 
-    pub partly : (kind : ℕ) → kind ≡ 5 → (is : Bool) → TellsPartly (row_of dead) kind pinned test is → (is ≡ true) ↔ IsPartlyPinned all namespace pinned
-    partly kind is_kind is (inl (none, not_so)) = ((λ so. absurd (false≢true (sym not_so ∙ so))), (λ it. absurd (nothing_pinned none it)))
-    partly kind is_kind is (inr (found, are, told_so)) = ((λ so. some_partly kind found are.each (sym told_so ∙ so)), (λ it. told_so ∙ given_partly kind is_kind found are it))
+    -- the row that a pinned block names
+    at_home : (home : Option RowKey) → is_partly_at (row_of dead) test home ≡ true → IsPartlyPinned all namespace pinned
+    at_home None e = absurd (false≢true e)
+    at_home (Some key) e = by (row_of dead key) refl e
+      where
+        by : (o : Option Row) → row_of dead key ≡ o → is_partly_row test o ≡ true → IsPartlyPinned all namespace pinned
+        by None there e = absurd (false≢true e)
+        by (Some row) there e = partly_one key row there e
+
+    given_home : (keys : Keys) → AreHomes dead keys → IsPartlyPinned all namespace pinned → list_any (λ (block : Block). is_partly_at (row_of dead) test (home_of keys block)) pinned ≡ true
+    given_home keys are it =
+        let here = dead_if it.key it.blocks it.row it.unreached in
+        let there = is_there it.key it.blocks here in
+        let pin = list_any-from_Any test it.blocks (it.pinned_one.0.0, it.one, it.pinned_one.0.1, it.pinned_one.0.2, told it.one ∙ among it.one pinned it.pinned_one.1) in
+        let other = list_any-from_Any (λ block. not (test block)) it.blocks (it.free_one.0.0, it.other, it.free_one.0.1, it.free_one.0.2, free_test it.other it.free_one.1) in
+        let home = are it.key it.one (ap (has_block it.one) there ∙ among it.one it.blocks it.pinned_one.0) in
+        list_any-from_Any (λ (block : Block). is_partly_at (row_of dead) test (home_of keys block)) pinned (
+          it.pinned_one.1.0,
+          it.one,
+          it.pinned_one.1.1,
+          it.pinned_one.1.2,
+          ap (is_partly_at (row_of dead) test) home ∙ ap (is_partly_row test) there ∙ both (list_any test it.blocks) _ pin other,
+        )
+
+    pub partly : (kind : ℕ) → kind ≡ 5 → (homes : Homes) → (homes.is_shared ≡ false → AreHomes dead homes.keys.entries) → (is : Bool) → TellsPartly (row_of dead) kind homes pinned test is → (is ≡ true) ↔ IsPartlyPinned all namespace pinned
+    partly kind is_kind homes are is (inl (none, not_so)) = ((λ so. absurd (false≢true (sym not_so ∙ so))), (λ it. absurd (nothing_pinned none it)))
+    partly kind is_kind homes are is (inr (inl (found, all_are, told_so))) = ((λ so. some_partly kind found all_are.each (sym told_so ∙ so)), (λ it. told_so ∙ given_partly kind is_kind found all_are it))
+    partly kind is_kind homes are is (inr (inr (own, told_so))) = (
+      (λ so. let at = in_list (λ (block : Block). is_partly_at (row_of dead) test (home_of homes.keys.entries block)) pinned (sym told_so ∙ so) in at_home (home_of homes.keys.entries at.0) at.2),
+      (λ it. told_so ∙ given_home homes.keys.entries (are own) it),
+    )
 
 -- ---- keys with their dates
 

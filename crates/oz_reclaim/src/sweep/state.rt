@@ -19,6 +19,7 @@ use crate::reaching::add_each;
 use crate::sweep::dating::{date_changes, enter_dates, with_dates};
 use crate::sweep::filing::filings;
 use crate::sweep::found::{Found, is_one_partly_pinned};
+use crate::sweep::homes::{Homes, enter_homes, homes_to_come, leave_homes};
 use crate::sweep::kept::forget_touched;
 use crate::sweep::notes::{Note, keep_later, move_dated, notes_of};
 use oz_fields::{Block, Name, OutOfMemory};
@@ -36,12 +37,14 @@ pub struct Sweep {
     dead: Tables,
     dates: SortedMap<RowKey, u64>,
     sets: SortedMap<RowKey, BTreeSet<Block>>,
+    homes: Homes,
     is_new: bool,
 }
 
 impl Model for Sweep {
-    ghost use Rattle.std.specs.Prelude.{◌≤◌, ◌+◌, vec_len, vec_capacity};
+    ghost use Rattle.std.specs.Prelude.{◌≡◌, ◌≤◌, ◌+◌, false, vec_len, vec_capacity};
     ghost use Rattle.oz_reclaim.specs.sweep.Dates.{AreDated};
+    ghost use Rattle.oz_reclaim.specs.sweep.Homes.{AreHomes};
     ghost use Rattle.oz_reclaim.specs.sweep.View.{SweepView};
 
     ghost Value = { SweepView };
@@ -58,6 +61,7 @@ impl Model for Sweep {
     ghost invariant = { λ s. record {
       room : vec_len s.noted + vec_len s.ready ≤ vec_capacity s.noted;
       dated : AreDated s.dead.rows s.dates.entries;
+      homes : s.homes.is_shared ≡ false → AreHomes s.dead.rows s.homes.keys.entries;
     } };
 }
 
@@ -70,6 +74,7 @@ impl Drop for Sweep {
             dead: _,
             dates: _,
             sets: _,
+            homes: _,
             is_new: _,
         } = self;
     }
@@ -89,6 +94,7 @@ impl Sweep {
             dead: Tables::new(alloc),
             dates: SortedMap::new(alloc),
             sets: SortedMap::new(alloc),
+            homes: Homes::new(alloc),
             is_new: true,
         }
     }
@@ -142,8 +148,11 @@ impl Sweep {
             upto,
             changes.as_slice(),
         )?;
+        let homes = homes_to_come(alloc, &mut self.homes, changes.as_slice())?;
         self.dead.reserve(alloc, changes.len())?;
         self.dates.reserve(alloc, dates.len())?;
+        leave_homes(&mut self.homes, &self.dead, changes.as_slice());
+        enter_homes(&mut self.homes, homes);
         self.dead.enter_all(changes);
         enter_dates(&mut self.dates, dates);
         keep_later(&mut self.noted, upto);
@@ -178,7 +187,14 @@ impl Sweep {
         let start = RowKey::of_deleted(alloc, &none, &none, 0, &none, 0)?;
         let mut pins = BTreeSet::new(alloc);
         add_each(&mut pins, pinned)?;
-        let is_partly_pinned = is_one_partly_pinned(alloc, &self.dead, &start, pinned, &pins)?;
+        let is_partly_pinned = is_one_partly_pinned(
+            alloc,
+            &self.dead,
+            &self.homes,
+            &start,
+            pinned,
+            &pins,
+        )?;
         let keys = first_free(alloc, &self.dead, &start, &pins, most)?;
         let rows = with_dates(alloc, &self.dates, keys)?;
         Ok(Found {

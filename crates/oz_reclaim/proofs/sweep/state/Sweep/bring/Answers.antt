@@ -1,12 +1,16 @@
-use Rattle.std.proofs.Common.{◌≡◌, ℕ, List, Some, is_some, false, refl, sym, ◌∙◌, ap, subst, arith}
+use Rattle.std.proofs.Common.{◌≡◌, ℕ, List, flat_map, Option, None, Some, is_some, cond, false, refl, sym, ◌∙◌, ap, subst, arith}
 use Rattle.oz_reclaim.specs.declared.sweep.dating.DateChange.{DateChange}
+use Rattle.oz_fields.specs.declared.block.Block.{Block}
+use Rattle.oz_reclaim.specs.declared.sweep.homes.Home.{Home}
 use Rattle.oz_reclaim.specs.declared.sweep.notes.Note.{Note}
 use Rattle.oz_reclaim.specs.sweep.Dates.{Dates, IsDate, date_in}
 use Rattle.oz_reclaim.specs.sweep.Filing.{AreDates, AreFilings, Forgets, dates_after}
+use Rattle.oz_reclaim.specs.sweep.Homes.{AreHomes, Enters, Keys, home_of, homes_in, is_left}
 use Rattle.oz_reclaim.specs.sweep.Notes.{up_to}
 use Rattle.oz_reclaim.specs.sweep.Swept.{IsSweptTo}
 use Rattle.oz_reclaim.specs.sweep.View.{SweepView}
 use Rattle.oz_reclaim.proofs.sweep_lemmas.Dates.{both_after, dated_now}
+use Rattle.oz_reclaim.proofs.sweep_lemmas.Homes.{homes_now}
 use Rattle.oz_reclaim.proofs.sweep_lemmas.Sets.{rest_is_right}
 use Rattle.oz_reclaim.proofs.sweep_lemmas.Swept.{other_sets, same_dead, swept_now, swept_to}
 use Rattle.oz_rows.specs.declared.entry.RowEntry.{RowEntry}
@@ -26,6 +30,16 @@ returns-in_err-changes-clause-still c = λ swept.
 
 pub returns-in_err-dates-clause-still : goal.returns-in_err-dates-clause-still
 returns-in_err-dates-clause-still c = λ swept.
+    let all = row_of c.args.durable.now.rows in
+    let old : SweepView = record { noted = c.self.inside.noted.items; ready = c.self.inside.ready.items; dead = c.self.inside.dead.rows; dates = c.self.inside.dates.entries; sets = c.self.inside.sets.entries; is_new = c.self.inside.is_new } in
+    let notes : List Note = up_to c.args.upto c.self.inside.noted.items in
+    let here = subst (λ (s : SweepView). IsSweptTo s c.args.upto all) (sym c.self.view_is) swept in
+    let forgets = subst (λ (l : List Note). Forgets (up_to c.args.upto l) c.self.inside.sets.entries c.forget_touched.new.sets.entries) c.deref.ensures.value c.in_ok-forget_touched.ensures.forgets in
+    let right = c.in_ok-changes.ensures.still (rest_is_right notes all c.self.inside.sets.entries c.forget_touched.new.sets.entries here.sets forgets) in
+    other_sets all notes old c.filings.new.sets.entries here (λ v b untouched. right v b)
+
+pub returns-in_err-homes-clause-still : goal.returns-in_err-homes-clause-still
+returns-in_err-homes-clause-still c = λ swept.
     let all = row_of c.args.durable.now.rows in
     let old : SweepView = record { noted = c.self.inside.noted.items; ready = c.self.inside.ready.items; dead = c.self.inside.dead.rows; dates = c.self.inside.dates.entries; sets = c.self.inside.sets.entries; is_new = c.self.inside.is_new } in
     let notes : List Note = up_to c.args.upto c.self.inside.noted.items in
@@ -69,6 +83,18 @@ invariant_of-self-2 c = record {
       ap is_some (c.enter_dates.ensures key ∙ ap (λ (l : Dates). dates_after others key (date_in l key)) c.in_ok-reserve-2.ensures.entries)
       ∙ both_after all notes old changes others key (date_in old key) (row_of c.self.inside.dead.rows key) are (c.self.invariant.dated key)
       ∙ sym (ap is_some (c.enter_all.ensures.rows key ∙ ap (λ (l : List RowEntry). row_after changes key (row_of l key)) c.in_ok-reserve.ensures.rows));
+  homes = λ own.
+      let changes : List Change = c.in_ok-changes.changes.items in
+      let dead : List RowEntry = c.reserve.new.self.rows in
+      let old : Keys = c.homes_to_come.new.homes.keys.entries in
+      let left : Keys = c.leave_homes.new.homes.keys.entries in
+      let now : Keys = c.enter_homes.new.homes.keys.entries in
+      let entered = c.enter_homes.ensures own in
+      let before = c.self.invariant.homes (sym c.in_ok-homes.ensures.shared ∙ (sym c.leave_homes.ensures.shared ∙ entered.0)) in
+      let are = subst (AreHomes dead) (sym c.in_ok-homes.ensures.keys) (subst (λ (l : List RowEntry). AreHomes l c.self.inside.homes.keys.entries) (sym c.in_ok-reserve.ensures.rows) before) in
+      let leaves = subst (λ (l : List Change). (block : Block) → home_of left block ≡ cond (is_left dead l block) None (home_of old block)) c.as_slice-3.ensures.value c.leave_homes.ensures.keys in
+      let enters = subst (λ (l : List Home). Enters l left now) (c.in_ok-homes.ensures.others ∙ ap (flat_map homes_in) c.as_slice-2.ensures.value) entered.1 in
+      homes_now dead old left now changes are leaves enters c.enter_all.new.self.rows c.enter_all.ensures.rows;
 }
 
 pub returns-clause-swept : goal.returns-clause-swept

@@ -52,7 +52,7 @@ returns-clause-partly c = λ all namespace swept backed.
     let dead : List RowEntry = c.self.inside.dead.rows in
     partly all namespace backed dead (subst (λ (s : SweepView). IsSwept s all) (sym c.self.view_is) swept) c.args.pinned.now (holds c.add_each.new.blocks)
     (λ (block : Block). let none : holds c.new-pins.result block ≡ false = search rules in c.in_ok-add_each.ensures block ∙ ap (λ (t : Bool). t || list_any (is_block block) c.args.pinned.now) none)
-    (kind_of c.in_ok-start.start) (ap kind_of c.in_ok-start.ensures) c.in_ok-is_partly_pinned.is_partly_pinned c.in_ok-is_partly_pinned.ensures
+    (kind_of c.in_ok-start.start) (ap kind_of c.in_ok-start.ensures) c.self.inside.homes c.self.invariant.homes c.in_ok-is_partly_pinned.is_partly_pinned c.in_ok-is_partly_pinned.ensures
 
 pub returns-clause-few : goal.returns-clause-few
 returns-clause-few c =

@@ -8,6 +8,7 @@ ghost use Rattle.oz_fields.specs.declared.block.Block.{Block as AnyBlock};
 ghost use Rattle.oz_reclaim.specs.Gathered.{IsLeast};
 ghost use Rattle.oz_reclaim.specs.Reach.{IsShown, is_shown as shown};
 ghost use Rattle.oz_reclaim.specs.Shown.{IsShownIn, shows};
+ghost use Rattle.oz_reclaim.specs.sweep.Filing.{is_of_live as of_live};
 ghost use Rattle.oz_rows.specs.Rows.{kind_of};
 ghost use Rattle.oz_rows.specs.RowMaps.{is_block};
 ghost use Rattle.oz_sound.specs.Sound.{blocks_of as all_blocks_of};
@@ -90,6 +91,19 @@ fn is_shown<M: RowMap>(alloc: Global, rows: &M, key: &RowKey) -> Result<bool, Ou
 {
     match key {
         RowKey::Key { .. } | RowKey::Open { .. } => Ok(true),
+        _ => is_of_live(alloc, rows, key),
+    }
+}
+
+/// Whether a row is that of a key of a live snapshot.
+pub(crate) fn is_of_live<M: RowMap>(
+    alloc: Global,
+    rows: &M,
+    key: &RowKey,
+) -> Result<bool, OutOfMemory>
+    ensures { IfOk result (λ it. it ≡ of_live (M.rows rows.now) key.now) }
+{
+    match key {
         RowKey::SnapshotKey {
             volume,
             bucket,
@@ -104,7 +118,7 @@ fn is_shown<M: RowMap>(alloc: Global, rows: &M, key: &RowKey) -> Result<bool, Ou
 }
 
 /// Whether a row is there and that of a snapshot that wasn't deleted.
-pub(crate) fn is_live(row: Option<&Row>) -> bool
+fn is_live(row: Option<&Row>) -> bool
     ensures { result ≡ live (option_copied row.entry) }
 {
     match row {

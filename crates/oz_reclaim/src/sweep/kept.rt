@@ -4,12 +4,12 @@ ghost use Rattle.std.specs.Prelude.{◌≡◌, ◌||◌, ◌↔◌, true, OnOk, 
 ghost use Rattle.std.specs.List.{list_any};
 ghost use Rattle.oz_effects.specs.changes.Steps.{holds as does_hold};
 ghost use Rattle.oz_fields.specs.declared.block.Block.{Block as AnyBlock};
-ghost use Rattle.oz_reclaim.specs.sweep.Filing.{Forgets, ForgetsOf, Loses, is_of_live as of_live, keeps};
+ghost use Rattle.oz_reclaim.specs.sweep.Filing.{Forgets, ForgetsOf, Loses, keeps};
 ghost use Rattle.oz_reclaim.specs.sweep.Kept.{AreKept, AreRight, IsKept, set_of};
 ghost use Rattle.oz_reclaim.specs.sweep.Notes.{up_to};
 ghost use Rattle.oz_rows.specs.RowMaps.{row_of};
 
-use crate::reaching::{add_row, is_live};
+use crate::reaching::{add_row, is_of_live};
 use crate::sweep::notes::Note;
 use oz_effects::{Part, RowRef, first_key, part_rows};
 use oz_fields::{Block, Name, OutOfMemory};
@@ -96,24 +96,6 @@ fn add_entry(
         return add_row(blocks, entry.row);
     }
     Ok(())
-}
-
-/// Whether a row is that of a key of a live snapshot.
-fn is_of_live(alloc: Global, durable: &Tables, key: &RowKey) -> Result<bool, OutOfMemory>
-    ensures { IfOk result (λ it. it ≡ of_live (row_of durable.now.rows) key.now) }
-{
-    match key {
-        RowKey::SnapshotKey {
-            volume,
-            bucket,
-            snapshot,
-            ..
-        } => {
-            let of_snapshot = RowKey::of_snapshot(alloc, volume, bucket, *snapshot)?;
-            Ok(is_live(durable.get(&of_snapshot)))
-        }
-        _ => Ok(false),
-    }
 }
 
 /// Lets the sets go that were read of buckets of whose snapshots there are notes up to this index.

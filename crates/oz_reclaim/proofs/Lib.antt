@@ -4,6 +4,7 @@ pub mod OneKind
 pub mod ShownBlocks
 pub mod FreeRows
 pub mod Removing
+pub mod KnownIds
 pub mod Touched
 pub mod Alike
 pub mod Stripes

@@ -16,6 +16,7 @@ pub mod Firsts
 pub mod Shown
 pub mod Found
 pub mod Going
+pub mod Known
 pub mod Marks
 pub mod Makes
 pub mod Numbered

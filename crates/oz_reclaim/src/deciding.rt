@@ -1,6 +1,6 @@
 //! The decision on a request of the manager's own.
 
-ghost use Rattle.std.specs.Prelude.{◌≡◌, None, IfOk};
+ghost use Rattle.std.specs.Prelude.{◌≡◌, None, IsTrue, IfOk};
 ghost use Rattle.oz_cache.specs.Cache.{newest};
 ghost use Rattle.oz_decision.specs.Replies.{IsReply};
 ghost use Rattle.oz_reclaim.specs.Decisions.{IsServed};
@@ -17,7 +17,7 @@ use crate::listing::list_snapshots;
 use crate::making::create_snapshot;
 use crate::marking::delete_snapshot;
 use crate::moving::move_deleted;
-use crate::purging::purge;
+use crate::purging::{none_reached, purge};
 use oz_cache::Cached;
 use oz_decision::Decision;
 use oz_fields::OutOfMemory;
@@ -33,7 +33,7 @@ pub fn decide(alloc: Global, cached: &Cached, request: &Request) -> Result<Decis
     ensures { IfOk result (IsServed (newest cached.now) request.now) }
 {
     cached.durable().rows_are_in_order();
-    let decision = serve(alloc, cached, request)?;
+    let decision = serve(alloc, cached, request, &[])?;
     Ok(decision)
 }
 
@@ -51,8 +51,16 @@ pub fn decide_purge(
     ensures { IfOk result (IsServed (newest cached.now) request.now) }
 {
     cached.durable().rows_are_in_order();
-    let decision = purge_named(alloc, cached, request, known)?;
+    let decision = serve(alloc, cached, request, known)?;
     Ok(decision)
+}
+
+/// Whether no deleted row with one of these local ids has a block in reach. It goes through all keys and all deleted rows.
+pub fn are_unreached(alloc: Global, cached: &Cached, known: &[u64]) -> Result<bool, OutOfMemory>
+    ensures { IfOk result (λ are. IsTrue are → AreUnreached (newest cached.now) known.now) }
+{
+    let are = none_reached(alloc, cached, known)?;
+    Ok(are)
 }
 
 /// Decides a request on snapshots over the newest rows. It changes nothing.
@@ -72,40 +80,14 @@ pub fn decide_snapshot(
     Ok(decision)
 }
 
-fn serve<M: RowMap>(alloc: Global, rows: &M, request: &Request) -> Result<Decision, OutOfMemory>
-    requires { family_of request.now ≡ Service }
-    ensures done { IfOk result (λ decision. decision.reply ≡ Reply.Done) }
-    ensures exact { IfOk result (λ decision. AreServed (M.rows rows.now) request.now decision.changes) }
-    ensures operations { IfOk result (λ decision.
-        decision.bytes ≡ batch_bytes (operations_for request.now decision.changes)) }
-{
-    match request {
-        Request::Purge {
-            volume,
-            rows: named,
-        } => purge(alloc, rows, volume, named.items(), &[]),
-        Request::MoveDeleted {
-            volume,
-            bucket,
-            number,
-            to,
-        } => move_deleted(alloc, rows, volume, bucket, *number, *to),
-        Request::PurgeSnapshot {
-            volume,
-            bucket,
-            number,
-        } => purge_snapshot(alloc, rows, volume, bucket, *number),
-        _ => unreachable!(),
-    }
-}
-
-fn purge_named<M: RowMap>(
+/// Decides a request of the manager's own. Of rows with the known local ids no block is in reach.
+fn serve<M: RowMap>(
     alloc: Global,
     rows: &M,
     request: &Request,
     known: &[u64],
 ) -> Result<Decision, OutOfMemory>
-    requires purge { IsPurge request.now }
+    requires service { family_of request.now ≡ Service }
     requires known { AreUnreached (M.rows rows.now) known.now }
     ensures done { IfOk result (λ decision. decision.reply ≡ Reply.Done) }
     ensures exact { IfOk result (λ decision. AreServed (M.rows rows.now) request.now decision.changes) }
@@ -117,6 +99,17 @@ fn purge_named<M: RowMap>(
             volume,
             rows: named,
         } => purge(alloc, rows, volume, named.items(), known),
+        Request::MoveDeleted {
+            volume,
+            bucket,
+            number,
+            to,
+        } => move_deleted(alloc, rows, volume, bucket, *number, *to),
+        Request::PurgeSnapshot {
+            volume,
+            bucket,
+            number,
+        } => purge_snapshot(alloc, rows, volume, bucket, *number),
         _ => unreachable!(),
     }
 }

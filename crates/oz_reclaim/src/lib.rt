@@ -18,7 +18,7 @@ mod reaching;
 mod sweep;
 mod working;
 
-pub use deciding::{decide, decide_purge, decide_snapshot};
+pub use deciding::{are_unreached, decide, decide_purge, decide_snapshot};
 pub use finding::{MOST_PURGED, reclaimable};
 pub use sweep::{Found, Note, Sweep, changes_are_noted, dates_are_exact, what_is_noted_may_change};
 pub use working::chain_work;

@@ -6,6 +6,7 @@ ghost use Rattle.oz_decision.specs.Drafts.{row_by_row};
 ghost use Rattle.oz_effects.specs.changes.Steps.{holds as does_hold};
 ghost use Rattle.oz_reclaim.specs.Found.{HasFree};
 ghost use Rattle.oz_reclaim.specs.Going.{Tells, Goes, IsAdded, AreKnown};
+ghost use Rattle.oz_reclaim.specs.Known.{IsFreeIfKnown, IsOfKnown};
 ghost use Rattle.oz_reclaim.specs.Service.{ArePurged, AreUnreached, key_named};
 ghost use Rattle.oz_rows.specs.declared.key.RowKey.{RowKey as AnyKey};
 ghost use Rattle.oz_rows.specs.Operations.{batch_bytes};
@@ -13,8 +14,10 @@ ghost use Rattle.oz_rows.specs.RowMaps.{gone, is_same};
 ghost use Rattle.oz_rows.specs.Rows.{KeyFits};
 
 use crate::finding::is_free;
+use crate::gathering::rows_of_kind;
 use crate::reaching::shown_blocks;
 use oz_decision::{Decision, Draft};
+use oz_effects::RowRef;
 use oz_fields::{Block, GREATEST_BLOCK_NUMBER, Name, OutOfMemory, TryClone};
 use oz_names::{bucket_name, key_name, volume_name};
 use oz_requests::{PurgeRow, Reply};
@@ -68,6 +71,41 @@ fn are_known(named: &[PurgeRow], known: &[u64]) -> bool
         }
     }
     true
+}
+
+/// Whether no deleted row with one of these local ids has a block in reach. It goes through all keys and all deleted rows.
+pub(crate) fn none_reached<M: RowMap>(
+    alloc: Global,
+    rows: &M,
+    known: &[u64],
+) -> Result<bool, OutOfMemory>
+    ensures { IfOk result (λ none. IsTrue none → AreUnreached (M.rows rows.now) known.now) }
+{
+    let shown = shown_blocks(alloc, rows)?;
+    let none = Name::copy(alloc, b"")?;
+    let start = RowKey::of_deleted(alloc, &none, &none, 0, &none, 0)?;
+    let found = rows_of_kind(alloc, rows, &start)?;
+    Ok(are_free(found.as_slice(), known, &shown))
+}
+
+fn are_free(rows: &[RowRef], known: &[u64], shown: &BTreeSet<Block>) -> bool
+    ensures { IsTrue result → AllByRecursion (IsFreeIfKnown known.now (does_hold shown.now)) rows.now }
+{
+    for entry in rows {
+        if is_of_known(entry.key, known) && !is_free(entry.row, shown) {
+            return false;
+        }
+    }
+    true
+}
+
+fn is_of_known(key: &RowKey, known: &[u64]) -> bool
+    ensures { IsTrue result ↔ IsOfKnown known.now key.now }
+{
+    match key {
+        RowKey::Deleted { local, .. } => known.contains(local),
+        _ => false,
+    }
 }
 
 /// The keys of the named rows that go.

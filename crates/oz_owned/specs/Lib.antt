@@ -1,5 +1,6 @@
 pub mod Own
 pub mod Front
+pub mod Stood
 pub mod Left
 pub mod Ordered
 pub mod Swept

@@ -5,9 +5,14 @@ pub mod Homes
 pub mod Owned
 pub mod Staying
 pub mod Front
+pub mod Longer
+pub mod Written
+pub mod Tables
+pub mod Based
 pub mod Left
 pub mod Swept
 pub mod Numbered
 pub mod Purged
 pub mod Gone
 pub mod Drained
+pub mod Standing

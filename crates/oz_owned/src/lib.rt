@@ -1,10 +1,11 @@
-//! Whose own a block is, that garbage stays garbage, and when a drain is done: laws alone.
+//! Whose own a block is, that garbage stays garbage, what a stripe's tables are, and when a drain is done: laws alone.
 #![tactic(auto)]
 
 mod drained;
 mod front;
 mod garbage;
 mod owned;
+mod stood;
 
 pub use drained::{an_ordered_log_is_numbered, what_is_drained, what_is_swept_is_logged};
 pub use front::each_index_has_a_front;
@@ -16,4 +17,8 @@ pub use owned::{
     a_used_block_is_the_own_of_a_stripe, each_used_block_has_a_home_or_is_logged,
     what_a_purge_may_take_is_logged, what_a_share_reaches_is_its_stripes_own,
     what_has_a_home_was_used, what_is_reached_of_a_stripes_own_is_in_its_share,
+};
+pub use stood::{
+    brought_tables_stand, rows_that_stood_are_one, tables_stand_as_the_story_goes_on,
+    what_tables_stand_for,
 };

@@ -107,13 +107,13 @@ module _ (opening : Opening) (most : ℕ) where
 -- ---- what counts
 
 module _ (most : ℕ) where
-  step_low : (before : List Event) (namespace : Namespace) (kind : EventKind) → ((index : ℕ) → decided_index kind ≡ Some index → index ≤ most)
+  pub step_low : (before : List Event) (namespace : Namespace) (kind : EventKind) → ((index : ℕ) → decided_index kind ≡ Some index → index ≤ most)
       → namespace_step (λ index. nat_le index most) before namespace kind ≡ namespace_step (λ index. true) before namespace kind
   step_low before namespace (Decide id index reply batch) low =
       ap (λ (t : Bool). cond t (namespace_after (pending id before) namespace reply) namespace) (le-leb index most (low index refl))
   step_low before namespace kind low = refl
 
-  step_high : (before : List Event) (namespace : Namespace) (kind : EventKind) → ((index : ℕ) → decided_index kind ≡ Some index → most < index)
+  pub step_high : (before : List Event) (namespace : Namespace) (kind : EventKind) → ((index : ℕ) → decided_index kind ≡ Some index → most < index)
       → namespace_step (λ index. nat_le index most) before namespace kind ≡ namespace
   step_high before namespace (Decide id index reply batch) high =
       ap (λ (t : Bool). cond t (namespace_after (pending id before) namespace reply) namespace) (lt-leb index most (high index refl))
@@ -142,7 +142,7 @@ module _ (most : ℕ) where
       ∙ from_high behind front (namespace_from (λ index. nat_le index most) [] opening.namespace front) high
       ∙ from_low front [] opening.namespace low
 
-  block_low : (kind : EventKind) → ((index : ℕ) → decided_index kind ≡ Some index → index ≤ most) → granted_block kind ≡ kept_block most kind
+  pub block_low : (kind : EventKind) → ((index : ℕ) → decided_index kind ≡ Some index → index ≤ most) → granted_block kind ≡ kept_block most kind
   block_low (Decide id index reply batch) low = sym (ap (λ (t : Bool). cond t (block_of_reply reply) None) (le-leb index most (low index refl)))
   block_low kind low = refl
 
@@ -172,7 +172,7 @@ module _ (opening : Opening) (most : ℕ) where
   low_last : (story : List Event) → AllByRecursion (UpTo most) story → opening.last_index ≤ most → last_index opening story ≤ most
   low_last story low le = low_from story [] low le
 
-  over_at : (seat : ℕ) (kind : EventKind) (index : ℕ) → decided_index kind ≡ Some index → (story : List Event) → IsLegal opening story
+  pub over_at : (seat : ℕ) (kind : EventKind) (index : ℕ) → decided_index kind ≡ Some index → (story : List Event) → IsLegal opening story
       → Contains story (record { seat = seat; kind = kind }) → index ≤ last_index opening story
   over_at seat (Decide id given reply batch) index is story legal there =
       subst (λ n. n ≤ last_index opening story) (same_Some given index is) (decided_within opening story legal seat id given reply batch there)

@@ -59,7 +59,7 @@ use Rattle.oz_owned.specs.laws.Named.{named_reached}
 
 -- ---- what was handed out stays so
 
-handed_append : (stripe : ℕ) (before more : List Event) → handed_out stripe (before ++ more) ≡ handed_out stripe before ++ handed_out stripe more
+pub handed_append : (stripe : ℕ) (before more : List Event) → handed_out stripe (before ++ more) ≡ handed_out stripe before ++ handed_out stripe more
 handed_append stripe before more =
     ap (all_told granted_block) (filter-append (λ (event : Event). event.seat == stripe_seat stripe) before more)
     ∙ filter_map-append (λ (event : Event). granted_block event.kind) (mine (stripe_seat stripe) before) (mine (stripe_seat stripe) more)

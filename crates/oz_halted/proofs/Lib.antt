@@ -5,3 +5,4 @@ pub mod Deleting
 pub mod Missing
 pub mod Shown
 pub mod leaving_lemmas
+pub mod Entries

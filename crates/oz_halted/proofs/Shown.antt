@@ -43,7 +43,7 @@ some_there : (o : Option Container) (container : Container) → o ≡ Some conta
 some_there o container e = subst IsSome (sym e) refl
 
 -- its members, whatever an opening with these datanodes and containers may be
-members_are : members opening [] 1 ≡ 0 ∷ 1 ∷ 2 ∷ []
+pub members_are : members opening [] 1 ≡ 0 ∷ 1 ∷ 2 ∷ []
 members_are = ap (λ (o : Option Container). option_map_or (λ (container : Container). members_of 3 container.pipeline) o []) container_is
 
 no_bucket : (volume name : List ℕ) → bucket_of nothing volume name ≡ None

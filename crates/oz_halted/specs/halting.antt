@@ -1,3 +1,4 @@
 pub mod Story
 pub mod Leaves
+pub mod Example
 pub mod laws

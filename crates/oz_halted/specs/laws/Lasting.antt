@@ -25,7 +25,8 @@ use Rattle.oz_halted.specs.Further.{pieces_on}
 
 -- ---- fronts
 
-pub content_lasts : (opening : Opening) (bytes : OpeningBytes) (script : Script) (story : List Event) → IsLegal opening story → FitsFrom opening bytes script [] story → (place : ℕ) (block : Block) (content : List ℕ)
+pub content_lasts : (opening : Opening) (bytes : OpeningBytes) (script : Script) (story : List Event) → IsLegal opening story
+    → FitsFrom opening bytes script [] story → (place : ℕ) (block : Block) (content : List ℕ)
     → HasContent opening bytes script (take place story) block content → HasContent opening bytes script story block content
 content_lasts opening bytes script story legal fits place block content (inl had) = inl had
 content_lasts opening bytes script story legal fits place block content (inr of) = inr (record {
@@ -39,7 +40,8 @@ content_lasts opening bytes script story legal fits place block content (inr of)
 })
 
 -- the same of a front by its events
-pub content_behind : (opening : Opening) (bytes : OpeningBytes) (script : Script) (before behind : List Event) → IsLegal opening (before ++ behind) → FitsFrom opening bytes script [] (before ++ behind) → (block : Block) (content : List ℕ)
+pub content_behind : (opening : Opening) (bytes : OpeningBytes) (script : Script) (before behind : List Event) → IsLegal opening (before ++ behind)
+    → FitsFrom opening bytes script [] (before ++ behind) → (block : Block) (content : List ℕ)
     → HasContent opening bytes script before block content → HasContent opening bytes script (before ++ behind) block content
 content_behind opening bytes script before behind legal fits block content has =
     content_lasts opening bytes script (before ++ behind) legal fits (length before) block content
@@ -48,7 +50,10 @@ content_behind opening bytes script before behind legal fits block content has =
 -- ---- what two openings have alike
 
 module _ (dn : ℕ) (block : Block) where
-  held_in : (o : Option NodeOpening) → option_map_or (has_piece block) o false ≡ option_map_or (λ (held : List Piece). list_any (λ (piece : Piece). is_block block piece.block) held) (option_map (λ (node : NodeOpening). node.held) o) false
+  held_in : (o : Option NodeOpening)
+      → option_map_or (has_piece block) o false
+      ≡ option_map_or (λ (held : List Piece). list_any (λ (piece : Piece). is_block block piece.block) held)
+          (option_map (λ (node : NodeOpening). node.held) o) false
   held_in None = refl
   held_in (Some node) = refl
 

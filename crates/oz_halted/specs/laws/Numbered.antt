@@ -1,5 +1,6 @@
 -- In a legal story no two transactions of the log have one number.
-use Rattle.std.proofs.Common.{◌≡◌, ⊎_elim, ◌⊎◌, ℕ, ◌+◌, ◌≤◌, List, [], ◌∷◌, ◌++◌, map, Option, None, Some, Contains, inl, inr, sym, ◌∙◌, ap, subst, append-nil, arith}
+use Rattle.std.proofs.Common.{◌≡◌, ⊎_elim, ◌⊎◌, ℕ, ◌+◌, ◌≤◌, List, [], ◌∷◌, ◌++◌, map, Option, None, Some, Contains}
+use Rattle.std.proofs.Common.{inl, inr, sym, ◌∙◌, ap, subst, append-nil, arith}
 use Rattle.std.proofs.lemmas.List.Elements.{filter_map-append, Contains-append_cases, Contains-append_left, Contains-append_right}
 use Rattle.std.proofs.lemmas.List.Sums.{fold_push}
 use Rattle.std.specs.List.{cons_option}
@@ -38,11 +39,13 @@ next_log opening before seat (Log number container locals) enabled = record {
 }
 next_log opening before seat kind enabled = record { rises = omega arith; number = λ txn is. absurd cc; last = λ txn is. absurd cc }
 
-last_next : (opening : Opening) (before : List Event) (event : Event) → last_txn opening (before ++ event ∷ []) ≡ newer (logged_number event.kind) (last_txn opening before)
+last_next : (opening : Opening) (before : List Event) (event : Event)
+    → last_txn opening (before ++ event ∷ []) ≡ newer (logged_number event.kind) (last_txn opening before)
 last_next opening before event = fold_push (λ told (event : Event). newer (logged_number event.kind) told) opening.last_txn before event
 
 -- the log after an event has what it had, and what that logs
-logs_next : (opening : Opening) (before : List Event) (event : Event) (txn : Txn) → Contains (logs opening (before ++ event ∷ [])) txn → Contains (logs opening before) txn ⊎ (logged event.kind ≡ Some txn)
+logs_next : (opening : Opening) (before : List Event) (event : Event) (txn : Txn) → Contains (logs opening (before ++ event ∷ [])) txn
+    → Contains (logs opening before) txn ⊎ (logged event.kind ≡ Some txn)
 logs_next opening before event txn there =
     let all = map (λ (unretired : Unretired). unretired.txn) opening.unretired in
     ⊎_elim
@@ -58,7 +61,8 @@ logs_next opening before event txn there =
     by None among = absurd (in_none txn among)
     by (Some first) among = ap Some (in_one first txn among)
 
-numbered_next : (opening : Opening) (before : List Event) (event : Event) → IsNextLog opening before event.kind → AreNumbered opening before → AreNumbered opening (before ++ event ∷ [])
+numbered_next : (opening : Opening) (before : List Event) (event : Event) → IsNextLog opening before event.kind → AreNumbered opening before
+    → AreNumbered opening (before ++ event ∷ [])
 numbered_next opening before event next old = record {
   below = λ txn there. ⊎_elim
       (λ was. let le = old.below txn was in omega (arith, le, next.rises, last_next opening before event))
@@ -76,7 +80,8 @@ numbered_next opening before event next old = record {
       (logs_next opening before event txn there);
 }
 
-numbered_from : (opening : Opening) (rest before : List Event) → IsLegalFrom opening before rest → AreNumbered opening before → AreNumbered opening (before ++ rest)
+numbered_from : (opening : Opening) (rest before : List Event) → IsLegalFrom opening before rest → AreNumbered opening before
+    → AreNumbered opening (before ++ rest)
 numbered_from opening [] before legal old = subst (AreNumbered opening) (sym (append-nil before)) old
 numbered_from opening (event ∷ rest) before legal old =
     let next = next_log opening before event.seat event.kind (legal_first opening before event rest legal) in
@@ -91,7 +96,8 @@ are_numbered opening story numbered legal = numbered_from opening story [] legal
   apart = λ txn other there also same.
       let one = txn_of opening.unretired txn (at_opening txn there) in
       let two = txn_of opening.unretired other (at_opening other also) in
-      let equal = numbered.apart one.unretired two.unretired one.there two.there (ap (λ (t : Txn). t.number) one.same ∙ same ∙ sym (ap (λ (t : Txn). t.number) two.same)) in
+      let equal = numbered.apart one.unretired two.unretired one.there two.there (ap (λ (t : Txn). t.number) one.same ∙ same
+      ∙ sym (ap (λ (t : Txn). t.number) two.same)) in
       sym one.same ∙ ap (λ (u : Unretired). u.txn) equal ∙ two.same;
 })
   where

@@ -1,5 +1,6 @@
 -- A node that halted changes nothing on its disks any more.
-use Rattle.std.proofs.Common.{◌≡◌, ℕ, ◌==◌, Bool, true, false, ◌&&◌, ◌||◌, List, [], ◌∷◌, ◌++◌, fold, Option, None, Some, cond, is_none, refl, sym, ◌∙◌, ap, subst, append-nil}
+use Rattle.std.proofs.Common.{◌≡◌, ℕ, ◌==◌, Bool, true, false, ◌&&◌, ◌||◌, List, [], ◌∷◌, ◌++◌, fold, Option, None}
+use Rattle.std.proofs.Common.{Some, cond, is_none, refl, sym, ◌∙◌, ap, subst, append-nil}
 use mathlib.Core.Bool.{false≢true}
 use Rattle.std.proofs.lemmas.Bool.{eqb-true, eq-eqb, and_parts}
 use Rattle.std.proofs.lemmas.List.Sums.{fold_push}
@@ -26,18 +27,22 @@ use Rattle.oz_kept.specs.laws.Places.{moved_over, legal_first, legal_rest}
 
 -- ---- a story that goes on by one event
 
-pub legal_on : (opening : Opening) (start story : List Event) (event : Event) → IsLegalFrom opening start story → IsEnabled opening (start ++ story) event → IsLegalFrom opening start (story ++ event ∷ [])
+pub legal_on : (opening : Opening) (start story : List Event) (event : Event) → IsLegalFrom opening start story
+    → IsEnabled opening (start ++ story) event → IsLegalFrom opening start (story ++ event ∷ [])
 unfolding IsLegalFrom
 legal_on opening start [] event legal enabled = (subst (λ (l : List Event). IsEnabled opening l event) (append-nil start) enabled, tt)
 legal_on opening start (first ∷ story) event legal enabled =
-    (legal.0, legal_on opening (start ++ first ∷ []) story event legal.1 (subst (λ (l : List Event). IsEnabled opening l event) (sym (moved_over start story first)) enabled))
+    (legal.0, legal_on opening (start ++ first ∷ []) story event legal.1
+    (subst (λ (l : List Event). IsEnabled opening l event) (sym (moved_over start story first)) enabled))
 
-pub fits_on : (opening : Opening) (bytes : OpeningBytes) (script : Script) (start story : List Event) (event : Event) → FitsFrom opening bytes script start story → EventFits opening bytes script (start ++ story) event.kind
+pub fits_on : (opening : Opening) (bytes : OpeningBytes) (script : Script) (start story : List Event) (event : Event)
+    → FitsFrom opening bytes script start story → EventFits opening bytes script (start ++ story) event.kind
     → FitsFrom opening bytes script start (story ++ event ∷ [])
 unfolding FitsFrom
 fits_on opening bytes script start [] event fits here = (subst (λ (l : List Event). EventFits opening bytes script l event.kind) (append-nil start) here, tt)
 fits_on opening bytes script start (first ∷ story) event fits here =
-    (fits.0, fits_on opening bytes script (start ++ first ∷ []) story event fits.1 (subst (λ (l : List Event). EventFits opening bytes script l event.kind) (sym (moved_over start story first)) here))
+    (fits.0, fits_on opening bytes script (start ++ first ∷ []) story event fits.1
+    (subst (λ (l : List Event). EventFits opening bytes script l event.kind) (sym (moved_over start story first)) here))
 
 -- ---- a node that halted stays so
 
@@ -55,7 +60,8 @@ itself (Datanode number) = eq-eqb number number refl
 pub halted_by : (node : Node) (before : List Event) (seat count : ℕ) → IsHalted node (before ++ record { seat = seat; kind = Halt node count } ∷ [])
 unfolding IsHalted
 halted_by node before seat count =
-    (count, halt_next node before (record { seat = seat; kind = Halt node count }) ∙ ap (λ (t : Bool). newer (cond t (Some (Some count)) None) (halt_of node before)) (itself node))
+    (count, halt_next node before (record { seat = seat; kind = Halt node count })
+    ∙ ap (λ (t : Bool). newer (cond t (Some (Some count)) None) (halt_of node before)) (itself node))
 
 kind_still : (node : Node) (kind : EventKind) (o : Option ℕ) → ((count : ℕ) × (o ≡ Some count)) → (count : ℕ) × (newer (halt_count node kind) o ≡ Some count)
 kind_still node (Halt other count) o halted = by (is_node node other)
@@ -97,7 +103,8 @@ record KindRests (kind : EventKind) : Type 0 where
   containers : (all : Containers) → containers_after all kind ≡ all
   logs : logged kind ≡ None
 
-kind_rests : (opening : Opening) (before : List Event) (seat : ℕ) (kind : EventKind) → KindIsEnabled opening before seat kind → IsHalted Scm before → KindRests kind
+kind_rests : (opening : Opening) (before : List Event) (seat : ℕ) (kind : EventKind) → KindIsEnabled opening before seat kind → IsHalted Scm before
+    → KindRests kind
 kind_rests opening before seat (Grant stripe container pipeline first count) enabled halted = absurd (unhalted_not Scm before halted enabled.unhalted)
 kind_rests opening before seat (Closed container state) enabled halted = absurd (unhalted_not Scm before halted enabled.unhalted)
 kind_rests opening before seat (Log number container locals) enabled halted = absurd (unhalted_not Scm before halted enabled.unhalted)
@@ -117,7 +124,8 @@ scm_rests opening (event ∷ story) before legal halted =
 -- ---- a datanode
 
 module _ (opening : Opening) (dn : ℕ) (block : Block) where
-  gets_nothing : (before : List Event) (seat : ℕ) (kind : EventKind) → KindIsEnabled opening before seat kind → IsHalted (Datanode dn) before → puts_or_copies dn block kind ≡ false
+  gets_nothing : (before : List Event) (seat : ℕ) (kind : EventKind) → KindIsEnabled opening before seat kind → IsHalted (Datanode dn) before
+      → puts_or_copies dn block kind ≡ false
   gets_nothing before seat (Put other put id first count) enabled halted = by (other == dn && is_block block put) refl
     where
       by : (t : Bool) → (other == dn && is_block block put) ≡ t → t ≡ false
@@ -134,31 +142,37 @@ module _ (opening : Opening) (dn : ℕ) (block : Block) where
       by false e = refl
   gets_nothing before seat kind enabled halted = refl
 
-  pub node_rests : (story before : List Event) → IsLegalFrom opening before story → IsHalted (Datanode dn) before → has_event (puts_or_copies dn block) story ≡ false
+  pub node_rests : (story before : List Event) → IsLegalFrom opening before story → IsHalted (Datanode dn) before
+      → has_event (puts_or_copies dn block) story ≡ false
   node_rests [] before legal halted = refl
   node_rests (event ∷ story) before legal halted =
-      ap (λ (t : Bool). t || has_event (puts_or_copies dn block) story) (gets_nothing before event.seat event.kind (legal_first opening before event story legal) halted)
+      ap (λ (t : Bool). t || has_event (puts_or_copies dn block) story)
+          (gets_nothing before event.seat event.kind (legal_first opening before event story legal) halted)
       ∙ node_rests story (before ++ event ∷ []) (legal_rest opening before event story legal) (halted_still (Datanode dn) before event halted)
 
 -- its bytes are those that it had, behind events that give it none
 module _ (script : Script) (block : Block) (dn : ℕ) (content : List ℕ) where
   had_before : (kind : EventKind) (having : Having) → puts_or_copies dn block kind ≡ false → HavingAfter script block kind having dn content → having dn content
-  had_before (Put other put id first count) having none has = subst (λ (t : Bool). MatchBool t (ArePut script id first count content) (having dn content)) none has
+  had_before (Put other put id first count) having none has = subst
+      (λ (t : Bool). MatchBool t (ArePut script id first count content) (having dn content)) none has
   had_before (Copy source target copied) having none has = subst (λ (t : Bool). MatchBool t (having source content) (having dn content)) none has
   had_before kind having none has = has
 
-  pub had_still : (story : List Event) (having : Having) → has_event (puts_or_copies dn block) story ≡ false → HavingFrom script block having story dn content → having dn content
+  pub had_still : (story : List Event) (having : Having) → has_event (puts_or_copies dn block) story ≡ false
+      → HavingFrom script block having story dn content → having dn content
   unfolding HavingFrom
   had_still [] having none has = has
   had_still (event ∷ story) having none has = by (puts_or_copies dn block event.kind) refl none (had_still story (HavingAfter script block event.kind having))
     where
       by : (t : Bool) → puts_or_copies dn block event.kind ≡ t → (t || has_event (puts_or_copies dn block) story) ≡ false
-          → (has_event (puts_or_copies dn block) story ≡ false → HavingFrom script block (HavingAfter script block event.kind having) story dn content → HavingAfter script block event.kind having dn content) → having dn content
+          → (has_event (puts_or_copies dn block) story ≡ false → HavingFrom script block (HavingAfter script block event.kind having) story dn content
+          → HavingAfter script block event.kind having dn content) → having dn content
       by true e whole later = absurd (false≢true (sym whole))
       by false e whole later = had_before event.kind having e (later whole has)
 
   -- what is had behind two parts is what the second makes of the first
-  pub had_in_parts : (one other : List Event) (having : Having) → HavingFrom script block having (one ++ other) dn content → HavingFrom script block (HavingFrom script block having one) other dn content
+  pub had_in_parts : (one other : List Event) (having : Having) → HavingFrom script block having (one ++ other) dn content
+      → HavingFrom script block (HavingFrom script block having one) other dn content
   unfolding HavingFrom
   had_in_parts [] other having has = has
   had_in_parts (event ∷ one) other having has = had_in_parts one other (HavingAfter script block event.kind having) has

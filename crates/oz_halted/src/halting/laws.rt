@@ -22,7 +22,7 @@ ghost use Rattle.oz_core.specs.Nodes.{holds, is_open};
 ghost use Rattle.oz_core.specs.Scm.{is_logged, logged};
 ghost use Rattle.oz_core.specs.Seats.{datanode_seat};
 ghost use Rattle.oz_kept.specs.Held.{LinesAreApart};
-ghost use Rattle.oz_kept.specs.reopened.Left.{lengths_of};
+ghost use Rattle.oz_kept.specs.reopened.Left.{IsLeftByNode, lengths_of};
 ghost use Rattle.oz_halted.specs.Further.{MayBeLeftByNode};
 ghost use Rattle.oz_halted.specs.Missing.{LogIsNumbered};
 ghost use Rattle.oz_halted.specs.halting.Leaves.{GivenBytes, GivesContents, IsOpenedOf, MayHaveEntry};
@@ -108,6 +108,17 @@ pub fn what_was_to_come_still_is()
         LogIsNumbered opening → IsLegal opening before → Fits opening bytes script before → IsEnabled opening before event →
         EventFits opening bytes script before event.kind → event.seat ≢ datanode_seat dn →
         WasToApply opening before dn txn → WasToApply opening (before ++ event ∷ []) dn txn }
+{}
+
+/// What is left of a datanode at rest is what the story leaves: its journal stands for what the story makes of it, and its
+/// slots give the content of each block.
+pub fn what_rests_is_left()
+    ensures { (opening : AnyOpening) (bytes : OpeningBytes) (script : AnyScript) (story : List AnyEvent) (dn : ℕ) (was : Node)
+        (given : GivenBytes) (left : AnyOpening) (gives : OpeningBytes) →
+        IsCoherent opening bytes → LinesAreApart script → LogIsNumbered opening → IsLegal opening story →
+        Fits opening bytes script story → IsOfStory opening story dn was →
+        GivesContents opening bytes script story was given → IsOpenedOf left gives dn was given →
+        IsLeftByNode opening bytes script story dn left gives }
 {}
 
 /// What is left of a datanode that halted is what the law allows, where its journal stands for what the story before the Halt

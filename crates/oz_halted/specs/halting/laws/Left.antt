@@ -1,5 +1,7 @@
 -- What a datanode that halted leaves is what the law allows.
-use Rattle.std.proofs.Common.{◌≡◌, ◌⊎◌, ℕ, ◌==◌, Bool, true, false, ◌&&◌, List, [], ◌∷◌, ◌++◌, length, map, Option, None, Some, is_some, Contains, inl, inr, refl, sym, ◌∙◌, ap, subst, take_all, append-nil, arith}
+use Rattle.std.proofs.Common.{◌≡◌, ◌⊎◌, ℕ, ◌==◌, Bool, true, false, ◌&&◌, List, [], ◌∷◌, ◌++◌, length, map, Option}
+use Rattle.std.proofs.Common.{None, Some, is_some, Contains, inl, inr, refl, sym, ◌∙◌, ap, subst, take_all}
+use Rattle.std.proofs.Common.{append-nil, arith}
 use mathlib.Core.Bool.{false≢true}
 use Rattle.std.proofs.lemmas.Bool.{eq-eqb}
 use Rattle.std.proofs.lemmas.List.Elements.{filter_map-append}
@@ -92,10 +94,12 @@ module _ (opening : Opening) (bytes : OpeningBytes) (script : Script) (coherent 
           let got = holder_got opening front block dn (sym (is.held block) ∙ here) in
           let all = take_all (length front) front (omega arith) in
           let its = subst (λ (l : List Event). HasIts opening bytes script l block dn) all
-          (at_each opening bytes script coherent front legal fits block (length front) dn (subst (λ (l : List Event). GotIt opening l block dn) (sym all) got)) in
+          (at_each opening bytes script coherent front legal fits block (length front) dn
+          (subst (λ (l : List Event). GotIt opening l block dn) (sym all) got)) in
           record {
             content = has.content;
-            has = bytes_of_content block has.content got its (one_content opening bytes script coherent apart front legal block its.content has.content its.its has.its);
+            has = bytes_of_content block has.content got its
+                (one_content opening bytes script coherent apart front legal block its.content has.content its.its has.its);
             gives = opened.gives block here ∙ has.gives;
           }
 
@@ -104,7 +108,8 @@ module _ (opening : Opening) (bytes : OpeningBytes) (script : Script) (coherent 
       length_told of piece there among =
           let same = one_node opened.opened of (sym opened.there ∙ there) in
           let its : Contains opened.opened.held piece = subst (λ (n : NodeOpening). Contains n.held piece) (sym same) among in
-          let itself : is_block piece.block piece.block ≡ true = ap (λ (t : Bool). t && piece.block.local == piece.block.local) (eq-eqb piece.block.container piece.block.container refl)
+          let itself : is_block piece.block piece.block ≡ true = ap (λ (t : Bool). t && piece.block.local == piece.block.local)
+          (eq-eqb piece.block.container piece.block.container refl)
           ∙ eq-eqb piece.block.local piece.block.local refl in
           let was : was_held left dn piece.block ≡ true = ap (λ (o : Option NodeOpening). option_map_or (has_piece piece.block) o false) opened.there
           ∙ one_passes (λ (other : Piece). is_block piece.block other.block) opened.opened.held piece its itself in
@@ -120,6 +125,17 @@ module _ (opening : Opening) (bytes : OpeningBytes) (script : Script) (coherent 
         closed = λ container. opened.closed container ∙ then.closed container;
         greatest = λ container. opened.greatest container ∙ then.greatest container;
       }
+
+  -- what the story itself leaves
+  pub left_at_rest : LogIsNumbered opening → (story : List Event) → IsLegal opening story → FitsFrom opening bytes script [] story
+      → (node : Node) (given : GivenBytes) → IsOfStory opening story dn node → GivesContents opening bytes script story node given
+      → (left : Opening) (gives : OpeningBytes) → IsOpenedOf left gives dn node given
+      → IsLeftByNode opening bytes script story dn left gives
+  left_at_rest numbered story legal fits node given is contents left gives opened =
+      let same = append-nil story in
+      let one_log = subst (λ (l : List Event). AreApart (logs opening l)) (sym same) (are_numbered opening story numbered legal).apart in
+      subst (λ (l : List Event). IsLeftByNode opening bytes script l dn left gives) same
+      (left_by story [] legal fits one_log refl (λ block. refl) node given is contents left gives opened)
 
   -- ---- a datanode that halted
 
@@ -199,7 +215,8 @@ module _ (opening : Opening) (bytes : OpeningBytes) (script : Script) (coherent 
               content = puts;
               more = moved_over before (halt ∷ behind) event;
             });
-            is = left_by (before ++ event ∷ []) (halt ∷ behind) then_legal then_fits (subst AreApart (sym same_log) one_log) none gets_none node given is then_contents left gives opened;
+            is = left_by (before ++ event ∷ []) (halt ∷ behind) then_legal then_fits
+                (subst AreApart (sym same_log) one_log) none gets_none node given is then_contents left gives opened;
           })
             where
               then_contents : GivesContents opening bytes script (before ++ event ∷ []) node given
@@ -231,7 +248,8 @@ module _ (opening : Opening) (bytes : OpeningBytes) (script : Script) (coherent 
             was_contents : GivesContents opening bytes script before was given
             was_contents block held = contents block (ap (λ (o : Option BlockRow). is_some o) (same.rows block) ∙ held)
 
-        module _ (node : Node) (given : GivenBytes) (contents : GivesContents opening bytes script before node given) (opened : IsOpenedOf left gives dn node given)
+        module _ (node : Node) (given : GivenBytes) (contents : GivesContents opening bytes script before node given)
+            (opened : IsOpenedOf left gives dn node given)
             (was : Node) (stands : IsOfStory opening before dn was) where
           no_more : node ≡ was → Allowed
           no_more same = inl (record {
@@ -254,9 +272,12 @@ module _ (opening : Opening) (bytes : OpeningBytes) (script : Script) (coherent 
               (subst (AreSameButForAState container was) (sym same) (same_but_for_a_state container state was)) contents opened
           one_more (entries.Apply txn) apply same =
               let made = of_delete opening numbered before before_legal dn (datanode_seat dn) was stands txn.number apply.locals apply.enabled in
-              let is = subst (λ (t : Txn). IsOfStory opening (before ++ record { seat = datanode_seat dn; kind = Delete dn txn.number apply.locals } ∷ []) dn (after_entry (entries.Apply t) was)) apply.its made in
+              let is = subst (λ (t : Txn). IsOfStory opening
+              (before ++ record { seat = datanode_seat dn; kind = Delete dn txn.number apply.locals } ∷ []) dn
+              (after_entry (entries.Apply t) was)) apply.its made in
               with_event (Delete dn txn.number apply.locals) apply.enabled tt tt refl node given
-              (subst (IsOfStory opening (before ++ record { seat = datanode_seat dn; kind = Delete dn txn.number apply.locals } ∷ []) dn) (sym same) is) contents opened
+              (subst (IsOfStory opening (before ++ record { seat = datanode_seat dn; kind = Delete dn txn.number apply.locals } ∷ []) dn)
+              (sym same) is) contents opened
           one_more (entries.Drop container) none_held same =
               with_state container was node given stands
               (subst (AreSameButForAState container was) (sym same) (dropped_is_the_same container was none_held)) contents opened

@@ -1,5 +1,6 @@
 -- What each event makes of a datanode is what its entry makes of the node.
-use Rattle.std.proofs.Common.{◌≡◌, ℕ, ◌==◌, Bool, true, false, not, ◌&&◌, ◌||◌, List, [], ◌∷◌, ◌++◌, Option, None, Some, is_some, Contains, cond, max, refl, sym, ◌∙◌, ap, subst}
+use Rattle.std.proofs.Common.{◌≡◌, ℕ, ◌==◌, Bool, true, false, not, ◌&&◌, ◌||◌, List, [], ◌∷◌, ◌++◌, Option, None}
+use Rattle.std.proofs.Common.{Some, is_some, Contains, cond, max, refl, sym, ◌∙◌, ap, subst}
 use mathlib.Core.Bool.{false≢true}
 use Rattle.std.proofs.lemmas.Bool.{eqb-true, eq-eqb, ne_eqb, and_parts}
 use Rattle.std.proofs.lemmas.List.Elements.{Contains-append_right, Contains-push}
@@ -116,13 +117,15 @@ module _ (opening : Opening) (numbered : LogIsNumbered opening) (before : List E
           apart = log_apart kind enabled
 
           itself : is_block block block ≡ true
-          itself = both_true (block.container == block.container) (block.local == block.local) (eq-eqb block.container block.container refl) (eq-eqb block.local block.local refl)
+          itself = both_true (block.container == block.container) (block.local == block.local) (eq-eqb block.container block.container refl)
+              (eq-eqb block.local block.local refl)
 
           told : Contains (lengths_of opening (then kind) block) row.length
           told =
               let old = flat_map (length_in block) opening.nodes in
               Contains-append_right old (all_told (put_length block) (then kind)) row.length
-              (told_among (put_length block) (then kind) (record { seat = seat; kind = kind }) row.length (Contains-push before (record { seat = seat; kind = kind }))
+              (told_among (put_length block) (then kind) (record { seat = seat; kind = kind }) row.length
+              (Contains-push before (record { seat = seat; kind = kind }))
               (ap (λ (t : Bool). cond t (Some row.length) None) itself))
 
       pub of_copy : (source : ℕ) (block : Block) (row : BlockRow) → CopyIsEnabled opening before seat source dn block
@@ -175,14 +178,18 @@ module _ (opening : Opening) (numbered : LogIsNumbered opening) (before : List E
             let found = passing (λ local. local == block.local) enabled.txn.locals parts.1 in
             let of_container = eqb-true enabled.txn.container block.container parts.0 in
             let of_local = eqb-true found.item block.local found.so in
-            let kept : is_kept found.item ≡ true = subst (λ (b : Block). holds opening before dn b ≡ true) (sym (one_of enabled.txn.container found.item of_container of_local)) held in
-            let among : Contains locals found.item = subst (λ (l : List ℕ). Contains l found.item) (sym enabled.held) (filtered is_kept enabled.txn.locals found.item found.there kept) in
-            both_true (list_any (λ (txn : Txn). txn.number == number && txn.container == block.container) txns) (list_any (λ local. local == block.local) locals)
+            let kept : is_kept found.item ≡ true = subst (λ (b : Block). holds opening before dn b ≡ true)
+            (sym (one_of enabled.txn.container found.item of_container of_local)) held in
+            let among : Contains locals found.item = subst (λ (l : List ℕ). Contains l found.item) (sym enabled.held)
+            (filtered is_kept enabled.txn.locals found.item found.there kept) in
+            both_true (list_any (λ (txn : Txn). txn.number == number && txn.container == block.container) txns)
+                (list_any (λ local. local == block.local) locals)
             (one_passes (λ (txn : Txn). txn.number == number && txn.container == block.container) txns enabled.txn there
             (both_true (enabled.txn.number == number) (enabled.txn.container == block.container) (eq-eqb enabled.txn.number number enabled.of_number) parts.0))
             (one_passes (λ local. local == block.local) locals found.item among found.so))
             (λ deleted.
-            let parts = and_parts (list_any (λ (txn : Txn). txn.number == number && txn.container == block.container) txns) (list_any (λ local. local == block.local) locals) deleted in
+            let parts = and_parts (list_any (λ (txn : Txn). txn.number == number && txn.container == block.container) txns)
+            (list_any (λ local. local == block.local) locals) deleted in
             let found = passing (λ (txn : Txn). txn.number == number && txn.container == block.container) txns parts.0 in
             let both = and_parts (found.item.number == number) (found.item.container == block.container) found.so in
             let one = is_the_one found.item found.there (eqb-true found.item.number number both.0) in
@@ -207,7 +214,8 @@ module _ (opening : Opening) (numbered : LogIsNumbered opening) (before : List E
         pub of_delete : IsOfStory opening (then kind) dn (after_entry (entries.Apply enabled.txn) node)
         of_delete = record {
           held = λ block.
-              goes (names enabled.txn block) (deletes txns number locals block) (node.rows block) (holds opening before dn block) (is.held block) (named_alike block)
+              goes (names enabled.txn block) (deletes txns number locals block) (node.rows block) (holds opening before dn block) (is.held block)
+                  (named_alike block)
               ∙ sym (holds_then opening before behind legal (log_apart kind enabled) dn block
               ∙ ap (λ (t : Bool). newer (cond (t && deletes txns number locals block) (Some false) None) (holds opening before dn block)) (eq-eqb dn dn refl));
           lengths = λ block row found.
@@ -215,10 +223,13 @@ module _ (opening : Opening) (numbered : LogIsNumbered opening) (before : List E
           closed = λ container. is.closed container ∙ sym (closed_then opening before behind legal (log_apart kind enabled) dn container);
           greatest = λ container.
               ap (λ (n : ℕ). cond (enabled.txn.container == container) (max n enabled.txn.number) n) (is.greatest container)
-              ∙ ap (λ (t : Bool). cond t (max (greatest_of opening before dn container) enabled.txn.number) (greatest_of opening before dn container)) (of_container_alike container)
-              ∙ ap (λ (n : ℕ). cond (list_any (is_txn_of number container) txns) (max (greatest_of opening before dn container) n) (greatest_of opening before dn container)) enabled.of_number
+              ∙ ap (λ (t : Bool). cond t (max (greatest_of opening before dn container) enabled.txn.number) (greatest_of opening before dn container))
+              (of_container_alike container)
+              ∙ ap (λ (n : ℕ). cond (list_any (is_txn_of number container) txns) (max (greatest_of opening before dn container) n)
+              (greatest_of opening before dn container)) enabled.of_number
               ∙ sym (greatest_then opening before behind legal (log_apart kind enabled) dn container
-              ∙ ap (λ (t : Bool). cond (t && list_any (is_txn_of number container) txns) (max (greatest_of opening before dn container) number) (greatest_of opening before dn container)) (eq-eqb dn dn refl));
+              ∙ ap (λ (t : Bool). cond (t && list_any (is_txn_of number container) txns) (max (greatest_of opening before dn container) number)
+              (greatest_of opening before dn container)) (eq-eqb dn dn refl));
         }
 
       -- ---- a replica is closed
@@ -243,7 +254,8 @@ module _ (opening : Opening) (numbered : LogIsNumbered opening) (before : List E
           apart : AreApart (logs opening (then kind))
           apart = log_apart kind enabled
 
-          comes_to : (t : Bool) (other : ℕ) → not (is_open (cond t state (node.states other))) ≡ newer (cond t (Some true) None) (is_closed opening before dn other)
+          comes_to : (t : Bool) (other : ℕ)
+              → not (is_open (cond t state (node.states other))) ≡ newer (cond t (Some true) None) (is_closed opening before dn other)
           comes_to true other = ap not shut
           comes_to false other = is.closed other
 
@@ -268,14 +280,16 @@ module _ (opening : Opening) (numbered : LogIsNumbered opening) (before : List E
 
 -- ---- entries of which no event tells
 
-pub same_but_for_a_state : (container : ℕ) (state : State) (node : Node) → AreSameButForAState container node (after_entry (entries.SetState container state) node)
+pub same_but_for_a_state : (container : ℕ) (state : State) (node : Node)
+    → AreSameButForAState container node (after_entry (entries.SetState container state) node)
 same_but_for_a_state container state node = record {
   rows = λ block. refl;
   states = λ number apart. ap (λ (t : Bool). cond t state (node.states number)) (ne_eqb container number (λ same. apart (sym same)));
   greatest = λ number. refl;
 }
 
-pub dropped_is_the_same : (container : ℕ) (node : Node) → HoldsNoneOf container node → AreSameButForAState container node (after_entry (entries.Drop container) node)
+pub dropped_is_the_same : (container : ℕ) (node : Node) → HoldsNoneOf container node
+    → AreSameButForAState container node (after_entry (entries.Drop container) node)
 dropped_is_the_same container node none = record {
   rows = λ block. by block (is_in container block) refl;
   states = λ number apart. ap (λ (t : Bool). cond t states.Deleted (node.states number)) (ne_eqb container number (λ same. apart (sym same)));
@@ -288,6 +302,7 @@ dropped_is_the_same container node none = record {
 
     by : (block : Block) (t : Bool) → is_in container block ≡ t → cond t None (node.rows block) ≡ node.rows block
     by block true e =
-        let same : record { container = container; local = block.local } ≡ block = λ i. record { container = eqb-true container block.container e i; local = block.local } in
+        let same : record { container = container; local = block.local } ≡ block =
+        λ i. record { container = eqb-true container block.container e i; local = block.local } in
         nothing (node.rows block) (subst (λ (b : Block). is_held node b ≡ false) same (none block.local))
     by block false e = refl

@@ -1,5 +1,6 @@
 -- An opening with another state of one replica of a datanode.
-use Rattle.std.proofs.Common.{◌≡◌, ◌≢◌, ℕ, zero, suc, ◌==◌, max, Bool, true, false, not, ◌&&◌, ◌||◌, List, [], ◌∷◌, map, fold, Option, None, Some, cond, refl, sym, ◌∙◌, ap, subst}
+use Rattle.std.proofs.Common.{◌≡◌, ◌≢◌, ℕ, zero, suc, ◌==◌, max, Bool, true, false, not, ◌&&◌, ◌||◌, List, [], ◌∷◌}
+use Rattle.std.proofs.Common.{map, fold, Option, None, Some, cond, refl, sym, ◌∙◌, ap, subst}
 use mathlib.Core.Bool.{false≢true}
 use Rattle.std.proofs.lemmas.Bool.{eqb-true, eq-eqb, ne_eqb}
 use Rattle.std.specs.List.{list_any, slice_get}
@@ -50,7 +51,8 @@ module _ (container : ℕ) (state : State) where
       by : (t : Bool) → (replica.container == container) ≡ t → shuts number (cond t (record replica { state = state }) replica) ≡ shuts number replica
       by false e = refl
       by true e =
-          let none : (replica.container == number) ≡ false = ne_eqb replica.container number (λ same. apart (sym same ∙ eqb-true replica.container container e)) in
+          let none : (replica.container == number) ≡ false = ne_eqb replica.container number (λ same. apart (sym same
+          ∙ eqb-true replica.container container e)) in
           ap (λ (t : Bool). t && not (is_open state)) none ∙ sym (ap (λ (t : Bool). t && not (is_open replica.state)) none)
 
   others_shut : (number : ℕ) → number ≢ container → (replicas : List Replica)

@@ -1,3 +1,4 @@
+pub mod Seats
 pub mod granting
 pub mod writing
 pub mod reading

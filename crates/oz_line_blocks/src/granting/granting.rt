@@ -1,14 +1,15 @@
 //! A stripe is granted blocks for a line that asked for one.
 
-ghost use Rattle.std.specs.Prelude.{◌≡◌, ℕ, ◌<◌, [], List, true, IfOk};
+ghost use Rattle.std.specs.Prelude.{◌≡◌, ◌<◌, [], List, true, IfOk};
 ghost use Rattle.oz_buffer.specs.Buffer.{AllFollow, Follows};
 ghost use Rattle.oz_core.specs.declared.event.Event.{Event as AnyEvent};
 ghost use Rattle.oz_core.specs.Asks.{is_script};
 ghost use Rattle.oz_line_blocks.specs.granting.Granting.{AreMade, IsKnownThen, WasEmpty, answer_of, stills_of};
 ghost use Rattle.oz_names.specs.declared.limits.TheConstants.{STRIPES};
-ghost use Rattle.oz_turn.specs.Seat.{IsReady, mine_of, room_of, seen_of};
+ghost use Rattle.oz_turn.specs.Seat.{seen_of};
 ghost use Rattle.oz_turn.specs.Told.{BeginsWith};
 ghost use Rattle.oz_turn.specs.Turn.{turn_id};
+ghost use Rattle.oz_line_blocks.specs.Seats.{MayTake, SawStory};
 
 use crate::granting::looking::{has_stood_still, length_at_rest};
 use oz_asker::Still;
@@ -52,18 +53,13 @@ pub fn grant_for<D: Disk, O: Opened, R: Ring, W: Wait>(
     exclude: &Exclude,
     place: u64,
 ) -> Result<Granting, OutOfMemory>
-    requires turn { turn_id turn.now ≡ R.turn }
-    requires ready { IsReady R.turn by seat.old }
+    requires seat { MayTake R.turn (turn_id turn.now) by seat.old }
     requires script { is_script id ≡ true }
     requires stripe { stripe < STRIPES }
     requires empty { O.coherent → WasEmpty O.opening (seen_of seat.old) place id stripe exclude.now }
     requires made { O.coherent → (story : List AnyEvent) → BeginsWith story (seen_of seat.old)
         → AllFollow (Follows O.coherent O.opening O.bytes O.script) [] story → AreMade O.opening story exclude.now }
-    ensures ready { IsReady R.turn by seat.new }
-    ensures room { room_of seat.new ≡ room_of seat.old }
-    ensures goes_on { BeginsWith (seen_of seat.new) (seen_of seat.old) }
-    ensures mine { mine_of seat.new ≡ mine_of seat.old }
-    ensures follow { AllFollow (Follows O.coherent O.opening O.bytes O.script) [] (seen_of seat.new) }
+    ensures looked { SawStory O.Opened R.turn by seat.old seat.new }
     ensures known { IfOk result (IsKnownThen O.coherent O.opening O.bytes O.script (seen_of seat.new) place id stripe) }
 {
     let mut guard = scm.lock(rt);
@@ -84,18 +80,13 @@ fn grant_locked<D: Disk, O: Opened, R: Ring, W: Wait>(
     exclude: &Exclude,
     place: u64,
 ) -> Result<Granting, OutOfMemory>
-    requires turn { turn_id turn.now ≡ R.turn }
-    requires ready { IsReady R.turn by seat.old }
+    requires seat { MayTake R.turn (turn_id turn.now) by seat.old }
     requires script { is_script id ≡ true }
     requires stripe { stripe < STRIPES }
     requires empty { O.coherent → WasEmpty O.opening (seen_of seat.old) place id stripe exclude.now }
     requires made { O.coherent → (story : List AnyEvent) → BeginsWith story (seen_of seat.old)
         → AllFollow (Follows O.coherent O.opening O.bytes O.script) [] story → AreMade O.opening story exclude.now }
-    ensures ready { IsReady R.turn by seat.new }
-    ensures room { room_of seat.new ≡ room_of seat.old }
-    ensures goes_on { BeginsWith (seen_of seat.new) (seen_of seat.old) }
-    ensures mine { mine_of seat.new ≡ mine_of seat.old }
-    ensures follow { AllFollow (Follows O.coherent O.opening O.bytes O.script) [] (seen_of seat.new) }
+    ensures looked { SawStory O.Opened R.turn by seat.old seat.new }
     ensures known { IfOk result (IsKnownThen O.coherent O.opening O.bytes O.script (seen_of seat.new) place id stripe) }
 {
     the_scm_alone_tells::<O>();

@@ -1,12 +1,12 @@
 //! What the asker's seat sees while the storage container manager is locked.
 
-ghost use Rattle.std.specs.Prelude.{◌≡◌, ◌≤◌, ◌↔◌, [], length, take, IsTrue};
-ghost use Rattle.oz_buffer.specs.Buffer.{AllFollow, Follows};
+ghost use Rattle.std.specs.Prelude.{◌≡◌, ◌≤◌, ◌↔◌, length, take, IsTrue};
 ghost use Rattle.oz_core.specs.Seats.{scm_seat};
 ghost use Rattle.oz_asker.specs.telling.Still.{StandsStill};
-ghost use Rattle.oz_turn.specs.Seat.{IsReady, mine_of, room_of, seen_of};
-ghost use Rattle.oz_turn.specs.Told.{own_entries, BeginsWith};
+ghost use Rattle.oz_turn.specs.Seat.{IsReady, seen_of};
+ghost use Rattle.oz_turn.specs.Told.{own_entries};
 ghost use Rattle.oz_turn.specs.Turn.{turn_id};
+ghost use Rattle.oz_line_blocks.specs.Seats.{MayTake, SawStory};
 
 use oz_asker::{Still, stands_still, story_length};
 use oz_buffer::{Ledger, Opened};
@@ -24,11 +24,7 @@ pub(crate) fn has_stood_still<O: Opened, W: Wait>(
     still: Still,
 ) -> bool
     requires { IsReady (turn_id turn.now) by seat.old }
-    ensures ready { IsReady (turn_id turn.now) by seat.new }
-    ensures room { room_of seat.new ≡ room_of seat.old }
-    ensures goes_on { BeginsWith (seen_of seat.new) (seen_of seat.old) }
-    ensures mine { mine_of seat.new ≡ mine_of seat.old }
-    ensures follow { AllFollow (Follows O.coherent O.opening O.bytes O.script) [] (seen_of seat.new) }
+    ensures looked { SawStory O.Opened (turn_id turn.now) by seat.old seat.new }
     ensures stood { IsTrue result ↔ StandsStill (seen_of seat.new) still }
 {
     let (ledger, held) = turn.take(rt, seat);
@@ -46,17 +42,12 @@ pub(crate) fn length_at_rest<D: Disk, O: Opened, R: Ring, W: Wait>(
     seat: &mut Seat<Ledger<O>>,
     by: u16,
 ) -> u64
-    requires turn { turn_id turn.now ≡ R.turn }
-    requires ready { IsReady R.turn by seat.old }
+    requires seat { MayTake R.turn (turn_id turn.now) by seat.old }
     requires shown { own_entries (λ event. event.seat) scm_seat (seen_of seat.old) ≡ cell.old.mine }
     ensures mine { cell.new.mine ≡ cell.old.mine }
     ensures within { result ≤ length (seen_of seat.new) }
     ensures all { own_entries (λ event. event.seat) scm_seat (take result (seen_of seat.new)) ≡ cell.new.mine }
-    ensures ready { IsReady R.turn by seat.new }
-    ensures room { room_of seat.new ≡ room_of seat.old }
-    ensures goes_on { BeginsWith (seen_of seat.new) (seen_of seat.old) }
-    ensures its_own { mine_of seat.new ≡ mine_of seat.old }
-    ensures follow { AllFollow (Follows O.coherent O.opening O.bytes O.script) [] (seen_of seat.new) }
+    ensures looked { SawStory O.Opened R.turn by seat.old seat.new }
 {
     let length = story_length(rt, turn, seat, by);
     cell.show(rt, turn, seat);

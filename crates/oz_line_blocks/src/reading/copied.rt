@@ -2,14 +2,13 @@
 
 ghost use Rattle.std.specs.Prelude.{◌≡◌, ◌<◌, [], Contains, IfOk};
 ghost use Rattle.std.specs.Option.{option_map};
-ghost use Rattle.oz_buffer.specs.Buffer.{AllFollow, Follows};
 ghost use Rattle.oz_node_events.specs.NodeSeat.{StandsFor};
 ghost use Rattle.oz_line_blocks.specs.reading.Lacks.{has_notes};
 ghost use Rattle.oz_line_blocks.specs.reading.Member.{CopiedAt, IsCopiedAt};
 ghost use Rattle.oz_line_blocks.specs.reading.Read.{MayRead};
-ghost use Rattle.oz_turn.specs.Seat.{IsReady, mine_of, room_of, seen_of};
-ghost use Rattle.oz_turn.specs.Told.{BeginsWith};
+ghost use Rattle.oz_turn.specs.Seat.{seen_of};
 ghost use Rattle.oz_turn.specs.Turn.{turn_id};
+ghost use Rattle.oz_line_blocks.specs.Seats.{MayTake, OnlyLooked, SawStory};
 
 use crate::reading::lack::{Lack, lack_of};
 use crate::reading::wanted::Wanted;
@@ -49,17 +48,12 @@ pub(crate) fn copy_member<D: Disk, O: Opened, R: Ring, W: Wait>(
     wanted: Wanted,
     dn: u8,
 ) -> Result<Copied, OutOfMemory>
-    requires turn { turn_id turn.now ≡ R.turn }
-    requires ready { IsReady R.turn wanted.by seat.old }
+    requires seat { MayTake R.turn (turn_id turn.now) wanted.by seat.old }
     requires there { dn < nodes.now }
     requires member { Contains wanted.members dn }
     requires may { O.coherent → MayRead O.coherent O.opening O.bytes O.script wanted.id wanted.piece wanted.members
         (seen_of seat.old) }
-    ensures ready { IsReady R.turn wanted.by seat.new }
-    ensures room { room_of seat.new ≡ room_of seat.old }
-    ensures mine { mine_of seat.new ≡ mine_of seat.old }
-    ensures goes_on { BeginsWith (seen_of seat.new) (seen_of seat.old) }
-    ensures follow { AllFollow (Follows O.coherent O.opening O.bytes O.script) [] (seen_of seat.new) }
+    ensures looked { SawStory O.Opened R.turn wanted.by seat.old seat.new }
     ensures copied { IfOk result (CopiedAt D.told D.clock D.image D.faults O.coherent O.opening O.bytes O.script O.faults
         wanted.id wanted.piece wanted.members dn (seen_of seat.old) (seen_of seat.new)) }
 {
@@ -77,17 +71,12 @@ fn copy_locked<D: Disk, O: Opened, R: Ring, W: Wait>(
     wanted: Wanted,
     dn: u8,
 ) -> Result<Copied, OutOfMemory>
-    requires turn { turn_id turn.now ≡ R.turn }
-    requires ready { IsReady R.turn wanted.by seat.old }
+    requires seat { MayTake R.turn (turn_id turn.now) wanted.by seat.old }
     requires its { cell.old.node.id ≡ dn }
     requires member { Contains wanted.members dn }
     requires may { O.coherent → MayRead O.coherent O.opening O.bytes O.script wanted.id wanted.piece wanted.members
         (seen_of seat.old) }
-    ensures ready { IsReady R.turn wanted.by seat.new }
-    ensures room { room_of seat.new ≡ room_of seat.old }
-    ensures mine { mine_of seat.new ≡ mine_of seat.old }
-    ensures goes_on { BeginsWith (seen_of seat.new) (seen_of seat.old) }
-    ensures follow { AllFollow (Follows O.coherent O.opening O.bytes O.script) [] (seen_of seat.new) }
+    ensures looked { SawStory O.Opened R.turn wanted.by seat.old seat.new }
     ensures copied { IfOk result (CopiedAt D.told D.clock D.image D.faults O.coherent O.opening O.bytes O.script O.faults
         wanted.id wanted.piece wanted.members dn (seen_of seat.old) (seen_of seat.new)) }
 {
@@ -114,8 +103,7 @@ fn copy_noted<D: Disk, O: Opened, R: Ring, W: Wait>(
     seat: &mut Seat<Ledger<O>>,
     wanted: Wanted,
 ) -> Result<Taken, OutOfMemory>
-    requires turn { turn_id turn.now ≡ R.turn }
-    requires ready { IsReady R.turn wanted.by seat.old }
+    requires seat { MayTake R.turn (turn_id turn.now) wanted.by seat.old }
     requires member { Contains wanted.members cell.old.node.id }
     requires may { O.coherent → MayRead O.coherent O.opening O.bytes O.script wanted.id wanted.piece wanted.members
         (seen_of seat.old) }
@@ -126,10 +114,7 @@ fn copy_noted<D: Disk, O: Opened, R: Ring, W: Wait>(
         cell.old.kept cell.old.node }
     ensures stands { StandsFor D.told D.clock D.image D.faults O.coherent O.opening O.bytes O.script O.faults
         cell.new.kept cell.new.node }
-    ensures ready { IsReady R.turn wanted.by seat.new }
-    ensures room { room_of seat.new ≡ room_of seat.old }
-    ensures mine { mine_of seat.new ≡ mine_of seat.old }
-    ensures goes_on { BeginsWith (seen_of seat.new) (seen_of seat.old) }
+    ensures looked { OnlyLooked R.turn wanted.by seat.old seat.new }
 {
     let noter = Noting::<D, Ledger<O>, O, R, W>::new(
         rt,

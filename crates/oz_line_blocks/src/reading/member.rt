@@ -5,9 +5,9 @@ ghost use Rattle.oz_buffer.specs.Buffer.{AllFollow, Follows};
 ghost use Rattle.oz_line_blocks.specs.reading.Lacks.{AreDoubted, IsAsked};
 ghost use Rattle.oz_line_blocks.specs.reading.Member.{CameAt, ComesAt};
 ghost use Rattle.oz_line_blocks.specs.reading.Read.{MayRead};
-ghost use Rattle.oz_turn.specs.Seat.{IsReady, mine_of, room_of, seen_of};
-ghost use Rattle.oz_turn.specs.Told.{BeginsWith};
+ghost use Rattle.oz_turn.specs.Seat.{seen_of};
 ghost use Rattle.oz_turn.specs.Turn.{turn_id};
+ghost use Rattle.oz_line_blocks.specs.Seats.{MayTake, OnlyLooked, SawStory};
 
 use crate::reading::copied::{Copied, copy_member};
 use crate::reading::lack::{Lack, lack_of};
@@ -42,17 +42,13 @@ pub(crate) fn read_member<D: Disk, O: Opened, R: Ring, W: Wait>(
     wanted: Wanted,
     dn: u8,
 ) -> Result<AtMember, OutOfMemory>
-    requires turn { turn_id turn.now ≡ R.turn }
-    requires ready { IsReady R.turn wanted.by seat.old }
+    requires seat { MayTake R.turn (turn_id turn.now) wanted.by seat.old }
     requires there { dn < nodes.now }
     requires member { Contains wanted.members dn }
     requires may { O.coherent → MayRead O.coherent O.opening O.bytes O.script wanted.id wanted.piece wanted.members
         (seen_of seat.old) }
     requires doubted { O.coherent → AreDoubted (seen_of seat.old) wanted.id wanted.piece.block wanted.doubted }
-    ensures ready { IsReady R.turn wanted.by seat.new }
-    ensures room { room_of seat.new ≡ room_of seat.old }
-    ensures mine { mine_of seat.new ≡ mine_of seat.old }
-    ensures goes_on { BeginsWith (seen_of seat.new) (seen_of seat.old) }
+    ensures looked { OnlyLooked R.turn wanted.by seat.old seat.new }
     ensures follow { AllFollow (Follows O.coherent O.opening O.bytes O.script) [] (seen_of seat.old) →
         AllFollow (Follows O.coherent O.opening O.bytes O.script) [] (seen_of seat.new) }
     ensures came { IfOk result (ComesAt D.told D.clock D.image D.faults O.coherent O.opening O.bytes O.script O.faults
@@ -83,17 +79,12 @@ fn read_locked<D: Disk, O: Opened, R: Ring, W: Wait>(
     wanted: Wanted,
     dn: u8,
 ) -> Result<AtMember, OutOfMemory>
-    requires turn { turn_id turn.now ≡ R.turn }
-    requires ready { IsReady R.turn wanted.by seat.old }
+    requires seat { MayTake R.turn (turn_id turn.now) wanted.by seat.old }
     requires its { cell.old.node.id ≡ dn }
     requires member { Contains wanted.members dn }
     requires may { O.coherent → MayRead O.coherent O.opening O.bytes O.script wanted.id wanted.piece wanted.members
         (seen_of seat.old) }
-    ensures ready { IsReady R.turn wanted.by seat.new }
-    ensures room { room_of seat.new ≡ room_of seat.old }
-    ensures mine { mine_of seat.new ≡ mine_of seat.old }
-    ensures goes_on { BeginsWith (seen_of seat.new) (seen_of seat.old) }
-    ensures follow { AllFollow (Follows O.coherent O.opening O.bytes O.script) [] (seen_of seat.new) }
+    ensures looked { SawStory O.Opened R.turn wanted.by seat.old seat.new }
     ensures came { IfOk result (CameAt D.told D.clock D.image D.faults O.coherent O.opening O.bytes O.script O.faults
         wanted.id wanted.piece wanted.members dn (seen_of seat.old) (seen_of seat.new)) }
 {

@@ -6,9 +6,9 @@ ghost use Rattle.oz_node_events.specs.NodeSeat.{StandsFor};
 ghost use Rattle.oz_line_blocks.specs.reading.Lacks.{has_notes};
 ghost use Rattle.oz_line_blocks.specs.reading.Member.{IsGivenAt};
 ghost use Rattle.oz_line_blocks.specs.reading.Read.{MayRead};
-ghost use Rattle.oz_turn.specs.Seat.{IsReady, mine_of, room_of, seen_of};
-ghost use Rattle.oz_turn.specs.Told.{BeginsWith};
+ghost use Rattle.oz_turn.specs.Seat.{seen_of};
 ghost use Rattle.oz_turn.specs.Turn.{turn_id};
+ghost use Rattle.oz_line_blocks.specs.Seats.{MayTake, OnlyLooked};
 
 use crate::reading::wanted::Wanted;
 use crate::reading::watching::Watching;
@@ -38,8 +38,7 @@ pub(crate) fn read_noted<D: Disk, O: Opened, R: Ring, W: Wait>(
     seat: &mut Seat<Ledger<O>>,
     wanted: Wanted,
 ) -> Result<Given, OutOfMemory>
-    requires turn { turn_id turn.now ≡ R.turn }
-    requires ready { IsReady R.turn wanted.by seat.old }
+    requires seat { MayTake R.turn (turn_id turn.now) wanted.by seat.old }
     requires member { Contains wanted.members cell.old.node.id }
     requires may { O.coherent → MayRead O.coherent O.opening O.bytes O.script wanted.id wanted.piece wanted.members
         (seen_of seat.old) }
@@ -50,10 +49,7 @@ pub(crate) fn read_noted<D: Disk, O: Opened, R: Ring, W: Wait>(
         cell.old.kept cell.old.node }
     ensures stands { StandsFor D.told D.clock D.image D.faults O.coherent O.opening O.bytes O.script O.faults
         cell.new.kept cell.new.node }
-    ensures ready { IsReady R.turn wanted.by seat.new }
-    ensures room { room_of seat.new ≡ room_of seat.old }
-    ensures mine { mine_of seat.new ≡ mine_of seat.old }
-    ensures goes_on { BeginsWith (seen_of seat.new) (seen_of seat.old) }
+    ensures looked { OnlyLooked R.turn wanted.by seat.old seat.new }
 {
     let noter = Noting::<D, Ledger<O>, O, R, W>::new(
         rt,

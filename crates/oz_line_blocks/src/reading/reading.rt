@@ -1,12 +1,12 @@
 //! How a line reads a piece at the members of its block.
 
-ghost use Rattle.std.specs.Prelude.{◌≡◌, ◌<◌, [], All, IfOk, OnErr};
+ghost use Rattle.std.specs.Prelude.{◌<◌, [], All, IfOk, OnErr};
 ghost use Rattle.oz_buffer.specs.Buffer.{AllFollow, Follows};
 ghost use Rattle.oz_line_blocks.specs.reading.Lacks.{AreDoubted};
 ghost use Rattle.oz_line_blocks.specs.reading.Read.{ComesOf, EndsShort, IsKnownOf, MayRead};
-ghost use Rattle.oz_turn.specs.Seat.{IsReady, mine_of, room_of, seen_of};
-ghost use Rattle.oz_turn.specs.Told.{BeginsWith};
+ghost use Rattle.oz_turn.specs.Seat.{seen_of};
 ghost use Rattle.oz_turn.specs.Turn.{turn_id};
+ghost use Rattle.oz_line_blocks.specs.Seats.{MayTake, OnlyLooked};
 
 use crate::reading::lack::{Doubted, Lack};
 use crate::reading::member::{AtMember, read_member};
@@ -52,15 +52,11 @@ pub fn read_at_members<D: Disk, O: Opened, R: Ring, W: Wait>(
     members: [u8; 3],
     doubted: Doubted,
 ) -> Result<Reading, OutOfMemory>
-    requires turn { turn_id turn.now ≡ R.turn }
-    requires ready { IsReady R.turn by seat.old }
+    requires seat { MayTake R.turn (turn_id turn.now) by seat.old }
     requires there { All (λ dn. dn < nodes.now) members }
     requires may { O.coherent → MayRead O.coherent O.opening O.bytes O.script id piece members (seen_of seat.old) }
     requires doubted { O.coherent → AreDoubted (seen_of seat.old) id piece.block doubted }
-    ensures ready { IsReady R.turn by seat.new }
-    ensures room { room_of seat.new ≡ room_of seat.old }
-    ensures mine { mine_of seat.new ≡ mine_of seat.old }
-    ensures goes_on { BeginsWith (seen_of seat.new) (seen_of seat.old) }
+    ensures looked { OnlyLooked R.turn by seat.old seat.new }
     ensures follow { AllFollow (Follows O.coherent O.opening O.bytes O.script) [] (seen_of seat.old) →
         AllFollow (Follows O.coherent O.opening O.bytes O.script) [] (seen_of seat.new) }
     ensures came { IfOk result (ComesOf D.told D.clock D.image D.faults O.coherent O.opening O.bytes O.script

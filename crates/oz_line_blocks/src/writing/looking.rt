@@ -1,12 +1,11 @@
 //! Whether a story has of a line what its worker knows.
 
 ghost use Rattle.std.specs.Prelude.{◌≡◌, ◌↔◌, [], IsTrue, drop};
-ghost use Rattle.oz_buffer.specs.Buffer.{AllFollow, Follows};
-ghost use Rattle.oz_turn.specs.Seat.{IsReady, mine_of, room_of, seen_of};
-ghost use Rattle.oz_turn.specs.Told.{BeginsWith};
+ghost use Rattle.oz_turn.specs.Seat.{IsReady, seen_of};
 ghost use Rattle.oz_turn.specs.Turn.{turn_id};
 ghost use Rattle.oz_underway.specs.UnderWay.{HaveAnswered};
 ghost use Rattle.oz_line_blocks.specs.writing.Written.{IsStill};
+ghost use Rattle.oz_line_blocks.specs.Seats.{SawStory};
 
 use crate::writing::answering::all_stand;
 use oz_buffer::{Ledger, Opened};
@@ -27,11 +26,7 @@ pub(crate) fn is_still<O: Opened, W: Wait>(
     said: u64,
 ) -> bool
     requires { IsReady (turn_id turn.now) by seat.old }
-    ensures ready { IsReady (turn_id turn.now) by seat.new }
-    ensures room { room_of seat.new ≡ room_of seat.old }
-    ensures goes_on { BeginsWith (seen_of seat.new) (seen_of seat.old) }
-    ensures mine { mine_of seat.new ≡ mine_of seat.old }
-    ensures follow { AllFollow (Follows O.coherent O.opening O.bytes O.script) [] (seen_of seat.new) }
+    ensures looked { SawStory O.Opened (turn_id turn.now) by seat.old seat.new }
     ensures still { IsTrue result ↔ IsStill id said (seen_of seat.new) }
 {
     let (ledger, held) = turn.take(rt, seat);
@@ -55,11 +50,7 @@ pub(crate) fn have_answered<O: Opened, W: Wait>(
     said: u64,
 ) -> bool
     requires { IsReady (turn_id turn.now) by seat.old }
-    ensures ready { IsReady (turn_id turn.now) by seat.new }
-    ensures room { room_of seat.new ≡ room_of seat.old }
-    ensures goes_on { BeginsWith (seen_of seat.new) (seen_of seat.old) }
-    ensures mine { mine_of seat.new ≡ mine_of seat.old }
-    ensures follow { AllFollow (Follows O.coherent O.opening O.bytes O.script) [] (seen_of seat.new) }
+    ensures looked { SawStory O.Opened (turn_id turn.now) by seat.old seat.new }
     ensures still { IsTrue result ↔ (IsStill id said (seen_of seat.new)
         × HaveAnswered (drop from (seen_of seat.new)) id block members written.now.answers) }
 {

@@ -1,13 +1,13 @@
 //! A block is written at its members, whose seats tell what came of it.
 
-ghost use Rattle.std.specs.Prelude.{◌≡◌, ◌≤◌, ◌<◌, All, drop, length, IfOk};
+ghost use Rattle.std.specs.Prelude.{◌≤◌, ◌<◌, All, drop, length, IfOk};
 ghost use Rattle.oz_fields.specs.declared.block.TheConstants.{LONGEST_PIECE};
 ghost use Rattle.oz_node_events.specs.Noting.{IsNoting};
 ghost use Rattle.oz_rows.specs.Rows.{IsBlock};
-ghost use Rattle.oz_turn.specs.Seat.{IsReady, mine_of, room_of, seen_of};
-ghost use Rattle.oz_turn.specs.Told.{BeginsWith};
+ghost use Rattle.oz_turn.specs.Seat.{seen_of};
 ghost use Rattle.oz_turn.specs.Turn.{turn_id};
 ghost use Rattle.oz_line_blocks.specs.writing.Unknown.{AllCame};
+ghost use Rattle.oz_line_blocks.specs.Seats.{MayTake, OnlyLooked};
 
 use oz_buffer::{Ledger, Opened};
 use oz_client::Written;
@@ -35,18 +35,14 @@ pub(crate) fn write_noted<D: Disk, O: Opened, R: Ring, W: Wait, G: Gate>(
     members: [u8; 3],
     bytes: &[u8],
 ) -> Result<Written, OutOfMemory>
-    requires turn { turn_id turn.now ≡ R.turn }
-    requires ready { IsReady R.turn by seat.old }
+    requires seat { MayTake R.turn (turn_id turn.now) by seat.old }
     requires members { All (λ dn. dn < nodes.now) members }
     requires block { IsBlock block }
     requires least { 1 ≤ length bytes.now }
     requires most { length bytes.now ≤ LONGEST_PIECE }
     requires knows { IsNoting O.coherent O.opening O.bytes O.script id first
         (record { block = block; members = members; bytes = bytes.now }) (seen_of seat.old) }
-    ensures ready { IsReady R.turn by seat.new }
-    ensures room { room_of seat.new ≡ room_of seat.old }
-    ensures mine { mine_of seat.new ≡ mine_of seat.old }
-    ensures goes_on { BeginsWith (seen_of seat.new) (seen_of seat.old) }
+    ensures looked { OnlyLooked R.turn by seat.old seat.new }
     ensures came { IfOk result (λ written. AllCame O.coherent O.opening id block (seen_of seat.new)
         (drop (length (seen_of seat.old)) (seen_of seat.new)) members written.answers) }
 {

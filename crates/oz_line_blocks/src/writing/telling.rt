@@ -7,11 +7,12 @@ ghost use Rattle.oz_core.specs.declared.event.Event.{Event as AnyEvent};
 ghost use Rattle.oz_core.specs.declared.event.EventKind.TheVariants.{Wrote};
 ghost use Rattle.oz_core.specs.Law.{writes};
 ghost use Rattle.oz_core.specs.Stories.{has_event};
-ghost use Rattle.oz_turn.specs.Seat.{IsReady, room_of, seen_of};
+ghost use Rattle.oz_turn.specs.Seat.{IsReady, seen_of};
 ghost use Rattle.oz_turn.specs.Told.{BeginsWith};
 ghost use Rattle.oz_turn.specs.Turn.{turn_id};
 ghost use Rattle.oz_line_blocks.specs.writing.Unknown.{IsUntold};
 ghost use Rattle.oz_line_blocks.specs.writing.Written.{IsStill, is_quorum};
+ghost use Rattle.oz_line_blocks.specs.Seats.{MayHaveTold};
 
 use crate::writing::fault::Unwritten;
 use crate::writing::looking::is_still;
@@ -42,10 +43,7 @@ pub(crate) fn tell_wrote<O: Opened, W: Wait>(
         → AllFollow (Follows O.coherent O.opening O.bytes O.script) [] story
         → times_said id.client id.line story + 1 ≡ wrote
         → Follows O.coherent O.opening O.bytes O.script story (record { seat = by; kind = Wrote block id }) }
-    ensures ready { IsReady (turn_id turn.now) by seat.new }
-    ensures room { room_of seat.new ≡ room_of seat.old }
-    ensures goes_on { BeginsWith (seen_of seat.new) (seen_of seat.old) }
-    ensures follow { AllFollow (Follows O.coherent O.opening O.bytes O.script) [] (seen_of seat.new) }
+    ensures went { MayHaveTold O.Opened (turn_id turn.now) by seat.old seat.new }
     ensures still { OnOk result (IsStill id wrote (seen_of seat.new)) }
     ensures written { OnOk result (has_event (writes block) (seen_of seat.new) ≡ true) }
     ensures untold { IfErr result (IsUntold id block (wrote - 1) wrote (seen_of seat.new)) }

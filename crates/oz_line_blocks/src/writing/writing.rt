@@ -9,12 +9,13 @@ ghost use Rattle.oz_core.specs.declared.event.PutRefusal.{PutRefusal as AnyRefus
 ghost use Rattle.oz_fields.specs.declared.block.TheConstants.{LONGEST_PIECE};
 ghost use Rattle.oz_node_events.specs.Noting.{IsNoting};
 ghost use Rattle.oz_rows.specs.Rows.{IsBlock};
-ghost use Rattle.oz_turn.specs.Seat.{IsReady, room_of, seen_of};
+ghost use Rattle.oz_turn.specs.Seat.{seen_of};
 ghost use Rattle.oz_turn.specs.Told.{BeginsWith};
 ghost use Rattle.oz_turn.specs.Turn.{turn_id};
 ghost use Rattle.oz_underway.specs.UnderWay.{HaveAnswered};
 ghost use Rattle.oz_line_blocks.specs.writing.Unknown.{IsUnknown};
 ghost use Rattle.oz_line_blocks.specs.writing.Written.{IsWritten, is_quorum};
+ghost use Rattle.oz_line_blocks.specs.Seats.{MayTake, MayHaveTold};
 
 use crate::writing::fault::Unwritten;
 use crate::writing::looking::have_answered;
@@ -55,8 +56,7 @@ pub fn write_to_members<D: Disk, O: Opened, R: Ring, W: Wait, G: Gate>(
     said: u64,
     from: u64,
 ) -> Result<(Written, u64), Unwritten>
-    requires turn { turn_id turn.now ≡ R.turn }
-    requires ready { IsReady R.turn by seat.old }
+    requires seat { MayTake R.turn (turn_id turn.now) by seat.old }
     requires seats { by < 64 }
     requires members { All (λ dn. dn < nodes.now) members }
     requires block { IsBlock block }
@@ -70,10 +70,7 @@ pub fn write_to_members<D: Disk, O: Opened, R: Ring, W: Wait, G: Gate>(
         → times_said id.client id.line story ≡ said + 3 → HaveAnswered story id block members answers
         → is_quorum answers ≡ true
         → Follows O.coherent O.opening O.bytes O.script story (record { seat = by; kind = Wrote block id }) }
-    ensures ready { IsReady R.turn by seat.new }
-    ensures room { room_of seat.new ≡ room_of seat.old }
-    ensures goes_on { BeginsWith (seen_of seat.new) (seen_of seat.old) }
-    ensures follow { AllFollow (Follows O.coherent O.opening O.bytes O.script) [] (seen_of seat.new) }
+    ensures went { MayHaveTold O.Opened R.turn by seat.old seat.new }
     ensures written { IfOk result (λ done.
         IsWritten id block members said done.0.answers done.1 (seen_of seat.new)) }
     ensures unknown { IfErr result (IsUnknown O.coherent O.opening id block members said (seen_of seat.old) (seen_of seat.new)) }

@@ -40,11 +40,11 @@ pub returns-in-Ok-Granted : goal.returns-in-Ok-Granted
 returns-in-Ok-Granted g c =
     let O = g.O.Opened in
     record {
-      gone = record { ready = c.grant_for.ensures.ready; room = c.grant_for.ensures.room; goes_on = c.grant_for.ensures.goes_on };
+      gone = record { ready = c.grant_for.ensures.looked.ready; room = c.grant_for.ensures.looked.room; goes_on = c.grant_for.ensures.looked.goes_on };
       stays = record {
         line = refl;
         works = λ coherent. work_still O.coherent O.opening O.bytes O.script (seen_of c.grant_for.new.seat) (seen_of c.args.seat.now)
-            c.grant_for.ensures.goes_on c.args.self.now (c.requires.works coherent);
+            c.grant_for.ensures.looked.goes_on c.args.self.now (c.requires.works coherent);
         went_on = λ wrong. absurd cc;
       };
       same = λ none. refl;
@@ -71,12 +71,12 @@ returns-in-Ok-Refused-clause-stays g c = record {
       rw (c.in-Ok-Refused.is, c.in-Ok-Refused.field-0-is) at c.grant_for.ensures.known in
       let due = subst (λ (i : AskId). IsDueWhileStill O.coherent O.opening O.bytes O.script later i answer still) id (known coherent) in
       let not_ok : was_told_ok (Some answer) ≡ false = sym c.is_ok.ensures ∙ c.if-not-is_ok.true in
-      let fits = refused_told O.coherent O.opening O.bytes O.script later seen work still answer coherent c.grant_for.ensures.goes_on at_work short due not_ok in
+      let fits = refused_told O.coherent O.opening O.bytes O.script later seen work still answer coherent c.grant_for.ensures.looked.goes_on at_work short due not_ok in
       let step : wanted.id.step ≡ work.asked + 1 = ap (λ (i : AskId). i.step) id in
       with_refused O.coherent O.opening O.bytes O.script later work _
       (subst (λ (l : List Still). MayBeTold O.coherent O.opening O.bytes O.script later work.line (last_of work.line wanted.id.step) (λ said. Unit {0}) l answer None) (sym c.two.ensures)
       (subst (λ (n : ℕ). MayBeTold O.coherent O.opening O.bytes O.script later work.line (last_of work.line n) (λ said. Unit {0}) still answer None) (sym step) fits))
-      (work_still O.coherent O.opening O.bytes O.script later seen c.grant_for.ensures.goes_on work at_work);
+      (work_still O.coherent O.opening O.bytes O.script later seen c.grant_for.ensures.looked.goes_on work at_work);
   went_on = λ went. inr (inr (inl tt));
 }
 
@@ -84,4 +84,4 @@ pub returns-in-Ok-Refused-2-clause-stays : goal.returns-in-Ok-Refused-2-clause-s
 returns-in-Ok-Refused-2-clause-stays g c =
     let O = g.O.Opened in
     let seen = seen_of c.args.seat.now in
-    cut_stays O (seen_of c.grant_for.new.seat) seen c.args.self.now c.cut-in-Ok-Refused-2.new.self _ answers.OutOfMemory c.grant_for.ensures.goes_on tt c.cut-in-Ok-Refused-2.ensures c.requires.works
+    cut_stays O (seen_of c.grant_for.new.seat) seen c.args.self.now c.cut-in-Ok-Refused-2.new.self _ answers.OutOfMemory c.grant_for.ensures.looked.goes_on tt c.cut-in-Ok-Refused-2.ensures c.requires.works

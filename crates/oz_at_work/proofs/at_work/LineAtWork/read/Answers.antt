@@ -60,7 +60,7 @@ returns-in-Ok-Bytes-clause-stays g c =
       works = λ coherent. c.take_in.ensures.works coherent later (record {
         before = seen;
         at_work = c.requires.works coherent;
-        goes_on = begins_through later (seen_of c.members_of.new.seat) seen c.read_at_members.ensures.goes_on c.members_of.ensures.gone.goes_on;
+        goes_on = begins_through later (seen_of c.members_of.new.seat) seen c.read_at_members.ensures.looked.goes_on c.members_of.ensures.gone.goes_on;
         follow = c.read_at_members.ensures.follow c.members_of.ensures.follow;
         piece = c.in-Some.piece;
         its = c.in-Some.ensures.its;
@@ -83,7 +83,7 @@ returns-in-Ok-Nobody-clause-stays g c =
       works = λ coherent. c.miss.ensures.works coherent later (record {
         before = seen;
         at_work = c.requires.works coherent;
-        goes_on = begins_through later (seen_of c.members_of.new.seat) seen c.read_at_members.ensures.goes_on c.members_of.ensures.gone.goes_on;
+        goes_on = begins_through later (seen_of c.members_of.new.seat) seen c.read_at_members.ensures.looked.goes_on c.members_of.ensures.gone.goes_on;
         whole = (c.opens.ensures.store coherent).disks;
         its = c.in-Some.ensures.its;
         doubted = subst (λ (i : AskId). (dn : ℕ) → Contains c.in-Ok-Nobody.lacks (lacking.Doubted dn) → IsDoubted later i c.in-Some.piece.block dn) id (known coherent).0;
@@ -97,4 +97,4 @@ returns-in-Err-clause-stays g c =
     let O = g.O.Opened in
     let seen = seen_of c.args.seat.now in
     let later = seen_of c.read_at_members.new.seat in
-    cut_stays O later seen c.args.self.now c.cut-in-Err.new.self _ answers.OutOfMemory (begins_through later (seen_of c.members_of.new.seat) seen c.read_at_members.ensures.goes_on c.members_of.ensures.gone.goes_on) tt c.cut-in-Err.ensures c.requires.works
+    cut_stays O later seen c.args.self.now c.cut-in-Err.new.self _ answers.OutOfMemory (begins_through later (seen_of c.members_of.new.seat) seen c.read_at_members.ensures.looked.goes_on c.members_of.ensures.gone.goes_on) tt c.cut-in-Err.ensures c.requires.works

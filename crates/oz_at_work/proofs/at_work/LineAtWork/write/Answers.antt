@@ -80,8 +80,8 @@ returns-clause-stays g c = record {
             let was : WasWritten O.coherent O.opening O.bytes O.script later work w.in-Ok-write_to_members.written w.in-Ok-write_to_members.now = record {
               before = seen;
               at_work = c.requires.works coherent;
-              goes_on = begins_through later (seen_of c.story_length-from.new.seat) seen c.write_to_members.ensures.goes_on c.story_length-from.ensures.goes_on;
-              follow = c.write_to_members.ensures.follow;
+              goes_on = begins_through later (seen_of c.story_length-from.new.seat) seen c.write_to_members.ensures.went.goes_on c.story_length-from.ensures.goes_on;
+              follow = c.write_to_members.ensures.went.follow;
               nodes = c.in-Ok.ensures.nodes ∙ c.node_count.ensures.opened;
               least = subst (λ (n : ℕ). FEWEST_NODES ≤ n) c.node_count.ensures.opened c.node_count.ensures.least;
               block = put.block;
@@ -96,7 +96,7 @@ returns-clause-stays g c = record {
         | in-Err w ↦
             subst (IsAtWork O.coherent O.opening O.bytes O.script later) (sym w.self-is)
             (cut_so O.coherent O.opening O.bytes O.script later seen work w.cut-in-Err.new.self _ answers.OutOfMemory coherent
-            (begins_through later (seen_of c.story_length-from.new.seat) seen c.write_to_members.ensures.goes_on c.story_length-from.ensures.goes_on) tt w.cut-in-Err.ensures
+            (begins_through later (seen_of c.story_length-from.new.seat) seen c.write_to_members.ensures.went.goes_on c.story_length-from.ensures.goes_on) tt w.cut-in-Err.ensures
             (c.requires.works coherent))
       ];
   went_on = λ went. elim c.match-write_to_members.branch [
@@ -107,8 +107,8 @@ returns-clause-stays g c = record {
 
 pub returns-clause-gone : goal.returns-clause-gone
 returns-clause-gone g c = record {
-  ready = c.write_to_members.ensures.ready;
-  room = c.write_to_members.ensures.room ∙ c.story_length-from.ensures.room;
+  ready = c.write_to_members.ensures.went.ready;
+  room = c.write_to_members.ensures.went.room ∙ c.story_length-from.ensures.room;
   goes_on = begins_through (seen_of c.write_to_members.new.seat) (seen_of c.story_length-from.new.seat) (seen_of c.args.seat.now)
-      c.write_to_members.ensures.goes_on c.story_length-from.ensures.goes_on;
+      c.write_to_members.ensures.went.goes_on c.story_length-from.ensures.goes_on;
 }

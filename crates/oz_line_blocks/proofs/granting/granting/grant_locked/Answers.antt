@@ -25,9 +25,9 @@ grant-requires-clause-needed g c coherent story begins all asker gave container 
     let now = seen_of c.has_stood_still.new.seat in
     let was = c.requires.empty coherent in
     let stood : StandsStill now (rests.Seat scm_seat c.args.place) = c.has_stood_still.ensures.stood.0 c.if-not-has_stood_still.false in
-    let had = had_then O.coherent O.opening O.bytes O.script coherent seen c.args.place c.args.id c.args.stripe c.args.exclude.now was shown now c.show.ensures.begins c.has_stood_still.ensures.goes_on stood in
+    let had = had_then O.coherent O.opening O.bytes O.script coherent seen c.args.place c.args.id c.args.stripe c.args.exclude.now was shown now c.show.ensures.begins c.has_stood_still.ensures.looked.goes_on stood in
     let from_there = begins_through story now was.story begins
-    (begins_through now shown was.story c.has_stood_still.ensures.goes_on (begins_through shown seen was.story c.show.ensures.begins was.begins)) in
+    (begins_through now shown was.story c.has_stood_still.ensures.looked.goes_on (begins_through shown seen was.story c.show.ensures.begins was.begins)) in
     c.a_need_stays_until_a_grant.ensures story was.story c.args.stripe container pipeline coherent all from_there
     (gave ∙ (sym c.show.ensures.shown ∙ sym had))
     (needed_there O.coherent O.opening O.bytes O.script coherent seen c.args.place c.args.id c.args.stripe c.args.exclude.now was container pipeline apart beside)
@@ -60,9 +60,9 @@ returns-in-Ok-clause-known g c =
           let was = c.requires.empty coherent in
           let stood : StandsStill now (rests.Seat scm_seat c.args.place) = c.has_stood_still.ensures.stood.0 c.if-not-has_stood_still.false in
           let had = had_then O.coherent O.opening O.bytes O.script coherent seen c.args.place c.args.id c.args.stripe c.args.exclude.now was shown now
-          c.show.ensures.begins c.has_stood_still.ensures.goes_on stood in
+          c.show.ensures.begins c.has_stood_still.ensures.looked.goes_on stood in
           let from_there = begins_through granted now was.story c.in-Ok.ensures.begins
-          (begins_through now shown was.story c.has_stood_still.ensures.goes_on (begins_through shown seen was.story c.show.ensures.begins was.begins)) in
+          (begins_through now shown was.story c.has_stood_still.ensures.looked.goes_on (begins_through shown seen was.story c.show.ensures.begins was.begins)) in
           given_since scm_seat granted was.story c.args.place event from_there was.reached
           (given ∙ ap (λ (l : List Event). l ++ event ∷ []) (sym (had ∙ c.show.ensures.shown)));
     }
@@ -77,9 +77,9 @@ returns-clause-known g c coherent =
     let later = seen_of c.length_at_rest-length.new.seat in
     let was = c.requires.empty coherent in
     let stood : StandsStill now (rests.Seat scm_seat c.args.place) = c.has_stood_still.ensures.stood.0 c.if-not-has_stood_still.false in
-    let had = had_then O.coherent O.opening O.bytes O.script coherent seen c.args.place c.args.id c.args.stripe c.args.exclude.now was shown now c.show.ensures.begins c.has_stood_still.ensures.goes_on stood in
-    let goes_on = begins_through later granted seen c.length_at_rest-length.ensures.goes_on
-    (begins_through granted now seen c.grant.ensures.begins (begins_through now shown seen c.has_stood_still.ensures.goes_on c.show.ensures.begins)) in
+    let had = had_then O.coherent O.opening O.bytes O.script coherent seen c.args.place c.args.id c.args.stripe c.args.exclude.now was shown now c.show.ensures.begins c.has_stood_still.ensures.looked.goes_on stood in
+    let goes_on = begins_through later granted seen c.length_at_rest-length.ensures.looked.goes_on
+    (begins_through granted now seen c.grant.ensures.begins (begins_through now shown seen c.has_stood_still.ensures.looked.goes_on c.show.ensures.begins)) in
     let so = refused_due O.coherent O.opening O.bytes O.script coherent seen c.args.place c.args.id c.args.stripe c.args.exclude.now was c.requires.script later c.length_at_rest-length.result
     c.show.new.self.mine c.grant.new.self.mine c.show.new.self.scm.stopped c.in-Err.fault goes_on c.length_at_rest-length.ensures.within
     (c.length_at_rest-length.ensures.all ∙ c.length_at_rest-length.ensures.mine) (had ∙ c.show.ensures.shown) c.in-Err.ensures.own c.in-Err.ensures.refused

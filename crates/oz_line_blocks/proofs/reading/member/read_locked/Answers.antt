@@ -58,7 +58,7 @@ returns-clause-came g c =
       | in-None w ↦
           let is = rw w.in-None.is at c.in_ok-bytes.ensures.given in
           let given = given_later D.told D.clock D.image D.faults id piece dns old.node node None seen mid later is.0 show.other_begins in
-          let from : BeginsWith later seen = begins_through later mid seen show.other_begins noted.goes_on in
+          let from : BeginsWith later seen = begins_through later mid seen show.other_begins noted.looked.goes_on in
           let follow = subst (λ (l : List Event). AllFollow (Follows O.coherent O.opening O.bytes O.script) [] l) (sym show.other_seen) show.kept.follow in
           let place = show.length ∙ ap (λ (l : List Event). length l) (sym show.other_seen) in
           let said : has_notes given.said ≡ has_notes is.0.said =

@@ -14,7 +14,7 @@ returns-then-has-clause-came g c =
 pub read_locked-requires-clause-may : goal.read_locked-requires-clause-may
 read_locked-requires-clause-may g c coherent =
     let O = g.O.Opened in
-    may_later O.coherent O.opening O.bytes O.script c.args.wanted.id c.args.wanted.piece c.args.wanted.members (seen_of c.copy_member.new.seat) (seen_of c.args.seat.now) c.copy_member.ensures.goes_on (c.requires.may coherent)
+    may_later O.coherent O.opening O.bytes O.script c.args.wanted.id c.args.wanted.piece c.args.wanted.members (seen_of c.copy_member.new.seat) (seen_of c.args.seat.now) c.copy_member.ensures.looked.goes_on (c.requires.may coherent)
 
 pub returns-in-Without-clause-came : goal.returns-in-Without-clause-came
 returns-in-Without-clause-came g c =
@@ -33,4 +33,4 @@ returns-clause-came g c =
     let D = g.D.Disk in
     IfOk-weaker c.read_locked.result _ _
     (λ one came. comes_from D.told D.clock D.image D.faults O.coherent O.opening O.bytes O.script O.faults c.args.wanted.id c.args.wanted.piece c.args.wanted.members c.args.wanted.doubted c.args.dn
-    (seen_of c.args.seat.now) (seen_of c.copy_member.new.seat) (seen_of c.read_locked.new.seat) one (λ among. false≢true (sym c.if-has.false ∙ c.has.ensures.1 among)) came c.copy_member.ensures.goes_on) c.read_locked.ensures.came
+    (seen_of c.args.seat.now) (seen_of c.copy_member.new.seat) (seen_of c.read_locked.new.seat) one (λ among. false≢true (sym c.if-has.false ∙ c.has.ensures.1 among)) came c.copy_member.ensures.looked.goes_on) c.read_locked.ensures.came

@@ -12,15 +12,15 @@ use Rattle.oz_line_blocks.proofs.reading.reading.read_at_members.Goals as goal
 pub read_member-requires-2-clause-may : goal.read_member-requires-2-clause-may
 read_member-requires-2-clause-may g c coherent =
     let O = g.O.Opened in
-    may_later O.coherent O.opening O.bytes O.script c.args.id c.args.piece c.args.members (seen_of c.read_member.new.seat) (seen_of c.args.seat.now) c.read_member.ensures.goes_on (c.requires.may coherent)
+    may_later O.coherent O.opening O.bytes O.script c.args.id c.args.piece c.args.members (seen_of c.read_member.new.seat) (seen_of c.args.seat.now) c.read_member.ensures.looked.goes_on (c.requires.may coherent)
 
 pub read_member-requires-2-clause-doubted : goal.read_member-requires-2-clause-doubted
 read_member-requires-2-clause-doubted g c coherent =
-    are_later c.args.id c.args.piece.block c.args.doubted (seen_of c.read_member.new.seat) (seen_of c.args.seat.now) c.read_member.ensures.goes_on (c.requires.doubted coherent)
+    are_later c.args.id c.args.piece.block c.args.doubted (seen_of c.read_member.new.seat) (seen_of c.args.seat.now) c.read_member.ensures.looked.goes_on (c.requires.doubted coherent)
 
 pub read_member-requires-3-clause-doubted : goal.read_member-requires-3-clause-doubted
 read_member-requires-3-clause-doubted g c coherent =
-    let from = begins_through (seen_of c.read_member-2.new.seat) (seen_of c.read_member.new.seat) (seen_of c.args.seat.now) c.read_member-2.ensures.goes_on c.read_member.ensures.goes_on in
+    let from = begins_through (seen_of c.read_member-2.new.seat) (seen_of c.read_member.new.seat) (seen_of c.args.seat.now) c.read_member-2.ensures.looked.goes_on c.read_member.ensures.looked.goes_on in
     are_later c.args.id c.args.piece.block c.args.doubted (seen_of c.read_member-2.new.seat) (seen_of c.args.seat.now) from (c.requires.doubted coherent)
 
 pub read_member-requires-3-clause-member : goal.read_member-requires-3-clause-member
@@ -29,7 +29,7 @@ read_member-requires-3-clause-member g c = third_contained c.args.members (searc
 pub read_member-requires-3-clause-may : goal.read_member-requires-3-clause-may
 read_member-requires-3-clause-may g c coherent =
     let O = g.O.Opened in
-    let from = begins_through (seen_of c.read_member-2.new.seat) (seen_of c.read_member.new.seat) (seen_of c.args.seat.now) c.read_member-2.ensures.goes_on c.read_member.ensures.goes_on in
+    let from = begins_through (seen_of c.read_member-2.new.seat) (seen_of c.read_member.new.seat) (seen_of c.args.seat.now) c.read_member-2.ensures.looked.goes_on c.read_member.ensures.looked.goes_on in
     may_later O.coherent O.opening O.bytes O.script c.args.id c.args.piece c.args.members (seen_of c.read_member-2.new.seat) (seen_of c.args.seat.now) from (c.requires.may coherent)
 
 -- ---- memory is wanted
@@ -40,7 +40,7 @@ returns-in_err-bytes-clause-lacks g c =
     let D = g.D.Disk in
     on_err_of c.from_residual.result _
     (short_at_once D.told D.clock D.image D.faults O.coherent O.opening O.bytes O.script O.faults c.args.id c.args.piece c.args.members c.args.doubted c.args.members (seen_of c.args.seat.now)
-    (seen_of c.read_member.new.seat) (search rules) c.in_err-bytes.ensures.asked c.read_member.ensures.goes_on)
+    (seen_of c.read_member.new.seat) (search rules) c.in_err-bytes.ensures.asked c.read_member.ensures.looked.goes_on)
 
 pub returns-in_err-bytes-2-clause-lacks : goal.returns-in_err-bytes-2-clause-lacks
 returns-in_err-bytes-2-clause-lacks g c =
@@ -49,7 +49,7 @@ returns-in_err-bytes-2-clause-lacks g c =
     let first = rw c.in-Nothing.is at c.in_ok-bytes.ensures.came in
     on_err_of c.from_residual-in_err-bytes-2.result _
     (short_one D.told D.clock D.image D.faults O.coherent O.opening O.bytes O.script O.faults c.args.id c.args.piece c.args.members c.args.doubted c.args.members c.in-Nothing.lack
-    (seen_of c.args.seat.now) (seen_of c.read_member.new.seat) (seen_of c.read_member-2.new.seat) (search rules) first.0 c.in_err-bytes-2.ensures.asked c.read_member-2.ensures.goes_on)
+    (seen_of c.args.seat.now) (seen_of c.read_member.new.seat) (seen_of c.read_member-2.new.seat) (search rules) first.0 c.in_err-bytes-2.ensures.asked c.read_member-2.ensures.looked.goes_on)
 
 pub returns-in_err-bytes-3-clause-lacks : goal.returns-in_err-bytes-3-clause-lacks
 returns-in_err-bytes-3-clause-lacks g c =
@@ -60,7 +60,7 @@ returns-in_err-bytes-3-clause-lacks g c =
     on_err_of c.from_residual-in_err-bytes-3.result _
     (short_two D.told D.clock D.image D.faults O.coherent O.opening O.bytes O.script O.faults c.args.id c.args.piece c.args.members c.args.doubted c.args.members c.in-Nothing.lack c.in-Nothing-2.lack
     (seen_of c.args.seat.now) (seen_of c.read_member.new.seat) (seen_of c.read_member-2.new.seat) (seen_of c.read_member-3.new.seat) (search rules) first.0 second.0 c.in_err-bytes-3.ensures.asked
-    c.read_member-3.ensures.goes_on)
+    c.read_member-3.ensures.looked.goes_on)
 
 -- ---- a member gave the bytes
 
@@ -151,10 +151,10 @@ returns-clause-known g c coherent =
     let one = seen_of c.read_member.new.seat in
     let two = seen_of c.read_member-2.new.seat in
     let three = seen_of c.read_member-3.new.seat in (
-      doubted_among O.coherent O.opening O.bytes O.script c.args.id c.args.piece c.in-Nothing.lack c.in-Nothing-2.lack c.in-Nothing-3.lack _ _ _ one two three c.read_member-2.ensures.goes_on
-          c.read_member-3.ensures.goes_on first.1 second.1 third.1 coherent,
+      doubted_among O.coherent O.opening O.bytes O.script c.args.id c.args.piece c.in-Nothing.lack c.in-Nothing-2.lack c.in-Nothing-3.lack _ _ _ one two three c.read_member-2.ensures.looked.goes_on
+          c.read_member-3.ensures.looked.goes_on first.1 second.1 third.1 coherent,
       nobody_at O.coherent O.opening O.bytes O.script c.args.id c.args.piece c.args.members c.in-Nothing.lack c.in-Nothing-2.lack c.in-Nothing-3.lack one two three seen (search rules)
-          c.read_member-2.ensures.goes_on c.read_member-3.ensures.goes_on
-          (begins_through three two seen c.read_member-3.ensures.goes_on (begins_through two one seen c.read_member-2.ensures.goes_on c.read_member.ensures.goes_on)) first.1 second.1 third.1 coherent
+          c.read_member-2.ensures.looked.goes_on c.read_member-3.ensures.looked.goes_on
+          (begins_through three two seen c.read_member-3.ensures.looked.goes_on (begins_through two one seen c.read_member-2.ensures.looked.goes_on c.read_member.ensures.looked.goes_on)) first.1 second.1 third.1 coherent
           (c.requires.may coherent),
     )

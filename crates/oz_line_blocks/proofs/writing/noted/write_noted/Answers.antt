@@ -8,8 +8,8 @@ use Rattle.oz_line_blocks.proofs.writing_lemmas.Behind.{all_came}
 use Rattle.oz_line_blocks.proofs.writing_lemmas.Seated.{by_outcome, ok_then, seat_back}
 use Rattle.oz_line_blocks.proofs.writing.noted.write_noted.Goals as goal
 
-pub returns-clause-ready : goal.returns-clause-ready
-returns-clause-ready g c =
+pub returns-clause-looked : goal.returns-clause-looked
+returns-clause-looked g c =
     let made = c.new-noting.result in
     let after = c.write_block-written.new.noter in
     let laws = c.a_noter_stays_the_same.ensures in
@@ -17,48 +17,21 @@ returns-clause-ready g c =
     (λ written all. laws.written made.subject c.args.members written.answers made after all) (λ short. laws.unwritten made.subject c.args.members made after short) in
     let back = seat_back _ c.into_seat-seat.result.ghost_name made after c.into_seat-seat.result.now c.seat-1.given
     (ap (λ (v : NotingView). v.reference) c.new-noting.ensures) same c.into_seat-seat.ensures.same_reference in
-    subst (λ s. IsReady g.R.Ring.turn c.args.by s) (sym back)
-    (subst (λ (n : ℕ). IsReady g.R.Ring.turn n c.into_seat-seat.result.now)
-    (ap (λ (v : NotingView). v.by) same.same ∙ (ap (λ (v : NotingView). v.by) c.new-noting.ensures ∙ c.requires.ready.numbered)) c.into_seat-seat.ensures.ready)
-
-pub returns-clause-room : goal.returns-clause-room
-returns-clause-room g c =
-    let made = c.new-noting.result in
-    let after = c.write_block-written.new.noter in
-    let laws = c.a_noter_stays_the_same.ensures in
-    let same : IsSameNoter made after = by_outcome c.write_block-written.result c.write_block-written.ensures.written c.write_block-written.ensures.lacks
-    (λ written all. laws.written made.subject c.args.members written.answers made after all) (λ short. laws.unwritten made.subject c.args.members made after short) in
-    let back = seat_back _ c.into_seat-seat.result.ghost_name made after c.into_seat-seat.result.now c.seat-1.given
-    (ap (λ (v : NotingView). v.reference) c.new-noting.ensures) same c.into_seat-seat.ensures.same_reference in
-    ap (λ s. room_of s) back
-    ∙ (c.into_seat-seat.ensures.room ∙ (ap (λ (v : NotingView). v.room) same.same ∙ ap (λ (v : NotingView). v.room) c.new-noting.ensures))
-
-pub returns-clause-mine : goal.returns-clause-mine
-returns-clause-mine g c =
-    let made = c.new-noting.result in
-    let after = c.write_block-written.new.noter in
-    let laws = c.a_noter_stays_the_same.ensures in
-    let same : IsSameNoter made after = by_outcome c.write_block-written.result c.write_block-written.ensures.written c.write_block-written.ensures.lacks
-    (λ written all. laws.written made.subject c.args.members written.answers made after all) (λ short. laws.unwritten made.subject c.args.members made after short) in
-    let back = seat_back _ c.into_seat-seat.result.ghost_name made after c.into_seat-seat.result.now c.seat-1.given
-    (ap (λ (v : NotingView). v.reference) c.new-noting.ensures) same c.into_seat-seat.ensures.same_reference in
-    ap (λ s. mine_of s) back
-    ∙ (c.into_seat-seat.ensures.events.1 ∙ (ap (λ (v : NotingView). v.mine) same.same ∙ ap (λ (v : NotingView). v.mine) c.new-noting.ensures))
-
-pub returns-clause-goes_on : goal.returns-clause-goes_on
-returns-clause-goes_on g c =
-    let made = c.new-noting.result in
-    let after = c.write_block-written.new.noter in
-    let laws = c.a_noter_stays_the_same.ensures in
-    let same : IsSameNoter made after = by_outcome c.write_block-written.result c.write_block-written.ensures.written c.write_block-written.ensures.lacks
-    (λ written all. laws.written made.subject c.args.members written.answers made after all) (λ short. laws.unwritten made.subject c.args.members made after short) in
-    let back = seat_back _ c.into_seat-seat.result.ghost_name made after c.into_seat-seat.result.now c.seat-1.given
-    (ap (λ (v : NotingView). v.reference) c.new-noting.ensures) same c.into_seat-seat.ensures.same_reference in (
-      same.goes_on.0,
-      ap (λ s. seen_of s) back
-          ∙ (c.into_seat-seat.ensures.events.0
-          ∙ (same.goes_on.1 ∙ ap (λ (v : NotingView). v.seen ++ same.goes_on.0) c.new-noting.ensures)),
-    )
+    record {
+      ready = subst (λ s. IsReady g.R.Ring.turn c.args.by s) (sym back)
+          (subst (λ (n : ℕ). IsReady g.R.Ring.turn n c.into_seat-seat.result.now)
+          (ap (λ (v : NotingView). v.by) same.same ∙ (ap (λ (v : NotingView). v.by) c.new-noting.ensures ∙ c.requires.seat.ready.numbered)) c.into_seat-seat.ensures.ready);
+      room = ap (λ s. room_of s) back
+          ∙ (c.into_seat-seat.ensures.room ∙ (ap (λ (v : NotingView). v.room) same.same ∙ ap (λ (v : NotingView). v.room) c.new-noting.ensures));
+      goes_on = (
+        same.goes_on.0,
+        ap (λ s. seen_of s) back
+            ∙ (c.into_seat-seat.ensures.events.0
+            ∙ (same.goes_on.1 ∙ ap (λ (v : NotingView). v.seen ++ same.goes_on.0) c.new-noting.ensures)),
+      );
+      mine = ap (λ s. mine_of s) back
+          ∙ (c.into_seat-seat.ensures.events.1 ∙ (ap (λ (v : NotingView). v.mine) same.same ∙ ap (λ (v : NotingView). v.mine) c.new-noting.ensures));
+    }
 
 pub returns-clause-came : goal.returns-clause-came
 returns-clause-came g c =

@@ -18,7 +18,7 @@ returns-then-not-have_answered-clause-unknown g c =
     let answers = c.in-Ok.written.answers in
     let put : c.args.said + 3 ≡ c.in-Some.wrote - 1 = omega (arith, c.in-Some.ensures) in
     let all = all_came_longer O.coherent O.opening c.args.id c.args.block seen (seen_of c.write_noted-noted.new.seat) later
-    c.write_noted-noted.ensures.goes_on c.have_answered.ensures.goes_on c.args.members answers c.in-Ok.ensures.came in
+    c.write_noted-noted.ensures.looked.goes_on c.have_answered.ensures.looked.goes_on c.args.members answers c.in-Ok.ensures.came in
     inr (⊎_elim
     (λ have. inr (record {
       answers = answers;
@@ -34,7 +34,7 @@ returns-then-not-have_answered-clause-unknown g c =
 pub tell_wrote-requires-clause-follows : goal.tell_wrote-requires-clause-follows
 tell_wrote-requires-clause-follows g c story begins all now =
     let later = seen_of c.have_answered.new.seat in
-    let looked = begins_through later (seen_of c.write_noted-noted.new.seat) (seen_of c.args.seat.now) c.have_answered.ensures.goes_on c.write_noted-noted.ensures.goes_on in
+    let looked = begins_through later (seen_of c.write_noted-noted.new.seat) (seen_of c.args.seat.now) c.have_answered.ensures.looked.goes_on c.write_noted-noted.ensures.looked.goes_on in
     let whole = begins_through story later (seen_of c.args.seat.now) begins looked in
     let so : times_said c.args.id.client c.args.id.line story ≡ c.args.said + 3 = omega (arith, now, c.in-Some.ensures) in
     let have = all_answered_later c.args.id c.args.block story later begins c.args.members c.in-Ok.written.answers
@@ -62,7 +62,7 @@ returns-in-Ok-tell_wrote-clause-written g c =
     let wrote : c.in-Some.wrote ≡ c.args.said + 4 = omega (arith, c.in-Some.ensures) in
     record {
       answered =
-          all_answered_later c.args.id c.args.block (seen_of c.tell_wrote.new.seat) later c.tell_wrote.ensures.goes_on c.args.members c.in-Ok.written.answers
+          all_answered_later c.args.id c.args.block (seen_of c.tell_wrote.new.seat) later c.tell_wrote.ensures.went.goes_on c.args.members c.in-Ok.written.answers
           (answered_whole c.args.id c.args.block c.args.from later c.args.members c.in-Ok.written.answers (c.if-not-have_answered.ensures.still.0 refl).1);
       still = c.in-Ok-tell_wrote.ensures.still;
       more = wrote ∙ sym (ap (λ (t : Bool). cond t (c.args.said + 4) (c.args.said + 3)) two);
@@ -77,6 +77,6 @@ returns-in-Err-tell_wrote-clause-unknown g c =
     let wrote : c.in-Some.wrote ≡ c.args.said + 4 = omega (arith, c.in-Some.ensures) in
     unknown_of O.coherent O.opening c.args.id c.args.block c.args.members c.args.said (c.in-Some.wrote - 1) c.in-Some.wrote c.in-Ok.written.answers (seen_of c.args.seat.now)
     (seen_of c.tell_wrote.new.seat) put wrote
-    (all_answered_later c.args.id c.args.block (seen_of c.tell_wrote.new.seat) later c.tell_wrote.ensures.goes_on c.args.members c.in-Ok.written.answers
+    (all_answered_later c.args.id c.args.block (seen_of c.tell_wrote.new.seat) later c.tell_wrote.ensures.went.goes_on c.args.members c.in-Ok.written.answers
     (answered_whole c.args.id c.args.block c.args.from later c.args.members c.in-Ok.written.answers (c.if-not-have_answered.ensures.still.0 refl).1))
     c.in-Err-tell_wrote.error c.in-Err-tell_wrote.ensures.untold

@@ -22,7 +22,8 @@ use std::sync::Wait;
 
 impl<'s> LineAtWork<'s> {
     /// Goes on with what was replied to its next Ask, which has this number. Where a block is granted, or was given up
-    /// before, and more is said of its blocks than it knows, it is told next that there is no memory.
+    /// before, and more is said of its blocks than it knows, it is told next that there is no memory (`look_again` says why
+    /// no run comes to that).
     pub(crate) fn reply<D: Disk, O: Opened, L: Loaded, R: Ring, W: Wait, G: Gate>(
         &mut self,
         shared: &Shared<'_, D, O, L, R, W, G>,

@@ -51,7 +51,8 @@ impl<'s> LineAtWork<'s> {
     }
 
     /// Looks how often something was said of its blocks by now, and waits. Where what comes next rests on that, and it
-    /// isn't as often as it knows, it is told next that there is no memory.
+    /// isn't as often as it knows, it is told next that there is no memory. No run comes to that: a client has one worker,
+    /// which alone says something of the blocks of its lines. But the law lets any worker's seat say more.
     pub(crate) fn look_again<D: Disk, O: Opened, L: Loaded, R: Ring, W: Wait, G: Gate>(
         &mut self,
         shared: &Shared<'_, D, O, L, R, W, G>,

@@ -35,10 +35,10 @@ use Rattle.oz_asker.specs.laws.Asks.{legal_of_follow}
 use Rattle.oz_buffer.specs.Buffer.{AllFollow, Follows}
 use Rattle.oz_kept.specs.laws.Granted.{pending_asked}
 use Rattle.oz_scm_events.specs.Granted.{IsRefusal, own_after}
-use Rattle.oz_store.specs.striped.Shares.{share_of}
-use Rattle.oz_store.specs.striped.laws.Requests.{share_answers}
-use Rattle.oz_store.specs.striped.laws.Shares.{share_is_there}
-use Rattle.oz_store.specs.striped.laws.Stories.{share_of_seen}
+use Rattle.oz_underway.specs.striped.Shares.{share_of}
+use Rattle.oz_underway.specs.striped.laws.Requests.{share_answers}
+use Rattle.oz_underway.specs.striped.laws.Shares.{share_is_there}
+use Rattle.oz_underway.specs.striped.laws.Stories.{share_of_seen}
 use Rattle.oz_asker.specs.declared.telling.still.Still.TheVariants as rests
 use Rattle.oz_asker.specs.telling.Still.{StandsStill}
 use Rattle.oz_turn.specs.Told.{BeginsWith}

@@ -18,7 +18,7 @@ use Rattle.oz_requests.specs.declared.answer.Answer.{Answer}
 use Rattle.oz_requests.specs.declared.answer.Answer.TheVariants as answers
 use Rattle.oz_requests.specs.declared.request.AskId.{AskId}
 use Rattle.oz_requests.specs.declared.request.Exclude.{Exclude}
-use Rattle.oz_store.specs.granted.Empty.{IsPoolEmpty}
+use Rattle.oz_underway.specs.granted.Empty.{IsPoolEmpty}
 use Rattle.oz_scm.specs.declared.fault.GrantFault.{GrantFault}
 use Rattle.oz_scm.specs.declared.fault.GrantFault.TheVariants as faults
 use Rattle.oz_scm_events.specs.Granted.{by_scm}

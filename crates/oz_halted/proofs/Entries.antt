@@ -1,5 +1,5 @@
 -- The datanode of the example that halted has an entry more.
-use Rattle.std.proofs.Common.{◌≡◌, ◌⊎◌, ℕ, ◌==◌, max, Bool, true, false, not, ◌&&◌, ◌||◌, List, [], ◌∷◌, Option, None, Some}
+use Rattle.std.proofs.Common.{◌≡◌, ◌⊎◌, ℕ, ◌==◌, max, Bool, true, false, not, ◌&&◌, ◌||◌, List, [], ◌∷◌, None, Some}
 use Rattle.std.proofs.Common.{is_some, Contains, cond, inl, inr, refl, sym, ◌∙◌, ap, subst, arith}
 use mathlib.Core.Bool.{false≢true}
 use Rattle.oz_fields.specs.declared.block.Block.{Block}
@@ -12,18 +12,15 @@ use Rattle.oz_core.specs.declared.event.Event.{Event}
 use Rattle.oz_core.specs.declared.event.EventKind.TheVariants.{Halt, Delete}
 use Rattle.oz_core.specs.declared.event.Node.TheVariants.{Scm, Datanode}
 use Rattle.oz_core.specs.declared.opening.Unretired.{Unretired}
-use Rattle.oz_core.specs.Law.{DeleteIsEnabled, IsLegalFrom}
-use Rattle.oz_core.specs.Nodes.{is_open, was_held, was_closed}
-use Rattle.oz_core.specs.Scm.{members}
+use Rattle.oz_core.specs.Nodes.{is_open, was_held}
 use Rattle.oz_core.specs.Seats.{datanode_seat, scm_seat}
 use Rattle.oz_kept.specs.laws.Places.{legal_first}
 use Rattle.oz_kept.specs.laws.Deleted.{legal_to}
 use Rattle.oz_kept.specs.laws.Reached.{in_one}
-use Rattle.oz_kept.specs.reopened.Left.{was_greatest}
 use Rattle.oz_halted.specs.Example.{block, txn, opening, bytes, script, story, holding}
 use Rattle.oz_halted.specs.Missing.{LogIsNumbered}
 use Rattle.oz_halted.specs.halting.Example.{row, was, deleted, given, remains}
-use Rattle.oz_halted.specs.halting.Leaves.{GivenBytes, GivesContents, IsOpenedOf, Leaves, MayHaveEntry, NodeHalted}
+use Rattle.oz_halted.specs.halting.Leaves.{GivenBytes, IsOpenedOf, Leaves, NodeHalted}
 use Rattle.oz_halted.specs.halting.Story.{IsOfStory, WasToApply}
 use Rattle.oz_halted.specs.halting.laws.Going.{of_no_event}
 use Rattle.oz_halted.specs.halting.laws.Making.{of_unchanged}

@@ -9,9 +9,9 @@ mod leaving;
 
 pub use example::two_nodes_have_one_body_more;
 pub use halting::{
-    a_datanode_has_an_entry_more, a_halted_datanode_leaves_what_is_allowed, an_entry_makes_what_its_event_makes,
-    an_entry_more_is_allowed, only_what_is_logged_is_missing, what_is_loaded_stays,
-    what_rests_is_left, what_was_to_come_still_is,
+    a_datanode_has_an_entry_more, a_halted_datanode_leaves_what_is_allowed,
+    an_entry_makes_what_its_event_makes, an_entry_more_is_allowed, only_what_is_logged_is_missing,
+    what_is_loaded_stays, what_rests_is_left, what_was_to_come_still_is,
 };
 pub use laws::{
     a_further_delete_takes_nothing_that_is_reached, only_what_is_being_deleted_may_be_missing,

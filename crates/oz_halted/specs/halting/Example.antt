@@ -1,9 +1,8 @@
 -- A datanode that halted as it was to apply a transaction: what a stop may leave of it.
-use Rattle.std.specs.Prelude.{◌≡◌, ◌⊎◌, ℕ, ◌==◌, List, [], ◌∷◌, replicate, None, Some, if◌then◌else◌}
+use Rattle.std.specs.Prelude.{◌≡◌, ◌⊎◌, ◌==◌, [], ◌∷◌, replicate, None, Some, if◌then◌else◌}
 use Rattle.oz_container.specs.declared.state.State.TheVariants.{Open, Closed}
 use Rattle.oz_entries.specs.declared.entry.Entry.TheVariants.{Apply}
 use Rattle.oz_entries.specs.declared.row.BlockRow.{BlockRow}
-use Rattle.oz_entries.specs.declared.row.Chunk.{Chunk}
 use Rattle.oz_entries.specs.Node.{Node, is_same_block, after_entry}
 use Rattle.oz_halted.specs.Example.{block, txn}
 use Rattle.oz_halted.specs.halting.Leaves.{GivenBytes, Remains}

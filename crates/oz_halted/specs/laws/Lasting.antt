@@ -53,7 +53,7 @@ module _ (dn : ℕ) (block : Block) where
   held_in : (o : Option NodeOpening)
       → option_map_or (has_piece block) o false
       ≡ option_map_or (λ (held : List Piece). list_any (λ (piece : Piece). is_block block piece.block) held)
-          (option_map (λ (node : NodeOpening). node.held) o) false
+      (option_map (λ (node : NodeOpening). node.held) o) false
   held_in None = refl
   held_in (Some node) = refl
 

@@ -31,18 +31,22 @@ pub legal_on : (opening : Opening) (start story : List Event) (event : Event) �
     → IsEnabled opening (start ++ story) event → IsLegalFrom opening start (story ++ event ∷ [])
 unfolding IsLegalFrom
 legal_on opening start [] event legal enabled = (subst (λ (l : List Event). IsEnabled opening l event) (append-nil start) enabled, tt)
-legal_on opening start (first ∷ story) event legal enabled =
-    (legal.0, legal_on opening (start ++ first ∷ []) story event legal.1
-    (subst (λ (l : List Event). IsEnabled opening l event) (sym (moved_over start story first)) enabled))
+legal_on opening start (first ∷ story) event legal enabled = (
+  legal.0,
+  legal_on opening (start ++ first ∷ []) story event legal.1
+      (subst (λ (l : List Event). IsEnabled opening l event) (sym (moved_over start story first)) enabled),
+)
 
 pub fits_on : (opening : Opening) (bytes : OpeningBytes) (script : Script) (start story : List Event) (event : Event)
     → FitsFrom opening bytes script start story → EventFits opening bytes script (start ++ story) event.kind
     → FitsFrom opening bytes script start (story ++ event ∷ [])
 unfolding FitsFrom
 fits_on opening bytes script start [] event fits here = (subst (λ (l : List Event). EventFits opening bytes script l event.kind) (append-nil start) here, tt)
-fits_on opening bytes script start (first ∷ story) event fits here =
-    (fits.0, fits_on opening bytes script (start ++ first ∷ []) story event fits.1
-    (subst (λ (l : List Event). EventFits opening bytes script l event.kind) (sym (moved_over start story first)) here))
+fits_on opening bytes script start (first ∷ story) event fits here = (
+  fits.0,
+  fits_on opening bytes script (start ++ first ∷ []) story event fits.1
+      (subst (λ (l : List Event). EventFits opening bytes script l event.kind) (sym (moved_over start story first)) here),
+)
 
 -- ---- a node that halted stays so
 
@@ -59,9 +63,11 @@ itself (Datanode number) = eq-eqb number number refl
 
 pub halted_by : (node : Node) (before : List Event) (seat count : ℕ) → IsHalted node (before ++ record { seat = seat; kind = Halt node count } ∷ [])
 unfolding IsHalted
-halted_by node before seat count =
-    (count, halt_next node before (record { seat = seat; kind = Halt node count })
-    ∙ ap (λ (t : Bool). newer (cond t (Some (Some count)) None) (halt_of node before)) (itself node))
+halted_by node before seat count = (
+  count,
+  halt_next node before (record { seat = seat; kind = Halt node count })
+      ∙ ap (λ (t : Bool). newer (cond t (Some (Some count)) None) (halt_of node before)) (itself node),
+)
 
 kind_still : (node : Node) (kind : EventKind) (o : Option ℕ) → ((count : ℕ) × (o ≡ Some count)) → (count : ℕ) × (newer (halt_count node kind) o ≡ Some count)
 kind_still node (Halt other count) o halted = by (is_node node other)
@@ -147,7 +153,7 @@ module _ (opening : Opening) (dn : ℕ) (block : Block) where
   node_rests [] before legal halted = refl
   node_rests (event ∷ story) before legal halted =
       ap (λ (t : Bool). t || has_event (puts_or_copies dn block) story)
-          (gets_nothing before event.seat event.kind (legal_first opening before event story legal) halted)
+      (gets_nothing before event.seat event.kind (legal_first opening before event story legal) halted)
       ∙ node_rests story (before ++ event ∷ []) (legal_rest opening before event story legal) (halted_still (Datanode dn) before event halted)
 
 -- its bytes are those that it had, behind events that give it none

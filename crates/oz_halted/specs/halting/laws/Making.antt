@@ -183,7 +183,7 @@ module _ (opening : Opening) (numbered : LogIsNumbered opening) (before : List E
             let among : Contains locals found.item = subst (λ (l : List ℕ). Contains l found.item) (sym enabled.held)
             (filtered is_kept enabled.txn.locals found.item found.there kept) in
             both_true (list_any (λ (txn : Txn). txn.number == number && txn.container == block.container) txns)
-                (list_any (λ local. local == block.local) locals)
+            (list_any (λ local. local == block.local) locals)
             (one_passes (λ (txn : Txn). txn.number == number && txn.container == block.container) txns enabled.txn there
             (both_true (enabled.txn.number == number) (enabled.txn.container == block.container) (eq-eqb enabled.txn.number number enabled.of_number) parts.0))
             (one_passes (λ local. local == block.local) locals found.item among found.so))
@@ -215,7 +215,7 @@ module _ (opening : Opening) (numbered : LogIsNumbered opening) (before : List E
         of_delete = record {
           held = λ block.
               goes (names enabled.txn block) (deletes txns number locals block) (node.rows block) (holds opening before dn block) (is.held block)
-                  (named_alike block)
+              (named_alike block)
               ∙ sym (holds_then opening before behind legal (log_apart kind enabled) dn block
               ∙ ap (λ (t : Bool). newer (cond (t && deletes txns number locals block) (Some false) None) (holds opening before dn block)) (eq-eqb dn dn refl));
           lengths = λ block row found.

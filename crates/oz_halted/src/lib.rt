@@ -10,7 +10,8 @@ mod leaving;
 pub use example::two_nodes_have_one_body_more;
 pub use halting::{
     a_datanode_has_an_entry_more, a_halted_datanode_leaves_what_is_allowed,
-    an_entry_makes_what_its_event_makes, an_entry_more_is_allowed, only_what_is_logged_is_missing,
+    an_entry_makes_what_its_event_makes, an_entry_more_is_allowed,
+    an_entry_without_an_event_changes_nothing, only_what_is_logged_is_missing,
     what_is_loaded_stays, what_rests_is_left, what_was_to_come_still_is,
 };
 pub use laws::{

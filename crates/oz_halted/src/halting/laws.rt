@@ -1,6 +1,6 @@
 //! What holds of each datanode that halted.
 
-ghost use Rattle.std.specs.Prelude.{◌≡◌, ◌≢◌, ℕ, true, false, List, [], ◌∷◌, ◌++◌, Option, None, IfSome, Contains};
+ghost use Rattle.std.specs.Prelude.{◌≡◌, ◌≢◌, ℕ, true, false, not, List, [], ◌∷◌, ◌++◌, Option, None, IfSome, Contains};
 ghost use Rattle.oz_container.specs.declared.state.State.{State as AnyState};
 ghost use Rattle.oz_dellog.specs.declared.txn.Txn.{Txn as AnyTxn};
 ghost use Rattle.oz_fields.specs.declared.block.Block.{Block as AnyBlock};
@@ -11,14 +11,15 @@ ghost use Rattle.oz_entries.specs.declared.entry.Entry.TheVariants as entries;
 ghost use Rattle.oz_entries.specs.declared.row.BlockRow.{BlockRow as AnyRow};
 ghost use Rattle.oz_entries.specs.Node.{Node, after_entry, empty_node, is_held};
 ghost use Rattle.oz_core.specs.declared.event.Event.{Event as AnyEvent};
-ghost use Rattle.oz_core.specs.declared.event.EventKind.TheVariants.{Put, Copy, Delete, CloseCommand, Halt, Wipe};
+ghost use Rattle.oz_core.specs.declared.event.EventKind.TheVariants.{Put, Copy, Delete, CloseCommand, Halt, Start, Stop, Wipe};
 ghost use Rattle.oz_core.specs.declared.event.Node.TheVariants.{Datanode};
 ghost use Rattle.oz_core.specs.declared.opening.Opening.{Opening as AnyOpening};
 ghost use Rattle.oz_core.specs.Coherent.{IsCoherent};
 ghost use Rattle.oz_core.specs.Contents.{OpeningBytes};
 ghost use Rattle.oz_core.specs.Fits.{EventFits, Fits};
-ghost use Rattle.oz_core.specs.Law.{CloseCommandIsEnabled, CopyIsEnabled, DeleteIsEnabled, IsEnabled, IsLegal, PutIsEnabled, WipeIsEnabled};
-ghost use Rattle.oz_core.specs.Nodes.{holds, is_open};
+ghost use Rattle.oz_core.specs.Law.{CloseCommandIsEnabled, CopyIsEnabled, DeleteIsEnabled, IsEnabled, IsLegal, PutIsEnabled};
+ghost use Rattle.oz_core.specs.Law.{StartIsEnabled, StopIsEnabled, WipeIsEnabled};
+ghost use Rattle.oz_core.specs.Nodes.{holds, is_closed, is_open};
 ghost use Rattle.oz_core.specs.Scm.{is_logged, logged};
 ghost use Rattle.oz_core.specs.Seats.{datanode_seat};
 ghost use Rattle.oz_kept.specs.Held.{LinesAreApart};
@@ -26,10 +27,11 @@ ghost use Rattle.oz_kept.specs.reopened.Left.{IsLeftByNode, lengths_of};
 ghost use Rattle.oz_halted.specs.Further.{MayBeLeftByNode};
 ghost use Rattle.oz_halted.specs.Missing.{LogIsNumbered};
 ghost use Rattle.oz_halted.specs.halting.Leaves.{GivenBytes, GivesContents, IsOpenedOf, MayHaveEntry};
-ghost use Rattle.oz_halted.specs.halting.Story.{IsAllowed, IsOfStory, WasToApply, WasToMake, WasToPut};
+ghost use Rattle.oz_halted.specs.halting.Story.{HoldsNoneOf, IsAllowed, IsOfStory, WasToApply, WasToMake, WasToPut};
 
 /// What the journal stands for behind an entry is what the story makes of the datanode behind the entry's event: a block
-/// that is put or copied, a transaction that is applied, and a replica that is closed. Behind a Wipe it is an empty one.
+/// that is put or copied, a transaction that is applied, and a replica that is closed. Behind a Wipe it is an empty one, and
+/// behind a Stop or a Start what it was.
 pub fn an_entry_makes_what_its_event_makes()
     ensures put { (opening : AnyOpening) (before : List AnyEvent) (dn seat : ℕ) (was : Node) (block : AnyBlock) (id : AnyId)
         (first : ℕ) (row : AnyRow) →
@@ -57,6 +59,25 @@ pub fn an_entry_makes_what_its_event_makes()
         LogIsNumbered opening → IsLegal opening before → IsOfStory opening before dn was →
         WipeIsEnabled opening before seat dn →
         IsOfStory opening (before ++ record { seat = seat; kind = Wipe dn } ∷ []) dn empty_node }
+    ensures stopped { (opening : AnyOpening) (before : List AnyEvent) (dn seat : ℕ) (was : Node) →
+        LogIsNumbered opening → IsLegal opening before → IsOfStory opening before dn was →
+        StopIsEnabled opening before seat dn →
+        IsOfStory opening (before ++ record { seat = seat; kind = Stop dn } ∷ []) dn was }
+    ensures started { (opening : AnyOpening) (before : List AnyEvent) (dn seat : ℕ) (was : Node) →
+        LogIsNumbered opening → IsLegal opening before → IsOfStory opening before dn was →
+        StartIsEnabled opening before seat dn →
+        IsOfStory opening (before ++ record { seat = seat; kind = Start dn } ∷ []) dn was }
+{}
+
+/// An entry of which no event tells gives what the story makes of the datanode too, where its replica is as closed then as the
+/// story has it: one that sets a state, or drops a replica that holds nothing.
+pub fn an_entry_without_an_event_changes_nothing()
+    ensures state { (opening : AnyOpening) (story : List AnyEvent) (dn container : ℕ) (state : AnyState) (was : Node) →
+        IsOfStory opening story dn was → is_closed opening story dn container ≡ not (is_open state) →
+        IsOfStory opening story dn (after_entry (entries.SetState container state) was) }
+    ensures dropped { (opening : AnyOpening) (story : List AnyEvent) (dn container : ℕ) (was : Node) →
+        IsOfStory opening story dn was → HoldsNoneOf container was → is_closed opening story dn container ≡ true →
+        IsOfStory opening story dn (after_entry (entries.Drop container) was) }
 {}
 
 /// An entry that was to come gives what the story and one event more make of the datanode, which the law allows there, or

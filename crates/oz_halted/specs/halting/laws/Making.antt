@@ -306,3 +306,35 @@ dropped_is_the_same container node none = record {
         λ i. record { container = eqb-true container block.container e i; local = block.local } in
         nothing (node.rows block) (subst (λ (b : Block). is_held node b ≡ false) same (none block.local))
     by block false e = refl
+
+-- it is what the story makes of it, where the replica is as closed as the story has it
+pub of_state : (opening : Opening) (story : List Event) (dn container : ℕ) (was node : Node) → IsOfStory opening story dn was
+    → AreSameButForAState container was node → is_closed opening story dn container ≡ not (is_open (node.states container))
+    → IsOfStory opening story dn node
+of_state opening story dn container was node is same shut = record {
+  held = λ block. ap (λ (o : Option BlockRow). is_some o) (same.rows block) ∙ is.held block;
+  lengths = λ block row there. is.lengths block row (sym (same.rows block) ∙ there);
+  closed = λ other. by other (other == container) refl;
+  greatest = λ other. same.greatest other ∙ is.greatest other;
+}
+  where
+    by : (other : ℕ) (t : Bool) → (other == container) ≡ t → not (is_open (node.states other)) ≡ is_closed opening story dn other
+    by other true e =
+        subst (λ (n : ℕ). not (is_open (node.states n)) ≡ is_closed opening story dn n) (sym (eqb-true other container e)) (sym shut)
+    by other false e =
+        ap (λ (s : State). not (is_open s)) (same.states other (λ is_it. false≢true (sym e ∙ eq-eqb other container is_it)))
+        ∙ is.closed other
+
+pub of_set_state : (opening : Opening) (story : List Event) (dn container : ℕ) (state : State) (was : Node) → IsOfStory opening story dn was
+    → is_closed opening story dn container ≡ not (is_open state)
+    → IsOfStory opening story dn (after_entry (entries.SetState container state) was)
+of_set_state opening story dn container state was is shut =
+    of_state opening story dn container was (after_entry (entries.SetState container state) was) is (same_but_for_a_state container state was)
+    (shut ∙ sym (ap (λ (t : Bool). not (is_open (cond t state (was.states container)))) (eq-eqb container container refl)))
+
+pub of_drop : (opening : Opening) (story : List Event) (dn container : ℕ) (was : Node) → IsOfStory opening story dn was
+    → HoldsNoneOf container was → is_closed opening story dn container ≡ true
+    → IsOfStory opening story dn (after_entry (entries.Drop container) was)
+of_drop opening story dn container was is none shut =
+    of_state opening story dn container was (after_entry (entries.Drop container) was) is (dropped_is_the_same container was none)
+    (shut ∙ sym (ap (λ (t : Bool). not (is_open (cond t states.Deleted (was.states container)))) (eq-eqb container container refl)))

@@ -1,4 +1,6 @@
-use Rattle.oz_halted.specs.halting.laws.Making.{of_put, of_copy, of_delete, of_close, of_wipe}
+use Rattle.std.proofs.Common.{refl}
+use Rattle.oz_core.specs.declared.event.EventKind.TheVariants.{Start, Stop}
+use Rattle.oz_halted.specs.halting.laws.Making.{of_put, of_copy, of_delete, of_close, of_unchanged, of_wipe}
 use Rattle.oz_halted.proofs.halting.laws.an_entry_makes_what_its_event_makes.Goals as goal
 
 pub returns-clause-put : goal.returns-clause-put
@@ -15,3 +17,9 @@ returns-clause-closed c = λ opening before dn seat was container state numbered
 
 pub returns-clause-wiped : goal.returns-clause-wiped
 returns-clause-wiped c = λ opening before dn seat was numbered legal is enabled. of_wipe opening numbered before legal dn seat was is enabled
+
+pub returns-clause-stopped : goal.returns-clause-stopped
+returns-clause-stopped c = λ opening before dn seat was numbered legal is enabled. of_unchanged opening numbered before legal dn seat (Stop dn) enabled refl was is
+
+pub returns-clause-started : goal.returns-clause-started
+returns-clause-started c = λ opening before dn seat was numbered legal is enabled. of_unchanged opening numbered before legal dn seat (Start dn) enabled refl was is

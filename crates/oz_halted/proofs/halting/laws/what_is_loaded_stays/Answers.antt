@@ -11,7 +11,8 @@ returns-clause-given c = λ opening bytes script dn was given coherent opened. g
 
 pub returns-clause-beside : goal.returns-clause-beside
 returns-clause-beside c = λ opening before event dn was numbered legal enabled other is.
-    of_unchanged opening numbered before legal dn event.seat event.kind enabled (others_change_nothing dn opening before event.seat event.kind enabled other) was is
+    of_unchanged opening numbered before legal dn event.seat event.kind enabled (others_change_nothing dn opening before event.seat event.kind
+    enabled other) was is
 
 pub returns-clause-contents : goal.returns-clause-contents
 returns-clause-contents c = λ opening bytes script before event was given legal fits enabled its_fit contents.

@@ -97,7 +97,8 @@ tables_quiet opening loaded tables stripe most index story id reply legal at it 
     stand_still (StandAt opening loaded stripe) opening loaded stripe story event most tables legal
     (record { own = λ own. nothing_written tables; others = λ others. absurd (others refl) }) at it
 
-module _ (opening : Opening) (loaded : Rows) (stripe : ℕ) (story : List Event) (newest : Rows) (listed : List RowEntry) (are : AreRows listed (only stripe loaded))
+module _ (opening : Opening) (loaded : Rows) (stripe : ℕ) (story : List Event) (newest : Rows)
+    (listed : List RowEntry) (are : AreRows listed (only stripe loaded))
     (stood : HaveStood (StandAt opening loaded stripe) loaded stripe story newest) where
   based : AreBased (only stripe loaded)
   based =
@@ -113,7 +114,8 @@ module _ (opening : Opening) (loaded : Rows) (stripe : ℕ) (story : List Event)
     brought_all most tables low written = replayed (StandAt opening loaded stripe) opening loaded stripe story newest legal stood based most tables low written
 
     pub brought_more : (most later : ℕ) (tables next : Rows) → opening.last_index ≤ most → most ≤ later → TablesStand opening loaded stripe story most tables
-        → AreWritten tables (batches_of (λ index. nat_lt most index && nat_le index later) stripe story) next → TablesStand opening loaded stripe story later next
+        → AreWritten tables (batches_of (λ index. nat_lt most index && nat_le index later) stripe story) next
+        → TablesStand opening loaded stripe story later next
     brought_more most later tables next low le it written =
         brought (StandAt opening loaded stripe) opening loaded stripe story newest legal stood based most later tables next low le it written
 

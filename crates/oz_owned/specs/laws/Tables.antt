@@ -23,7 +23,8 @@ use Rattle.oz_owned.specs.Front.{IsFrontOf}
 use Rattle.oz_owned.specs.Stood.{AreBased, AreWritten, HaveStood, HaveStoodFrom, IsMadeBy, IsWritten, StepsTo, StoodAtFront, batch_if, batch_of, batches_of}
 use Rattle.oz_owned.specs.laws.Front.{front_of, over_at}
 use Rattle.oz_owned.specs.laws.Longer.{front_grows, front_stays}
-use Rattle.oz_owned.specs.laws.Written.{Parted, none_written, steps_based, stood_based, stood_first, stood_last, stood_more, stood_one, stood_parted, written_one}
+use Rattle.oz_owned.specs.laws.Written.{Parted, none_written, steps_based, stood_based, stood_first, stood_last}
+use Rattle.oz_owned.specs.laws.Written.{stood_more, stood_one, stood_parted, written_one}
 
 -- ---- as the story goes on
 
@@ -176,7 +177,8 @@ module _ (At : List Event → Rows → Type 0) (opening : Opening) (loaded : Row
         subst (λ (r : Rows). HaveStood At loaded stripe (first ++ more) r) (sym same) to_front.first
       where
         to_front : Parted At stripe [] (only stripe loaded) (first ++ more) rest newest
-        to_front = stood_parted At stripe [] (only stripe loaded) (first ++ more) rest newest (subst (λ (l : List Event). HaveStood At loaded stripe l newest) parts stood)
+        to_front = stood_parted At stripe [] (only stripe loaded) (first ++ more) rest newest
+            (subst (λ (l : List Event). HaveStood At loaded stripe l newest) parts stood)
 
         to_first : Parted At stripe [] (only stripe loaded) first more to_front.middle
         to_first = stood_parted At stripe [] (only stripe loaded) first more to_front.middle to_front.first

@@ -5,8 +5,9 @@ ghost use Rattle.oz_turn.specs.Turn.{turn_id};
 
 use crate::servers::Servers;
 use oz_buffer::{Ledger, Opened};
+use oz_core::Event;
 use oz_om::Loaded;
-use oz_turn::{Ring, Turn};
+use oz_turn::{Ring, Told, Turn};
 use oz_world::{Disk, Gate};
 use std::alloc::Global;
 use std::sync::Wait;
@@ -14,7 +15,10 @@ use std::sync::Wait;
 /// What all workers of a run share and hand on: how they wait, where memory comes from, the run's turn, the servers, and the gate
 /// that is passed before a write.
 #[derive(Drop)]
-pub struct Shared<'r, D: Disk, O: Opened, L: Loaded, R: Ring, W: Wait, G: Gate> {
+pub struct Shared<'r, D: Disk, O: Opened, L: Loaded, R: Ring, W: Wait, G: Gate>
+where
+    Ledger<O>: Told<Entry = Event>,
+{
     pub rt: &'r W,
     pub alloc: Global,
     pub turn: &'r Turn<Ledger<O>>,

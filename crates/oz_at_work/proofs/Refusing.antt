@@ -21,7 +21,7 @@ use Rattle.oz_core.specs.Steps.{Target, is_code, is_done, pieces_from, pieces_ne
 use Rattle.oz_line_blocks.specs.granting.Granting.{AreMade, IsDueWhileStill, WasEmpty}
 use Rattle.oz_script.specs.declared.lines.script.Script.{Script}
 use Rattle.oz_om.specs.declared.refusal.Refusal.TheVariants as refusals
-use Rattle.oz_store.specs.granted.Empty.{IsPoolEmpty}
+use Rattle.oz_underway.specs.granted.Empty.{IsPoolEmpty}
 use Rattle.oz_om.specs.Refusals.{AskStands}
 use Rattle.oz_requests.specs.declared.answer.Answer.{Answer}
 use Rattle.oz_requests.specs.declared.reply.Reply.{Reply}

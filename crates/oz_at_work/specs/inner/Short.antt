@@ -6,7 +6,7 @@ use Rattle.oz_core.specs.declared.event.Event.{Event}
 use Rattle.oz_core.specs.declared.opening.Opening.{Opening}
 use Rattle.oz_core.specs.Manager.{asked_late}
 use Rattle.oz_names.specs.Names.{stripe_of}
-use Rattle.oz_store.specs.granted.Empty.{IsPoolEmpty}
+use Rattle.oz_underway.specs.granted.Empty.{IsPoolEmpty}
 use Rattle.oz_requests.specs.declared.request.Exclude.{Exclude}
 use Rattle.oz_requests.specs.declared.request.Request.TheVariants as requests
 use Rattle.oz_at_work.specs.AtWork.{WorkView, id_of}

@@ -12,6 +12,8 @@
 #     KEYS pinned    the same where one block is pinned
 #     KEYS walk      the same by a walk over all rows
 #     KEYS purge     the decision that these rows go, of which nothing is known before
+#     KEYS known     the same where it is known that none of their blocks is in reach
+#     KEYS plan      the copies that are due of a container, of which each of three members holds 1,024 blocks
 #     script         a script of generated load with 1,000 keys
 # so the machine should have a processor to spare.
 set -euo pipefail
@@ -30,26 +32,30 @@ below() {
     done
     echo "$1"
 }
-mkdir -p "$work/crates/bench_reclaim/src"
-for crate in $( (below oz_reclaim; below oz_freon) | sort -u); do
+mkdir -p "$work"/crates/bench_reclaim/{src,proofs/is_rising}
+for crate in $( (below oz_reclaim; below oz_freon; below oz_repl) | sort -u); do
     grep "^$crate\b" "$top/crates.txt" >>"$work/crates.txt"
     cp -r "$top/crates/$crate" "$work/crates/"
 done
-echo 'bench_reclaim: anyhow oz_cache oz_decision oz_fields oz_freon oz_reclaim oz_requests oz_rows oz_tables' >>"$work/crates.txt"
+echo 'bench_reclaim: anyhow oz_cache oz_container oz_decision oz_fields oz_freon oz_reclaim oz_repl oz_requests oz_rows oz_tables' >>"$work/crates.txt"
 
 cat >"$work/crates/bench_reclaim/src/main.rt" <<'PROGRAM'
 //! Finds deleted rows that may go: its words say how often, and then over how many keys each.
 #![tactic(auto)]
 
 ghost use Rattle.std.specs.Prelude.{◌≡◌, IsTrue};
-ghost use Rattle.oz_reclaim.specs.Service.{NamesFew};
+ghost use Rattle.std.specs.List.Sorted.{IsStrictlyIncreasing};
+ghost use Rattle.oz_reclaim.specs.Service.{IsPurge, NamesFew};
+ghost use Rattle.oz_repl.specs.repl.View.{AreRising};
 ghost use Rattle.oz_requests.specs.declared.request.Family.TheVariants.{Service};
 ghost use Rattle.oz_requests.specs.Families.{family_of};
 
 use oz_cache::Cached;
+use oz_container::State;
 use oz_fields::{Block, List, Name, OutOfMemory, Piece, TryClone};
 use oz_freon::script;
-use oz_reclaim::{MOST_PURGED, Sweep, decide, reclaimable};
+use oz_reclaim::{MOST_PURGED, Sweep, are_unreached, decide, decide_purge, reclaimable};
+use oz_repl::{View, plan};
 use oz_requests::{PurgeRow, Request};
 use oz_rows::{Change, MOST_REMOVALS, Row, RowKey};
 use oz_tables::Tables;
@@ -136,6 +142,61 @@ fn purge_of(alloc: Global, volume: &Name, keys: &[RowKey]) -> Result<Request, Ou
     Ok(Request::Purge { volume: volume.try_clone(alloc)?, rows: List::of(rows) })
 }
 
+/// The local ids of these rows.
+fn locals_of(alloc: Global, keys: &[RowKey]) -> Result<Vec<u64>, OutOfMemory> {
+    let mut locals = Vec::new(alloc);
+    for key in keys {
+        if let RowKey::Deleted { local, .. } = key {
+            locals.push(*local)?;
+        }
+    }
+    Ok(locals)
+}
+
+/// So many blocks, of which most have the same local ids whichever the member's place.
+fn held_at(alloc: Global, place: u64) -> Result<List<u64>, OutOfMemory> {
+    let mut locals = Vec::new(alloc);
+    for number in 0..1_024 {
+        let own = if number % 16 == 0 { place } else { 0 };
+        locals.push(u64::saturating_add(number * 4, own))?;
+    }
+    Ok(List::of(locals))
+}
+
+fn view(alloc: Global) -> Result<View, OutOfMemory> {
+    Ok(View {
+        state: State::Closed,
+        members: [4, 5, 6],
+        up: [true, true, true],
+        closed: [true, true, true],
+        held: [held_at(alloc, 0)?, held_at(alloc, 1)?, held_at(alloc, 2)?],
+        logged: List::of(Vec::new(alloc)),
+    })
+}
+
+fn are_rising(view: &View) -> bool
+    ensures { IsTrue result → AreRising view.now }
+{
+    view.held.iter().all(|held| is_rising(held.items())) && is_rising(view.logged.items())
+}
+
+fn is_rising(locals: &[u64]) -> bool
+    ensures { IsTrue result → IsStrictlyIncreasing locals.now }
+{
+    for at in 1..locals.len() {
+        if locals[at - 1] >= locals[at] {
+            return false;
+        }
+    }
+    true
+}
+
+fn is_purge(request: &Request) -> bool
+    ensures { IsTrue result → IsPurge request.now }
+{
+    matches!(request, Request::Purge { .. })
+}
+
 fn names_few(request: &Request) -> bool
     ensures { IsTrue result → NamesFew request.now }
 {
@@ -158,20 +219,16 @@ fn number_in(word: Option<String>) -> u64 {
     }
 }
 
-/// What each part takes, in microseconds: the sweep brought on, its rows found, the same beside a pinned block, the walk over all rows, the
-/// decision that they go, and the script.
-fn round(rt: &HostRuntime, keys: u64) -> anyhow::Result<[u128; 6]> {
+/// What the sweep takes, in microseconds: brought on, its rows found, and the same beside a pinned block.
+fn sweep_round(rt: &HostRuntime, volume: &Name, tables: &mut Tables) -> anyhow::Result<[u128; 3]> {
     let alloc = rt.alloc();
-    let volume = Name::copy(alloc, b"vol1")?;
-    let mut tables = Tables::new(alloc);
-    load(alloc, &volume, &mut tables, keys)?;
     let mut sweep = Sweep::new(alloc);
-    sweep.bring(alloc, &tables, 0)?;
+    sweep.bring(alloc, tables, 0)?;
     for place in 0..DELETED {
-        note(alloc, &volume, &mut sweep, &mut tables, place)?;
+        note(alloc, volume, &mut sweep, tables, place)?;
     }
     let start = Instant::now(rt)?;
-    sweep.bring(alloc, &tables, DELETED)?;
+    sweep.bring(alloc, tables, DELETED)?;
     let brought = start.elapsed(rt)?.as_micros();
     let start = Instant::now(rt)?;
     let found = sweep.find(alloc, &[], MOST_PURGED)?;
@@ -180,10 +237,18 @@ fn round(rt: &HostRuntime, keys: u64) -> anyhow::Result<[u128; 6]> {
     let start = Instant::now(rt)?;
     let others = sweep.find(alloc, &pins, MOST_PURGED)?;
     let beside = start.elapsed(rt)?.as_micros();
+    println!(rt; "# {} and {} found", found.rows.len(), others.rows.len())?;
+    Ok([brought, looked, beside])
+}
+
+/// What the walk over all rows takes, in microseconds, and the decision that they go, without knowledge of them and with it.
+fn purge_round(rt: &HostRuntime, volume: &Name, tables: Tables) -> anyhow::Result<[u128; 3]> {
+    let alloc = rt.alloc();
     let start = Instant::now(rt)?;
     let walked = reclaimable(alloc, &tables, &[], MOST_PURGED)?;
     let went = start.elapsed(rt)?.as_micros();
-    let request = purge_of(alloc, &volume, &walked)?;
+    let request = purge_of(alloc, volume, &walked)?;
+    let known = locals_of(alloc, &walked)?;
     let cached = Cached::over(alloc, tables);
     let start = Instant::now(rt)?;
     let bytes = if is_own(&request) && names_few(&request) {
@@ -192,13 +257,46 @@ fn round(rt: &HostRuntime, keys: u64) -> anyhow::Result<[u128; 6]> {
         0
     };
     let decided = start.elapsed(rt)?.as_micros();
+    let may = is_purge(&request) && names_few(&request) && are_unreached(alloc, &cached, &known)?;
+    let start = Instant::now(rt)?;
+    let others = if may {
+        decide_purge(alloc, &cached, &request, &known)?.bytes.len()
+    } else {
+        0
+    };
+    let knowing = start.elapsed(rt)?.as_micros();
+    println!(rt; "# {} by the walk, {bytes} and {others} bytes decided", walked.len())?;
+    Ok([went, decided, knowing])
+}
+
+/// What it takes, in microseconds, to plan the copies of a container, and to write a script.
+fn other_round(rt: &HostRuntime) -> anyhow::Result<[u128; 2]> {
+    let alloc = rt.alloc();
+    let view = view(alloc)?;
+    let may = are_rising(&view);
+    let start = Instant::now(rt)?;
+    let orders = if may { plan(alloc, &view)?.len() } else { 0 };
+    let planned = start.elapsed(rt)?.as_micros();
     let start = Instant::now(rt)?;
     let text = script(alloc, 7, 1_000)?;
     let made = start.elapsed(rt)?.as_micros();
-    let (one, two, three) = (found.rows.len(), others.rows.len(), walked.len());
-    println!(rt; "# {keys} keys: {one} and {two} found, {three} by the walk, {bytes} bytes decided, a script of {} bytes", text.len())?;
-    Ok([brought, looked, beside, went, decided, made])
+    println!(rt; "# {orders} copies are due, a script of {} bytes", text.len())?;
+    Ok([planned, made])
 }
+
+/// What each part takes, in microseconds, over so many keys.
+fn round(rt: &HostRuntime, keys: u64) -> anyhow::Result<[u128; 8]> {
+    let alloc = rt.alloc();
+    let volume = Name::copy(alloc, b"vol1")?;
+    let mut tables = Tables::new(alloc);
+    load(alloc, &volume, &mut tables, keys)?;
+    let [brought, looked, beside] = sweep_round(rt, &volume, &mut tables)?;
+    let [went, decided, knowing] = purge_round(rt, &volume, tables)?;
+    let [planned, made] = other_round(rt)?;
+    Ok([brought, looked, beside, went, decided, knowing, planned, made])
+}
+
+const PARTS: [&str; 8] = ["bring", "find", "pinned", "walk", "purge", "known", "plan", "script"];
 
 fn main(rt: HostRuntime) -> anyhow::Result<()> {
     let mut words = env::args(&rt)?;
@@ -206,21 +304,25 @@ fn main(rt: HostRuntime) -> anyhow::Result<()> {
     let rounds = number_in(words.next());
     for word in words {
         let keys = number_in(Some(word));
-        let mut least = [u128::MAX; 6];
+        let mut least = [u128::MAX; 8];
         for _ in 0..rounds {
-            let [brought, looked, beside, went, decided, made] = round(&rt, keys)?;
-            let [a, b, c, d, e, f] = least;
-            least = [a.min(brought), b.min(looked), c.min(beside), d.min(went), e.min(decided), f.min(made)];
+            let took = round(&rt, keys)?;
+            for (one, other) in least.iter_mut().zip(took) {
+                *one = (*one).min(other);
+            }
         }
-        let [brought, looked, beside, went, decided, made] = least;
-        println!(&rt; "{keys} bring {brought}")?;
-        println!(&rt; "{keys} find {looked}")?;
-        println!(&rt; "{keys} pinned {beside}")?;
-        println!(&rt; "{keys} walk {went}")?;
-        println!(&rt; "{keys} purge {decided}")?;
-        println!(&rt; "{keys} script {made}")?;
+        for (part, took) in PARTS.iter().zip(least) {
+            println!(&rt; "{keys} {part} {took}")?;
+        }
     }
     Ok(())
 }
 PROGRAM
+cat >"$work/crates/bench_reclaim/proofs/is_rising/Invariants.antt" <<'PROOF'
+use Rattle.std.proofs.Common.{ℕ, ◌+◌, ◌<◌, slice_index}
+use Rattle.bench_reclaim.proofs.is_rising.Given as goal
+
+abbrev pub invariant-loop-at : goal.invariant-loop-at
+invariant-loop-at l = (k : ℕ) → k + 1 < l.at → slice_index l.locals k < slice_index l.locals (k + 1)
+PROOF
 (cd "$work/crates/bench_reclaim" && rt fmt && rt run -- "$rounds" "${sizes[@]}") 2>"$work/errors" || { cat "$work/errors" >&2; exit 1; }

@@ -77,7 +77,7 @@ returns-in-Ok-Refused-clause-stays g c = record {
       (subst (λ (l : List Still). MayBeTold O.coherent O.opening O.bytes O.script later work.line (last_of work.line wanted.id.step) (λ said. Unit {0}) l answer None) (sym c.two.ensures)
       (subst (λ (n : ℕ). MayBeTold O.coherent O.opening O.bytes O.script later work.line (last_of work.line n) (λ said. Unit {0}) still answer None) (sym step) fits))
       (work_still O.coherent O.opening O.bytes O.script later seen c.grant_for.ensures.looked.goes_on work at_work);
-  went_on = λ went. inr (inr (inl tt));
+  went_on = λ went. inr (inr (inl refl));
 }
 
 pub returns-in-Ok-Refused-2-clause-stays : goal.returns-in-Ok-Refused-2-clause-stays

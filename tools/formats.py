@@ -430,11 +430,18 @@ class Grant:
     first: int
 
 
+EVENTS = {1: "finalize", 2: "quasi-close", 3: "close", 4: "force-close", 5: "delete", 6: "clean-up"}
+
+# Of each state the events that it allows, and the state to which each leads.
+STEPS = {1: {1: 2}, 2: {2: 3, 3: 4}, 3: {4: 4}, 4: {5: 5}, 5: {6: 6}, 6: {}}
+
+
 class Scm:
-    """What the bodies of the storage container manager's journal make: the containers with their pipelines, and the grants."""
+    """What the bodies of the storage container manager's journal make: the containers with their pipelines and states, and the
+    grants."""
 
     def __init__(self):
-        self.nodes, self.pipelines, self.grants, self.next = None, [], [], 1
+        self.nodes, self.pipelines, self.states, self.grants, self.next = None, [], [], [], 1
 
     def read(self, body):
         fields = Fields(body)
@@ -444,14 +451,24 @@ class Scm:
             fields.end()
             self.nodes = nodes
             return {"entry": "nodes", "nodes": nodes}
-        fields.number(1, "the entry 2, a grant", lambda tag: tag == 2)
+        if fields.number(1, "the entry 2, a grant, or 3, a step", (2, 3).__contains__) == 3:
+            return self.step(fields)
         grant = self.grant_in(fields)
         fields.end()
         if grant.container > len(self.pipelines):
             self.pipelines.append(grant.pipeline)
+            self.states.append(1)
         self.grants.append(grant)
         self.next += IDS_IN_GRANT
         return {"entry": "grant", **dataclasses.asdict(grant), "count": IDS_IN_GRANT}
+
+    def step(self, fields):
+        container = fields.long("a container that was made", 1, len(self.states))
+        steps = STEPS[self.states[container - 1]]
+        event = fields.number(1, f"an event of {list(steps)}", steps.__contains__)
+        fields.end()
+        self.states[container - 1] = steps[event]
+        return {"entry": "step", "container": container, "event": EVENTS[event], "state": STATES[self.states[container - 1]]}
 
     def grant_in(self, fields):
         stripe = fields.number(1, "a stripe below 16", lambda value: value < STRIPES)
@@ -577,6 +594,10 @@ def grant_text(entry):
     return "grant of ids {first} to {0} to stripe {stripe}, in container {container} on pipeline {pipeline}".format(last, **entry)
 
 
+def step_text(entry):
+    return "{event} of container {container}, which is {state} from then on".format(**entry)
+
+
 def put_text(entry):
     slots = ranges(chunk["slot"] for chunk in entry["chunks"])
     return f"put {block_text(entry['block'])} of {counted(entry['length'], 'byte')} in {slots_text(slots)}"
@@ -585,6 +606,7 @@ def put_text(entry):
 ENTRY_TEXTS = {
     "nodes": lambda entry: counted(entry["nodes"], "datanode"),
     "grant": grant_text,
+    "step": step_text,
     "put": put_text,
     "state": lambda entry: "container {container} is {state}".format(**entry),
     "transaction": lambda entry: "transaction {transaction} takes ".format(**entry) + " ".join(map(block_text, entry["blocks"])),

@@ -22,11 +22,11 @@ use Rattle.oz_scm.specs.Granting.{Grants, IsDue, IsRefusedFor, IsBeforeOrGranted
 use Rattle.oz_scm.specs.Scm.{State, StandsFor, Keeps}
 
 -- what is stable stands for the bodies that are told
-rests : (told : Option (List ℕ)) (now : ℕ) (image : Images) → ((bytes : List ℕ) → told ≡ Some bytes → IsStable image now bytes) → (bodies : List (List ℕ)) → TellsBodies told bodies → (left : List ℕ) → image now left → IsJournal left bodies
+pub rests : (told : Option (List ℕ)) (now : ℕ) (image : Images) → ((bytes : List ℕ) → told ≡ Some bytes → IsStable image now bytes) → (bodies : List (List ℕ)) → TellsBodies told bodies → (left : List ℕ) → image now left → IsJournal left bodies
 rests None now image stable bodies tells left there = absurd tells
 rests (Some bytes) now image stable bodies tells left there = subst (λ (b : List ℕ). IsJournal b bodies) (sym (stable bytes refl left there)) tells
 
-stands_made : (bytes : List ℕ) (bodies : List (List ℕ)) (made : Made) (given : ℕ) → IsJournal bytes bodies → Makes bodies (Some made) → made.nodes ≡ given → StandsFor given bytes made
+pub stands_made : (bytes : List ℕ) (bodies : List (List ℕ)) (made : Made) (given : ℕ) → IsJournal bytes bodies → Makes bodies (Some made) → made.nodes ≡ given → StandsFor given bytes made
 stands_made bytes bodies made given journal makes agrees = record { bodies = bodies; journal = journal; found = Some made; makes = makes; is = refl; agrees = agrees }
 
 -- what a disk keeps, it stands for
@@ -34,7 +34,7 @@ pub stands_kept : (told : Option (List ℕ)) (made : Made) → Keeps told made �
 stands_kept told made keeps bytes is = let there = keeps bytes is in stands_made bytes there.0 made made.nodes there.1 there.2 refl
 
 -- a disk that tells told before
-told_before : (before after : Option (List ℕ)) (bytes : List ℕ) → TellsAsBefore before after → after ≡ Some bytes → (old : List ℕ) × (before ≡ Some old)
+pub told_before : (before after : Option (List ℕ)) (bytes : List ℕ) → TellsAsBefore before after → after ≡ Some bytes → (old : List ℕ) × (before ≡ Some old)
 told_before None after bytes as_before is = absurd (cc (sym (as_before.0 refl) ∙ is))
 told_before (Some old) after bytes as_before is = (old, refl)
 

@@ -1,3 +1,5 @@
+pub mod Applied
+pub mod Counting
 pub mod Firsts
 pub mod Granting
 pub mod Handing

@@ -2,7 +2,7 @@
 use Rattle.std.proofs.Common.{◌≡◌, ℕ, ◌+◌, ◌≤◌, List, length, refl, ◌∙◌, ap, arith}
 use Rattle.oz_fields.specs.Number.{u32_bytes, u64_bytes}
 use Rattle.oz_scm.specs.declared.grants.entry.Entry.{Entry}
-use Rattle.oz_scm.specs.declared.grants.entry.Entry.TheVariants.{Nodes, Granted}
+use Rattle.oz_scm.specs.declared.grants.entry.Entry.TheVariants.{Nodes, Granted, Stepped}
 use Rattle.oz_scm.specs.grants.Entries.{entry_bytes}
 use Rattle.oz_journal.specs.Journal.{body_of}
 use Rattle.oz_scm.specs.Frames.{IsFrameOf}
@@ -12,6 +12,9 @@ unfolding u32_bytes u64_bytes
 short (Nodes count) = omega arith
 short (Granted stripe grant) =
     let all : length (entry_bytes (Granted stripe grant)) ≡ 23 = refl in
+    omega (arith, all)
+short (Stepped container event) =
+    let all : length (entry_bytes (Stepped container event)) ≡ 10 = refl in
     omega (arith, all)
 
 pub is_frame : (entry : Entry) (bytes body frame : List ℕ) → bytes ≡ entry_bytes entry → body ≡ bytes → body_of frame ≡ body → length frame ≡ length body + 5 → IsFrameOf entry frame

@@ -1,3 +1,4 @@
+pub mod Applying
 pub mod Frames
 pub mod Granting
 pub mod Scm

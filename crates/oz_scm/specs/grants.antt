@@ -1,4 +1,5 @@
 pub mod Build
+pub mod Counts
 pub mod Due
 pub mod Entries
 pub mod Fresh

@@ -26,11 +26,11 @@ pub(crate) fn check<D: Disk>(journal: &Journal<D>) -> Result<(), GrantFault>
 }
 
 /// Adds a framed body.
-pub(crate) fn add<D: Disk>(journal: &mut Journal<D>, frame: Vec<u8>) -> Result<(), GrantFault>
+pub(crate) fn add<D: Disk>(journal: &mut Journal<D>, frame: &mut [u8]) -> Result<(), GrantFault>
     requires running { journal.old.stopped ≡ false }
-    requires least { 5 ≤ length frame.items }
-    requires most { length frame.items ≤ LONGEST_FRAME }
-    ensures appended { Appends (body_of frame.items)
+    requires least { 5 ≤ length frame.old }
+    requires most { length frame.old ≤ LONGEST_FRAME }
+    ensures appended { Appends (body_of frame.old)
         (seen (D.told journal.old.disk) (D.clock journal.old.disk) (D.image journal.old.disk)
         (D.faults journal.old.disk))
         (seen (D.told journal.new.disk) (D.clock journal.new.disk) (D.image journal.new.disk)
@@ -39,8 +39,7 @@ pub(crate) fn add<D: Disk>(journal: &mut Journal<D>, frame: Vec<u8>) -> Result<(
     ensures stopped { journal.new.stopped ≡ is_err result }
     ensures fault { IfErr result (λ fault. fault ≡ GrantFault.Stopped (D.faults journal.new.disk)) }
 {
-    let mut frame = frame;
-    let Ok(_moment) = journal.append(&mut frame) else {
+    let Ok(_moment) = journal.append(frame) else {
         let count = journal.faults();
         return Err(GrantFault::Stopped { count });
     };

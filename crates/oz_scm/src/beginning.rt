@@ -48,7 +48,8 @@ pub(crate) fn found_or_first<D: Disk>(
             let Ok(frame) = plan_nodes(alloc, nodes) else {
                 return Err(ScmFault::OutOfMemory);
             };
-            match add(journal, frame) {
+            let mut frame = frame;
+            match add(journal, &mut frame) {
                 Ok(()) => Ok(Containers::new(alloc, nodes)),
                 Err(_) => Err(ScmFault::Disk),
             }

@@ -1,8 +1,9 @@
-//! Why nothing is loaded, and why nothing is granted.
+//! Why nothing is loaded, why nothing is granted, and why no container goes on.
 
 ghost use Rattle.std.specs.Prelude.{◌≡◌};
 ghost use Rattle.oz_scm.specs.declared.fault.GrantFault.TheVariants.{OutOfMemory as NoMemory};
 
+use oz_container::{Event, State};
 use oz_fields::OutOfMemory;
 use thiserror::Error;
 
@@ -33,6 +34,15 @@ pub enum GrantFault {
     /// So many ids, from the next one on, would pass the greatest.
     IdsSpent { next: u64, count: u32 },
     OutOfMemory,
+}
+
+/// Why a container doesn't go on to another state.
+#[derive(Clone, Copy, Debug, PartialEq, Eq)]
+pub enum ApplyFault {
+    /// The disk failed, in this call or an earlier one: how often it has failed so far.
+    Stopped { count: u64 },
+    /// The event isn't possible in the state that the container is in.
+    WrongState { state: State, event: Event },
 }
 
 impl From<OutOfMemory> for GrantFault {

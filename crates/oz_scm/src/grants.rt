@@ -13,7 +13,7 @@ mod reading;
 pub use building::build;
 pub use container::Container;
 pub use containers::{Containers, are_ids_spent};
-pub use encoding::{encode_granted, encode_nodes};
+pub use encoding::{encode_granted, encode_nodes, encode_stepped};
 pub use entry::{Entry, Grant};
 pub use fault::BuildFault;
 pub use laws::{an_entry_is_one_body_more, bodies_make_one_thing, no_id_is_granted_twice};

@@ -10,12 +10,13 @@ mod laws;
 mod loading;
 mod planning;
 mod scm;
+mod stepping;
 
-pub use fault::{GrantFault, ScmFault};
+pub use fault::{ApplyFault, GrantFault, ScmFault};
 pub use grants::{
     BuildFault, Container, Containers, Entry, FIRST_ID, GRANTED_IDS, Grant, MOST_GRANTED,
     an_entry_is_one_body_more, are_ids_spent, bodies_make_one_thing, build, encode_granted,
-    encode_nodes, no_id_is_granted_twice,
+    encode_nodes, encode_stepped, no_id_is_granted_twice,
 };
 pub use laws::a_disk_stands_for_one_thing;
 pub use scm::Scm;

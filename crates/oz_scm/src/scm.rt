@@ -1,11 +1,13 @@
 //! The storage container manager.
 
 ghost use Rattle.std.specs.Prelude.{◌≡◌, ◌≢◌, ◌≤◌, ◌<◌, ◌+◌, ℕ, [], List, length, false, true, replicate, slice_set, map, Some};
-ghost use Rattle.std.specs.Prelude.{IfOk, IfErr, IfSome, OnErr, OnOk, IsSomeAnd, Err};
+ghost use Rattle.std.specs.Prelude.{IfOk, IfErr, IfSome, OnErr, OnOk, IsSomeAnd, Err, IsSome};
 ghost use Rattle.std.specs.List.{range_with_len};
 ghost use Rattle.std.specs.Option.{option_map};
 ghost use Rattle.oz_scm.specs.declared.grants.container.Container.{Container as AnyContainer};
-ghost use Rattle.oz_scm.specs.grants.Made.{container_at};
+ghost use Rattle.oz_scm.specs.Applying.{Applies};
+ghost use Rattle.oz_scm.specs.grants.Counts.{AreCounts};
+ghost use Rattle.oz_scm.specs.grants.Made.{container_at, state_at};
 ghost use Rattle.oz_journal.specs.Grammar.{IsJournal, TellsBodies};
 ghost use Rattle.oz_journal.specs.Load.{IsLoadable};
 ghost use Rattle.oz_names.specs.declared.limits.TheConstants.{STRIPES};
@@ -20,10 +22,12 @@ ghost use Rattle.oz_world.specs.Moments.{Elapses, Spans};
 use crate::adding::{add, check};
 use crate::beginning::found_or_first;
 use crate::choosing::due;
-use crate::fault::{GrantFault, ScmFault};
-use crate::grants::{Container, Containers, Grant};
+use crate::fault::{ApplyFault, GrantFault, ScmFault};
+use crate::grants::{Container, Containers, Grant, encode_stepped};
 use crate::loading::containers_of;
 use crate::planning::plan_grant;
+use crate::stepping::led_to;
+use oz_container::{Event, State};
 use oz_fields::OutOfMemory;
 use oz_journal::{
     Journal, LoadFault, bytes_left_alone_stand_for_the_same, bytes_stand_for_one_thing,
@@ -136,10 +140,35 @@ impl<D: Disk> Scm<D> {
     {
         check(&self.journal)?;
         let grant = due(&self.containers, &self.nodes, stripe, exclude)?;
-        let frame = plan_grant(alloc, &mut self.containers, stripe, &grant)?;
-        add(&mut self.journal, frame)?;
+        let mut frame = plan_grant(alloc, &mut self.containers, stripe, &grant)?;
+        add(&mut self.journal, &mut frame)?;
         self.containers.grant(&grant);
         Ok(grant)
+    }
+
+    /// Leads a container that was made on by an event, without taking memory. The step is stable when it is answered.
+    pub fn apply(&mut self, container: u64, event: Event) -> Result<State, ApplyFault>
+        requires { IsSome (state_at self.old.made.containers container) }
+        ensures { Applies container event self.old self.new
+            (seen (D.told self.old.disk) (D.clock self.old.disk) (D.image self.old.disk) (D.faults self.old.disk))
+            (seen (D.told self.new.disk) (D.clock self.new.disk) (D.image self.new.disk) (D.faults self.new.disk))
+            result }
+    {
+        let Ok(()) = check(&self.journal) else {
+            let count = self.journal.faults();
+            return Err(ApplyFault::Stopped { count });
+        };
+        let state = match led_to(&self.containers, container, event) {
+            Ok(state) => state,
+            Err(fault) => return Err(fault),
+        };
+        let mut frame = encode_stepped(container, event);
+        let Ok(()) = add(&mut self.journal, &mut frame) else {
+            let count = self.journal.faults();
+            return Err(ApplyFault::Stopped { count });
+        };
+        self.containers.step(container, event);
+        Ok(state)
     }
 
     /// How many datanodes there are.
@@ -180,6 +209,16 @@ impl<D: Disk> Scm<D> {
         }
     }
 
+    /// The state that a container is in, None where it wasn't made.
+    pub fn state(&self, container: u64) -> Option<State>
+        ensures { result ≡ state_at self.now.made.containers container }
+    {
+        match self.containers.get(container) {
+            Some(container) => Some(container.state),
+            None => None,
+        }
+    }
+
     /// The id of the next block that is granted.
     pub fn next_id(&self) -> u64
         ensures { result ≡ self.now.made.next_id }
@@ -195,6 +234,14 @@ impl<D: Disk> Scm<D> {
             ≡ self.now.made.containers) }
     {
         self.containers.all(alloc)
+    }
+
+    /// How many containers there are in each state, in the order of the states; None where one of the counts passes a
+    /// `u32`.
+    pub fn counts(&self) -> Option<[u32; 6]>
+        ensures { AreCounts self.now.made.containers result }
+    {
+        self.containers.counts()
     }
 
     /// Whether a call on the disk has failed. While none has, what the disk tells stands for this, and is stable.

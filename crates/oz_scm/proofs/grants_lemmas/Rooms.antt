@@ -3,12 +3,18 @@ use Rattle.std.proofs.Common.{◌≡◌, ◌⊎◌, ◌↔◌, inl, inr, ℕ, ze
 use Rattle.std.proofs.lemmas.Bool.{false≢true, cases_lt, eq-eqb, and_parts, leb-true, ltb-true}
 use Rattle.std.proofs.lemmas.List.{length-set}
 use Rattle.std.proofs.lemmas.List.Elements.{All-set, All-append, All-cons, All-nil}
+use Rattle.oz_container.specs.Steps.{next as next_state}
+use Rattle.oz_container.specs.declared.state.Event.{Event}
+use Rattle.oz_container.specs.declared.state.Event.TheVariants as events
+use Rattle.oz_container.specs.declared.state.State.{State}
+use Rattle.oz_container.specs.declared.state.State.TheVariants as states
 use Rattle.oz_container.specs.declared.state.State.TheVariants.{Open}
+use Rattle.std.specs.Option.{option_map}
 use Rattle.oz_nodes.specs.Pipelines.{pipelines_of}
 use Rattle.oz_scm.specs.declared.grants.container.Container.{Container}
 use Rattle.oz_scm.specs.declared.grants.entry.Grant.{Grant}
 use Rattle.oz_scm.specs.grants.Due.{HasRoom, MayTake}
-use Rattle.oz_scm.specs.grants.Made.{Made, container_at, with_container, granted_in, after_grant, MayGrant, is_on}
+use Rattle.oz_scm.specs.grants.Made.{Made, container_at, with_container, with_stepped, granted_in, stepped, after_grant, after_step, MayGrant, is_on}
 use Rattle.oz_scm.specs.grants.Steps.{IsAmong, IsListed, IsLowestOf, IsLowered, IsSound}
 
 -- ---- numbers in a list
@@ -404,6 +410,101 @@ module _ (nodes next : ℕ) (l : List Container) (roomy : List ℕ) (grant : Gra
 
     pub made_new : (other : List Container) → other ≡ l ++ c ∷ [] → ◌≡◌ {A = Made} (made_of nodes (grant.first + grant.count) other) (after_grant grant (made_of nodes next l))
     made_new other one = granted_is (made_of nodes next l) grant None c other is (sym none) (one ∙ push_is l grant.container c none number_least number_most)
+
+-- ---- what a step makes
+
+-- no event leads to an open one
+never_open : (state : State) (event : Event) → next_state state event ≡ Some Open → ⊥
+never_open states.Open events.Finalize is = absurd (cc is)
+never_open states.Open events.QuasiClose is = absurd (cc is)
+never_open states.Open events.Close is = absurd (cc is)
+never_open states.Open events.ForceClose is = absurd (cc is)
+never_open states.Open events.Delete is = absurd (cc is)
+never_open states.Open events.Cleanup is = absurd (cc is)
+never_open states.Closing events.Finalize is = absurd (cc is)
+never_open states.Closing events.QuasiClose is = absurd (cc is)
+never_open states.Closing events.Close is = absurd (cc is)
+never_open states.Closing events.ForceClose is = absurd (cc is)
+never_open states.Closing events.Delete is = absurd (cc is)
+never_open states.Closing events.Cleanup is = absurd (cc is)
+never_open states.QuasiClosed events.Finalize is = absurd (cc is)
+never_open states.QuasiClosed events.QuasiClose is = absurd (cc is)
+never_open states.QuasiClosed events.Close is = absurd (cc is)
+never_open states.QuasiClosed events.ForceClose is = absurd (cc is)
+never_open states.QuasiClosed events.Delete is = absurd (cc is)
+never_open states.QuasiClosed events.Cleanup is = absurd (cc is)
+never_open states.Closed events.Finalize is = absurd (cc is)
+never_open states.Closed events.QuasiClose is = absurd (cc is)
+never_open states.Closed events.Close is = absurd (cc is)
+never_open states.Closed events.ForceClose is = absurd (cc is)
+never_open states.Closed events.Delete is = absurd (cc is)
+never_open states.Closed events.Cleanup is = absurd (cc is)
+never_open states.Deleting events.Finalize is = absurd (cc is)
+never_open states.Deleting events.QuasiClose is = absurd (cc is)
+never_open states.Deleting events.Close is = absurd (cc is)
+never_open states.Deleting events.ForceClose is = absurd (cc is)
+never_open states.Deleting events.Delete is = absurd (cc is)
+never_open states.Deleting events.Cleanup is = absurd (cc is)
+never_open states.Deleted events.Finalize is = absurd (cc is)
+never_open states.Deleted events.QuasiClose is = absurd (cc is)
+never_open states.Deleted events.Close is = absurd (cc is)
+never_open states.Deleted events.ForceClose is = absurd (cc is)
+never_open states.Deleted events.Delete is = absurd (cc is)
+never_open states.Deleted events.Cleanup is = absurd (cc is)
+
+-- a container after an event, and what it was
+record Led (o : Option Container) (event : Event) (c : Container) : Type 0 where
+  old : Container
+  there : o ≡ Some old
+  pipeline : c.pipeline ≡ old.pipeline
+  granted : c.granted ≡ old.granted
+  left : next_state old.state event ≡ Some c.state
+
+led_of : (o : Option Container) (event : Event) (c : Container) → stepped o event ≡ Some c → Led o event c
+led_of None event c is = absurd (cc is)
+led_of (Some old) event c is = of (next_state old.state event) refl is
+  where
+    of : (to : Option State) → next_state old.state event ≡ to → option_map (λ (state : State). record old { state = state }) to ≡ Some c → Led (Some old) event c
+    of None to is = absurd (cc is)
+    of (Some state) to is =
+        let same : ◌≡◌ {A = Container} (record old { state = state }) c = cc is in
+        record {
+          old = old;
+          there = refl;
+          pipeline = ap (λ (x : Container). x.pipeline) (sym same);
+          granted = ap (λ (x : Container). x.granted) (sym same);
+          left = to ∙ ap (λ (x : Container). Some x.state) same;
+        }
+
+module _ (nodes next : ℕ) (l : List Container) (roomy : List ℕ) (number : ℕ) (event : Event) (c : Container) (is : stepped (container_at l number) event ≡ Some c) (kept : Kept nodes next l roomy) where
+  led : Led (container_at l number) event c
+  led = led_of (container_at l number) event c is
+
+  sound_step : IsSound (made_of nodes next (slice_set l (number - 1) c))
+  sound_step =
+      let on : c.pipeline < pipelines_of nodes = subst (λ (n : ℕ). n < pipelines_of nodes) (sym led.pipeline) (all_number (OnPipeline nodes) l number led.old kept.0.pipelines led.there) in
+      let had : led.old.granted < next = all_number (λ (x : Container). x.granted < next) l number led.old kept.0.granted led.there in
+      let some : c.granted < next = subst (λ (n : ℕ). n < next) (sym led.granted) had in
+      record {
+        least = kept.0.least;
+        most = kept.0.most;
+        pipelines = All-set (OnPipeline nodes) l (number - 1) c on kept.0.pipelines;
+        granted = All-set (λ (c : Container). c.granted < next) l (number - 1) c some kept.0.granted;
+        few = let size = length-set l (number - 1) c in omega (arith, size, kept.0.few);
+        within = kept.0.within;
+      }
+
+  pub kept_step : (left : List ℕ) → left ≡ filter (λ n. not (nat_eq n number)) roomy → Kept nodes next (slice_set l (number - 1) c) left
+  kept_step left left_is =
+      let within = at_number l number led.old led.there in (
+        sound_step,
+        listed_gone l (slice_set l (number - 1) c) roomy left number c (differ_set l number c within.0) (at_set l number c within.0 within.1)
+            (λ room. never_open led.old.state event (led.left ∙ ap (λ (s : State). Some s) room.0)) left_is kept.1,
+      )
+
+  pub made_step : ◌≡◌ {A = Made} (made_of nodes next (slice_set l (number - 1) c)) (after_step number event (made_of nodes next l))
+  made_step =
+      ap (made_of nodes next) (set_is l number c led.old led.there ∙ sym (ap (λ (o : Option Container). with_stepped number o l) is))
 
 -- ---- whether a container may take a grant
 

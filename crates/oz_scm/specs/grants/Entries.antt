@@ -1,14 +1,25 @@
 -- The entries of the storage container manager's journal in bytes. A body is one entry.
 use Rattle.std.specs.Prelude.{ℕ, List, ◌++◌}
+use Rattle.oz_container.specs.declared.state.Event.{Event}
+use Rattle.oz_container.specs.declared.state.Event.TheVariants as events
 use Rattle.oz_fields.specs.Number.{u8_bytes, u32_bytes, u64_bytes}
 use Rattle.oz_scm.specs.declared.grants.entry.Entry.{Entry}
-use Rattle.oz_scm.specs.declared.grants.entry.Entry.TheVariants.{Nodes, Granted}
+use Rattle.oz_scm.specs.declared.grants.entry.Entry.TheVariants.{Nodes, Granted, Stepped}
 use Rattle.oz_scm.specs.declared.grants.entry.Grant.{Grant}
 
 abbrev pub grant_bytes : Grant → List ℕ
 grant_bytes grant =
     u64_bytes grant.container ++ u8_bytes grant.pipeline ++ u64_bytes grant.first ++ u32_bytes grant.count
 
+abbrev pub event_number : Event → ℕ
+event_number events.Finalize = 1
+event_number events.QuasiClose = 2
+event_number events.Close = 3
+event_number events.ForceClose = 4
+event_number events.Delete = 5
+event_number events.Cleanup = 6
+
 abbrev pub entry_bytes : Entry → List ℕ
 entry_bytes (Nodes count) = u8_bytes 1 ++ u8_bytes count
 entry_bytes (Granted stripe grant) = u8_bytes 2 ++ u8_bytes stripe ++ grant_bytes grant
+entry_bytes (Stepped container event) = u8_bytes 3 ++ u64_bytes container ++ u8_bytes (event_number event)

@@ -1,7 +1,7 @@
 -- The grants that the bodies of a journal say, and that no id stands in two of them.
 use Rattle.std.specs.Prelude.{ℕ, ◌+◌, ◌≤◌, List, [], ◌∷◌, Option, None, Result, Ok, Err}
 use Rattle.oz_scm.specs.declared.grants.entry.Entry.{Entry}
-use Rattle.oz_scm.specs.declared.grants.entry.Entry.TheVariants.{Nodes, Granted}
+use Rattle.oz_scm.specs.declared.grants.entry.Entry.TheVariants.{Nodes, Granted, Stepped}
 use Rattle.oz_scm.specs.declared.grants.entry.Grant.{Grant}
 use Rattle.oz_scm.specs.grants.Build.{body_at}
 use Rattle.oz_scm.specs.grants.Made.{Made, after_entry}
@@ -10,6 +10,7 @@ abbrev pub said_by : Result Entry ℕ → (Entry → List Grant) → List Grant
 said_by (Err at) next = []
 said_by (Ok (Nodes count)) next = next (Nodes count)
 said_by (Ok (Granted stripe grant)) next = grant ∷ next (Granted stripe grant)
+said_by (Ok (Stepped container event)) next = next (Stepped container event)
 
 unfoldable pub said_from : Option Made → List (List ℕ) → List Grant
 said_from found [] = []

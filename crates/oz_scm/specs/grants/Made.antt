@@ -1,6 +1,10 @@
 -- What the entries of the storage container manager make, and which of them may follow.
 use Rattle.std.specs.Prelude.{◌≡◌, ℕ, zero, suc, ◌+◌, ◌-◌, ◌==◌, nat_lt, nat_le, Bool, true, ◌&&◌, List, [], ◌∷◌, ◌++◌}
 use Rattle.std.specs.Prelude.{length, take, drop, slice_get, Option, None, Some}
+use Rattle.std.specs.Option.{is_some, option_map}
+use Rattle.oz_container.specs.Steps.{next}
+use Rattle.oz_container.specs.declared.state.Event.{Event}
+use Rattle.oz_container.specs.declared.state.State.{State}
 use Rattle.oz_container.specs.declared.state.State.TheVariants.{Open}
 use Rattle.oz_fields.specs.declared.block.TheConstants.{GREATEST_BLOCK_NUMBER}
 use Rattle.oz_names.specs.declared.limits.TheConstants.{STRIPES}
@@ -8,7 +12,7 @@ use Rattle.oz_nodes.specs.declared.nodes.TheConstants.{FEWEST_NODES, MOST_NODES}
 use Rattle.oz_nodes.specs.Pipelines.{pipelines_of}
 use Rattle.oz_scm.specs.declared.grants.container.Container.{Container}
 use Rattle.oz_scm.specs.declared.grants.entry.Entry.{Entry}
-use Rattle.oz_scm.specs.declared.grants.entry.Entry.TheVariants.{Nodes, Granted}
+use Rattle.oz_scm.specs.declared.grants.entry.Entry.TheVariants.{Nodes, Granted, Stepped}
 use Rattle.oz_scm.specs.declared.grants.entry.Grant.{Grant}
 use Rattle.oz_scm.specs.declared.grants.limits.TheConstants.{FIRST_ID, GRANTED_IDS}
 
@@ -28,6 +32,10 @@ begun nodes = record { nodes = nodes; containers = []; next_id = FIRST_ID; last_
 abbrev pub container_at : List Container → ℕ → Option Container
 container_at containers zero = None
 container_at containers (suc place) = slice_get containers place
+
+-- the state that it is in
+abbrev pub state_at : List Container → ℕ → Option State
+state_at containers number = option_map (λ (container : Container). container.state) (container_at containers number)
 
 -- the number of a container that is made next
 abbrev pub next_number : List Container → ℕ
@@ -49,8 +57,24 @@ after_grant grant made = record made {
   next_id = grant.first + grant.count;
 }
 
+-- a container after an event; None where it wasn't made, and where its state doesn't allow the event
+abbrev pub stepped : Option Container → Event → Option Container
+stepped None event = None
+stepped (Some container) event =
+    option_map (λ (state : State). record container { state = state }) (next container.state event)
+
+-- one container becomes another, if it does
+abbrev pub with_stepped : ℕ → Option Container → List Container → List Container
+with_stepped number None containers = containers
+with_stepped number (Some container) containers = with_container number container containers
+
+abbrev pub after_step : ℕ → Event → Made → Made
+after_step number event made = record made {
+  containers = with_stepped number (stepped (container_at made.containers number) event) made.containers;
+}
+
 -- The rules of single fields: there are so many datanodes; there is such a stripe; the container is there or is the next;
--- it is on this pipeline, or is to be; the ids begin at the next one, and there are so many.
+-- it is on this pipeline, or is to be; the ids begin at the next one, and there are so many; the container is there.
 abbrev pub is_node_count : ℕ → Bool
 is_node_count count = nat_le FEWEST_NODES count && nat_le count MOST_NODES
 
@@ -70,6 +94,9 @@ is_next_id next first = first == next && nat_le (first + GRANTED_IDS) GREATEST_B
 abbrev pub is_whole : ℕ → Bool
 is_whole count = count == GRANTED_IDS
 
+abbrev pub is_made : List Container → ℕ → Bool
+is_made containers number = nat_le 1 number && nat_le number (length containers)
+
 -- ids that may be granted next
 pub record MayGrant (made : Made) (grant : Grant) : Type 0 where
   pub container_is : is_old_or_next made.containers grant.container ≡ true
@@ -77,14 +104,23 @@ pub record MayGrant (made : Made) (grant : Grant) : Type 0 where
   pub first_is : is_next_id made.next_id grant.first ≡ true
   pub count_is : is_whole grant.count ≡ true
 
+-- an event that a container's state allows
+abbrev pub MayStep : Made → ℕ → Event → Type 0
+MayStep made number event = is_some (stepped (container_at made.containers number) event) ≡ true
+
 -- what was made, if anything was, and one entry more
 abbrev pub MayFollow : Option Made → Entry → Type 0
 MayFollow None (Nodes count) = is_node_count count ≡ true
 MayFollow None (Granted stripe grant) = ⊥
+MayFollow None (Stepped container event) = ⊥
 MayFollow (Some made) (Nodes count) = ⊥
 MayFollow (Some made) (Granted stripe grant) = (is_stripe stripe ≡ true) × MayGrant made grant
+MayFollow (Some made) (Stepped container event) = MayStep made container event
 
 abbrev pub after_entry : Entry → Option Made → Option Made
 after_entry (Nodes count) None = Some (begun count)
+after_entry (Nodes count) (Some made) = Some made
+after_entry (Granted stripe grant) None = None
 after_entry (Granted stripe grant) (Some made) = Some (after_grant grant made)
-after_entry _ found = found
+after_entry (Stepped container event) None = None
+after_entry (Stepped container event) (Some made) = Some (after_step container event made)

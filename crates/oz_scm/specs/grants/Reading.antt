@@ -1,11 +1,16 @@
 -- Reading an entry from left to right, over what those before it made. What is read has a value and the bytes behind it.
 -- What isn't says how many bytes are left from the first field on that passes their end or breaks its rule.
-use Rattle.std.specs.Prelude.{ℕ, suc, Bool, ◌==◌, List, [], ◌∷◌, length, Option, None, Some, Result, Ok, Err}
+use Rattle.std.specs.Prelude.{ℕ, suc, Bool, ◌==◌, ◌&&◌, nat_le, List, [], ◌∷◌, length, Option, None, Some, Result, Ok, Err}
 use Rattle.std.specs.Prelude.{if◌then◌else◌}
+use Rattle.std.specs.Option.{is_some}
+use Rattle.oz_container.specs.declared.state.Event.{Event}
+use Rattle.oz_container.specs.declared.state.Event.TheVariants as events
 use Rattle.oz_fields.specs.Number.{u8_at, u32_at, u64_at}
 use Rattle.oz_scm.specs.declared.grants.entry.Entry.{Entry}
-use Rattle.oz_scm.specs.declared.grants.entry.Entry.TheVariants.{Nodes, Granted}
+use Rattle.oz_scm.specs.declared.grants.entry.Entry.TheVariants.{Nodes, Granted, Stepped}
 use Rattle.oz_scm.specs.declared.grants.entry.Grant.{Grant}
+use Rattle.oz_scm.specs.declared.grants.container.Container.{Container}
+use Rattle.oz_scm.specs.grants.Made.{is_made, stepped}
 use Rattle.oz_scm.specs.grants.Made.{Made, container_at, is_node_count, is_stripe, is_old_or_next, is_on, is_next_id, is_whole}
 
 abbrev pub goes_on : {A B : Type 0} → Result (A × List ℕ) ℕ → (A → List ℕ → Result (B × List ℕ) ℕ)
@@ -54,6 +59,33 @@ granted_at (Some made) left = do
   grant ← ids_at made
   done (Granted stripe grant)
 
+-- the event of a number from 1 to 6
+abbrev pub event_of : ℕ → Event
+event_of number =
+    if number == 1 then events.Finalize
+    else (if number == 2 then events.QuasiClose
+    else (if number == 3 then events.Close
+    else (if number == 4 then events.ForceClose
+    else (if number == 5 then events.Delete else events.Cleanup))))
+
+-- the number of an event that the container's state allows
+abbrev pub is_event_for : Option Container → ℕ → Bool
+is_event_for container number =
+    (nat_le 1 number && nat_le number 6) && is_some (stepped container (event_of number))
+
+unfoldable pub event_at : Option Container → List ℕ → Result (Event × List ℕ) ℕ
+event_at container = do
+  number ← field u8_at (is_event_for container)
+  done (event_of number)
+
+-- a step of a container that was made, in no first body
+unfoldable pub stepped_at : Option Made → ℕ → List ℕ → Result (Entry × List ℕ) ℕ
+stepped_at None left = λ bytes. Err left
+stepped_at (Some made) left = do
+  container ← field u64_at (is_made made.containers)
+  event ← event_at (container_at made.containers container)
+  done (Stepped container event)
+
 -- what isn't served yet is damaged at its tag
 abbrev pub unserved : ℕ → List ℕ → Result (Entry × List ℕ) ℕ
 unserved left bytes = Err left
@@ -64,7 +96,7 @@ abbrev pub entry_of_tag_at : Option Made → ℕ → ℕ → List ℕ → Result
 entry_of_tag_at found left tag =
     if tag == 1 then nodes_at found left
     else (if tag == 2 then granted_at found left
-    else (if tag == 3 then unserved left
+    else (if tag == 3 then stepped_at found left
     else (if tag == 4 then unserved left
     else (if tag == 5 then unserved left
     else (if tag == 6 then unserved left else (λ bytes. Err left))))))

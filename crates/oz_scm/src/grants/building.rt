@@ -3,13 +3,14 @@
 ghost use Rattle.std.specs.Prelude.{◌≡◌, ℕ, IfOk, IfErr, Err};
 ghost use Rattle.oz_journal.specs.Body.{bodies_in};
 ghost use Rattle.oz_scm.specs.grants.Build.{Makes, FailsAt, body_at};
-ghost use Rattle.oz_scm.specs.grants.Made.{MayFollow, MayGrant, after_entry, after_grant};
+ghost use Rattle.oz_scm.specs.grants.Made.{MayFollow, MayGrant, MayStep, after_entry, after_grant, after_step};
 ghost use Rattle.oz_scm.specs.grants.Steps.{IsStep, made_in};
 
 use crate::grants::containers::Containers;
 use crate::grants::entry::{Entry, Grant};
 use crate::grants::fault::{BadField, BuildFault};
 use crate::grants::reading::entry_of;
+use oz_container::Event;
 use oz_fields::OutOfMemory;
 use oz_journal::Body;
 use std::alloc::Global;
@@ -77,7 +78,11 @@ fn apply(
             let after = with_grant(alloc, containers, &grant)?;
             Ok(Some(after))
         }
-        (_, found) => Ok(found),
+        (Entry::Stepped { container, event }, Some(containers)) => {
+            Ok(Some(with_step(containers, container, event)))
+        }
+        (Entry::Nodes { .. }, Some(containers)) => Ok(Some(containers)),
+        (Entry::Granted { .. } | Entry::Stepped { .. }, None) => Ok(None),
     }
 }
 
@@ -93,4 +98,13 @@ fn with_grant(
     containers.reserve(alloc)?;
     containers.grant(grant);
     Ok(containers)
+}
+
+fn with_step(containers: Containers, number: u64, event: Event) -> Containers
+    requires { MayStep containers.made number event }
+    ensures { result.made ≡ after_step number event containers.made }
+{
+    let mut containers = containers;
+    containers.step(number, event);
+    containers
 }

@@ -1,22 +1,24 @@
 //! The containers that were made, in memory, and the next ids.
 
-ghost use Rattle.std.specs.Prelude.{◌≡◌, ◌⊎◌, ◌↔◌, ◌<◌, ◌≤◌, ◌+◌, ℕ, [], length, IsTrue, OnOk, IfOk, IfSome, IfNone};
-ghost use Rattle.std.specs.Prelude.{filter, nat_eq, nat_lt, not, map};
+ghost use Rattle.std.specs.Prelude.{◌≡◌, ◌⊎◌, ◌↔◌, ◌<◌, ◌≤◌, ◌+◌, ◌^◌, ℕ, [], length, IsTrue, OnOk, IfOk, IfSome, IfNone};
+ghost use Rattle.std.specs.Prelude.{filter, nat_eq, nat_lt, not, map, suc, ◌==◌, if◌then◌else◌};
 ghost use Rattle.std.specs.List.{range_with_len};
 ghost use Rattle.oz_container.specs.declared.state.State.TheVariants.{Open};
 ghost use Rattle.oz_nodes.specs.Pipelines.{pipelines_of};
 ghost use Rattle.oz_scm.specs.declared.grants.limits.TheConstants.{GRANTED_IDS as ids, MOST_GRANTED as most};
 ghost use Rattle.oz_fields.specs.declared.block.TheConstants.{GREATEST_BLOCK_NUMBER as greatest};
+ghost use Rattle.oz_scm.specs.grants.Counts.{AreCounts, count_in, place_of as place_in_order};
 ghost use Rattle.oz_scm.specs.grants.Due.{MayTake, IsChosen, HasRoom};
 ghost use Rattle.oz_scm.specs.grants.Made.{begun, container_at, next_number, after_grant, with_container, granted_in};
-ghost use Rattle.oz_scm.specs.grants.Made.{MayGrant, is_old_or_next};
+ghost use Rattle.oz_scm.specs.grants.Made.{MayGrant, MayStep, is_old_or_next, after_step};
+ghost use Rattle.oz_scm.specs.grants.Made.{stepped as after_event};
 ghost use Rattle.oz_scm.specs.grants.Steps.{IsLowestOf, IsLowered, IsSound};
 ghost use Rattle.oz_nodes.specs.declared.nodes.TheConstants.{FEWEST_NODES as fewest, MOST_NODES as most_nodes};
 
 use crate::grants::container::Container;
 use crate::grants::entry::Grant;
 use crate::grants::limits::{FIRST_ID, GRANTED_IDS, MOST_GRANTED};
-use oz_container::State;
+use oz_container::{Event, State};
 use oz_fields::{GREATEST_BLOCK_NUMBER, OutOfMemory};
 use oz_nodes::FEWEST_NODES;
 use std::alloc::Global;
@@ -121,6 +123,32 @@ impl Containers {
         Ok(all)
     }
 
+    /// How many there are in each state, in the order of the states; None where one of the counts passes a `u32`.
+    pub fn counts(&self) -> Option<[u32; 6]>
+        ensures { AreCounts self.now.made.containers result }
+    {
+        Some([
+            self.count(State::Open)?,
+            self.count(State::Closing)?,
+            self.count(State::QuasiClosed)?,
+            self.count(State::Closed)?,
+            self.count(State::Deleting)?,
+            self.count(State::Deleted)?,
+        ])
+    }
+
+    /// How many there are in a state, None where that passes a `u32`.
+    fn count(&self, state: State) -> Option<u32>
+        ensures count { IfSome result (λ count. count ≡ count_in state self.now.made.containers) }
+        ensures passes { IfNone result (2 ^ 32 ≤ count_in state self.now.made.containers) }
+    {
+        let mut count: u64 = 0;
+        for (at, container) in self.list.iter().enumerate() {
+            count = and_one_in(count, container.state, state);
+        }
+        u32::try_from(count).ok()
+    }
+
     /// The container in which ids are granted on a pipeline.
     pub fn choose(&self, pipeline: u8, excluded: &[u64]) -> u64
         ensures { IsChosen self.now.made.containers pipeline excluded.now result }
@@ -209,6 +237,32 @@ impl Containers {
             }
         }
     }
+
+    /// Leads a container on to another state, without taking memory. It is listed no more, since no event leads to an
+    /// open one.
+    pub fn step(&mut self, number: u64, event: Event)
+        requires { MayStep self.old.made number event }
+        ensures { self.new.made ≡ after_step number event self.old.made }
+    {
+        let Some(container) = stepped(self.get(number), event) else {
+            unreachable!()
+        };
+        self.list[number as usize - 1] = container;
+        forget(&mut self.roomy, number);
+    }
+}
+
+/// A container after an event, None where it isn't there, and where its state doesn't allow the event.
+pub(crate) fn stepped(container: Option<Container>, event: Event) -> Option<Container>
+    ensures { result ≡ after_event container event }
+{
+    let Some(container) = container else {
+        return None;
+    };
+    match oz_container::event(container.state, event) {
+        Ok(state) => Some(Container { state, ..container }),
+        Err(_) => None,
+    }
 }
 
 /// A container after a grant, which makes it where it isn't there.
@@ -226,6 +280,31 @@ fn granted(container: Option<Container>, grant: &Grant) -> Container
             state: State::Open,
             granted: grant.count as u64,
         },
+    }
+}
+
+/// One more, where a container is in the state that is counted.
+fn and_one_in(count: u64, is: State, counted: State) -> u64
+    requires { count + 1 < 2 ^ 64 }
+    ensures { result ≡ (if place_in_order is == place_in_order counted then suc count else count) }
+{
+    if place_of(is) == place_of(counted) {
+        count + 1
+    } else {
+        count
+    }
+}
+
+fn place_of(state: State) -> u8
+    ensures { result ≡ place_in_order state }
+{
+    match state {
+        State::Open => 0,
+        State::Closing => 1,
+        State::QuasiClosed => 2,
+        State::Closed => 3,
+        State::Deleting => 4,
+        State::Deleted => 5,
     }
 }
 

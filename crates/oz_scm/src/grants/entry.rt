@@ -1,5 +1,7 @@
 //! What a body of the storage container manager's journal says.
 
+use oz_container::Event;
+
 /// Block ids that are granted at once: `count` of them from `first` on, in one container.
 #[derive(Clone, Copy, Debug, PartialEq, Eq)]
 pub struct Grant {
@@ -17,4 +19,6 @@ pub enum Entry {
     Nodes { count: u8 },
     /// Block ids were granted to a stripe. The first grant in a container makes it.
     Granted { stripe: u8, grant: Grant },
+    /// A container that was made goes on to another state.
+    Stepped { container: u64, event: Event },
 }

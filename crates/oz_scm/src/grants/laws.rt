@@ -1,13 +1,14 @@
 //! What the bodies of the storage container manager's journal make, and which ids they grant.
 
 ghost use Rattle.std.specs.Prelude.{◌≡◌, ◌<◌, ◌≤◌, ◌^◌, ◌++◌, ◌∷◌, [], ℕ, List, Option, Some, length, slice_get, true};
-ghost use Rattle.oz_scm.specs.declared.grants.entry.Entry.TheVariants.{Nodes as Names, Granted as Says};
+ghost use Rattle.oz_scm.specs.declared.grants.entry.Entry.TheVariants.{Nodes as Names, Granted as Says, Stepped as Goes};
+ghost use Rattle.oz_container.specs.declared.state.Event.{Event as AnyEvent};
 ghost use Rattle.oz_scm.specs.declared.grants.entry.Grant.{Grant as AnyGrant};
 ghost use Rattle.oz_scm.specs.declared.grants.limits.TheConstants.{FIRST_ID};
 ghost use Rattle.oz_scm.specs.grants.Build.{Makes, FailsAt};
 ghost use Rattle.oz_scm.specs.grants.Entries.{entry_bytes};
 ghost use Rattle.oz_scm.specs.grants.Fresh.{AreFresh, grants_in};
-ghost use Rattle.oz_scm.specs.grants.Made.{Made, MayGrant, after_grant, begun, is_node_count, is_stripe};
+ghost use Rattle.oz_scm.specs.grants.Made.{Made, MayGrant, MayStep, after_grant, after_step, begun, is_node_count, is_stripe};
 
 /// Bodies make one thing, or are damaged at one place, and not both.
 pub fn bodies_make_one_thing()
@@ -29,6 +30,9 @@ pub fn an_entry_is_one_body_more()
         Makes bodies (Some made) → is_stripe stripe ≡ true → MayGrant made grant →
         grant.container < 2 ^ 64 → grant.pipeline < 2 ^ 8 →
         Makes (bodies ++ entry_bytes (Says stripe grant) ∷ []) (Some (after_grant grant made)) }
+    ensures step { (bodies : List (List ℕ)) (made : Made) (container : ℕ) (event : AnyEvent) →
+        Makes bodies (Some made) → MayStep made container event → container < 2 ^ 64 →
+        Makes (bodies ++ entry_bytes (Goes container event) ∷ []) (Some (after_step container event made)) }
 {}
 
 /// However often a journal is loaded and added to, no id stands in two of its grants, and the next one in none.

@@ -3,15 +3,17 @@
 ghost use Rattle.std.specs.Prelude.{◌≡◌, ◌+◌, length};
 ghost use Rattle.oz_fields.specs.Number.{u8_at, u32_at, u64_at};
 ghost use Rattle.oz_scm.specs.grants.Made.{container_at, is_node_count as node_count_rule, is_stripe, is_old_or_next};
-ghost use Rattle.oz_scm.specs.grants.Made.{is_on, is_next_id, is_whole};
+ghost use Rattle.oz_scm.specs.grants.Made.{is_on, is_next_id, is_whole, is_made};
 ghost use Rattle.oz_scm.specs.grants.Reading.{field, nodes_at, ids_at, granted_at, entry_at};
+ghost use Rattle.oz_scm.specs.grants.Reading.{event_of, is_event_for, event_at, stepped_at};
 ghost use Rattle.oz_scm.specs.grants.Steps.{ReadsAs, made_in};
 
 use crate::grants::container::Container;
-use crate::grants::containers::{Containers, are_ids_spent};
+use crate::grants::containers::{Containers, are_ids_spent, stepped};
 use crate::grants::entry::{Entry, Grant};
 use crate::grants::fault::BadField;
 use crate::grants::limits::GRANTED_IDS;
+use oz_container::Event;
 use oz_fields::Reader;
 use oz_names::STRIPES;
 use oz_nodes::{FEWEST_NODES, MOST_NODES};
@@ -30,6 +32,7 @@ pub(crate) fn entry_of<'b>(
     match *tag {
         1 => nodes_of(found, rest),
         2 => granted_of(found, rest),
+        3 => stepped_of(found, rest),
         _ => Err(BadField { left: bytes.len() }),
     }
 }
@@ -165,5 +168,70 @@ fn count_of(bytes: &[u8]) -> Result<(u32, &[u8]), BadField>
     match reader.u32() {
         Some(count) if count == GRANTED_IDS => Ok((count, &bytes[reader.at()..])),
         _ => Err(BadField { left: bytes.len() }),
+    }
+}
+
+/// A step of a container, behind the tag.
+#[tactic(auto, unfolding(crate::specs::grants::Reading::stepped_at))]
+fn stepped_of<'b>(
+    found: &Option<Containers>,
+    bytes: &'b [u8],
+) -> Result<(Entry, &'b [u8]), BadField>
+    ensures { ReadsAs (λ x. (x.0, x.1.now)) result (stepped_at (made_in found.now) (length bytes.now + 1) bytes.now) }
+{
+    let Some(containers) = found else {
+        return Err(BadField {
+            left: bytes.len() + 1,
+        });
+    };
+    let (container, rest) = made_of(containers, bytes)?;
+    let (event, rest) = event_read(containers.get(container), rest)?;
+    Ok((Entry::Stepped { container, event }, rest))
+}
+
+/// The number of a container that is there.
+fn made_of<'b>(containers: &Containers, bytes: &'b [u8]) -> Result<(u64, &'b [u8]), BadField>
+    ensures { ReadsAs (λ x. (x.0, x.1.now)) result (field u64_at (is_made containers.now.made.containers) bytes.now) }
+{
+    let mut reader = Reader::new(bytes);
+    match reader.u64() {
+        Some(number) if number >= 1 && number < containers.next_number() => {
+            Ok((number, &bytes[reader.at()..]))
+        }
+        _ => Err(BadField { left: bytes.len() }),
+    }
+}
+
+/// An event that the container's state allows.
+#[tactic(auto, unfolding(crate::specs::grants::Reading::event_at))]
+fn event_read(container: Option<Container>, bytes: &[u8]) -> Result<(Event, &[u8]), BadField>
+    ensures { ReadsAs (λ x. (x.0, x.1.now)) result (event_at container bytes.now) }
+{
+    let mut reader = Reader::new(bytes);
+    match reader.u8() {
+        Some(number) if is_event(container, number) => {
+            Ok((event_numbered(number), &bytes[reader.at()..]))
+        }
+        _ => Err(BadField { left: bytes.len() }),
+    }
+}
+
+fn is_event(container: Option<Container>, number: u8) -> bool
+    ensures { result ≡ is_event_for container number }
+{
+    number >= 1 && number <= 6 && stepped(container, event_numbered(number)).is_some()
+}
+
+/// The event of a number from 1 to 6.
+fn event_numbered(number: u8) -> Event
+    ensures { result ≡ event_of number }
+{
+    match number {
+        1 => Event::Finalize,
+        2 => Event::QuasiClose,
+        3 => Event::Close,
+        4 => Event::ForceClose,
+        5 => Event::Delete,
+        _ => Event::Cleanup,
     }
 }

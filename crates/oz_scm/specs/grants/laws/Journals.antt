@@ -38,18 +38,18 @@ use Rattle.std.proofs.Common.{
   ◌∙◌,
   arith,
 }
-use Rattle.std.proofs.lemmas.Bool.{and_parts, eqb-true, leb-true, ltb-true}
-use Rattle.std.proofs.Common.{eqb}
+use Rattle.std.proofs.lemmas.Bool.{and_parts, eqb-true, le-leb, leb-true, ltb-true}
+use Rattle.std.proofs.Common.{◌&&◌, eqb, leb}
 use Rattle.oz_fields.specs.Field.{IsField}
 use Rattle.oz_fields.specs.Number.{u8_bytes, u32_bytes, u64_bytes, u8_at, u32_at, u64_at}
 use Rattle.oz_fields.specs.laws.Numbers.{u8_field, u32_field, u64_field}
 use Rattle.oz_journal.specs.declared.body.Body.{Body}
 use Rattle.oz_journal.specs.Body.{bodies_in}
 use Rattle.oz_scm.specs.declared.grants.entry.Entry.{Entry}
-use Rattle.oz_scm.specs.declared.grants.entry.Entry.TheVariants.{Nodes, Granted}
+use Rattle.oz_scm.specs.declared.grants.entry.Entry.TheVariants.{Nodes, Granted, Stepped}
 use Rattle.oz_scm.specs.declared.grants.entry.Grant.{Grant}
 use Rattle.oz_scm.specs.grants.Build.{Fault, whole, body_at, behind_one, followed_by, made_from, Makes, FailsAt}
-use Rattle.oz_scm.specs.grants.Entries.{entry_bytes, grant_bytes}
+use Rattle.oz_scm.specs.grants.Entries.{entry_bytes, grant_bytes, event_number}
 use Rattle.oz_scm.specs.grants.Fresh.{AreFresh, said_by, said_from, grants_in}
 use Rattle.oz_scm.specs.grants.Made.{
   Made,
@@ -61,12 +61,34 @@ use Rattle.oz_scm.specs.grants.Made.{
   is_on,
   is_next_id,
   is_whole,
+  is_made,
+  stepped,
   MayGrant,
+  MayStep,
   MayFollow,
   after_grant,
+  after_step,
   after_entry,
 }
-use Rattle.oz_scm.specs.grants.Reading.{goes_on, done, kept, field, nodes_at, ids_at, granted_at, unserved, entry_at}
+use Rattle.oz_container.specs.declared.state.Event.{Event}
+use Rattle.oz_container.specs.declared.state.Event.TheVariants as events
+use Rattle.oz_scm.specs.declared.grants.container.Container.{Container}
+use Rattle.std.specs.Option.{is_some}
+use Rattle.oz_scm.specs.grants.Reading.{
+  goes_on,
+  done,
+  kept,
+  field,
+  nodes_at,
+  ids_at,
+  granted_at,
+  event_of,
+  is_event_for,
+  event_at,
+  stepped_at,
+  unserved,
+  entry_at,
+}
 
 went_on : {A B : Type 0} (read : Result (A × List ℕ) ℕ) (next : A → List ℕ → Result (B × List ℕ) ℕ) (found : B × List ℕ) → goes_on read next ≡ Ok found
     → (x : A × List ℕ) × (read ≡ Ok x) × (next x.0 x.1 ≡ Ok found)
@@ -118,6 +140,24 @@ nodes_follow None left bytes rest entry e =
     let a = went_on (field u8_at is_node_count bytes) _ (entry, rest) e in
     subst (MayFollow None) (first_of (Nodes a.0.0) entry a.0.1 rest a.2) (kept_ok is_node_count (length bytes) (u8_at bytes) a.0 a.1)
 
+event_follows : (container : Option Container) (bytes rest : List ℕ) (event : Event) → event_at container bytes ≡ Ok (event, rest)
+    → is_some (stepped container event) ≡ true
+unfolding event_at
+event_follows container bytes rest event e =
+    let a = went_on (field u8_at (is_event_for container) bytes) _ (event, rest) e in
+    let is = kept_ok (is_event_for container) (length bytes) (u8_at bytes) a.0 a.1 in
+    subst (λ (event : Event). is_some (stepped container event) ≡ true) (first_of (event_of a.0.0) event a.0.1 rest a.2) (and_parts _ _ is).1
+
+stepped_follow : (found : Option Made) (left : ℕ) (bytes rest : List ℕ) (entry : Entry) → stepped_at found left bytes ≡ Ok (entry, rest)
+    → MayFollow found entry
+unfolding stepped_at
+stepped_follow None left bytes rest entry e = absurd (cc e)
+stepped_follow (Some made) left bytes rest entry e =
+    let a = went_on (field u64_at (is_made made.containers) bytes) _ (entry, rest) e in
+    let b = went_on (event_at (container_at made.containers a.0.0) a.0.1) _ (entry, rest) a.2 in
+    subst (MayFollow (Some made)) (first_of (Stepped a.0.0 b.0.0) entry b.0.1 rest b.2)
+    (event_follows (container_at made.containers a.0.0) a.0.1 b.0.1 b.0.0 b.1)
+
 either : (b : Bool) (one other : List ℕ → Result (Entry × List ℕ) ℕ) (bytes : List ℕ) (x : Entry × List ℕ) → cond b one other bytes ≡ Ok x
     → (one bytes ≡ Ok x) ⊎ (other bytes ≡ Ok x)
 either true one other bytes x e = inl e
@@ -126,27 +166,32 @@ either false one other bytes x e = inr e
 no_entry : (left : ℕ) (bytes : List ℕ) (x : Entry × List ℕ) → unserved left bytes ≡ Ok x → ⊥
 no_entry left bytes x e = absurd (cc e)
 
-rest_unserved : (b3 b4 b5 b6 : Bool) (left : ℕ) (bytes : List ℕ) (x : Entry × List ℕ)
-    → cond b3 (unserved left) (cond b4 (unserved left) (cond b5 (unserved left) (cond b6 (unserved left) (λ (bytes : List ℕ). Err left)))) bytes ≡ Ok x → ⊥
-rest_unserved true b4 b5 b6 left bytes x e = no_entry left bytes x e
-rest_unserved false true b5 b6 left bytes x e = no_entry left bytes x e
-rest_unserved false false true b6 left bytes x e = no_entry left bytes x e
-rest_unserved false false false true left bytes x e = no_entry left bytes x e
-rest_unserved false false false false left bytes x e = no_entry left bytes x e
+rest_unserved : (b4 b5 b6 : Bool) (left : ℕ) (bytes : List ℕ) (x : Entry × List ℕ)
+    → cond b4 (unserved left) (cond b5 (unserved left) (cond b6 (unserved left) (λ (bytes : List ℕ). Err left))) bytes ≡ Ok x → ⊥
+rest_unserved true b5 b6 left bytes x e = no_entry left bytes x e
+rest_unserved false true b6 left bytes x e = no_entry left bytes x e
+rest_unserved false false true left bytes x e = no_entry left bytes x e
+rest_unserved false false false left bytes x e = no_entry left bytes x e
 
 abbrev rest_at : ℕ → ℕ → List ℕ → Result (Entry × List ℕ) ℕ
-rest_at left tag = cond (eqb tag 3) (unserved left)
-    (cond (eqb tag 4) (unserved left) (cond (eqb tag 5) (unserved left) (cond (eqb tag 6) (unserved left) (λ (bytes : List ℕ). Err left))))
+rest_at left tag = cond (eqb tag 4) (unserved left)
+    (cond (eqb tag 5) (unserved left) (cond (eqb tag 6) (unserved left) (λ (bytes : List ℕ). Err left)))
 
 tag_follows : (found : Option Made) (left tag : ℕ) (bytes rest : List ℕ) (entry : Entry)
-    → cond (eqb tag 1) (nodes_at found left) (cond (eqb tag 2) (granted_at found left) (rest_at left tag)) bytes ≡ Ok (entry, rest) → MayFollow found entry
+    → cond (eqb tag 1) (nodes_at found left) (cond (eqb tag 2) (granted_at found left) (cond (eqb tag 3) (stepped_at found left) (rest_at left tag))) bytes
+    ≡ Ok (entry, rest) → MayFollow found entry
 tag_follows found left tag bytes rest entry e =
-    elim (either (eqb tag 1) (nodes_at found left) (cond (eqb tag 2) (granted_at found left) (rest_at left tag)) bytes (entry, rest) e) [
+    elim (either (eqb tag 1) (nodes_at found left)
+    (cond (eqb tag 2) (granted_at found left) (cond (eqb tag 3) (stepped_at found left) (rest_at left tag))) bytes (entry, rest) e) [
       | inl nodes ↦ nodes_follow found left bytes rest entry nodes
-      | inr others ↦ elim (either (eqb tag 2) (granted_at found left) (rest_at left tag) bytes (entry, rest) others) [
-        | inl granted ↦ granted_follow found left bytes rest entry granted
-        | inr none ↦ absurd (rest_unserved (eqb tag 3) (eqb tag 4) (eqb tag 5) (eqb tag 6) left bytes (entry, rest) none)
-      ]
+      | inr behind ↦ elim (either (eqb tag 2) (granted_at found left)
+          (cond (eqb tag 3) (stepped_at found left) (rest_at left tag)) bytes (entry, rest) behind) [
+            | inl granted ↦ granted_follow found left bytes rest entry granted
+            | inr others ↦ elim (either (eqb tag 3) (stepped_at found left) (rest_at left tag) bytes (entry, rest) others) [
+              | inl stepped ↦ stepped_follow found left bytes rest entry stepped
+              | inr none ↦ absurd (rest_unserved (eqb tag 4) (eqb tag 5) (eqb tag 6) left bytes (entry, rest) none)
+            ]
+          ]
     ]
 
 entry_follows : (found : Option Made) (bytes rest : List ℕ) (entry : Entry) → entry_at found bytes ≡ Ok (entry, rest) → MayFollow found entry
@@ -230,6 +275,64 @@ nodes_back count fits many =
     ap (whole (length (entry_bytes (Nodes count)))) (
     ap (λ (read : Result (ℕ × List ℕ) ℕ). goes_on read (λ (count : ℕ). done (Nodes count)))
     (field_back (2 ^ 8) u8_bytes u8_at is_node_count count [] u8_field fits many))
+
+event_back : (container : Option Container) (event : Event) (rest : List ℕ) → is_some (stepped container event) ≡ true
+    → event_at container (u8_bytes (event_number event) ++ rest) ≡ Ok (event, rest)
+unfolding event_at
+event_back container events.Finalize rest may =
+    ap (λ (b : Bool). goes_on (cond b (Ok (1, rest)) (Err (suc (length rest))))
+    (λ (n : ℕ). done (event_of n))) may
+event_back container events.QuasiClose rest may =
+    ap (λ (b : Bool). goes_on (cond b (Ok (2, rest)) (Err (suc (length rest))))
+    (λ (n : ℕ). done (event_of n))) may
+event_back container events.Close rest may =
+    ap (λ (b : Bool). goes_on (cond b (Ok (3, rest)) (Err (suc (length rest))))
+    (λ (n : ℕ). done (event_of n))) may
+event_back container events.ForceClose rest may =
+    ap (λ (b : Bool). goes_on (cond b (Ok (4, rest)) (Err (suc (length rest))))
+    (λ (n : ℕ). done (event_of n))) may
+event_back container events.Delete rest may =
+    ap (λ (b : Bool). goes_on (cond b (Ok (5, rest)) (Err (suc (length rest))))
+    (λ (n : ℕ). done (event_of n))) may
+event_back container events.Cleanup rest may =
+    ap (λ (b : Bool). goes_on (cond b (Ok (6, rest)) (Err (suc (length rest))))
+    (λ (n : ℕ). done (event_of n))) may
+
+both_true : (a b : Bool) → a ≡ true → b ≡ true → (a && b) ≡ true
+both_true true b one two = two
+both_true false b one two = absurd (cc one)
+
+place_within : (l : List Container) (i : ℕ) → is_some (slice_get l i) ≡ true → i < length l
+place_within [] i is = absurd (cc is)
+place_within (x ∷ l) zero is = omega arith
+place_within (x ∷ l) (suc i) is = let rest = place_within l i is in omega (arith, rest)
+
+-- a container whose state allows an event was made
+may_made : (made : Made) (container : ℕ) (event : Event) → MayStep made container event → is_made made.containers container ≡ true
+may_made made zero event may = absurd (cc may)
+may_made made (suc place) event may =
+    let there : is_some (slice_get made.containers place) ≡ true = of (slice_get made.containers place) may in
+    let within = place_within made.containers place there in
+    both_true (leb 1 (suc place)) (leb (suc place) (length made.containers)) (le-leb 1 (suc place) (omega arith))
+    (le-leb (suc place) (length made.containers) (omega (arith, within)))
+  where
+    of : (o : Option Container) → is_some (stepped o event) ≡ true → is_some o ≡ true
+    of None is = absurd (cc is)
+    of (Some container) is = refl
+
+-- so is a step
+pub step_back : (made : Made) (container : ℕ) (event : Event) → container < 2 ^ 64 → MayStep made container event
+    → body_at (Some made) (entry_bytes (Stepped container event)) ≡ Ok (Stepped container event)
+unfolding entry_at stepped_at
+step_back made container event fits may =
+    ap (whole (length (entry_bytes (Stepped container event)))) (
+    ap (λ (read : Result (ℕ × List ℕ) ℕ). goes_on read
+    (λ (container : ℕ) (bytes : List ℕ). goes_on (event_at (container_at made.containers container) bytes)
+    (λ (event : Event). done (Stepped container event))))
+    (field_back (2 ^ 64) u64_bytes u64_at (is_made made.containers) container (u8_bytes (event_number event)) u64_field fits
+    (may_made made container event may))
+    ∙ ap (λ (read : Result (Event × List ℕ) ℕ). goes_on read (λ (event : Event). done (Stepped container event)))
+    (event_back (container_at made.containers container) event [] may))
 
 -- ---- bodies one after another
 
@@ -359,6 +462,7 @@ entry_fresh (Nodes count) bodies made later follows rest = absurd follows
 entry_fresh (Granted stripe grant) bodies made later follows rest =
     let first : grant.first ≡ made.next_id = eqb-true _ _ (and_parts _ _ follows.1.first_is).0 in
     (omega (arith, first), rest (after_grant grant made) refl)
+entry_fresh (Stepped container event) bodies made later follows rest = rest (after_step container event made) refl
 
 fresh_from : (bodies : List (List ℕ)) (made later : Made) → made_from (Some made) bodies ≡ Ok (Some later)
     → AreFresh made.next_id (said_from (Some made) bodies) later.next_id
@@ -376,6 +480,7 @@ first_fresh : (entry : Entry) (bodies : List (List ℕ)) (made : Made) → MayFo
     → AreFresh 1 (said_by (Ok entry) (λ (entry : Entry). said_from (after_entry entry None) bodies)) made.next_id
 first_fresh (Nodes count) bodies made follows rest = rest (begun count) refl
 first_fresh (Granted stripe grant) bodies made follows rest = absurd follows
+first_fresh (Stepped container event) bodies made follows rest = absurd follows
 
 pub fresh : (bodies : List (List ℕ)) (made : Made) → Makes bodies (Some made) → AreFresh 1 (grants_in bodies) made.next_id
 unfolding made_from said_from
@@ -417,6 +522,12 @@ grant_made bodies made stripe grant makes of_stripe may one two =
     makes_push None bodies (Some made) (entry_bytes (Granted stripe grant)) (Granted stripe grant) makes
     (grant_back made stripe grant one two of_stripe may)
 
+pub step_made : (bodies : List (List ℕ)) (made : Made) (container : ℕ) (event : Event) → Makes bodies (Some made) → MayStep made container event
+    → container < 2 ^ 64 → Makes (bodies ++ entry_bytes (Stepped container event) ∷ []) (Some (after_step container event made))
+step_made bodies made container event makes may fits =
+    makes_push None bodies (Some made) (entry_bytes (Stepped container event)) (Stepped container event) makes
+    (step_back made container event fits may)
+
 -- ---- what was made stays
 
 still_made : (bodies : List (List ℕ)) (made : Made) → made_from (Some made) bodies ≡ Ok None → ⊥
@@ -430,6 +541,7 @@ still_made (bytes ∷ bodies) made e =
     of_entry : (entry : Entry) → ((between : Made) → after_entry entry (Some made) ≡ Some between → ⊥) → MayFollow (Some made) entry → ⊥
     of_entry (Nodes count) rest follows = follows
     of_entry (Granted stripe grant) rest follows = rest (after_grant grant made) refl
+    of_entry (Stepped container event) rest follows = rest (after_step container event made) refl
 
 -- only no body makes nothing
 pub none_makes : (bodies : List (List ℕ)) → Makes bodies None → bodies ≡ []
@@ -443,3 +555,4 @@ none_makes (bytes ∷ bodies) e =
     of_entry : (entry : Entry) → ((between : Made) → after_entry entry None ≡ Some between → ⊥) → MayFollow None entry → ⊥
     of_entry (Nodes count) rest follows = rest (begun count) refl
     of_entry (Granted stripe grant) rest follows = follows
+    of_entry (Stepped container event) rest follows = follows

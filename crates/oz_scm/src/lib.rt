@@ -1,4 +1,5 @@
-//! The storage container manager: which block ids are granted where, kept in a journal of entries.
+//! The storage container manager: which block ids are granted where, and which state each container is in, kept in a journal
+//! of entries.
 #![tactic(auto)]
 
 mod adding;

@@ -38,7 +38,8 @@ use oz_world::Disk;
 use std::alloc::Global;
 use std::marker::Model;
 
-/// The storage container manager. Each grant is one body of its journal, and is made here once that body is stable.
+/// The storage container manager. Each grant, and each step of a container, is one body of its journal, and is made here once
+/// that body is stable.
 /// Which datanodes are up isn't on its disk: all are as it is loaded.
 #[derive(Drop)]
 pub struct Scm<D: Disk> {

@@ -24,7 +24,8 @@ use oz_nodes::FEWEST_NODES;
 use std::alloc::Global;
 use std::marker::Model;
 
-/// What grants made. Beside the containers it lists those with room for a grant, so that choosing one looks at no others.
+/// What grants and steps made. Beside the containers it lists those that are open with room for a grant, so that choosing one
+/// looks at no others.
 #[derive(Drop)]
 pub struct Containers {
     node_count: u8,

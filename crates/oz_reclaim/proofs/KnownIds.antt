@@ -1,15 +1,15 @@
--- Of deleted rows whose local ids are known nothing is in reach, where none has a block that passes a test that tells of all blocks.
+-- Whether something is in reach of deleted rows whose local ids are known: a test that tells of all blocks says it.
 use Rattle.std.proofs.Common.{◌≡◌, ◌↔◌, ℕ, Bool, true, false, List, [], ◌∷◌, Option, Some, is_some, cond, refl, sym, ◌∙◌, ap, subst}
 use mathlib.Core.Bool.{false≢true}
 use Rattle.std.proofs.lemmas.Option.{same_Some}
-use Rattle.std.specs.List.{AllByRecursion, list_any}
+use Rattle.std.specs.List.{AllByRecursion, Contains, list_any}
 use Rattle.oz_fields.specs.declared.block.Block.{Block}
-use Rattle.oz_reclaim.specs.Gathered.{AreAllOf}
-use Rattle.oz_reclaim.specs.Known.{IsFreeIfKnown}
+use Rattle.oz_reclaim.specs.Gathered.{AreAllOf, IsOfKind}
+use Rattle.oz_reclaim.specs.Known.{IsClearIfKnown, IsOfKnown}
 use Rattle.oz_reclaim.specs.Reach.{IsShown}
 use Rattle.oz_reclaim.specs.Service.{AreUnreached}
-use Rattle.oz_reclaim.specs.laws.Reach.{contains}
-use Rattle.oz_reclaim.proofs.FreeRows.{fails, is_one}
+use Rattle.oz_reclaim.specs.laws.Reach.{among, contains}
+use Rattle.oz_reclaim.proofs.FreeRows.{fails, none_passes}
 use Rattle.oz_rows.specs.declared.entry.RowEntry.{RowEntry}
 use Rattle.oz_rows.specs.declared.key.RowKey.{RowKey}
 use Rattle.oz_rows.specs.declared.key.RowKey.TheVariants as keys
@@ -26,10 +26,22 @@ at_key P (x ∷ l) key row e all = by (is_same x.key key) refl e (λ later. at_k
     by true same e later = subst (λ (k : RowKey). P (record { key = k; row = row })) (same_is_one x.key key same) (subst (λ (r : Row). P (record { key = x.key; row = r })) (same_Some x.row row e) all.0)
     by false not e later = later e
 
-pub free_unreached : (all : Rows) (test : Block → Bool) → ((block : Block) → (test block ≡ true) ↔ IsShown all block) → (known : List ℕ) (kind : ℕ) → kind ≡ 5 → (found : List RowEntry)
-    → AreAllOf all kind found → AllByRecursion (IsFreeIfKnown known test) found → AreUnreached all known
-free_unreached all test tells known kind is_kind found are free v b k owner local of_known block stands shown =
-    let key = keys.Deleted v b owner k local in
-    let there = are.every key stands.row (sym is_kind) stands.there in
-    let it = is_one test stands.row (at_key (IsFreeIfKnown known test) found key stands.row there free of_known) in
-    fails test it.blocks block it.none (contains block it.blocks (ap (λ (r : Row). list_any (is_block block) (blocks_of r)) (sym it.is) ∙ stands.has)) ((tells block).1 shown)
+module _ (all : Rows) (test : Block → Bool) (tells : (block : Block) → (test block ≡ true) ↔ IsShown all block) (known : List ℕ) where
+  clear : AreUnreached all known → (key : RowKey) (row : Row) → all key ≡ Some row → IsOfKnown known key → list_any test (blocks_of row) ≡ false
+  clear away (keys.Deleted v b owner k local) row there of_known =
+      none_passes test (blocks_of row) (λ block has passes. away v b k owner local of_known block (record { row = row; there = there; has = among block (blocks_of row) has }) ((tells block).0 passes))
+  clear away key row there of_known = absurd of_known
+
+  all_clear : AreUnreached all known → (kind : ℕ) (l : List RowEntry) → AllByRecursion (IsOfKind all kind) l → AllByRecursion (IsClearIfKnown known test) l
+  all_clear away kind [] are = tt
+  all_clear away kind (x ∷ l) are = (clear away x.key x.row are.0.1, all_clear away kind l are.1)
+
+  module _ (kind : ℕ) (is_kind : kind ≡ 5) (found : List RowEntry) (are : AreAllOf all kind found) where
+    pub unreached_clear : AreUnreached all known → AllByRecursion (IsClearIfKnown known test) found
+    unreached_clear away = all_clear away kind found are.each
+
+    pub clear_unreached : AllByRecursion (IsClearIfKnown known test) found → AreUnreached all known
+    clear_unreached are_clear v b k owner local of_known block stands shown =
+        let there = are.every (keys.Deleted v b owner k local) stands.row (sym is_kind) stands.there in
+        let none = at_key (IsClearIfKnown known test) found (keys.Deleted v b owner k local) stands.row there are_clear of_known in
+        fails test (blocks_of stands.row) block none (contains block (blocks_of stands.row) stands.has) ((tells block).1 shown)

@@ -5,22 +5,23 @@ use Rattle.std.proofs.lemmas.List.{take_more}
 use Rattle.std.proofs.lemmas.Option.{same_Some}
 use Rattle.std.specs.List.{AllByRecursion, list_any}
 use Rattle.std.specs.Ordering.{is_eq}
+use Rattle.std.specs.declared.cmp.Ordering.TheVariants.{Less, Equal}
 use Rattle.oz_fields.specs.declared.block.Block.{Block}
 use Rattle.oz_reclaim.specs.Found.{is_free}
 use Rattle.oz_reclaim.specs.Found.{HasFree}
-use Rattle.oz_reclaim.specs.Going.{AreKnown, Goes, IsAdded, Tells}
+use Rattle.oz_reclaim.specs.Going.{AreKnown, Goes, IsPut, Tells}
 use Rattle.oz_reclaim.specs.Reach.{IsShown}
 use Rattle.oz_reclaim.specs.Service.{ArePurged, AreUnreached, IsPurged, IsUnreached, key_named}
 use Rattle.oz_reclaim.specs.laws.Reach.{among, contains}
 use Rattle.oz_reclaim.proofs.FreeRows.{is_one, fails, none_passes}
 use Rattle.oz_requests.specs.declared.request.PurgeRow.{PurgeRow}
-use Rattle.oz_rows.specs.Counts.{AllDiffer}
+use Rattle.oz_rows.specs.Counts.{AllDiffer, AllRise}
 use Rattle.oz_rows.specs.declared.key.RowKey.{RowKey}
 use Rattle.oz_rows.specs.declared.row.Row.{Row}
 use Rattle.oz_rows.specs.declared.row.Row.TheVariants as rows
 use Rattle.oz_rows.specs.Rows.{KeyFits}
-use Rattle.oz_rows.specs.RowMaps.{Rows, is_block, is_same, gone}
-use Rattle.oz_rows.specs.laws.Order.{itself}
+use Rattle.oz_rows.specs.RowMaps.{Rows, IsBelow, is_block, is_same, gone}
+use Rattle.oz_rows.specs.laws.Order.{itself, key_order_total}
 use Rattle.oz_rows.specs.laws.Same.{same_is_one}
 use Rattle.oz_sound.specs.Sound.{StandsIn, blocks_of}
 
@@ -88,6 +89,27 @@ same_found key (x ∷ l) (suc at, within, is) = by (is_same x key) (same_found k
     by true e = refl
     by false e = e
 
+-- ---- keys that rise
+
+-- the last of rising keys is the greatest
+pub all_below : (l : List RowKey) (i : ℕ) (last x : RowKey) → length l ≡ i + 1 → last ≡ get_or l i last → AllRise l → IsBelow last x → AllByRecursion (λ key. IsBelow key x) l
+all_below [] i last x count is rise below = absurd (omega (arith, count))
+all_below (y ∷ []) zero last x count is rise below = (subst (λ key. IsBelow key x) is below, tt)
+all_below (y ∷ z ∷ l) zero last x count is rise below = absurd (omega (arith, count))
+all_below (y ∷ l) (suc i) last x count is rise below =
+    (key_order_total.trans y last x (all_at (λ key. IsBelow y key) l i last rise.0 (omega (arith, count)) is) below, all_below l i last x (omega (arith, count)) is rise.1 below)
+
+pub rise_last : (l : List RowKey) (x : RowKey) → AllRise l → AllByRecursion (λ key. IsBelow key x) l → AllRise (l ++ x ∷ [])
+rise_last [] x rise below = (tt, tt)
+rise_last (y ∷ l) x rise below = (all_last (λ key. IsBelow y key) l x rise.0 below.0, rise_last l x rise.1 below.1)
+
+-- a key isn't among those below it
+pub not_below : (l : List RowKey) (x : RowKey) → AllByRecursion (λ key. IsBelow key x) l → Contains l x → ⊥
+not_below l x below there = absurd (less_apart (sym (itself x) ∙ member (λ key. IsBelow key x) l x below there))
+  where
+    less_apart : Equal ≡ Less → ⊥
+    less_apart e = absurd (false≢true (sym (ap is_eq e)))
+
 -- ---- which rows go
 
 module _ (all : Rows) (test : Block → Bool) (volume : List ℕ) where
@@ -105,8 +127,16 @@ module _ (all : Rows) (test : Block → Bool) (volume : List ℕ) where
   named_more (x ∷ front) row key (zero, within, is) = (zero, omega arith, is)
   named_more (x ∷ front) row key (suc at, within, is) = here_later key (key_named volume x) (map (key_named volume) (front ++ row ∷ [])) (named_more front row key (at, omega (arith, within), is))
 
-  chosen_more : (front : List PurgeRow) (row : PurgeRow) (before now : List RowKey) → Chosen front before → IsAdded (Goes all test) (key_named volume row) before now → Chosen (front ++ row ∷ []) now
-  chosen_more front row before now chosen (inl (is, goes, new)) =
+  -- a row that goes only where it is among them, and one that goes
+  chosen_as_before : (front : List PurgeRow) (row : PurgeRow) (before : List RowKey) → Chosen front before → (Goes all test (key_named volume row) → Contains before (key_named volume row)) → Chosen (front ++ row ∷ []) before
+  chosen_as_before front row before chosen there = record {
+    differ = chosen.differ;
+    each = all_map _ _ (λ key it. (it.0, named_more front row key it.1)) before chosen.each;
+    every = all_last (λ (other : PurgeRow). Goes all test (key_named volume other) → Contains before (key_named volume other)) front row chosen.every there;
+  }
+
+  chosen_more : (front : List PurgeRow) (row : PurgeRow) (before now : List RowKey) → Chosen front before → Goes all test (key_named volume row) → IsPut (key_named volume row) before now → Chosen (front ++ row ∷ []) now
+  chosen_more front row before now chosen goes (inl (is, new)) =
       subst (Chosen (front ++ row ∷ [])) (sym is) (record {
         differ = differ_last before (key_named volume row) chosen.differ new;
         each = all_last (λ key. Goes all test key × Contains (map (key_named volume) (front ++ row ∷ [])) key) before (key_named volume row)
@@ -116,17 +146,17 @@ module _ (all : Rows) (test : Block → Bool) (volume : List ℕ) where
             (all_map _ _ (λ other it go. here_before before (key_named volume other) (key_named volume row) (it go)) front chosen.every)
             (λ go. here_last before (key_named volume row));
       })
-  chosen_more front row before now chosen (inr (is, there)) =
-      subst (Chosen (front ++ row ∷ [])) (sym is) (record {
-        differ = chosen.differ;
-        each = all_map _ _ (λ key it. (it.0, named_more front row key it.1)) before chosen.each;
-        every = all_last (λ (other : PurgeRow). Goes all test (key_named volume other) → Contains before (key_named volume other)) front row chosen.every there;
-      })
+  chosen_more front row before now chosen goes (inr (is, there)) = subst (Chosen (front ++ row ∷ [])) (sym is) (chosen_as_before front row before chosen (λ go. there))
 
-  pub chosen_next : (named : List PurgeRow) (i : ℕ) (row : PurgeRow) (before now : List RowKey) → i < length named → row ≡ get_or named i row → Chosen (take i named) before → IsAdded (Goes all test) (key_named volume row) before now → Chosen (take (i + 1) named) now
-  chosen_next named i row before now within is chosen added =
-      subst (λ (front : List PurgeRow). Chosen front now) (sym (take_more named i row within ∙ ap (λ (x : PurgeRow). take i named ++ x ∷ []) (sym is)))
-      (chosen_more (take i named) row before now chosen added)
+  one_more : (named : List PurgeRow) (i : ℕ) (row : PurgeRow) (now : List RowKey) → i < length named → row ≡ get_or named i row → Chosen (take i named ++ row ∷ []) now → Chosen (take (i + 1) named) now
+  one_more named i row now within is chosen =
+      subst (λ (front : List PurgeRow). Chosen front now) (sym (take_more named i row within ∙ ap (λ (x : PurgeRow). take i named ++ x ∷ []) (sym is))) chosen
+
+  pub chosen_next : (named : List PurgeRow) (i : ℕ) (row : PurgeRow) (before now : List RowKey) → i < length named → row ≡ get_or named i row → Chosen (take i named) before → Goes all test (key_named volume row) → IsPut (key_named volume row) before now → Chosen (take (i + 1) named) now
+  chosen_next named i row before now within is chosen goes put = one_more named i row now within is (chosen_more (take i named) row before now chosen goes put)
+
+  pub chosen_still : (named : List PurgeRow) (i : ℕ) (row : PurgeRow) (before : List RowKey) → i < length named → row ≡ get_or named i row → Chosen (take i named) before → (Goes all test (key_named volume row) → ⊥) → Chosen (take (i + 1) named) before
+  chosen_still named i row before within is chosen stays = one_more named i row before within is (chosen_as_before (take i named) row before chosen (λ go. absurd (stays go)))
 
   unreached : (key : RowKey) → Tells all test key → (it : HasFree all test key) → IsUnreached all key
   unreached key tells (row, there, free) = λ block stands shown.

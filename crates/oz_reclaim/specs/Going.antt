@@ -20,11 +20,10 @@ Tells all test key = (block : Block) → StandsIn all block key → (test block 
 abbrev pub Goes : Rows → (Block → Bool) → RowKey → Type 0
 Goes all test key = KeyFits key × HasFree all test key
 
--- a key is put behind others exactly where this holds of it and it isn't among them
-abbrev pub IsAdded : (RowKey → Type 0) → RowKey → List RowKey → List RowKey → Type 0
-IsAdded Holds key before now =
-    ((now ≡ before ++ key ∷ []) × Holds key × (Contains before key → ⊥))
-    ⊎ ((now ≡ before) × (Holds key → Contains before key))
+-- a key is put behind others, unless it is among them
+abbrev pub IsPut : RowKey → List RowKey → List RowKey → Type 0
+IsPut key before now =
+    ((now ≡ before ++ key ∷ []) × (Contains before key → ⊥)) ⊎ ((now ≡ before) × Contains before key)
 
 -- all local ids of these rows are known
 abbrev pub AreKnown : List PurgeRow → List ℕ → Type 0

@@ -1,6 +1,6 @@
 //! The decision on a request of the manager's own.
 
-ghost use Rattle.std.specs.Prelude.{◌≡◌, None, IsTrue, IfOk};
+ghost use Rattle.std.specs.Prelude.{◌≡◌, ◌↔◌, None, IsTrue, IfOk};
 ghost use Rattle.oz_cache.specs.Cache.{newest};
 ghost use Rattle.oz_decision.specs.Replies.{IsReply};
 ghost use Rattle.oz_reclaim.specs.Decisions.{IsServed};
@@ -13,11 +13,12 @@ ghost use Rattle.oz_rows.specs.Operations.{batch_bytes};
 
 use crate::counting::info_snapshot;
 use crate::dropping::purge_snapshot;
+use crate::knowing::none_reached;
 use crate::listing::list_snapshots;
 use crate::making::create_snapshot;
 use crate::marking::delete_snapshot;
 use crate::moving::move_deleted;
-use crate::purging::{none_reached, purge};
+use crate::purging::purge;
 use oz_cache::Cached;
 use oz_decision::Decision;
 use oz_fields::OutOfMemory;
@@ -57,7 +58,7 @@ pub fn decide_purge(
 
 /// Whether no deleted row with one of these local ids has a block in reach. It goes through all keys and all deleted rows.
 pub fn are_unreached(alloc: Global, cached: &Cached, known: &[u64]) -> Result<bool, OutOfMemory>
-    ensures { IfOk result (λ are. IsTrue are → AreUnreached (newest cached.now) known.now) }
+    ensures { IfOk result (λ are. IsTrue are ↔ AreUnreached (newest cached.now) known.now) }
 {
     let are = none_reached(alloc, cached, known)?;
     Ok(are)

@@ -122,7 +122,7 @@ pub(crate) fn is_free(row: &Row, used: &BTreeSet<Block>) -> bool
     }
 }
 
-fn none_used(blocks: &[Block], used: &BTreeSet<Block>) -> bool
+pub(crate) fn none_used(blocks: &[Block], used: &BTreeSet<Block>) -> bool
     ensures { result ≡ not (list_any (does_hold used.now) blocks.now) }
 {
     !one_used(blocks, used)
@@ -134,7 +134,7 @@ fn one_used(blocks: &[Block], used: &BTreeSet<Block>) -> bool
     blocks.iter().any(|block| is_used(used, block))
 }
 
-fn is_used(used: &BTreeSet<Block>, block: &Block) -> bool
+pub(crate) fn is_used(used: &BTreeSet<Block>, block: &Block) -> bool
     ensures { result ≡ does_hold used.now block.now }
 {
     used.contains(block)

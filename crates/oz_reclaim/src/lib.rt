@@ -7,6 +7,7 @@ mod deciding;
 mod dropping;
 mod finding;
 mod gathering;
+mod knowing;
 mod listing;
 mod making;
 mod marking;

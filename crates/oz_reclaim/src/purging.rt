@@ -1,24 +1,22 @@
 //! Deleted rows go.
 
-ghost use Rattle.std.specs.Prelude.{◌≡◌, ◌↔◌, List as AnyList, ℕ, IsTrue, map, OnOk, IfOk};
+ghost use Rattle.std.specs.Prelude.{◌≡◌, ◌↔◌, List as AnyList, ℕ, Contains, IsTrue, map, OnOk, IfOk};
 ghost use Rattle.std.specs.List.{AllByRecursion, list_any};
 ghost use Rattle.oz_decision.specs.Drafts.{row_by_row};
 ghost use Rattle.oz_effects.specs.changes.Steps.{holds as does_hold};
 ghost use Rattle.oz_reclaim.specs.Found.{HasFree};
-ghost use Rattle.oz_reclaim.specs.Going.{Tells, Goes, IsAdded, AreKnown};
-ghost use Rattle.oz_reclaim.specs.Known.{IsFreeIfKnown, IsOfKnown};
+ghost use Rattle.oz_reclaim.specs.Going.{Tells, Goes, IsPut, AreKnown};
 ghost use Rattle.oz_reclaim.specs.Service.{ArePurged, AreUnreached, key_named};
+ghost use Rattle.oz_rows.specs.Counts.{AllRise};
 ghost use Rattle.oz_rows.specs.declared.key.RowKey.{RowKey as AnyKey};
 ghost use Rattle.oz_rows.specs.Operations.{batch_bytes};
-ghost use Rattle.oz_rows.specs.RowMaps.{gone, is_same};
+ghost use Rattle.oz_rows.specs.RowMaps.{IsBelow, gone, is_same};
 ghost use Rattle.oz_rows.specs.Rows.{KeyFits};
 
 use crate::finding::is_free;
-use crate::gathering::rows_of_kind;
 use crate::reaching::shown_blocks;
 use oz_decision::{Decision, Draft};
-use oz_effects::RowRef;
-use oz_fields::{Block, GREATEST_BLOCK_NUMBER, Name, OutOfMemory, TryClone};
+use oz_fields::{Block, GREATEST_BLOCK_NUMBER, Name, OutOfMemory};
 use oz_names::{bucket_name, key_name, volume_name};
 use oz_requests::{PurgeRow, Reply};
 use oz_rows::{RowKey, RowMap};
@@ -40,7 +38,7 @@ pub(crate) fn purge<M: RowMap>(
 {
     let shown = blocks_to_ask(alloc, rows, named, known)?;
     let keys = keys_to_go(alloc, rows, volume, named, &shown)?;
-    let draft = removals(alloc, keys.as_slice())?;
+    let draft = removals(alloc, keys)?;
     Ok(draft.with_reply(Reply::Done))
 }
 
@@ -65,47 +63,19 @@ fn blocks_to_ask<M: RowMap>(
 fn are_known(named: &[PurgeRow], known: &[u64]) -> bool
     ensures { IsTrue result → AreKnown named.now known.now }
 {
-    for row in named {
-        if !known.contains(&row.local) {
+    for place in 0..named.len() {
+        if !is_known(known, place, named[place].local) {
             return false;
         }
     }
     true
 }
 
-/// Whether no deleted row with one of these local ids has a block in reach. It goes through all keys and all deleted rows.
-pub(crate) fn none_reached<M: RowMap>(
-    alloc: Global,
-    rows: &M,
-    known: &[u64],
-) -> Result<bool, OutOfMemory>
-    ensures { IfOk result (λ none. IsTrue none → AreUnreached (M.rows rows.now) known.now) }
+/// Whether a local id is known. It is looked for at this place first, where it stands if the ids come as the rows do.
+fn is_known(known: &[u64], place: usize, local: u64) -> bool
+    ensures { IsTrue result ↔ Contains known.now local }
 {
-    let shown = shown_blocks(alloc, rows)?;
-    let none = Name::copy(alloc, b"")?;
-    let start = RowKey::of_deleted(alloc, &none, &none, 0, &none, 0)?;
-    let found = rows_of_kind(alloc, rows, &start)?;
-    Ok(are_free(found.as_slice(), known, &shown))
-}
-
-fn are_free(rows: &[RowRef], known: &[u64], shown: &BTreeSet<Block>) -> bool
-    ensures { IsTrue result → AllByRecursion (IsFreeIfKnown known.now (does_hold shown.now)) rows.now }
-{
-    for entry in rows {
-        if is_of_known(entry.key, known) && !is_free(entry.row, shown) {
-            return false;
-        }
-    }
-    true
-}
-
-fn is_of_known(key: &RowKey, known: &[u64]) -> bool
-    ensures { IsTrue result ↔ IsOfKnown known.now key.now }
-{
-    match key {
-        RowKey::Deleted { local, .. } => known.contains(local),
-        _ => false,
-    }
+    known.get(place) == Some(&local) || known.contains(&local)
 }
 
 /// The keys of the named rows that go.
@@ -121,32 +91,69 @@ fn keys_to_go<M: RowMap>(
     ensures fit { IfOk result (λ keys. AllByRecursion KeyFits keys.items) }
 {
     let mut keys = Vec::new(alloc);
+    let mut rise = true;
     for row in named {
-        add_key(alloc, rows, volume, row, shown, &mut keys)?;
+        let key = RowKey::of_deleted(alloc, volume, &row.bucket, row.owner, &row.key, row.local)?;
+        if !goes(rows, volume, row, &key, shown) {
+            continue;
+        }
+        rise = put_key(&mut keys, key, rise)?;
     }
     Ok(keys)
 }
 
-/// The key of a row, where it goes and isn't among those that go already.
-fn add_key<M: RowMap>(
-    alloc: Global,
-    rows: &M,
-    volume: &Name,
-    row: &PurgeRow,
-    shown: &BTreeSet<Block>,
-    keys: &mut Vec<RowKey>,
-) -> Result<(), OutOfMemory>
-    ensures { OnOk result (IsAdded (Goes (M.rows rows.now) (does_hold shown.now)) (key_named volume.now row.now) keys.old.items keys.new.items) }
+/// Puts a key behind others, where it isn't among them. It is looked for only where they don't rise up to it, and the answer is
+/// whether they do.
+fn put_key(keys: &mut Vec<RowKey>, key: RowKey, rise: bool) -> Result<bool, OutOfMemory>
+    requires { IsTrue rise → AllRise keys.now.items }
+    ensures rise { IfOk result (λ rise. IsTrue rise → AllRise keys.new.items) }
+    ensures put { OnOk result (IsPut key keys.old.items keys.new.items) }
 {
-    let key = RowKey::of_deleted(alloc, volume, &row.bucket, row.owner, &row.key, row.local)?;
-    if !goes(rows, volume, row, &key, shown) {
-        return Ok(());
+    if rises_to(keys, &key, rise) {
+        keys.push(key)?;
+        return Ok(true);
     }
+    put_new(keys, key)?;
+    Ok(false)
+}
+
+/// Puts a key behind others, where it isn't among them.
+fn put_new(keys: &mut Vec<RowKey>, key: RowKey) -> Result<(), OutOfMemory>
+    ensures { OnOk result (IsPut key keys.old.items keys.new.items) }
+{
     if is_among(keys, &key) {
         return Ok(());
     }
     keys.push(key)?;
     Ok(())
+}
+
+/// Whether keys, of which it may be known that they rise, rise up to this one.
+fn rises_to(keys: &[RowKey], key: &RowKey, rise: bool) -> bool
+    requires { IsTrue rise → AllRise keys.now }
+    ensures { IsTrue result → AllRise keys.now × AllByRecursion (λ other. IsBelow other key.now) keys.now }
+{
+    if !rise {
+        return false;
+    }
+    is_behind(keys, key)
+}
+
+/// Whether a key is above all of these, which rise.
+fn is_behind(keys: &[RowKey], key: &RowKey) -> bool
+    requires { AllRise keys.now }
+    ensures { IsTrue result → AllByRecursion (λ other. IsBelow other key.now) keys.now }
+{
+    match keys.len() {
+        0 => true,
+        count => is_below(&keys[count - 1], key),
+    }
+}
+
+fn is_below(key: &RowKey, other: &RowKey) -> bool
+    ensures { IsTrue result ↔ IsBelow key.now other.now }
+{
+    key.cmp(other).is_lt()
 }
 
 /// Whether the row with this key goes.
@@ -201,14 +208,14 @@ fn is_same_key(key: &RowKey, other: &RowKey) -> bool
 }
 
 /// The removal of the rows with these keys.
-fn removals(alloc: Global, keys: &[RowKey]) -> Result<Draft, OutOfMemory>
-    requires { AllByRecursion KeyFits keys.now }
-    ensures bytes { IfOk result (λ draft. draft.bytes ≡ batch_bytes (row_by_row (map gone keys.now))) }
-    ensures changes { IfOk result (λ draft. draft.changes ≡ map gone keys.now) }
+fn removals(alloc: Global, keys: Vec<RowKey>) -> Result<Draft, OutOfMemory>
+    requires { AllByRecursion KeyFits keys.items }
+    ensures bytes { IfOk result (λ draft. draft.bytes ≡ batch_bytes (row_by_row (map gone keys.items))) }
+    ensures changes { IfOk result (λ draft. draft.changes ≡ map gone keys.items) }
 {
     let mut draft = Draft::new(alloc);
     for key in keys {
-        draft = draft.remove(alloc, key.try_clone(alloc)?)?;
+        draft = draft.remove(alloc, key)?;
     }
     Ok(draft)
 }

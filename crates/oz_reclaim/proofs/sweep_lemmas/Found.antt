@@ -1,5 +1,5 @@
 -- Dead rows are those of which nothing is in reach.
-use Rattle.std.proofs.Common.{◌≡◌, ◌≢◌, ◌↔◌, inl, inr, ℕ, zero, suc, ◌<◌, Bool, true, false, ◌||◌, not, List, [], ◌∷◌, length, map, Option, None, Some, is_some, Contains, refl, sym, ◌∙◌, ap, subst, arith}
+use Rattle.std.proofs.Common.{◌≡◌, ◌↔◌, inl, inr, ℕ, zero, suc, Bool, true, false, ◌||◌, not, List, [], ◌∷◌, length, map, Option, None, Some, is_some, Contains, refl, sym, ◌∙◌, ap, subst, arith}
 use mathlib.Core.Bool.{false≢true}
 use Rattle.std.proofs.lemmas.List.Folds.{list_any-from_Any, Any-from_list_any}
 use Rattle.std.proofs.lemmas.Option.{same_Some}
@@ -21,17 +21,15 @@ use Rattle.oz_reclaim.specs.sweep.Homes.{AreHomes, Keys, has_block, home_of}
 use Rattle.oz_reclaim.specs.sweep.Kept.{IsKept}
 use Rattle.oz_reclaim.proofs.Between.{back, both, front}
 use Rattle.oz_reclaim.proofs.FreeRows.{fails, is_one, none_passes}
-use Rattle.oz_reclaim.proofs.OneKind.{not_itself}
 use Rattle.oz_reclaim.proofs.ShownBlocks.{row_passes}
 use Rattle.oz_reclaim.proofs.sweep_lemmas.Swept.{kind_of_dead}
-use Rattle.oz_rows.specs.Counts.{AllDiffer, AllRise}
 use Rattle.oz_rows.specs.declared.entry.RowEntry.{RowEntry}
 use Rattle.oz_rows.specs.declared.key.RowKey.{RowKey}
 use Rattle.oz_rows.specs.declared.key.RowKey.TheVariants as keys
 use Rattle.oz_rows.specs.declared.row.Row.{Row}
 use Rattle.oz_rows.specs.declared.row.Row.TheVariants as rows
 use Rattle.oz_rows.specs.Rows.{ValueFits, kind_of}
-use Rattle.oz_rows.specs.RowMaps.{Rows, IsBelow, is_block, row_of}
+use Rattle.oz_rows.specs.RowMaps.{Rows, is_block, row_of}
 use Rattle.oz_sound.specs.Sound.{SnapshotHas, StandsIn}
 use Rattle.oz_sound.specs.StandsFor.{IsLive}
 
@@ -43,14 +41,6 @@ each_key P Q from (x ∷ l) all = (from x all.0, each_key P Q from l all.1)
 
 first_in : {A : Type 0} (x : A) (l : List A) → Contains (x ∷ l) x
 first_in x l = (zero, omega arith, refl)
-
--- keys that rise differ
-pub keys_differ : (keys : List RowKey) → AllRise keys → AllDiffer keys
-keys_differ [] rise = tt
-keys_differ (x ∷ keys) rise = (
-  each_key (λ (other : RowKey). IsBelow x other) (λ (other : RowKey). x ≢ other) (λ other below same. not_itself other (subst (λ k. IsBelow k other) same below)) keys rise.0,
-  keys_differ keys rise.1,
-)
 
 -- ---- sound rows
 
@@ -157,15 +147,11 @@ module _ (all : Rows) (namespace : Namespace) (backed : IsBacked all namespace) 
         by None e = absurd (subst (IsDeadRow all key) e (swept key) (rows.Deleted blocks) here)
         by (Some row) e = e ∙ sym (has_dead key row e).0 ∙ here.0
 
-    pub every : (most : ℕ) (keys : List RowKey) → AreFirstFree (row_of dead) test most keys → length keys < most → (key : RowKey) → IsReclaimable all namespace pinned key → Contains keys key
-    every most keys first fewer key is =
+    pub among_first : (most : ℕ) (keys : List RowKey) → AreFirstFree (row_of dead) test most keys → (key : RowKey) → IsReclaimable all namespace pinned key → IsAmongFirst most keys key
+    among_first most keys first key is =
         let none = none_passes test is.blocks (λ block has passes. is.unpinned block has (contains block pinned (sym (told block) ∙ passes))) in
         let here = dead_if key is.blocks is.row is.unreached in
-        by (first.every key (kind_of_dead all key (rows.Deleted is.blocks) here.1) (rows.Deleted is.blocks, is_there key is.blocks here, ap not none))
-      where
-        by : IsAmongFirst most keys key → Contains keys key
-        by (inl there) = there
-        by (inr full) = absurd (omega (arith, fewer, full.0))
+        first.every key (kind_of_dead all key (rows.Deleted is.blocks) here.1) (rows.Deleted is.blocks, is_there key is.blocks here, ap not none)
 
     -- ---- blocks that are pinned, and others
 
@@ -272,14 +258,8 @@ again : (give : RowKey → ℕ) (keys : List RowKey) → map keyed (map (with_da
 again give [] = refl
 again give (x ∷ keys) = ap (λ (l : List RowKey). x ∷ l) (again give keys)
 
-the_keys : (give : RowKey → ℕ) (keys : List RowKey) (found : List (RowKey × ℕ)) → found ≡ map (with_date give) keys → map keyed found ≡ keys
+pub the_keys : (give : RowKey → ℕ) (keys : List RowKey) (found : List (RowKey × ℕ)) → found ≡ map (with_date give) keys → map keyed found ≡ keys
 the_keys give keys found is = ap (map keyed) is ∙ again give keys
-
-pub key_dated : (give : RowKey → ℕ) (keys : List RowKey) (found : List (RowKey × ℕ)) → found ≡ map (with_date give) keys → (key : RowKey) → Contains keys key → Contains (map keyed found) key
-key_dated give keys found is key there = subst (λ (l : List RowKey). Contains l key) (sym (the_keys give keys found is)) there
-
-pub differ_dated : (give : RowKey → ℕ) (keys : List RowKey) (found : List (RowKey × ℕ)) → found ≡ map (with_date give) keys → AllDiffer keys → AllDiffer (map keyed found)
-differ_dated give keys found is apart = subst AllDiffer (sym (the_keys give keys found is)) apart
 
 pub all_dated : (give : RowKey → ℕ) (Holds : RowKey → Type 0) (keys : List RowKey) (found : List (RowKey × ℕ)) → found ≡ map (with_date give) keys → AllByRecursion Holds keys
     → AllByRecursion (λ (row : RowKey × ℕ). Holds row.0) found

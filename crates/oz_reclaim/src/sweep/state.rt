@@ -1,15 +1,15 @@
 //! What is kept of the rows that were flushed, so that those that may go are found by what changed since.
 
 ghost use Rattle.std.specs.Prelude.{◌≡◌, ◌≤◌, ◌<◌, ◌++◌, ◌↔◌, ℕ, [], List as AnyList, map, true, OnOk, OnErr, IfOk, length, IsTrue};
-ghost use Rattle.std.specs.List.{AllByRecursion, Contains};
+ghost use Rattle.std.specs.List.{AllByRecursion};
 ghost use Rattle.oz_namespace.specs.declared.namespace.Namespace.{Namespace as AnyNamespace};
-ghost use Rattle.oz_reclaim.specs.Reclaimable.{IsReclaimable};
+ghost use Rattle.oz_reclaim.specs.Reclaimable.{IsAmongFirst, IsReclaimable};
 ghost use Rattle.oz_reclaim.specs.sweep.Dates.{AreDated, IsDate};
 ghost use Rattle.oz_reclaim.specs.sweep.Found.{IsBacked, IsPartlyPinned, keyed};
 ghost use Rattle.oz_reclaim.specs.sweep.Notes.{dated, later, notes_of as all_notes_of, up_to};
 ghost use Rattle.oz_reclaim.specs.sweep.Swept.{IsSwept, IsSweptTo};
 ghost use Rattle.oz_reclaim.specs.sweep.View.{date_of, dead_of};
-ghost use Rattle.oz_rows.specs.Counts.{AllDiffer};
+ghost use Rattle.oz_rows.specs.Counts.{AllRise};
 ghost use Rattle.oz_rows.specs.declared.key.RowKey.{RowKey as AnyKey};
 ghost use Rattle.oz_rows.specs.declared.row.Row.{Row as AnyRow};
 ghost use Rattle.oz_rows.specs.RowMaps.{Rows, row_of};
@@ -174,11 +174,11 @@ impl Sweep {
         ensures only { IfOk result (λ found. (all : Rows) (namespace : AnyNamespace) → IsSwept self.now all → IsBacked all namespace
             → AllByRecursion (λ row. IsReclaimable all namespace pinned.now row.0) found.rows.items) }
         // Fewer than `most` are all of them, so there are none exactly where none may go.
-        ensures every { IfOk result (λ found. length found.rows.items < most → (all : Rows) (namespace : AnyNamespace)
-            → IsSwept self.now all → IsBacked all namespace
-            → (key : AnyKey) → IsReclaimable all namespace pinned.now key → Contains (map keyed found.rows.items) key) }
+        ensures first { IfOk result (λ found. (all : Rows) (namespace : AnyNamespace) → IsSwept self.now all → IsBacked all namespace
+            → (key : AnyKey) → IsReclaimable all namespace pinned.now key → IsAmongFirst most (map keyed found.rows.items) key) }
         ensures few { IfOk result (λ found. length found.rows.items ≤ most) }
-        ensures differ { IfOk result (λ found. AllDiffer (map keyed found.rows.items)) }
+        // Each stands there once.
+        ensures in_order { IfOk result (λ found. AllRise (map keyed found.rows.items)) }
         ensures dated { IfOk result (λ found. AllByRecursion (λ row. date_of self.now row.0 ≡ Some row.1) found.rows.items) }
         ensures partly { IfOk result (λ found. (all : Rows) (namespace : AnyNamespace) → IsSwept self.now all → IsBacked all namespace
             → (found.is_partly_pinned ≡ true) ↔ IsPartlyPinned all namespace pinned.now) }

@@ -3,12 +3,13 @@ use Rattle.std.specs.List.{AllByRecursion, list_any}
 use Rattle.oz_effects.specs.changes.Steps.{holds}
 use Rattle.oz_fields.specs.declared.block.Block.{Block}
 use Rattle.oz_reclaim.specs.Gathered.{IsLeast}
-use Rattle.oz_reclaim.specs.Reclaimable.{IsReclaimable}
+use Rattle.oz_reclaim.specs.Reclaimable.{IsAmongFirst, IsReclaimable}
 use Rattle.oz_reclaim.specs.sweep.Dates.{date_in, or_zero}
 use Rattle.oz_reclaim.specs.sweep.Swept.{IsSwept}
 use Rattle.oz_reclaim.specs.sweep.View.{SweepView, date_of}
 use Rattle.oz_reclaim.proofs.Least.{least_deleted}
-use Rattle.oz_reclaim.proofs.sweep_lemmas.Found.{all_dated, as_many, differ_dated, every, have_dates, key_dated, keys_differ, only, partly}
+use Rattle.oz_reclaim.proofs.sweep_lemmas.Found.{all_dated, among_first, as_many, have_dates, only, partly, the_keys}
+use Rattle.oz_rows.specs.Counts.{AllRise}
 use Rattle.oz_rows.specs.declared.entry.RowEntry.{RowEntry}
 use Rattle.oz_rows.specs.declared.key.RowKey.{RowKey}
 use Rattle.oz_rows.specs.declared.key.RowKey.TheVariants as keys
@@ -31,21 +32,19 @@ returns-clause-only c = λ all namespace swept backed.
     (λ (block : Block). let none : holds c.new-pins.result block ≡ false = search rules in c.in_ok-add_each.ensures block ∙ ap (λ (t : Bool). t || list_any (is_block block) c.args.pinned.now) none)
     c.args.most c.in_ok-keys.keys.items c.in_ok-keys.ensures)
 
-pub returns-clause-every : goal.returns-clause-every
-returns-clause-every c = λ fewer all namespace swept backed key is.
+pub returns-clause-first : goal.returns-clause-first
+returns-clause-first c = λ all namespace swept backed key is.
     let give = λ (key : RowKey). or_zero (date_in c.self.inside.dates.entries key) in
     let dead : List RowEntry = c.self.inside.dead.rows in
-    key_dated give c.in_ok-keys.keys.items c.in_ok-rows.rows.items c.in_ok-rows.ensures key
-    (every all namespace backed dead (subst (λ (s : SweepView). IsSwept s all) (sym c.self.view_is) swept) c.args.pinned.now (holds c.add_each.new.blocks)
+    subst (λ (l : List RowKey). IsAmongFirst c.args.most l key) (sym (the_keys give c.in_ok-keys.keys.items c.in_ok-rows.rows.items c.in_ok-rows.ensures))
+    (among_first all namespace backed dead (subst (λ (s : SweepView). IsSwept s all) (sym c.self.view_is) swept) c.args.pinned.now (holds c.add_each.new.blocks)
     (λ (block : Block). let none : holds c.new-pins.result block ≡ false = search rules in c.in_ok-add_each.ensures block ∙ ap (λ (t : Bool). t || list_any (is_block block) c.args.pinned.now) none)
-    c.args.most c.in_ok-keys.keys.items c.in_ok-keys.ensures (subst (λ (n : ℕ). n < c.args.most) (as_many give c.in_ok-keys.keys.items c.in_ok-rows.rows.items c.in_ok-rows.ensures) fewer) key is)
+    c.args.most c.in_ok-keys.keys.items c.in_ok-keys.ensures key is)
 
-pub returns-clause-differ : goal.returns-clause-differ
-returns-clause-differ c =
+pub returns-clause-in_order : goal.returns-clause-in_order
+returns-clause-in_order c =
     let give = λ (key : RowKey). or_zero (date_in c.self.inside.dates.entries key) in
-    let dead : List RowEntry = c.self.inside.dead.rows in
-    differ_dated give c.in_ok-keys.keys.items c.in_ok-rows.rows.items c.in_ok-rows.ensures
-    (keys_differ c.in_ok-keys.keys.items c.in_ok-keys.ensures.rise)
+    subst AllRise (sym (the_keys give c.in_ok-keys.keys.items c.in_ok-rows.rows.items c.in_ok-rows.ensures)) c.in_ok-keys.ensures.rise
 
 pub returns-clause-partly : goal.returns-clause-partly
 returns-clause-partly c = λ all namespace swept backed.

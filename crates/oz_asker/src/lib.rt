@@ -16,7 +16,7 @@ pub use laws::{an_index_covers_those_before, what_follows_is_legal, what_was_dec
 pub use seeing::see;
 pub use settling::settle;
 pub use telling::{
-    Settlement, Still, Untold, Unwritten, has_started, settle_line, stands_still, story_length,
-    tell, tell_done, tell_written, times_said, what_is_told_of_the_manager_is_due,
+    Settlement, Still, Untold, Unwritten, has_started, left_up, settle_line, stands_still,
+    story_length, tell, tell_done, tell_written, times_said, what_is_told_of_the_manager_is_due,
     what_keeps_a_line_untold, what_started_stays, what_was_told_stays,
 };

@@ -1,6 +1,7 @@
 //! A line is told its answer, under the turn, where that may be, and that a block of it was written; and what stands of a line
 //! then: whether it may start, whether all that was decided for it is stable, and how often something was said of its blocks.
 mod done;
+mod halted;
 mod laws;
 mod manager;
 mod saying;
@@ -13,6 +14,7 @@ mod untold;
 mod writing;
 
 pub use done::tell_done;
+pub use halted::left_up;
 pub use laws::{
     what_is_told_of_the_manager_is_due, what_keeps_a_line_untold, what_started_stays,
     what_was_told_stays,

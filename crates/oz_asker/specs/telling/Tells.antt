@@ -1,13 +1,15 @@
 -- When a line may be told an answer, what is appended then, and what keeps it from being told.
-use Rattle.std.specs.Prelude.{◌≡◌, ◌≢◌, ℕ, ◌<◌, ◌≤◌, true, false, List, [], ◌∷◌, ◌++◌, Option, None, Some}
+use Rattle.std.specs.Prelude.{◌≡◌, ◌≢◌, ◌⊎◌, ℕ, ◌<◌, ◌≤◌, true, false, List, [], ◌∷◌, ◌++◌, Option, None, Some}
 use Rattle.oz_buffer.specs.Became.{times_said}
 use Rattle.oz_core.specs.declared.event.Event.{Event}
 use Rattle.oz_core.specs.declared.event.EventKind.TheVariants.{Told}
-use Rattle.oz_core.specs.declared.event.Node.TheVariants.{Manager}
+use Rattle.oz_core.specs.declared.event.Node.TheVariants.{Manager, Datanode}
 use Rattle.oz_core.specs.declared.opening.Opening.{Opening}
 use Rattle.oz_core.specs.Asks.{is_told, last_ask, line_index}
 use Rattle.oz_core.specs.Law.{IsInTime}
 use Rattle.oz_core.specs.Manager.{asked_late, durable_index, halt_of}
+use Rattle.oz_core.specs.Scm.{is_up}
+use Rattle.oz_nodes.specs.declared.nodes.TheConstants.{MOST_NODES}
 use Rattle.oz_requests.specs.declared.answer.Answer.{Answer}
 use Rattle.oz_requests.specs.declared.answer.Answer.TheVariants as answers
 use Rattle.oz_requests.specs.declared.request.AskId.{AskId}
@@ -36,8 +38,20 @@ CauseStands opening story client line last answers.Unacknowledged =
 CauseStands opening story client line last answers.ManagerStopped = HadStopped story last
 CauseStands opening story client line last _ = Unit {0}
 
+-- a datanode has halted, and is up still
+abbrev pub IsLeftUp : List Event → ℕ → Type 0
+IsLeftUp story dn = (halt_of (Datanode dn) story ≢ None) × (is_up dn story ≡ true)
+
+-- no datanode that has halted is up
+abbrev pub NoneIsLeftUp : List Event → Type 0
+NoneIsLeftUp story = (dn : ℕ) → dn < MOST_NODES → halt_of (Datanode dn) story ≢ None → is_up dn story ≡ false
+
+-- so it is, unless what is told is that there is no memory
+abbrev pub HaltedAreDown : List Event → Answer → Type 0
+HaltedAreDown story answer = (answer ≡ answers.OutOfMemory) ⊎ NoneIsLeftUp story
+
 -- The line wasn't told, this is what it asked last, so often something was said of its blocks, the seats stand still, what
--- the answer says of the manager's end holds, and it is in time.
+-- the answer says of the manager's end holds, no datanode that has halted is up, and it is in time.
 pub record MayTell (opening : Opening) (story : List Event) (client line : ℕ) (last : Option AskId) (said : ℕ)
     (stills : List Still) (answer : Answer) : Type 0 where
   pub untold : is_told client line story ≡ false
@@ -45,6 +59,7 @@ pub record MayTell (opening : Opening) (story : List Event) (client line : ℕ) 
   pub as_said : times_said client line story ≡ said
   pub still : AllStandStill story stills
   pub cause : CauseStands opening story client line last answer
+  pub down : HaltedAreDown story answer
   pub in_time : IsInTime opening story client line answer
 
 abbrev pub told_event : ℕ → ℕ → ℕ → Answer → Event
@@ -76,8 +91,12 @@ KeepsUntold opening story client line last said stills answer causes.Moved =
 KeepsUntold opening story client line last said stills answer causes.NotDue =
     IsAsKnown story client line last said × AllStandStill story stills
     × (CauseStands opening story client line last answer → ⊥)
-KeepsUntold opening story client line last said stills answer causes.Unstable =
+KeepsUntold opening story client line last said stills answer (causes.LeftUp dn) =
     IsAsKnown story client line last said × AllStandStill story stills
     × CauseStands opening story client line last answer
+    × (answer ≢ answers.OutOfMemory) × dn < MOST_NODES × IsLeftUp story dn
+KeepsUntold opening story client line last said stills answer causes.Unstable =
+    IsAsKnown story client line last said × AllStandStill story stills
+    × CauseStands opening story client line last answer × HaltedAreDown story answer
     × SomeIsUnstable opening story client line × (IsInTime opening story client line answer → ⊥)
 KeepsUntold opening story client line last said stills answer causes.OutOfMemory = Unit {0}

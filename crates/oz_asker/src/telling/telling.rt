@@ -11,6 +11,7 @@ ghost use Rattle.oz_turn.specs.Seat.{IsReady, mine_of, room_of, seen_of};
 ghost use Rattle.oz_turn.specs.Told.{BeginsWith};
 ghost use Rattle.oz_turn.specs.Turn.{turn_id};
 
+use crate::telling::halted::keeps_untold;
 use crate::telling::manager::{cause_stands, is_in_time};
 use crate::telling::still::{Still, all_stand_still};
 use crate::telling::untold::Untold;
@@ -136,6 +137,9 @@ fn may_tell<O: Opened>(
     }
     if !cause_stands(ledger, client, line, last, answer) {
         return Err(Untold::NotDue);
+    }
+    if let Some(dn) = keeps_untold(ledger, answer) {
+        return Err(Untold::LeftUp { dn });
     }
     if !is_in_time(ledger, client, line, answer) {
         return Err(Untold::Unstable);

@@ -1,8 +1,10 @@
-use Rattle.std.proofs.Common.{List, sym, subst}
+use Rattle.std.proofs.Common.{◌≡◌, List, sym, ◌∙◌, subst}
 use Rattle.oz_core.specs.declared.event.Event.{Event}
 use Rattle.oz_core.specs.declared.event.EventKind.TheVariants.{Told}
 use Rattle.oz_core.specs.Fits.{EventFits}
 use Rattle.oz_core.specs.Law.{ToldIsEnabled}
+use Rattle.oz_turn.specs.Seat.{seen_of}
+use Rattle.oz_asker.specs.telling.Tells.{KeepsUntold}
 use Rattle.oz_asker.proofs.telling.telling.tell.Goals as goal
 
 pub note-requires-clause-follows : goal.note-requires-clause-follows
@@ -23,3 +25,10 @@ note-requires-clause-follows g c =
       fits = λ coherent. subst (λ (l : List Event). EventFits O.opening O.bytes O.script l (Told c.args.client c.args.line c.args.answer)) same
           (c.requires.fits coherent story took.begins c.all_follow.ensures may);
     }
+
+pub returns-in-Err-clause-cause : goal.returns-in-Err-clause-cause
+returns-in-Err-clause-cause g c =
+    let O = g.O.Opened in
+    let a = c.args in
+    let same : seen_of c.give_back.new.seat ≡ c.take-ledger.result.0.story = c.give_back.ensures.seen ∙ c.take-ledger.ensures.seen in
+    subst (λ (l : List Event). KeepsUntold O.opening l a.client a.line a.last a.said a.stills.now a.answer c.in-Err.cause) (sym same) c.in-Err.ensures.cause

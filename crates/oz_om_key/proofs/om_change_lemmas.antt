@@ -4,6 +4,11 @@ pub mod Batches
 pub mod Moves
 pub mod RenameMoves
 pub mod Becoming
+pub mod Walked
+pub mod Passed
+pub mod Noted
+pub mod Notes
+pub mod Naming
 pub mod Deleted
 pub mod Renamed
 pub mod Records

@@ -1,3 +1,5 @@
 pub mod Changes
+pub mod Noting
+pub mod Numbers
 pub mod Records
 pub mod Keys

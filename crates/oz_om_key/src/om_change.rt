@@ -2,6 +2,9 @@
 mod deciding;
 mod deleting;
 mod keys;
+mod noting;
+mod numbers;
+mod path;
 mod renaming;
 
 pub use deciding::decide_change;

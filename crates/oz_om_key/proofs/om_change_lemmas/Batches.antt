@@ -26,12 +26,12 @@ use Rattle.oz_decision.specs.laws.OneRow.{nothing_is_safe, put_is_safe, removal_
 use Rattle.oz_decision.specs.laws.SessionRows.{deleted_fits}
 use Rattle.oz_om_key.specs.om_change.Keys.{IsKey, MayRename}
 use Rattle.oz_om_key.specs.om_change.Records.{moved}
-use Rattle.oz_om_key.proofs.om_change_lemmas.KeyRows.{KeyRow, its_row, blocks_fit, key_fits, old_fits, new_fits}
+use Rattle.oz_om_key.proofs.om_change_lemmas.KeyRows.{its_row, blocks_fit, key_fits, old_fits, new_fits}
 
 abbrev pub bytes_of : List Change → List ℕ
 bytes_of changes = batch_bytes (row_by_row changes)
 
-bytes_join : (a c : List Change) → bytes_of (a ++ c) ≡ bytes_of a ++ bytes_of c
+pub bytes_join : (a c : List Change) → bytes_of (a ++ c) ≡ bytes_of a ++ bytes_of c
 bytes_join [] c = refl
 bytes_join (change ∷ a) c =
     ap (λ (l : List ℕ). operation_bytes (operation_for change.key change.row) ++ l) (bytes_join a c)
@@ -66,10 +66,22 @@ pub record Follows (all : Rows) (changes : List Change) (most : ℕ) : Type 0 wh
   pub safe : AreInGrammar all → IsSafe all (bytes_of changes) changes
   pub short : length (bytes_of changes) ≤ most
 
-joined : (all : Rows) (change : Change) (others : List Change) → Follows all (change ∷ []) 6304 → Follows (after_changes (change ∷ []) all) others 6304 → Follows all (change ∷ others) 12608
-joined all change others first second =
-    let bytes = bytes_join (change ∷ []) others in
-    let size = ap length bytes ∙ size_join (bytes_of (change ∷ [])) (bytes_of others) in
+-- nothing may follow any rows
+pub nothing_follows : (all : Rows) (most : ℕ) → Follows all [] most
+nothing_follows all most = record { safe = λ fit. nothing_is_safe all fit; short = omega arith }
+
+rows_join : (a c : List Change) (key : RowKey) (row : Option Row) → row_after (a ++ c) key row ≡ row_after c key (row_after a key row)
+rows_join [] c key row = refl
+rows_join (change ∷ a) c key row = rows_join a c key _
+
+-- changes behind others are made over the rows that those lead to
+pub after_both : (a c : List Change) (all : Rows) → after_changes (a ++ c) all ≡ after_changes c (after_changes a all)
+after_both a c all i key = rows_join a c key (all key) i
+
+pub joined : (all : Rows) (a c : List Change) (m n : ℕ) → m + n ≤ 67108864 → Follows all a m → Follows (after_changes a all) c n → Follows all (a ++ c) (m + n)
+joined all a c m n few first second =
+    let bytes = bytes_join a c in
+    let size = ap length bytes ∙ size_join (bytes_of a) (bytes_of c) in
     let one = first.short in
     let two = second.short in
     record {
@@ -77,9 +89,9 @@ joined all change others first second =
           let before = first.safe fit in
           let then = second.safe before.fit in
           record {
-            batch = subst (λ (l : List ℕ). IsBatchOf all l (change ∷ others)) (sym bytes) (batches_are_one all (bytes_of (change ∷ [])) (bytes_of others) (change ∷ []) others before.batch then.batch);
-            size = omega (arith, size, one, two);
-            fit = then.fit;
+            batch = subst (λ (l : List ℕ). IsBatchOf all l (a ++ c)) (sym bytes) (batches_are_one all (bytes_of a) (bytes_of c) a c before.batch then.batch);
+            size = omega (arith, size, one, two, few);
+            fit = subst AreInGrammar (sym (after_both a c all)) then.fit;
           };
       short = omega (arith, size, one, two);
     }
@@ -102,7 +114,7 @@ module _ (all : Rows) (v b k : List ℕ) (named : name_fault (DeleteKey v b k) �
       }
 
   pub deletion_follows : Follows all (gone (keys.Key v b k) ∷ deleted v b k (version_at (all (keys.Key v b k)))) 12608
-  deletion_follows = joined all (gone (keys.Key v b k)) (deleted v b k (version_at (all (keys.Key v b k)))) (gone_follows all v b k is (key_fits v b k named))
+  deletion_follows = joined all (gone (keys.Key v b k) ∷ []) (deleted v b k (version_at (all (keys.Key v b k)))) 6304 6304 (omega arith) (gone_follows all v b k is (key_fits v b k named))
       (deleted_follows (after_changes (gone (keys.Key v b k) ∷ []) all) (version_at (all (keys.Key v b k))) (blocks_fit all v b k is))
 
 -- a key gets another name
@@ -120,5 +132,5 @@ module _ (all : Rows) (v b k to : List ℕ) (named : name_fault (RenameKey v b k
   moved_follows None e = record { safe = λ fit. nothing_is_safe then fit; short = omega arith }
   moved_follows (Some row) e = put_follows row (new_fits v b k to named all may.is row e)
 
-  pub renaming_follows : Follows all (gone (keys.Key v b k) ∷ moved (keys.Key v b to) (all (keys.Key v b k))) 12608
-  renaming_follows = joined all (gone (keys.Key v b k)) (moved (keys.Key v b to) (all (keys.Key v b k))) (gone_follows all v b k may.is (old_fits v b k to named)) (moved_follows (all (keys.Key v b k)) refl)
+  pub moving_follows : Follows all (gone (keys.Key v b k) ∷ moved (keys.Key v b to) (all (keys.Key v b k))) 12608
+  moving_follows = joined all (gone (keys.Key v b k) ∷ []) (moved (keys.Key v b to) (all (keys.Key v b k))) 6304 6304 (omega arith) (gone_follows all v b k may.is (old_fits v b k to named)) (moved_follows (all (keys.Key v b k)) refl)

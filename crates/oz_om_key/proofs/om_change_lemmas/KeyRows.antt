@@ -1,16 +1,17 @@
 -- What the test of a key's row tells, and which rows fit.
-use Rattle.std.proofs.Common.{◌≡◌, ◌<◌, ◌≤◌, ℕ, Bool, true, false, ◌&&◌, nat_le, nat_lt, List, [], ◌∷◌, length, Option, None, Some, is_some, cond, refl, sym, ◌∙◌, ap, subst, arith}
+use Rattle.std.proofs.Common.{◌≡◌, ◌<◌, ℕ, Bool, true, false, nat_le, nat_lt, List, [], ◌∷◌, length, Option, None, Some, is_some, cond, refl, sym, ◌∙◌, ap, subst, arith}
 use mathlib.Core.Bool.{false≢true}
 use Rattle.std.specs.Prelude.{◌^◌}
 use Rattle.std.proofs.lemmas.Option.{same_Some}
 use Rattle.std.specs.List.{AllByRecursion, list_all}
+use Rattle.oz_fields.specs.declared.block.Block.{Block}
 use Rattle.oz_fields.specs.declared.block.Piece.{Piece}
 use Rattle.oz_model.specs.Reach.{blocks_of}
 use Rattle.oz_names.specs.declared.code.Code.TheVariants.{InvalidVolumeName, InvalidBucketName, InvalidKeyName}
 use Rattle.oz_names.specs.Names.{IsKeyName, is_key_name}
 use Rattle.oz_names.specs.laws.NameTests.{volume_name-from, key_name-from, key_name-passes}
 use Rattle.oz_requests.specs.declared.request.Request.TheVariants.{DeleteKey, RenameKey}
-use Rattle.oz_requests.specs.Names.{volume_named, bucket_named, key_named, name_fault}
+use Rattle.oz_requests.specs.Names.{key_named, name_fault}
 use Rattle.oz_rows.specs.declared.key.RowKey.TheVariants as keys
 use Rattle.oz_rows.specs.declared.row.Row.{Row}
 use Rattle.oz_rows.specs.declared.row.Row.TheVariants as rows
@@ -20,7 +21,8 @@ use Rattle.oz_decision.specs.Sessions.{is_good}
 use Rattle.oz_decision.specs.Versions.{version_at}
 use Rattle.oz_decision.specs.laws.SessionRows.{front, back, both, at_most, from_at_most, under, from_under, good_block, block_is_good, volume_is, bucket_is, key_is}
 use Rattle.oz_decision.specs.laws.Versions.{as_many}
-use Rattle.oz_om_key.specs.om_change.Keys.{is_good_piece, are_good_pieces, is_key, number_at, IsKey, MayRename}
+use Rattle.oz_om_key.specs.om_change.Numbers.{MayBeNoted}
+use Rattle.oz_om_key.specs.om_change.Keys.{is_good_piece, are_good_pieces, is_key, number_at, IsKey}
 
 good_piece : (piece : Piece) → is_good_piece piece ≡ true → IsPiece piece
 good_piece piece e =
@@ -112,3 +114,11 @@ module _ (v b k to : List ℕ) (named : name_fault (RenameKey v b k to) ≡ None
   new_fits all is row e =
       let it = its_row all v b k is in
       subst (RowFits (keys.Key v b to)) (same_Some (rows.Key it.number it.pieces) row (sym it.is ∙ e)) ((old_fits.0, old_fits.1, new_name), (it.number_fits, it.pieces_fit))
+
+  each_noted : (blocks : List Block) → AllByRecursion IsBlock blocks → AllByRecursion (MayBeNoted v b k) blocks
+  each_noted [] fits = tt
+  each_noted (block ∷ blocks) fits = (((old_fits.0, old_fits.1, omega arith, fits.0.1), old_fits.2), each_noted blocks fits.1)
+
+  -- the renamed row of each block of the key keeps the rules
+  pub may_note : (all : Rows) → IsKey all v b k → AllByRecursion (MayBeNoted v b k) (version_at (all (keys.Key v b k)))
+  may_note all is = each_noted (version_at (all (keys.Key v b k))) (blocks_fit all v b k is).1

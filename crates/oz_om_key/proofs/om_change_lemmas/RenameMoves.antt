@@ -1,10 +1,9 @@
 -- What stood in one key's row stands in another's.
-use Rattle.std.proofs.Common.{◌≡◌, ◌≢◌, ℕ, suc, Bool, true, false, List, [], ◌∷◌, map, length, Option, None, Some, IsSome, is_some, cond, refl, sym, ◌∙◌, ap, subst, arith, inl, inr, ◌⊎◌}
+use Rattle.std.proofs.Common.{◌≡◌, ◌≢◌, ℕ, suc, Bool, true, false, List, [], ◌∷◌, map, length, Option, None, Some, IsSome, is_some, cond, refl, sym, ◌∙◌, ap, subst, arith, inr}
 use mathlib.Core.Bool.{false≢true}
 use Rattle.std.proofs.lemmas.Option.{same_Some}
 use Rattle.std.specs.List.{AllByRecursion, list_any}
 use Rattle.std.specs.Ordering.{is_eq}
-use Rattle.oz_fields.specs.declared.block.Block.{Block}
 use Rattle.oz_rows.specs.declared.key.RowKey.{RowKey}
 use Rattle.oz_rows.specs.declared.key.RowKey.TheVariants as keys
 use Rattle.oz_rows.specs.declared.row.Row.{Row}
@@ -13,19 +12,18 @@ use Rattle.oz_rows.specs.RowMaps.{Rows, is_same, is_block, put, gone, after_chan
 use Rattle.oz_rows.specs.Rows.{RowFits}
 use Rattle.oz_rows.specs.laws.Order.{itself}
 use Rattle.oz_rows.specs.laws.Same.{same_is_one}
-use Rattle.oz_sound.specs.Sound.{StandsIn, blocks_of, IsUsing, AtMost, IsSoundButRenames, RenamesAreSound, SnapshotHas, IsRename, IsNamedAnew}
+use Rattle.oz_sound.specs.Sound.{blocks_of, IsUsing, AtMost, IsSoundButRenames}
 use Rattle.oz_decision.specs.Meets.{AreInGrammar}
 use Rattle.oz_decision.specs.laws.OneRow.{it_fits, none_fits}
 use Rattle.oz_sound.specs.frames.Parts.{parted, IsParted, KeepsNumbers}
 use Rattle.oz_sound.specs.frames.laws.Bare.{bare_stripes}
 use Rattle.oz_sound.specs.frames.laws.Parting.{parted_moves}
-use Rattle.oz_om_key.specs.om_change.Changes.{IsInNoSnapshot}
 use Rattle.oz_om_key.proofs.om_change_lemmas.Moves.{Goes, moves, changes_fit}
 
 some_apart : {A : Type 0} {a : A} → Some a ≡ None → ⊥
 some_apart e = false≢true (sym (ap is_some e))
 
-itself_key : (q : RowKey) → is_same q q ≡ true
+pub itself_key : (q : RowKey) → is_same q q ≡ true
 itself_key q = ap is_eq (itself q)
 
 -- at most so many things, where each is known as another
@@ -150,47 +148,3 @@ module _ (all : Rows) (v b k to : List ℕ) (row : Row) (there : all (keys.Key v
   pub renaming_goes : IsSoundButRenames all → AreInGrammar all → RowFits of_new row → Goes all now
   renaming_goes sound fit fits =
       moves all now (parted_moves all of_key None of_new (Some row) becomes sound (keeps sound fit)) sound (changes_fit (gone of_key ∷ put of_new row ∷ []) all (none_fits of_key, (it_fits of_new row fits, tt)) fit)
-
-  -- where a block of a key stood
-  key_before : (w c q : List ℕ) (block : Block) → StandsIn now block (keys.Key w c q) → (StandsIn all block (keys.Key w c q)) ⊎ ((of_key ≡ keys.Key w c k) × StandsIn all block of_key)
-  key_before w c q block stands = by_new (is_same of_new (keys.Key w c q)) refl stands.there
-    where
-      by_old : (t : Bool) → cond t None (all (keys.Key w c q)) ≡ Some stands.row → StandsIn all block (keys.Key w c q)
-      by_old true at = absurd (some_apart (sym at))
-      by_old false at = record { row = stands.row; there = at; has = stands.has }
-
-      by_new : (t : Bool) → is_same of_new (keys.Key w c q) ≡ t → cond t (Some row) (cond (is_same of_key (keys.Key w c q)) None (all (keys.Key w c q))) ≡ Some stands.row → (StandsIn all block (keys.Key w c q)) ⊎ ((of_key ≡ keys.Key w c k) × StandsIn all block of_key)
-      by_new false e at = inl (by_old (is_same of_key (keys.Key w c q)) at)
-      by_new true e at = inr (old_there w c q e, becomes.moved_from block (stands.row, at, stands.has))
-
-  had : (w c : List ℕ) (n : ℕ) (block : Block) (name : List ℕ) → SnapshotHas now w c n block name → SnapshotHas all w c n block name
-  had w c n block name has = record { live = has.live; stands = record { row = has.stands.row; there = has.stands.there; has = has.stands.has } }
-
-  was_renamed : (w c : List ℕ) (n local owner : ℕ) (name : List ℕ) → IsRename now w c n local owner name → IsRename all w c n local owner name
-  was_renamed w c n local owner name is = record { row = is.row; behind = is.behind; first = is.first }
-
-  renamed_still : (w c : List ℕ) (n local owner : ℕ) (name : List ℕ) → IsRename all w c n local owner name → IsRename now w c n local owner name
-  renamed_still w c n local owner name is = record { row = is.row; behind = is.behind; first = is.first }
-
-  module _ (no_snapshot : IsInNoSnapshot all v b k) where
-    in_none : {P : Type 0} (w c : List ℕ) (n : ℕ) (block : Block) (name : List ℕ) → of_key ≡ keys.Key w c k → StandsIn all block of_key → SnapshotHas all w c n block name → P
-    in_none w c n block name same stands has =
-        let volume : v ≡ w = cc in
-        let bucket : b ≡ c = cc in
-        absurd (no_snapshot block n name stands (subst (λ x. SnapshotHas all x b n block name) (sym volume) (subst (λ x. SnapshotHas all w x n block name) (sym bucket) has)))
-
-    named_before : (w c : List ℕ) (n : ℕ) (block : Block) (name : List ℕ) → SnapshotHas all w c n block name → IsNamedAnew now w c n block name → IsNamedAnew all w c n block name
-    named_before w c n block name has (inl (later, another, rises, there, apart)) = inl (later, another, rises, had w c later block another there, apart)
-    named_before w c n block name has (inr (another, stands, apart)) = elim (key_before w c another block stands) [
-      | inl stood ↦ inr (another, stood, apart)
-      | inr old ↦ in_none w c n block name old.0 old.1 has
-    ]
-
-    pub renaming_keeps_renames : RenamesAreSound all → RenamesAreSound now
-    renaming_keeps_renames renames = record {
-      renamed = λ w c name another n owner block has is. renames.renamed w c name another n owner block (had w c n block name has) (was_renamed w c n block.local owner another is);
-      noted = λ w c name n block has anew.
-          let before = had w c n block name has in
-          let found = renames.noted w c name n block before (named_before w c n block name before anew) in
-          (found.0, found.1, renamed_still w c n block.local found.0 found.1 found.2);
-    }

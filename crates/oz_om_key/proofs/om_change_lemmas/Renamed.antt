@@ -1,8 +1,9 @@
 -- What another name for a key does to the rows, and to the namespace for which they stand.
-use Rattle.std.proofs.Common.{◌≡◌, ◌↔◌, ℕ, Bool, true, false, List, [], ◌∷◌, Option, None, Some, is_some, cond, refl, sym, ◌∙◌, ap, subst, inl}
+use Rattle.std.proofs.Common.{◌≡◌, ◌↔◌, ℕ, ◌+◌, ◌*◌, Bool, true, false, List, [], ◌∷◌, ◌++◌, length, Option, None, Some, is_some, cond, refl, sym, ◌∙◌, ap, subst, inl, inr, arith}
 use mathlib.Core.Bool.{false≢true}
 use Rattle.std.proofs.lemmas.Cmp.{nat_list_cmp_total}
 use Rattle.std.specs.FinMap.{get, insert, remove, get-insert, get-remove}
+use Rattle.std.specs.List.{AllByRecursion}
 use Rattle.oz_fields.specs.declared.block.Piece.{Piece}
 use Rattle.oz_namespace.specs.declared.namespace.Bucket.{Bucket}
 use Rattle.oz_namespace.specs.declared.namespace.Namespace.{Namespace}
@@ -21,20 +22,26 @@ use Rattle.oz_rows.specs.declared.operation.Change.{Change}
 use Rattle.oz_rows.specs.declared.row.Row.{Row}
 use Rattle.oz_rows.specs.declared.row.Row.TheVariants as rows
 use Rattle.oz_rows.specs.RowMaps.{Rows, is_same, put, gone, after_changes}
-use Rattle.oz_sound.specs.Sound.{IsSoundButRenames, RenamesAreSound}
+use Rattle.oz_rows.specs.Rows.{AreItems, IsBlock}
+use Rattle.oz_sound.specs.Kept.{KeepsBlocks}
+use Rattle.oz_sound.specs.Sound.{IsSound, IsSoundButRenames, RenamesAreSound}
 use Rattle.oz_sound.specs.StandsFor.{StandsFor, pieces_in}
 use Rattle.oz_sound.specs.laws.BucketChanges.{itself}
-use Rattle.oz_decision.specs.Meets.{IsSafe, Stand, Meets}
+use Rattle.oz_decision.specs.Meets.{AreInGrammar, IsSafe, MayGo, Meets, Stand, granted_in}
+use Rattle.oz_decision.specs.Versions.{version_at}
 use Rattle.oz_decision.specs.laws.Sessions.{session_stands}
 use Rattle.oz_decision.specs.laws.Shown.{bucket_put}
-use Rattle.oz_om_key.specs.om_change.Changes.{IsInNoSnapshot}
 use Rattle.oz_om_key.specs.om_change.Keys.{MayRename}
-use Rattle.oz_om_key.specs.om_change.Records.{moved}
-use Rattle.oz_om_key.proofs.om_change_lemmas.KeyRows.{KeyRow, its_row, new_fits}
+use Rattle.oz_om_key.specs.om_change.Noting.{AreSnapshotNumbers, noted}
+use Rattle.oz_om_key.specs.om_change.Numbers.{MayBeNoted}
+use Rattle.oz_om_key.specs.om_change.Records.{moved, renamed as renamed_so}
+use Rattle.oz_om_key.proofs.om_change_lemmas.KeyRows.{KeyRow, blocks_fit, its_row, may_note, new_fits}
 use Rattle.oz_om_key.proofs.om_change_lemmas.Seen.{pieces_are}
-use Rattle.oz_om_key.proofs.om_change_lemmas.Batches.{bytes_of, renaming_follows}
+use Rattle.oz_om_key.proofs.om_change_lemmas.Batches.{Follows, after_both, bytes_of, joined, moving_follows}
 use Rattle.oz_om_key.proofs.om_change_lemmas.Moves.{Goes}
-use Rattle.oz_om_key.proofs.om_change_lemmas.RenameMoves.{renaming_goes, renaming_keeps_renames}
+use Rattle.oz_om_key.proofs.om_change_lemmas.RenameMoves.{renaming_goes}
+use Rattle.oz_om_key.proofs.om_change_lemmas.Naming.{renames_stay}
+use Rattle.oz_om_key.proofs.om_change_lemmas.Notes.{none_moves, notes_follow, still_stands}
 use Rattle.oz_om_key.proofs.om_change_lemmas.Becoming.{Becomes, becomes_bucket, outside, name_is}
 
 module _ (all : Rows) (v b k to : List ℕ) (named : name_fault (RenameKey v b k to) ≡ None) (may : MayRename all v b k to) where
@@ -116,7 +123,7 @@ module _ (all : Rows) (v b k to : List ℕ) (named : name_fault (RenameKey v b k
     made_meets : Answers namespace request replies.Done → Meets IsSoundButRenames all namespace request replies.Done (bytes_of made) made
     unfolding after
     made_meets answers =
-        let safe = subst (λ (c : List Change). IsSafe all (bytes_of c) c) same_changes ((renaming_follows all v b k to named may).safe stand.fit) in
+        let safe = subst (λ (c : List Change). IsSafe all (bytes_of c) c) same_changes ((moving_follows all v b k to named may).safe stand.fit) in
         let effect : after namespace request replies.Done ≡ with_volume namespace v (insert (buckets_at namespace v) b new) = has_buckets namespace v (insert (buckets_at namespace v) b new) in
         record {
           answers = answers;
@@ -130,8 +137,68 @@ module _ (all : Rows) (v b k to : List ℕ) (named : name_fault (RenameKey v b k
           keeps = λ nothing. absurd (differs (sym effect ∙ nothing.0));
         }
 
-    pub meets : Answers namespace request replies.Done → Meets IsSoundButRenames all namespace request replies.Done (bytes_of (recorded (all of_key))) (recorded (all of_key))
-    meets answers = subst (λ (c : List Change). Meets IsSoundButRenames all namespace request replies.Done (bytes_of c) c) (sym same_changes) (made_meets answers)
+  -- ---- and the old name is noted
 
-  pub renames_stay : IsInNoSnapshot all v b k → RenamesAreSound all → RenamesAreSound (after_changes (recorded (all of_key)) all)
-  renames_stay in_none renames = subst (λ (c : List Change). RenamesAreSound (after_changes c all)) (sym same_changes) (renaming_keeps_renames all v b k to row it.is may.free in_none renames)
+  module _ (numbers : List ℕ) where
+    abbrev notes : List Change
+    notes = noted all v b k numbers (version_at (Some row))
+
+    abbrev whole : List Change
+    whole = made ++ notes
+
+    same_whole : renamed_so all v b k to numbers ≡ whole
+    same_whole = ap (λ o. gone of_key ∷ moved of_new o ++ noted all v b k numbers (version_at o)) it.is
+
+    all_noted : AllByRecursion (MayBeNoted v b k) (version_at (Some row))
+    all_noted = subst (λ o. AllByRecursion (MayBeNoted v b k) (version_at o)) it.is (may_note v b k to named all may.is)
+
+    few_blocks : AreItems IsBlock (version_at (Some row))
+    few_blocks = subst (λ o. AreItems IsBlock (version_at o)) it.is (blocks_fit all v b k may.is)
+
+    moving : Follows all made 12608
+    moving = subst (λ (c : List Change). Follows all c 12608) same_changes (moving_follows all v b k to named may)
+
+    whole_follows : Follows all whole (12608 + length (version_at (Some row)) * 6304)
+    whole_follows =
+        let few = few_blocks.0 in
+        joined all made notes 12608 (length (version_at (Some row)) * 6304) (omega (arith, few)) moving
+        (notes_follow all v b k numbers now (version_at (Some row)) few all_noted)
+
+    pub renaming_follows : Follows all (renamed_so all v b k to numbers) 1626432
+    renaming_follows = subst (λ (c : List Change). Follows all c 1626432) (sym same_whole) (record {
+      safe = whole_follows.safe;
+      short = let short = whole_follows.short in let few = few_blocks.0 in omega (arith, short, few);
+    })
+
+    module _ (namespace : Namespace) (stand : Stand IsSoundButRenames all namespace) where
+      abbrev last : Rows
+      last = after_changes notes now
+
+      same_rows : after_changes whole all ≡ last
+      same_rows = after_both made notes all
+
+      fit_last : AreInGrammar last
+      fit_last = subst AreInGrammar same_rows (whole_follows.safe stand.fit).fit
+
+      whole_meets : Answers namespace request replies.Done → Meets IsSoundButRenames all namespace request replies.Done (bytes_of whole) whole
+      whole_meets answers =
+          let first = made_meets namespace stand answers in
+          let stays = none_moves all v b k numbers now (version_at (Some row)) first.leads.sound (granted_in replies.Done) (MayGo all request) in
+          record {
+            answers = answers;
+            batch = (whole_follows.safe stand.fit).batch;
+            leads = subst (λ (r : Rows). Stand IsSoundButRenames r (after namespace request replies.Done)) (sym same_rows)
+                (still_stands all v b k numbers now (version_at (Some row)) first.leads.sound (after namespace request replies.Done) first.leads fit_last);
+            blocks = subst (λ (r : Rows). KeepsBlocks all r (granted_in replies.Done) (MayGo all request)) (sym same_rows) (record {
+              none_lost = λ block had. elim (first.blocks.none_lost block had) [ inl home ↦ stays.none_lost block home | inr may ↦ inr may ];
+              none_made = λ block has. elim (stays.none_made block has) [ inl home ↦ first.blocks.none_made block home | inr new ↦ inr new ];
+            });
+            keeps = λ nothing. absurd (let none = first.keeps nothing in cc);
+          }
+
+      pub meets : Answers namespace request replies.Done → Meets IsSoundButRenames all namespace request replies.Done (bytes_of (renamed_so all v b k to numbers)) (renamed_so all v b k to numbers)
+      meets answers = subst (λ (c : List Change). Meets IsSoundButRenames all namespace request replies.Done (bytes_of c) c) (sym same_whole) (whole_meets answers)
+
+      pub renames_now : IsSound all → AreSnapshotNumbers all v b numbers → RenamesAreSound (after_changes (renamed_so all v b k to numbers) all)
+      renames_now sound are = subst (λ (c : List Change). RenamesAreSound (after_changes c all)) (sym same_whole) (subst RenamesAreSound (sym same_rows)
+          (renames_stay all v b k to it.number it.pieces it.is may.free numbers stand.fit sound are fit_last))

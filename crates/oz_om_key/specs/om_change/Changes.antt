@@ -18,9 +18,3 @@ abbrev pub IsInNoSnapshot : Rows → List ℕ → List ℕ → List ℕ → Type
 IsInNoSnapshot all volume bucket key =
     (block : Block) (number : ℕ) (name : List ℕ)
     → StandsIn all block (keys.Key volume bucket key) → SnapshotHas all volume bucket number block name → ⊥
-
--- No block that a live snapshot has gets another name, so no renamed row is wanted.
-abbrev pub KeepsNames : Rows → Request → Type 0
-KeepsNames all (DeleteKey volume bucket key) = Unit {0}
-KeepsNames all (RenameKey volume bucket key to) = IsInNoSnapshot all volume bucket key
-KeepsNames all request = ⊥

@@ -5,7 +5,7 @@ ghost use Rattle.oz_decision.specs.Drafts.{row_by_row};
 ghost use Rattle.oz_decision.specs.Replies.{IsReply};
 ghost use Rattle.oz_decision.specs.Versions.{deleted, version_at};
 ghost use Rattle.oz_om_key.specs.om_change.Keys.{MayRecordChange};
-ghost use Rattle.oz_om_key.specs.om_change.Records.{recorded_change};
+ghost use Rattle.oz_om_key.specs.om_change.Records.{AreRecorded};
 ghost use Rattle.oz_requests.specs.declared.request.Request.{Request};
 ghost use Rattle.oz_requests.specs.Names.{name_fault};
 ghost use Rattle.oz_rows.specs.Operations.{batch_bytes};
@@ -30,8 +30,8 @@ pub(crate) fn delete_key<M: RowMap>(
     requires { name_fault (Request.DeleteKey volume.now bucket.now key.now) ≡ None }
     ensures reply { IfOk result (λ decision. IsReply (M.rows rows.now) (Request.DeleteKey volume.now bucket.now key.now) decision.reply) }
     ensures allowed { IfOk result (λ decision. MayRecordChange (M.rows rows.now) (Request.DeleteKey volume.now bucket.now key.now) decision.reply) }
-    ensures changes { IfOk result (λ decision. decision.changes
-        ≡ recorded_change (M.rows rows.now) (Request.DeleteKey volume.now bucket.now key.now) decision.reply) }
+    ensures changes { IfOk result (λ decision.
+        AreRecorded (M.rows rows.now) (Request.DeleteKey volume.now bucket.now key.now) decision.reply decision.changes) }
     ensures operations { IfOk result (λ decision. decision.bytes ≡ batch_bytes (row_by_row decision.changes)) }
 {
     let of_key = RowKey::of_key(alloc, volume, bucket, key)?;

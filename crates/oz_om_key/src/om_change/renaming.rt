@@ -6,7 +6,7 @@ ghost use Rattle.oz_decision.specs.Replies.{IsReply, ShowsThat};
 ghost use Rattle.oz_model.specs.Refusals.{refusal};
 ghost use Rattle.oz_model.specs.Scope.{scope_of};
 ghost use Rattle.oz_om_key.specs.om_change.Keys.{MayRecordChange, MayRename};
-ghost use Rattle.oz_om_key.specs.om_change.Records.{moved, recorded_change};
+ghost use Rattle.oz_om_key.specs.om_change.Records.{AreRecorded, moved};
 ghost use Rattle.oz_requests.specs.declared.request.Request.{Request};
 ghost use Rattle.oz_requests.specs.Names.{name_fault};
 ghost use Rattle.oz_rows.specs.Operations.{batch_bytes};
@@ -15,6 +15,9 @@ ghost use Rattle.oz_rows.specs.RowMaps.{gone};
 ghost use Rattle.oz_rows.specs.Rows.{KeyFits, RowFits};
 
 use crate::om_change::keys::missing_key;
+use crate::om_change::noting::note_names;
+use crate::om_change::numbers::snapshot_numbers;
+use crate::om_change::path::KeyPath;
 use oz_decision::{Decision, Draft, has_row};
 use oz_fields::{Name, OutOfMemory, TryClone};
 use oz_names::Code;
@@ -22,7 +25,8 @@ use oz_requests::Reply;
 use oz_rows::{Row, RowKey, RowMap};
 use std::alloc::Global;
 
-/// Decides that a key gets another name: what stood in its row stands in one of that name.
+/// Decides that a key gets another name: what stood in its row stands in one of that name. The old name is noted for those of
+/// its blocks that a live snapshot has.
 pub(crate) fn rename_key<M: RowMap>(
     alloc: Global,
     rows: &M,
@@ -34,8 +38,8 @@ pub(crate) fn rename_key<M: RowMap>(
     requires { name_fault (Request.RenameKey volume.now bucket.now key.now to.now) ≡ None }
     ensures reply { IfOk result (λ decision. IsReply (M.rows rows.now) (Request.RenameKey volume.now bucket.now key.now to.now) decision.reply) }
     ensures allowed { IfOk result (λ decision. MayRecordChange (M.rows rows.now) (Request.RenameKey volume.now bucket.now key.now to.now) decision.reply) }
-    ensures changes { IfOk result (λ decision. decision.changes
-        ≡ recorded_change (M.rows rows.now) (Request.RenameKey volume.now bucket.now key.now to.now) decision.reply) }
+    ensures changes { IfOk result (λ decision.
+        AreRecorded (M.rows rows.now) (Request.RenameKey volume.now bucket.now key.now to.now) decision.reply decision.changes) }
     ensures operations { IfOk result (λ decision. decision.bytes ≡ batch_bytes (row_by_row decision.changes)) }
 {
     let of_key = RowKey::of_key(alloc, volume, bucket, key)?;
@@ -43,7 +47,15 @@ pub(crate) fn rename_key<M: RowMap>(
     if let Some(code) = not_renamed(alloc, rows, volume, bucket, key, to, &of_key, &of_new)? {
         return Ok(Decision::unchanged(alloc, Reply::Code(code)));
     }
-    let draft = move_row(alloc, rows, of_key, of_new)?;
+    let numbers = snapshot_numbers(alloc, rows, volume, bucket)?;
+    let row = rows.get(&of_key);
+    let moved = move_row(alloc, rows, of_key, of_new)?;
+    let of = KeyPath {
+        volume,
+        bucket,
+        key,
+    };
+    let draft = note_names(alloc, rows, moved, &of, &numbers, row)?;
     Ok(draft.with_reply(Reply::Done))
 }
 

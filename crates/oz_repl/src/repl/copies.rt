@@ -1,9 +1,9 @@
 //! The copies that a container's members lack.
 
-ghost use Rattle.std.specs.Prelude.{◌≡◌, ◌≢◌, ◌↔◌, ◌<◌, ◌++◌, Contains, AllPairs, IfOk, OnOk};
+ghost use Rattle.std.specs.Prelude.{◌≡◌, ◌≢◌, ◌↔◌, ◌<◌, ◌++◌, true, Contains, AllPairs, IfOk, OnOk};
 ghost use Rattle.oz_core.specs.Law.{may_be_copied};
-ghost use Rattle.oz_repl.specs.repl.View.{AreRising, IsDueCopy};
-ghost use Rattle.oz_repl.specs.repl.Listed.{copies, copies_from, copies_of, copy_to, is_lacking_at, is_source_at};
+ghost use Rattle.oz_repl.specs.repl.View.{AreRising, IsDueCopy, held_at};
+ghost use Rattle.oz_repl.specs.repl.Listed.{copies, copies_from, copies_of, copy_to, is_among, is_source_at};
 ghost use Rattle.oz_repl.specs.declared.repl.view.CopyOrder.{CopyOrder as AnyOrder};
 
 use super::holders::{has, is_holder};
@@ -60,10 +60,11 @@ fn push_copies_from(
     Ok(())
 }
 
-/// Whether the member is the first that is up and holds the block, and the block isn't being deleted.
+/// Whether a member that holds the block is the first that is up and does, and the block isn't being deleted.
 fn is_source(view: &View, from: usize, local: u64) -> bool
     requires rising { AreRising view.now }
     requires within { from < 3 }
+    requires held { is_among (held_at view.now from) local ≡ true }
     ensures { result ≡ is_source_at view.now local from }
 {
     if has(view.logged.items(), local) {
@@ -74,7 +75,7 @@ fn is_source(view: &View, from: usize, local: u64) -> bool
             return false;
         }
     }
-    is_holder(view, from, local)
+    view.up[from]
 }
 
 fn push_copies_of(
@@ -85,6 +86,7 @@ fn push_copies_of(
 ) -> Result<(), OutOfMemory>
     requires rising { AreRising view.now }
     requires within { from < 3 }
+    requires held { is_among (held_at view.now from) local ≡ true }
     ensures { OnOk result (orders.new.items ≡ orders.old.items ++ copies_of view.now from local) }
 {
     push_copy_to(view, from, 0, local, orders)?;
@@ -92,7 +94,7 @@ fn push_copies_of(
     push_copy_to(view, from, 2, local, orders)
 }
 
-/// The copy to a member, where it is up and lacks the block.
+/// The copy to a member from one that holds the block, where it is up and lacks it.
 fn push_copy_to(
     view: &View,
     from: usize,
@@ -103,8 +105,12 @@ fn push_copy_to(
     requires rising { AreRising view.now }
     requires source { from < 3 }
     requires target { to < 3 }
+    requires held { is_among (held_at view.now from) local ≡ true }
     ensures { OnOk result (orders.new.items ≡ orders.old.items ++ copy_to view.now from local to) }
 {
+    if to == from {
+        return Ok(());
+    }
     if view.up[to] && !has(view.held[to].items(), local) {
         orders.push(CopyOrder {
             source: view.members[from],

@@ -10,27 +10,13 @@ use Rattle.oz_repl.specs.declared.repl.view.View.{View}
 use Rattle.oz_repl.specs.declared.repl.view.CopyOrder.{CopyOrder}
 use Rattle.oz_core.specs.Law.{may_be_copied}
 use Rattle.oz_repl.specs.repl.View.{HoldsAt, IsDueCopy, held_at}
-use Rattle.oz_repl.specs.repl.Listed.{copies, copies_from, copies_of, copies_of_sources, copy_to, is_among, is_holder_at, is_lacking_at, is_source_at, is_up_at, order_of}
-use Rattle.oz_repl.proofs.Tests.{holds_at, is_found, is_holder, is_lacking, is_not_found, lacks_at, not_among}
+use Rattle.oz_repl.specs.repl.Listed.{copies, copies_from, copies_of, copies_of_sources, copy_to, is_among, is_holder_at, is_lacking_at, is_source_at, order_of}
+use Rattle.oz_repl.proofs.Tests.{holds_at, is_holder, is_lacking, is_not_found, lacks_at, not_among}
 
 pub all_from : (view : View) (from : ℕ) (items : List ℕ) (i : ℕ) → length items ≤ i → items ≡ held_at view from
     → copies_of_sources view from (take i items) ≡ copies_from view from
 unfolding copies_from
 all_from view from items i past same = ap (copies_of_sources view from) (take_all i items past ∙ same)
-
--- what a member holds is found there
-pub held_here : (view : View) (from : ℕ) (items : List ℕ) (i local : ℕ) → i < length items → local ≡ get_or items i local → items ≡ held_at view from
-    → is_among (held_at view from) local ≡ true
-held_here view from items i local within is same = is_found (held_at view from) local (subst (λ (l : List ℕ). Contains l local) same (i, within, sym is))
-
--- and no copy to it is due
-pub own_copy : (view : View) (from local to : ℕ) → to ≡ from → is_among (held_at view from) local ≡ true → copy_to view from local to ≡ []
-own_copy view from local to same has = subst (λ (place : ℕ). copy_to view from local place ≡ []) (sym same) (by (is_up_at view from) (is_among (held_at view from) local) has)
-  where
-    by : (up held : Bool) → held ≡ true → cond (up && not held) (order_of view from local from ∷ []) [] ≡ []
-    by true true e = refl
-    by false true e = refl
-    by up false e = absurd (cc)
 
 -- ---- membership
 

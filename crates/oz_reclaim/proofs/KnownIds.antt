@@ -1,8 +1,8 @@
 -- Whether something is in reach of deleted rows whose local ids are known: a test that tells of all blocks says it.
-use Rattle.std.proofs.Common.{◌≡◌, ◌↔◌, ℕ, Bool, true, false, List, [], ◌∷◌, Option, Some, is_some, cond, refl, sym, ◌∙◌, ap, subst}
+use Rattle.std.proofs.Common.{◌≡◌, ◌↔◌, ℕ, Bool, true, false, List, [], ◌∷◌, Some, is_some, cond, refl, sym, ap, subst}
 use mathlib.Core.Bool.{false≢true}
 use Rattle.std.proofs.lemmas.Option.{same_Some}
-use Rattle.std.specs.List.{AllByRecursion, Contains, list_any}
+use Rattle.std.specs.List.{AllByRecursion, list_any}
 use Rattle.oz_fields.specs.declared.block.Block.{Block}
 use Rattle.oz_reclaim.specs.Gathered.{AreAllOf, IsOfKind}
 use Rattle.oz_reclaim.specs.Known.{IsClearIfKnown, IsOfKnown}
@@ -14,7 +14,7 @@ use Rattle.oz_rows.specs.declared.entry.RowEntry.{RowEntry}
 use Rattle.oz_rows.specs.declared.key.RowKey.{RowKey}
 use Rattle.oz_rows.specs.declared.key.RowKey.TheVariants as keys
 use Rattle.oz_rows.specs.declared.row.Row.{Row}
-use Rattle.oz_rows.specs.RowMaps.{Rows, is_block, is_same, row_of}
+use Rattle.oz_rows.specs.RowMaps.{Rows, is_same, row_of}
 use Rattle.oz_rows.specs.laws.Same.{same_is_one}
 use Rattle.oz_sound.specs.Sound.{blocks_of}
 

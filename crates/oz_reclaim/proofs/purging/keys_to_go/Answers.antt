@@ -4,7 +4,6 @@ use Rattle.std.proofs.lemmas.List.{take_all}
 use Rattle.oz_effects.specs.changes.Steps.{holds}
 use Rattle.oz_requests.specs.declared.request.PurgeRow.{PurgeRow}
 use Rattle.oz_reclaim.specs.Going.{Goes, IsPut}
-use Rattle.oz_reclaim.specs.Service.{key_named}
 use Rattle.oz_reclaim.proofs.Removing.{Chosen, chosen_next, chosen_still, are_purged, all_fit}
 use Rattle.oz_rows.specs.declared.key.RowKey.{RowKey}
 use Rattle.oz_reclaim.proofs.purging.keys_to_go.Goals as goal
@@ -13,8 +12,7 @@ pub loop-row-preserved-then-not-goes : goal.loop-row-preserved-then-not-goes
 loop-row-preserved-then-not-goes g c =
     let all = g.M.RowMap.rows c.args.rows.now in
     let test = holds c.args.shown.now in
-    let no : c.goes.result ≡ false = search rules in
-    (
+    let no : c.goes.result ≡ false = search rules in (
       chosen_still all test c.args.volume.now c.args.named.now c.loop-row.row-index c.row-item.result c.loop-row.keys.items
           c.loop-row-test.true c.row-item.is c.loop-row.invariant.0
           (λ goes. false≢true (sym no ∙ c.goes.ensures.1 (subst (Goes all test) (sym c.in_ok-key.ensures) goes))),
@@ -25,8 +23,7 @@ pub loop-row-preserved : goal.loop-row-preserved
 loop-row-preserved g c =
     let all = g.M.RowMap.rows c.args.rows.now in
     let test = holds c.args.shown.now in
-    let yes : IsTrue c.goes.result = search rules in
-    (
+    let yes : IsTrue c.goes.result = search rules in (
       chosen_next all test c.args.volume.now c.args.named.now c.loop-row.row-index c.row-item.result c.loop-row.keys.items c.put_key.new.keys.items
           c.loop-row-test.true c.row-item.is c.loop-row.invariant.0
           (subst (Goes all test) c.in_ok-key.ensures (c.goes.ensures.0 yes))

@@ -1,4 +1,4 @@
-use Rattle.std.proofs.Common.{◌≡◌, IsTrue, inl, List, sym, subst, rules}
+use Rattle.std.proofs.Common.{IsTrue, inl, List, sym, subst, rules}
 use Rattle.std.specs.List.{AllByRecursion}
 use Rattle.oz_reclaim.proofs.Removing.{not_below, rise_last}
 use Rattle.oz_rows.specs.Counts.{AllRise}

@@ -1,4 +1,4 @@
-use Rattle.std.proofs.Common.{◌≡◌, ◌<◌, ◌≤◌, ◌||◌, Bool, false, Some, List, ℕ, sym, ◌∙◌, ap, subst, rules}
+use Rattle.std.proofs.Common.{◌≡◌, ◌≤◌, ◌||◌, Bool, false, Some, List, ℕ, sym, ◌∙◌, ap, subst, rules}
 use Rattle.std.specs.List.{AllByRecursion, list_any}
 use Rattle.oz_effects.specs.changes.Steps.{holds}
 use Rattle.oz_fields.specs.declared.block.Block.{Block}

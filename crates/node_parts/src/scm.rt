@@ -2,8 +2,9 @@
 //!
 //! `disk BYTES` begins with a disk that has them, and its calls fail that stand in `fails LIST`. `load COUNT` loads it for so
 //! many datanodes, `load COUNT cut SIZE` only so many bytes of it, and `load COUNT change PLACE` with one added to a byte. Then
-//! `grant STRIPE CONTAINERS PIPELINES` grants ids where these are excluded, `up DN` and `down DN` are noted, and `next-id`,
-//! `members CONTAINER`, `containers`, `stopped` and `faults` are asked. Once it ends by `stop`, or wasn't loaded, `bytes BYTES`,
+//! `grant STRIPE CONTAINERS PIPELINES` grants ids where these are excluded, `apply CONTAINER EVENT` leads a container that was made
+//! on, `up DN` and `down DN` are noted, and `next-id`, `members CONTAINER`, `state CONTAINER`, `containers`, `counts`, `stopped` and
+//! `faults` are asked. Once it ends by `stop`, or wasn't loaded, `bytes BYTES`,
 //! `length` and `disk-faults` ask the disk, and `image CHOICE` begins with what a stop leaves of it. `spent NEXT` asks whether
 //! no ids are left.
 
@@ -11,6 +12,7 @@ use crate::calls::{calls_of, judge_call};
 use crate::told::{Stuck, Told};
 use crate::words::{bytes, number, numbers, small, smalls};
 use case_files::{Judged, Statement};
+use oz_container::Event;
 use oz_fields::List;
 use oz_requests::Exclude;
 use oz_scm::{Scm, are_ids_spent};
@@ -95,6 +97,30 @@ fn grant(
     Ok(())
 }
 
+/// The event of a name.
+fn event_of(name: &str) -> Result<Event, Stuck> {
+    match name {
+        "Finalize" => Ok(Event::Finalize),
+        "QuasiClose" => Ok(Event::QuasiClose),
+        "Close" => Ok(Event::Close),
+        "ForceClose" => Ok(Event::ForceClose),
+        "Delete" => Ok(Event::Delete),
+        "Cleanup" => Ok(Event::Cleanup),
+        _ => Err(Stuck::Unread),
+    }
+}
+
+fn apply(scm: &mut Scm<MemoryDisk>, call: &Statement, came: &mut String) -> Result<(), Stuck> {
+    let container = number(call.word(1))?;
+    let event = event_of(call.word(2))?;
+    if scm.state(container).is_none() {
+        return Err(Stuck::Unread);
+    }
+    let applied = scm.apply(container, event);
+    write!(came, "{applied:?}")?;
+    Ok(())
+}
+
 fn set_up(scm: &mut Scm<MemoryDisk>, call: &Statement) -> Result<(), Stuck> {
     let dn = small(call.word(1))?;
     if dn >= scm.nodes() {
@@ -113,9 +139,12 @@ fn ask(
 ) -> Result<(), Stuck> {
     match call.word(0) {
         "grant" => grant(alloc, scm, call, came)?,
+        "apply" => apply(scm, call, came)?,
         "up" | "down" => set_up(scm, call)?,
         "next-id" => write!(came, "{}", scm.next_id())?,
         "members" => write!(came, "{:?}", scm.members(number(call.word(1))?))?,
+        "state" => write!(came, "{:?}", scm.state(number(call.word(1))?))?,
+        "counts" => write!(came, "{:?}", scm.counts())?,
         "containers" => write!(came, "{:?}", scm.containers(alloc)?)?,
         "stopped" => write!(came, "{}", scm.stopped())?,
         "faults" => write!(came, "{}", scm.faults())?,

@@ -1,7 +1,8 @@
 //! A request is decided while another stripe is held, and while the flusher writes.
 
-ghost use Rattle.std.specs.Prelude.{◌≡◌, true, vec_len, IfOk};
-ghost use Rattle.oz_om.specs.decider.Decided.{is_decided};
+ghost use Rattle.std.specs.Prelude.{◌≡◌, ◌≢◌, vec_len, IfOk};
+ghost use Rattle.oz_requests.specs.declared.request.Family.TheVariants.{Service};
+ghost use Rattle.oz_requests.specs.Families.{family_of};
 ghost use Rattle.oz_turn.specs.Seat.{AreNewSeats};
 ghost use Rattle.oz_turn.specs.Turn.{turn_id};
 
@@ -60,7 +61,7 @@ impl Gate for Meeting {
 
 /// A request for a volume of this name.
 pub fn request(alloc: Global, volume: &[u8]) -> Result<Request, AllocError>
-    ensures { IfOk result (λ request. is_decided request ≡ true) }
+    ensures { IfOk result (λ request. family_of request ≢ Service) }
 {
     Ok(Request::CreateVolume {
         volume: Name::copy(alloc, volume)?,

@@ -1,12 +1,13 @@
 //! How a line asks the manager.
 
-ghost use Rattle.std.specs.Prelude.{◌≡◌, ◌≢◌, ◌+◌, true, IfSome, None, Some};
+ghost use Rattle.std.specs.Prelude.{◌≡◌, ◌≢◌, ◌↔◌, ◌+◌, true, IfSome, IsTrue, None, Some};
 ghost use Rattle.oz_at_work.specs.AtWork.{id_of};
 ghost use Rattle.oz_at_work.specs.Part.{Gone, IsAtWorkIn, IsLinePart, StaysAtWork};
 ghost use Rattle.oz_at_work.specs.inner.Short.{IsShort};
 ghost use Rattle.oz_client.specs.declared.step.Step.TheVariants as steps;
 ghost use Rattle.oz_core.specs.Asks.{is_script};
-ghost use Rattle.oz_om.specs.decider.Decided.{is_decided};
+ghost use Rattle.oz_requests.specs.declared.request.Family.TheVariants.{Service};
+ghost use Rattle.oz_requests.specs.Families.{family_of};
 ghost use Rattle.oz_turn.specs.Seat.{seen_of};
 
 use crate::at_work::LineAtWork;
@@ -114,17 +115,17 @@ impl<'s> LineAtWork<'s> {
     }
 
     /// A copy of what it asks next, with its id. There is none where there is no memory, where the line has asked too
-    /// often, or where the manager doesn't decide such yet.
+    /// often, or where it is a request of the manager's own.
     fn next_ask(&self, alloc: Global) -> Option<(AskId, Request)>
         ensures id { IfSome result (λ asks. asks.0 ≡ id_of self.now.line (self.now.asked + 1)) }
         ensures script { IfSome result (λ asks. is_script asks.0 ≡ true) }
         ensures next { IfSome result (λ asks. self.now.next ≡ steps.Ask asks.1) }
-        ensures decided { IfSome result (λ asks. is_decided asks.1 ≡ true) }
+        ensures of_client { IfSome result (λ asks. family_of asks.1 ≢ Service) }
     {
         let Step::Ask(request) = &self.next else {
             return None;
         };
-        if !is_decided(request) {
+        if is_own(request) {
             return None;
         }
         let id = self.next_id()?;
@@ -147,9 +148,9 @@ impl<'s> LineAtWork<'s> {
     }
 }
 
-/// Whether the manager decides such requests yet.
-fn is_decided(request: &Request) -> bool
-    ensures { result ≡ is_decided request.now }
+/// Whether the manager alone asks such requests.
+fn is_own(request: &Request) -> bool
+    ensures { IsTrue result ↔ family_of request.now ≡ Service }
 {
-    !matches!(request.family(), Family::Snapshots | Family::Service)
+    matches!(request.family(), Family::Service)
 }

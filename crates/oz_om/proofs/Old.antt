@@ -27,7 +27,9 @@ use Rattle.oz_sound.specs.Kept.{HasHome, KeepsBlocks}
 use Rattle.oz_sound.specs.Sound.{IsHome, StandsIn, blocks_of}
 use Rattle.oz_store.specs.Store.{IsInARow}
 use Rattle.oz_sound.specs.stripes.Stripes.{is_own, only}
-use Rattle.oz_om.proofs.Recorded.{Spares, is_snapshot_key, spared}
+use Rattle.oz_reclaim.specs.laws.Origins.{was_or_given}
+use Rattle.oz_om.proofs.Recorded.{is_snapshot_key}
+use Rattle.oz_om.proofs.decider_lemmas.Copies.{AreCopies, IsCopied, copied_in}
 
 -- a row with blocks is that of a key, of an open key, of a deleted key or of a snapshot's key
 home : (key : RowKey) (row : Row) (block : Block) → ValueFits key row → list_any (is_block block) (blocks_of row) ≡ true → IsHome key ⊎ (is_snapshot_key key ≡ true)
@@ -81,7 +83,7 @@ same_granted (replies.Granted block pipeline) = refl
 same_granted reply = refl
 
 module _ (loaded before : Rows) (handed : List Block) (old : AreOld loaded handed before) (changes : List Change)
-    (fit : AreInGrammar (after_changes changes before)) (spares : Spares changes) (reply : Reply) (Gone : Block → Type 0)
+    (fit : AreInGrammar (after_changes changes before)) (copies : AreCopies before changes) (reply : Reply) (Gone : Block → Type 0)
     (keeps : KeepsBlocks before (after_changes changes before) (granted_in reply) Gone) where
   abbrev more : List Block
   more = handed ++ cons_option (block_of_reply reply) []
@@ -98,9 +100,8 @@ module _ (loaded before : Rows) (handed : List Block) (old : AreOld loaded hande
       (λ (had : HasHome before block). from_before block had.key had.here)
       (λ granted. inr (of_granted block granted))
       (keeps.none_made block (record { key = key; home = is_home; here = stands })))
-      (λ of_snapshot. from_before block key (record {
-        row = stands.row;
-        there = sym (spared changes spares key of_snapshot (before key)) ∙ stands.there;
-        has = stands.has;
-      }))
+      (λ of_snapshot. ⊎_elim
+      (λ was. from_before block key (record { row = stands.row; there = was; has = stands.has }))
+      (λ copied. let stood = copied_in before key stands.row of_snapshot copied block stands.has in from_before block stood.0 stood.1)
+      (was_or_given (IsCopied before) changes copies key (before key) stands.row stands.there))
       (home key stands.row block (fit key stands.row stands.there).1 stands.has)

@@ -52,22 +52,22 @@ module _ {T : Type 0} (Coherent : Type 0) (opening : Opening) (bytes : OpeningBy
   held_pooled s t same held = subst (λ (v : StripeView T). IsHeld Coherent opening bytes script loaded v story) (sym same)
       (record { seen = held.seen; follow = held.follow; own = held.own; keeps = held.keeps })
 
-module _ {T : Type 0} (Agrees : Type 0) (s : StripeView T) (rows : Rows) (changes : List Change) where
+module _ {T : Type 0} (Agrees : Type 0) (s : StripeView T) (rows : Rows) (bytes : List ℕ) (changes : List Change) where
   quiet_reply : (volume bucket key : List ℕ) (session : ℕ) (exclude : Exclude) (reply : Reply) (block : Block) → Some block ≡ block_of_reply reply
       → changes ≡ recorded_grant rows (AllocateBlock volume bucket key session exclude) reply → changes ≡ [] → ⊥
   quiet_reply volume bucket key session exclude (replies.Granted picked pipeline) block is recorded none = let bad = sym recorded ∙ none in absurd cc
   quiet_reply volume bucket key session exclude reply block is recorded none = none-some block (sym is)
 
   quiet_request : (request : Request) (pick : Option (Block × ℕ)) (reply : Reply) (block : Block) (pipeline : ℕ) → IsPickFor Agrees s request pick
-      → pick ≡ Some (block, pipeline) → Some block ≡ block_of_reply reply → AreRecorded rows request reply changes → changes ≡ [] → ⊥
+      → pick ≡ Some (block, pipeline) → Some block ≡ block_of_reply reply → AreRecorded rows request reply bytes changes → changes ≡ [] → ⊥
   quiet_request (AllocateBlock volume bucket key session exclude) pick reply block pipeline picked is grants recorded none =
       quiet_reply volume bucket key session exclude reply block grants recorded none
   quiet_request request pick reply block pipeline picked is grants recorded none = none-some (block, pipeline) (sym picked ∙ is)
 
   -- where nothing is written no block is granted
-  pub quiet_grant : (request : Request) (pick : Option (Block × ℕ)) (reply : Reply) (bytes : List ℕ) (granted : Option Block) → IsPickFor Agrees s request pick
-      → IsPickedGrant reply pick granted → AreRecorded rows request reply changes → (bytes ≡ []) ↔ (changes ≡ []) → bytes ≡ [] → granted ≡ None
-  quiet_grant request pick reply bytes granted picked grant exact recorded none = by_case granted refl
+  pub quiet_grant : (request : Request) (pick : Option (Block × ℕ)) (reply : Reply) (granted : Option Block) → IsPickFor Agrees s request pick
+      → IsPickedGrant reply pick granted → AreRecorded rows request reply bytes changes → (bytes ≡ []) ↔ (changes ≡ []) → bytes ≡ [] → granted ≡ None
+  quiet_grant request pick reply granted picked grant exact recorded none = by_case granted refl
     where
       by_case : (o : Option Block) → granted ≡ o → granted ≡ None
       by_case None is = is

@@ -1,21 +1,23 @@
--- No decision changes the rows of a snapshot's keys.
-use Rattle.std.proofs.Common.{◌≡◌, ℕ, Bool, true, false, not, List, [], ◌∷◌, ◌++◌, Option, None, Some, cond, refl, sym, ap, ◌∙◌, subst}
+-- No decision but those on snapshots, and those of the manager's own requests, changes the rows of a snapshot's keys.
+use Rattle.std.proofs.Common.{◌≡◌, ℕ, Bool, true, false, not, List, [], ◌∷◌, ◌++◌, Option, None, Some, cond, refl, sym, subst}
 use mathlib.Core.Bool.{false≢true}
 use Rattle.std.specs.Prelude.{map}
 use Rattle.std.specs.List.{AllByRecursion, filter, flat_map}
 use Rattle.oz_om.specs.declared.decider.decider.Decider.{Decider}
-use Rattle.oz_om.specs.declared.decider.decider.Decider.TheVariants.{Buckets, Reading, Changing, Opening, Granting, Committing, Nobody}
-use Rattle.oz_om.specs.decider.Deciders.{decider_of}
-use Rattle.oz_om.specs.decider.Records.{AreRecorded, AreRecordedBy}
+use Rattle.oz_om.specs.declared.decider.decider.Decider.TheVariants.{Buckets, Reading, Changing, Granting, Committing}
+use Rattle.oz_om.specs.decider.Records.{AreRecordedBy}
 use Rattle.oz_decision.specs.Sessions.{blocks_at}
 use Rattle.oz_decision.specs.Versions.{deleted, version_at}
 use Rattle.oz_effects.specs.Effects.{closed, freed, is_in_a_key, operation_changes}
 use Rattle.oz_fields.specs.declared.block.Block.{Block}
 use Rattle.oz_om_bucket.specs.Records.{changes_for, recorded_changes}
-use Rattle.oz_om_key.specs.om_change.Records.{moved, recorded_change, changes_of_change}
+use Rattle.oz_om_key.specs.om_change.Noting.{noted}
+use Rattle.oz_om_key.specs.om_change.Records.{AreChangesOf, moved}
+use Rattle.oz_om_key.specs.om_change.Records.{AreRecorded as AreChanged}
 use Rattle.oz_om_session.specs.om_open.Records.{AreExpired, changes_of_create}
 use Rattle.oz_om_session.specs.om_open.Records.{AreRecorded as AreOpened}
 use Rattle.oz_om_session.specs.Records.{changes_of_commit, changes_of_grant, changes_of_left, recorded_commit, recorded_grant, unused}
+use Rattle.oz_reclaim.specs.Origins.{IsTidy, SnapshotKeysStay}
 use Rattle.oz_requests.specs.declared.reply.Reply.{Reply}
 use Rattle.oz_requests.specs.declared.reply.Reply.TheVariants as replies
 use Rattle.oz_requests.specs.declared.request.Request.{Request}
@@ -28,8 +30,9 @@ use Rattle.oz_rows.specs.declared.operation.Change.{Change}
 use Rattle.oz_rows.specs.declared.operation.Operation.TheVariants.{DropOpen}
 use Rattle.oz_rows.specs.declared.row.Row.{Row}
 use Rattle.oz_rows.specs.declared.row.Row.TheVariants as rows
-use Rattle.oz_rows.specs.RowMaps.{Rows, AreRows, is_bucket, is_same, put, gone, row_after, row_after_one}
-use Rattle.oz_rows.specs.laws.Same.{same_is_one}
+use Rattle.oz_rows.specs.RowMaps.{Rows, AreRows, is_bucket, put, gone}
+use Rattle.oz_om.proofs.decider_lemmas.Choice.{is_by_rows}
+use Rattle.oz_om.proofs.decider_lemmas.Noted.{noted_each}
 
 abbrev pub is_snapshot_key : RowKey → Bool
 is_snapshot_key (keys.SnapshotKey volume bucket number key) = true
@@ -38,14 +41,17 @@ is_snapshot_key key = false
 abbrev pub Spares : List Change → Type 0
 Spares changes = AllByRecursion (λ (change : Change). is_snapshot_key change.key ≡ false) changes
 
--- the row of a snapshot's key stays
-pub spared : (changes : List Change) → Spares changes → (key : RowKey) → is_snapshot_key key ≡ true → (row : Option Row) → row_after changes key row ≡ row
-spared [] spares key is row = refl
-spared (change ∷ changes) spares key is row = spared changes spares.1 key is (row_after_one change key row) ∙ by_test (is_same change.key key) refl
-  where
-    by_test : (t : Bool) → is_same change.key key ≡ t → cond t change.row row ≡ row
-    by_test true e = absurd (false≢true (sym spares.0 ∙ ap is_snapshot_key (same_is_one change.key key e) ∙ is))
-    by_test false e = refl
+-- so they stay, and the keys of a snapshot with them
+tidy_key : (changes : List Change) (key : RowKey) → is_snapshot_key key ≡ false → IsTidy changes key
+tidy_key changes (keys.SnapshotKey volume bucket number key) e = absurd (false≢true (sym e))
+tidy_key changes key e = tt
+
+tidy_each : (changes some : List Change) → Spares some → AllByRecursion (λ (change : Change). IsTidy changes change.key) some
+tidy_each changes [] spares = tt
+tidy_each changes (change ∷ some) spares = (tidy_key changes change.key spares.0, tidy_each changes some spares.1)
+
+pub tidy : (changes : List Change) → Spares changes → SnapshotKeysStay changes
+tidy changes spares = tidy_each changes changes spares
 
 both : (a b : List Change) → Spares a → Spares b → Spares (a ++ b)
 both [] b one other = other
@@ -96,64 +102,66 @@ spares_moved : (volume bucket to : List ℕ) (row : Option Row) → Spares (move
 spares_moved volume bucket to None = tt
 spares_moved volume bucket to (Some row) = (refl, tt)
 
-module _ (all : Rows) (list : List RowEntry) (are : AreRows list all) where
-  spares_changed : (request : Request) → Spares (changes_of_change all request)
-  spares_changed (DeleteKey volume bucket key) = (refl, spares_deleted volume bucket key (version_at (all (keys.Key volume bucket key))))
-  spares_changed (RenameKey volume bucket key to) = (refl, spares_moved volume bucket to (all (keys.Key volume bucket key)))
-  spares_changed request = tt
+spares_changed : (all : Rows) (request : Request) (changes : List Change) → AreChangesOf all request changes → Spares changes
+spares_changed all (DeleteKey volume bucket key) changes is = subst Spares (sym is) (refl, spares_deleted volume bucket key (version_at (all (keys.Key volume bucket key))))
+spares_changed all (RenameKey volume bucket key to) changes (numbers, are, is) =
+    let row = all (keys.Key volume bucket key) in
+    subst Spares (sym is) (
+      refl,
+      both (moved (keys.Key volume bucket to) row) (noted all volume bucket key numbers (version_at row)) (spares_moved volume bucket to row)
+          (noted_each (λ (change : Change). is_snapshot_key change.key ≡ false) all volume bucket key numbers (version_at row) (λ block has. refl)),
+    )
+spares_changed all request changes is = subst Spares (sym is) tt
 
-  spares_change : (request : Request) (reply : Reply) → Spares (recorded_change all request reply)
-  spares_change request replies.Done = spares_changed request
-  spares_change request reply = tt
+spares_change : (all : Rows) (request : Request) (reply : Reply) (changes : List Change) → AreChanged all request reply changes → Spares changes
+spares_change all request replies.Done changes recorded = spares_changed all request changes recorded
+spares_change all request reply changes recorded = subst Spares (sym recorded) tt
 
-  spares_bucket : (request : Request) (reply : Reply) → Spares (recorded_changes request reply)
-  spares_bucket request (replies.Code code) = tt
-  spares_bucket request reply = spares_buckets request
+spares_bucket : (request : Request) (reply : Reply) → Spares (recorded_changes request reply)
+spares_bucket request (replies.Code code) = tt
+spares_bucket request reply = spares_buckets request
 
-  spares_created : (request : Request) (number : ℕ) → Spares (changes_of_create request number)
-  spares_created (CreateKey volume bucket key) number = (refl, (refl, tt))
-  spares_created request number = tt
+spares_created : (request : Request) (number : ℕ) → Spares (changes_of_create request number)
+spares_created (CreateKey volume bucket key) number = (refl, (refl, tt))
+spares_created request number = tt
 
-  spares_expired : (request : Request) (changes : List Change) → AreExpired all request changes → Spares changes
-  spares_expired (ExpireOpen volume bucket) changes expired = subst Spares (sym (expired list are)) (spares_dropped list volume bucket)
-  spares_expired request changes expired = subst Spares (sym expired) tt
+spares_expired : (all : Rows) (list : List RowEntry) → AreRows list all → (request : Request) (changes : List Change) → AreExpired all request changes → Spares changes
+spares_expired all list are (ExpireOpen volume bucket) changes expired = subst Spares (sym (expired list are)) (spares_dropped list volume bucket)
+spares_expired all list are request changes expired = subst Spares (sym expired) tt
 
-  spares_opened : (request : Request) (reply : Reply) (changes : List Change) → AreOpened all request reply changes → Spares changes
-  spares_opened request (replies.Session number) changes opened = subst Spares (sym opened) (spares_created request number)
-  spares_opened request (replies.Count count) changes opened = spares_expired request changes opened
-  spares_opened request reply changes opened = subst Spares (sym opened) tt
+pub spares_opened : (all : Rows) (list : List RowEntry) → AreRows list all → (request : Request) (reply : Reply) (changes : List Change) → AreOpened all request reply changes → Spares changes
+spares_opened all list are request (replies.Session number) changes opened = subst Spares (sym opened) (spares_created request number)
+spares_opened all list are request (replies.Count count) changes opened = spares_expired all list are request changes opened
+spares_opened all list are request reply changes opened = subst Spares (sym opened) tt
 
-  spares_of_grant : (request : Request) (block : Block) → Spares (changes_of_grant all request block)
-  spares_of_grant (AllocateBlock volume bucket key session exclude) block = (refl, tt)
-  spares_of_grant request block = tt
+spares_of_grant : (all : Rows) (request : Request) (block : Block) → Spares (changes_of_grant all request block)
+spares_of_grant all (AllocateBlock volume bucket key session exclude) block = (refl, tt)
+spares_of_grant all request block = tt
 
-  spares_granted : (request : Request) (reply : Reply) → Spares (recorded_grant all request reply)
-  spares_granted request (replies.Granted block pipeline) = spares_of_grant request block
-  spares_granted request reply = tt
+spares_granted : (all : Rows) (request : Request) (reply : Reply) → Spares (recorded_grant all request reply)
+spares_granted all request (replies.Granted block pipeline) = spares_of_grant all request block
+spares_granted all request reply = tt
 
-  spares_of_commit : (request : Request) → Spares (changes_of_commit all request)
-  spares_of_commit (CommitKey volume bucket key session pieces) =
-      both (changes_of_left volume bucket key (all (keys.Key volume bucket key)) (all (keys.Open volume bucket key session)) pieces)
-      (gone (keys.Open volume bucket key session) ∷ put (keys.Key volume bucket key) (rows.Key session pieces) ∷ [])
-      (both (deleted volume bucket key (version_at (all (keys.Key volume bucket key))))
-      (deleted volume bucket key (unused (blocks_at (all (keys.Open volume bucket key session))) pieces))
-      (spares_deleted volume bucket key (version_at (all (keys.Key volume bucket key))))
-      (spares_deleted volume bucket key (unused (blocks_at (all (keys.Open volume bucket key session))) pieces)))
-      (refl, (refl, tt))
-  spares_of_commit request = tt
+spares_of_commit : (all : Rows) (request : Request) → Spares (changes_of_commit all request)
+spares_of_commit all (CommitKey volume bucket key session pieces) =
+    both (changes_of_left volume bucket key (all (keys.Key volume bucket key)) (all (keys.Open volume bucket key session)) pieces)
+    (gone (keys.Open volume bucket key session) ∷ put (keys.Key volume bucket key) (rows.Key session pieces) ∷ [])
+    (both (deleted volume bucket key (version_at (all (keys.Key volume bucket key))))
+    (deleted volume bucket key (unused (blocks_at (all (keys.Open volume bucket key session))) pieces))
+    (spares_deleted volume bucket key (version_at (all (keys.Key volume bucket key))))
+    (spares_deleted volume bucket key (unused (blocks_at (all (keys.Open volume bucket key session))) pieces)))
+    (refl, (refl, tt))
+spares_of_commit all request = tt
 
-  spares_committed : (request : Request) (reply : Reply) → Spares (recorded_commit all request reply)
-  spares_committed request replies.Done = spares_of_commit request
-  spares_committed request reply = tt
+spares_committed : (all : Rows) (request : Request) (reply : Reply) → Spares (recorded_commit all request reply)
+spares_committed all request replies.Done = spares_of_commit all request
+spares_committed all request reply = tt
 
-  by_decider : (decider : Decider) (request : Request) (reply : Reply) (changes : List Change) → AreRecordedBy decider all request reply changes → Spares changes
-  by_decider Buckets request reply changes recorded = subst Spares (sym recorded) (spares_bucket request reply)
-  by_decider Reading request reply changes recorded = subst Spares (sym recorded) tt
-  by_decider Changing request reply changes recorded = subst Spares (sym recorded) (spares_change request reply)
-  by_decider Opening request reply changes recorded = spares_opened request reply changes recorded
-  by_decider Granting request reply changes recorded = subst Spares (sym recorded) (spares_granted request reply)
-  by_decider Committing request reply changes recorded = subst Spares (sym recorded) (spares_committed request reply)
-  by_decider Nobody request reply changes recorded = absurd recorded
-
-  pub recorded_spares : (request : Request) (reply : Reply) (changes : List Change) → AreRecorded all request reply changes → Spares changes
-  recorded_spares request reply changes recorded = by_decider (decider_of request) request reply changes recorded
+-- what is written row by row
+pub recorded_spares : (all : Rows) (decider : Decider) (request : Request) (reply : Reply) (bytes : List ℕ) (changes : List Change) → is_by_rows decider ≡ true → AreRecordedBy decider all request reply bytes changes → Spares changes
+recorded_spares all Buckets request reply bytes changes by recorded = subst Spares (sym recorded) (spares_bucket request reply)
+recorded_spares all Reading request reply bytes changes by recorded = subst Spares (sym recorded) tt
+recorded_spares all Changing request reply bytes changes by recorded = spares_change all request reply changes recorded
+recorded_spares all Granting request reply bytes changes by recorded = subst Spares (sym recorded) (spares_granted all request reply)
+recorded_spares all Committing request reply bytes changes by recorded = subst Spares (sym recorded) (spares_committed all request reply)
+recorded_spares all decider request reply bytes changes by recorded = absurd (false≢true by)

@@ -1,5 +1,5 @@
 -- What is made over the rows of a stripe may be told.
-use Rattle.std.proofs.Common.{◌≡◌, ◌≢◌, ◌↔◌, ◌+◌, ℕ, true, List, [], ◌∷◌, ◌++◌, Option, None, Some, is_some, refl, sym, ap, ◌∙◌, subst, arith}
+use Rattle.std.proofs.Common.{◌≡◌, ◌≢◌, ◌↔◌, ◌⊎◌, inl, inr, ◌+◌, ℕ, true, List, [], ◌∷◌, ◌++◌, Option, None, Some, is_some, refl, sym, ap, ◌∙◌, subst, arith}
 use mathlib.Core.Bool.{false≢true}
 use Rattle.std.specs.Prelude.{Contains}
 use Rattle.oz_cache.specs.Cache.{newest}
@@ -13,7 +13,10 @@ use Rattle.oz_core.specs.Scm.{IsOfGrant}
 use Rattle.oz_core.specs.Manager.{last_index, namespace_of}
 use Rattle.oz_core.specs.Seats.{stripe_seat}
 use Rattle.oz_om.specs.decider.Premises.{GrantsNew}
-use Rattle.oz_om.specs.decider.Records.{AreRecorded, IsBatchOfStripe}
+use Rattle.oz_om.specs.decider.Deciders.{decider_of}
+use Rattle.oz_om.specs.decider.Records.{AreRecordedBy, IsBatchOfStripe}
+use Rattle.oz_om.specs.declared.decider.decider.Decider.{Decider}
+use Rattle.oz_om.specs.declared.decider.decider.Decider.TheVariants as deciders
 use Rattle.oz_decision.specs.declared.decision.Decision.{Decision}
 use Rattle.oz_decision.specs.Meets.{Meets, Stand, MayGo}
 use Rattle.oz_fields.specs.declared.block.Block.{Block}
@@ -32,14 +35,15 @@ use Rattle.oz_requests.specs.declared.reply.Reply.{Reply}
 use Rattle.oz_requests.specs.declared.reply.Reply.TheVariants as replies
 use Rattle.oz_requests.specs.declared.request.AskId.{AskId}
 use Rattle.oz_requests.specs.declared.request.Exclude.{Exclude}
-use Rattle.oz_requests.specs.declared.request.Family.TheVariants.{Allocation, Service}
+use Rattle.oz_requests.specs.declared.request.Family.TheVariants.{Allocation}
 use Rattle.oz_requests.specs.declared.request.Request.{Request}
-use Rattle.oz_requests.specs.declared.request.Request.TheVariants.{AllocateBlock, Purge, MoveDeleted, PurgeSnapshot}
+use Rattle.oz_requests.specs.declared.request.Request.TheVariants.{AllocateBlock}
 use Rattle.oz_requests.specs.Families.{family_of}
 use Rattle.oz_requests.specs.Names.{volume_in}
 use Rattle.oz_rows.specs.declared.operation.Change.{Change}
 use Rattle.oz_rows.specs.laws.Changes.{become}
-use Rattle.oz_rows.specs.RowMaps.{Rows, after_changes, row_after}
+use Rattle.oz_rows.specs.declared.entry.RowEntry.{RowEntry}
+use Rattle.oz_rows.specs.RowMaps.{AreRows, Rows, after_changes, row_after}
 use Rattle.oz_sound.specs.Sound.{IsSoundButRenames}
 use Rattle.oz_sound.specs.StandsFor.{StandsFor}
 use Rattle.oz_store.specs.Store.{IsStore}
@@ -55,7 +59,11 @@ use Rattle.oz_om.specs.Opens.{Opens}
 use Rattle.oz_om.proofs.Legal.{legal_of}
 use Rattle.oz_om.proofs.Old.{contains_at, handed_with, old_after, old_whole}
 use Rattle.oz_sound.specs.stripes.Stripes.{only}
-use Rattle.oz_om.proofs.Recorded.{recorded_spares}
+use Rattle.oz_om.proofs.Recorded.{recorded_spares, spares_opened}
+use Rattle.oz_om.proofs.decider_lemmas.Choice.{is_on_snapshots}
+use Rattle.oz_om.proofs.decider_lemmas.Copies.{AreCopies, spares_copies}
+use Rattle.oz_om.proofs.decider_lemmas.OnSnapshots.{snapshot_copies}
+use Rattle.oz_om.proofs.decider_lemmas.Reclaims.{service_copies}
 
 -- what a pool has is free
 abbrev pub PoolLaw : Type 0
@@ -64,12 +72,18 @@ PoolLaw = (stripe : ℕ) (known mine : List Event) (free : FreeBlock) → Contai
 some_bytes : (byte : ℕ) (more : List ℕ) → byte ∷ more ≡ [] → ⊥
 some_bytes byte more e = absurd cc
 
--- no request of those that the manager asks itself was decided
-served : (all : Rows) (request : Request) (reply : Reply) (changes : List Change) → AreRecorded all request reply changes → family_of request ≡ Service → ⊥
-served all (Purge volume named) reply changes recorded is = recorded
-served all (MoveDeleted volume bucket number to) reply changes recorded is = recorded
-served all (PurgeSnapshot volume bucket number) reply changes recorded is = recorded
-served all request reply changes recorded is = absurd cc
+-- what a decision puts into a snapshot's keys stood in rows before
+recorded_copies : (all : Rows) (list : List RowEntry) → AreRows list all → (decider : Decider) (request : Request) → decider_of request ≡ decider → (reply : Reply) (bytes : List ℕ) (changes : List Change)
+    → AreRecordedBy decider all request reply bytes changes → AreCopies all changes
+recorded_copies all list are deciders.Buckets request is reply bytes changes recorded = spares_copies all changes (recorded_spares all deciders.Buckets request reply bytes changes refl recorded)
+recorded_copies all list are deciders.Reading request is reply bytes changes recorded = spares_copies all changes (recorded_spares all deciders.Reading request reply bytes changes refl recorded)
+recorded_copies all list are deciders.Changing request is reply bytes changes recorded = spares_copies all changes (recorded_spares all deciders.Changing request reply bytes changes refl recorded)
+recorded_copies all list are deciders.Opening request is reply bytes changes recorded = spares_copies all changes (spares_opened all list are request reply changes recorded)
+recorded_copies all list are deciders.Granting request is reply bytes changes recorded = spares_copies all changes (recorded_spares all deciders.Granting request reply bytes changes refl recorded)
+recorded_copies all list are deciders.Committing request is reply bytes changes recorded = spares_copies all changes (recorded_spares all deciders.Committing request reply bytes changes refl recorded)
+recorded_copies all list are deciders.Snapshots request is reply bytes changes recorded = snapshot_copies all list are request (is_on_snapshots request is) reply bytes changes recorded
+recorded_copies all list are deciders.Reclaiming request is reply bytes changes recorded = service_copies all list are request changes recorded
+recorded_copies all list are deciders.Nobody request is reply bytes changes recorded = absurd recorded
 
 pub listed_after : (all : Rows) (changes : List Change) → AreListed all → AreListed (after_changes changes all)
 listed_after all changes listed =
@@ -167,11 +181,15 @@ module _ {T : Type 0} (Coherent Agrees : Type 0) (opening : Opening) (bytes : Op
       unchanged none = whole_stays.1 (left_as_it_was rows (part coherent) made.request decision.reply (at coherent).stand.stands
           (subst (λ (l : List Change). StandsFor (after_changes l rows) (after (part coherent) made.request decision.reply)) (made.made.recorded.0 none) meets.leads.stands))
 
+      either : (b : List ℕ) → decision.bytes ≡ b → (index ≡ last_index opening story) ⊎ (index ≡ last_index opening story + 1)
+      either [] e = inl (stays e)
+      either (byte ∷ more) e = inr (rises (λ none. some_bytes byte more (sym e ∙ none)))
+
       goes_on : IndexGoesOn opening story made.request decision.reply index
       goes_on = record {
         changes = λ changed. rises (λ none. changed (unchanged none));
         stays = λ same other. stays (made.made.recorded.1 (meets.keeps (whole_stays.0 same, other)));
-        service = λ service. absurd (served rows made.request decision.reply decision.changes made.made.exact service);
+        service = λ service. either decision.bytes refl;
       }
 
       to_none : index ≡ last_index opening story → decision.bytes ≡ []
@@ -204,7 +222,7 @@ module _ {T : Type 0} (Coherent Agrees : Type 0) (opening : Opening) (bytes : Op
         old = subst (λ (l : List Block). AreOld (only s.number loaded) l (after_changes decision.changes rows))
             (sym (handed_with s.number story id index decision.reply decision.bytes))
             (old_after (only s.number loaded) rows (handed_out s.number story) (at coherent).old decision.changes meets.leads.fit
-            (recorded_spares rows held.keeps.listed.all held.keeps.listed.are made.request decision.reply decision.changes made.made.exact)
+            (recorded_copies rows held.keeps.listed.all held.keeps.listed.are (decider_of made.request) made.request refl decision.reply decision.bytes decision.changes made.made.exact)
             decision.reply (MayGo rows made.request) meets.blocks);
       }
 

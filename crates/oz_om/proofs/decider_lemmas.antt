@@ -1,7 +1,14 @@
 pub mod Choice
+pub mod Noted
 pub mod Own
 pub mod Fits
 pub mod FitSessions
 pub mod Stripes
 pub mod Listed
+pub mod Comes
+pub mod Wide
+pub mod Copies
+pub mod Sizes
+pub mod OnSnapshots
+pub mod Reclaims
 pub mod Made

@@ -12,12 +12,13 @@ ghost use Rattle.oz_core.specs.Fits.{EventFits};
 ghost use Rattle.oz_core.specs.Law.{AskIsEnabled};
 ghost use Rattle.oz_core.specs.Manager.{asked_late};
 ghost use Rattle.oz_core.specs.Seats.{IsAskSeat};
-ghost use Rattle.oz_om.specs.decider.Decided.{is_decided};
 ghost use Rattle.oz_om.specs.Decided.{IsDecided, IsTooMuch, WasAsSaid};
 ghost use Rattle.oz_store.specs.granted.Empty.{IsPoolEmpty};
 ghost use Rattle.oz_om.specs.Refusals.{AskStands, IsOfStripe};
 ghost use Rattle.oz_om.specs.declared.refusal.Refusal.TheVariants as refusals;
+ghost use Rattle.oz_requests.specs.declared.request.Family.TheVariants.{Service};
 ghost use Rattle.oz_requests.specs.declared.request.Request.{Request as AnyRequest};
+ghost use Rattle.oz_requests.specs.Families.{family_of};
 ghost use Rattle.oz_turn.specs.Seat.{IsReady, mine_of, room_of, seen_of};
 ghost use Rattle.oz_turn.specs.Told.{BeginsWith};
 ghost use Rattle.oz_turn.specs.Turn.{turn_id};
@@ -39,7 +40,8 @@ impl<O: Opened, L: Loaded, R: Ring> Manager<Ledger<O>, O, L, R> {
     /// the request's volume, as one thread would. `by` is the number of the asking seat.
     ///
     /// `said` has to be how often something was said of the blocks of the id's line; that is compared first. Where an Ask
-    /// of the id stands undecided then, that is decided and no other is appended; the request has to be its own.
+    /// of the id stands undecided then, that is decided and no other is appended; the request has to be its own. The
+    /// manager's own requests aren't asked so.
     pub fn ask<W: Wait>(
         &self,
         rt: &W,
@@ -56,7 +58,7 @@ impl<O: Opened, L: Loaded, R: Ring> Manager<Ledger<O>, O, L, R> {
         requires seats { by < 64 }
         requires asker { IsAskSeat id by }
         requires script { is_script id ≡ true }
-        requires decided { is_decided request ≡ true }
+        requires of_client { family_of request ≢ Service }
         requires same { O.coherent → (story : List AnyEvent) → BeginsWith story (seen_of seat.old)
             → AllFollow (Follows O.coherent O.opening O.bytes O.script) [] story
             → times_said id.client id.line story ≡ said

@@ -4,7 +4,6 @@ ghost use Rattle.std.specs.Prelude.{IfOk, IsTrue};
 ghost use Rattle.oz_om_session.specs.Picks.{IsPick};
 ghost use Rattle.oz_rows.specs.Rows.{IsBlock, IsBlockNumber};
 
-use crate::reclaiming::decide_behind;
 use crate::rows::stand_alike;
 use crate::said::{line, reply_text, request_of};
 use crate::store::Store;
@@ -132,10 +131,7 @@ pub fn ask(
     match decide(alloc, &store.cached, &request, pick)? {
         Outcome::Decided(decision) => decided(alloc, store, asked, &request, pick, decision),
         Outcome::NoBlock => is_wanted(alloc, asked, "no_block"),
-        Outcome::NotYet => match decide_behind(alloc, &store.cached, &request)? {
-            Some(decision) => decided(alloc, store, asked, &request, pick, decision),
-            None => is_wanted(alloc, asked, "not_yet"),
-        },
+        Outcome::NotYet => is_wanted(alloc, asked, "not_yet"),
     }
 }
 

@@ -4,71 +4,20 @@
 //!   none. Its block has their keys in order, a line each: `VOLUME BUCKET OWNER KEY LOCAL`.
 //! - `chain-work WORDS`: the request by which the first of the deleted snapshots is worked off, or `nothing`.
 
-ghost use Rattle.std.specs.Prelude.{◌≤◌, ◌↔◌, ◌≡◌, IfSome, IsTrue};
+ghost use Rattle.std.specs.Prelude.{◌≤◌, IfSome};
 ghost use Rattle.oz_reclaim.specs.declared.finding.TheConstants.{MOST_PURGED as MOST};
-ghost use Rattle.oz_reclaim.specs.Snapshots.{IsOnSnapshots};
-ghost use Rattle.oz_reclaim.specs.Service.{NamesFew};
-ghost use Rattle.oz_requests.specs.declared.request.Family.TheVariants.{Service};
-ghost use Rattle.oz_requests.specs.Families.{family_of};
 
 use crate::rows::first_other;
 use crate::said::{cannot, line, name_text};
 use crate::store::Store;
 use crate::wrong::Wrong;
 use case_files::Statement;
-use oz_cache::Cached;
-use oz_decision::Decision;
 use oz_fields::{Block, Name};
-use oz_reclaim::{MOST_PURGED, chain_work, decide, decide_snapshot, reclaimable};
+use oz_reclaim::{MOST_PURGED, chain_work, reclaimable};
 use oz_requests::Request;
-use oz_rows::{MOST_REMOVALS, RowKey};
+use oz_rows::RowKey;
 use std::alloc::{AllocError, Global};
 use story_parts::Words;
-
-/// Decides a request on snapshots, or one of the manager's own, where it is one and names no more rows than such a request may.
-pub fn decide_behind(
-    alloc: Global,
-    cached: &Cached,
-    request: &Request,
-) -> Result<Option<Decision>, AllocError> {
-    if is_on_snapshots(request) {
-        return Ok(Some(decide_snapshot(alloc, cached, request)?));
-    }
-    if is_own(request) && names_few(request) {
-        return Ok(Some(decide(alloc, cached, request)?));
-    }
-    Ok(None)
-}
-
-fn is_on_snapshots(request: &Request) -> bool
-    ensures { IsTrue result ↔ IsOnSnapshots request.now }
-{
-    matches!(
-        request,
-        Request::CreateSnapshot { .. }
-            | Request::DeleteSnapshot { .. }
-            | Request::ListSnapshots { .. }
-            | Request::InfoSnapshot { .. }
-    )
-}
-
-fn is_own(request: &Request) -> bool
-    ensures { IsTrue result ↔ family_of request.now ≡ Service }
-{
-    matches!(
-        request,
-        Request::Purge { .. } | Request::MoveDeleted { .. } | Request::PurgeSnapshot { .. }
-    )
-}
-
-fn names_few(request: &Request) -> bool
-    ensures { IsTrue result ↔ NamesFew request.now }
-{
-    match request {
-        Request::Purge { rows, .. } => rows.len() <= MOST_REMOVALS,
-        _ => true,
-    }
-}
 
 /// The deleted rows that may go are these.
 pub fn are_reclaimable(alloc: Global, store: &Store, statement: &Statement) -> Result<(), Wrong> {

@@ -1,12 +1,12 @@
 -- The operations of a decision keep the rules of the grammar: those of buckets and of keys that are there.
-use Rattle.std.proofs.Common.{◌≡◌, ℕ, Bool, true, false, List, [], ◌∷◌, ◌++◌, Option, None, Some, cond, refl, sym, ◌∙◌, ap, arith}
+use Rattle.std.proofs.Common.{◌≡◌, ℕ, Bool, true, false, List, [], ◌∷◌, ◌++◌, Option, None, Some, cond, refl, sym, ◌∙◌, ap, subst, arith}
 use mathlib.Core.Bool.{false≢true}
 use Rattle.std.specs.List.{AllByRecursion}
 use Rattle.oz_decision.specs.Drafts.{operation_for, row_by_row}
 use Rattle.oz_decision.specs.Meets.{AreInGrammar}
 use Rattle.oz_decision.specs.Versions.{version_at, deleted}
 use Rattle.oz_decision.specs.laws.Refusing.{volume_fits, bucket_fits}
-use Rattle.oz_decision.specs.laws.SessionRows.{volume_is, bucket_is, key_is, deleted_fits}
+use Rattle.oz_decision.specs.laws.SessionRows.{all_append, volume_is, bucket_is, key_is, deleted_fits}
 use Rattle.oz_decision.specs.laws.Shown.{key_itself}
 use Rattle.oz_decision.specs.laws.Versions.{good_version, version_is_good}
 use Rattle.oz_fields.specs.declared.block.Block.{Block}
@@ -17,7 +17,9 @@ use Rattle.oz_model.specs.laws.Codes.{code_alone}
 use Rattle.oz_model.specs.laws.Order.{refused_by_name}
 use Rattle.oz_namespace.specs.declared.namespace.Namespace.{Namespace}
 use Rattle.oz_om_bucket.specs.Records.{changes_for, recorded_changes}
-use Rattle.oz_om_key.specs.om_change.Records.{moved, changes_of_change, recorded_change}
+use Rattle.oz_om_key.specs.om_change.Noting.{noted}
+use Rattle.oz_om_key.specs.om_change.Records.{AreChangesOf, moved}
+use Rattle.oz_om_key.specs.om_change.Records.{AreRecorded as AreChanged}
 use Rattle.oz_om_session.specs.om_open.Records.{operations_for}
 use Rattle.oz_requests.specs.declared.reply.Reply.{Reply}
 use Rattle.oz_requests.specs.declared.reply.Reply.TheVariants as replies
@@ -31,8 +33,10 @@ use Rattle.oz_rows.specs.declared.operation.Change.{Change}
 use Rattle.oz_rows.specs.declared.row.Row.{Row}
 use Rattle.oz_rows.specs.declared.row.Row.TheVariants as values
 use Rattle.oz_rows.specs.Operations.{AreOperations, OperationFits}
-use Rattle.oz_rows.specs.RowMaps.{Rows, put, gone, row_after, after_changes}
+use Rattle.oz_rows.specs.RowMaps.{Rows, put, gone, is_same, row_after, after_changes}
+use Rattle.oz_rows.specs.laws.Same.{same_is_one}
 use Rattle.oz_rows.specs.Rows.{AreItems, IsBlock, KeyFits, RowFits}
+use Rattle.oz_om.proofs.decider_lemmas.Noted.{among, noted_each}
 
 unfoldable pub is_code : Reply → Bool
 is_code (replies.Code code) = true
@@ -64,6 +68,19 @@ each_fits (change ∷ changes) fit = (fit.0, each_fits changes fit.1)
 pub rows_join : (a c : List Change) (key : RowKey) (row : Option Row) → row_after (a ++ c) key row ≡ row_after c key (row_after a key row)
 rows_join [] c key row = refl
 rows_join (change ∷ a) c key row = rows_join a c key _
+
+-- a key's row stays where no change is of a key
+abbrev is_key : RowKey → Bool
+is_key (keys.Key v b k) = true
+is_key key = false
+
+keeps : (changes : List Change) → AllByRecursion (λ (change : Change). is_key change.key ≡ false) changes → (key : RowKey) → is_key key ≡ true → (row : Option Row) → row_after changes key row ≡ row
+keeps [] pass key is row = refl
+keeps (change ∷ changes) pass key is row = keeps changes pass.1 key is (cond (is_same change.key key) change.row row) ∙ by (is_same change.key key) refl
+  where
+    by : (t : Bool) → is_same change.key key ≡ t → cond t change.row row ≡ row
+    by true e = absurd (false≢true (sym pass.0 ∙ ap is_key (same_is_one change.key key e) ∙ is))
+    by false e = refl
 
 module _ (rows : Rows) where
   -- a row that is put last is in the grammar where all rows are so afterwards
@@ -97,21 +114,43 @@ module _ (rows : Rows) where
     left_fit [] fits = tt
     left_fit (first ∷ others) fits = (deleted_fits v b k named first others fits, tt)
 
-  moved_fit : (from to : RowKey) (row : Option Row) → AreInGrammar (after_changes (gone from ∷ moved to row) rows) → AreOperations (row_by_row (moved to row))
-  moved_fit from to None after = tt
-  moved_fit from to (Some row) after = (last_fits [] (gone from) to row after, tt)
+  blocks_fit : AreInGrammar rows → (v b k : List ℕ) (row : Option Row) → rows (keys.Key v b k) ≡ row → AreItems IsBlock (version_at row)
+  blocks_fit fit v b k None e = ((omega arith), tt)
+  blocks_fit fit v b k (Some row) e = good_version (Some row) (version_is_good v b k row (fit (keys.Key v b k) row e))
 
-  of_change : AreInGrammar rows → (request : Request) → name_fault request ≡ None → AreInGrammar (after_changes (changes_of_change rows request) rows) → AreOperations (operations_for request (changes_of_change rows request))
-  of_change fit (DeleteKey v b k) named after =
-      let version = rows (keys.Key v b k) in
-      (key_fits fit v b k named, each_fits (deleted v b k (version_at version)) (left_fit fit v b k named (version_at version) (version_fits fit v b k named version refl)))
-  of_change fit (RenameKey v b k to) named after = (
-    (volume_is v b k (key_named to ∷ []) named, bucket_is v b k (key_named to ∷ []) named, key_is v b k (key_named to ∷ []) named),
-    moved_fit (keys.Key v b k) (keys.Key v b to) (rows (keys.Key v b k)) after,
+  -- the row under the new name stays as names are noted
+  moved_fit : (from : Change) (to : RowKey) (row : Option Row) (notes : List Change) → is_key to ≡ true → AllByRecursion (λ (change : Change). is_key change.key ≡ false) notes
+      → AreInGrammar (after_changes (from ∷ moved to row ++ notes) rows) → AllByRecursion IsFit (moved to row)
+  moved_fit from to None notes is pass after = tt
+  moved_fit from to (Some row) notes is pass after = (
+    after to row (keeps notes pass to is (cond (is_same to to) (Some row) (row_after (from ∷ []) to (rows to)))
+        ∙ ap (λ (t : Bool). cond t (Some row) (row_after (from ∷ []) to (rows to))) (key_itself to)),
+    tt,
   )
-  of_change fit request named after = none_fit request
 
-  pub change_fit : AreInGrammar rows → (request : Request) (reply : Reply) → (is_code reply ≡ false → name_fault request ≡ None) → AreInGrammar (after_changes (recorded_change rows request reply) rows) → AreOperations (operations_for request (recorded_change rows request reply))
+  of_change : AreInGrammar rows → (request : Request) → name_fault request ≡ None → (changes : List Change) → AreChangesOf rows request changes → AreInGrammar (after_changes changes rows) → AreOperations (operations_for request changes)
+  of_change fit (DeleteKey v b k) named changes is after =
+      let version = rows (keys.Key v b k) in
+      subst (λ (c : List Change). AreOperations (row_by_row c)) (sym is)
+      (key_fits fit v b k named, each_fits (deleted v b k (version_at version)) (left_fit fit v b k named (version_at version) (version_fits fit v b k named version refl)))
+  of_change fit (RenameKey v b k to) named changes (numbers, are, is) after =
+      let row = rows (keys.Key v b k) in
+      let notes = noted rows v b k numbers (version_at row) in
+      let volume = volume_is v b k (key_named to ∷ []) named in
+      let bucket = bucket_is v b k (key_named to ∷ []) named in
+      let key = key_is v b k (key_named to ∷ []) named in
+      let blocks = blocks_fit fit v b k row refl in
+      subst (λ (c : List Change). AreOperations (row_by_row c)) (sym is)
+      (each_fits (gone (keys.Key v b k) ∷ moved (keys.Key v b to) row ++ notes) (
+        (volume, bucket, key),
+        all_append IsFit (moved (keys.Key v b to) row) notes
+            (moved_fit (gone (keys.Key v b k)) (keys.Key v b to) row notes refl (noted_each (λ (change : Change). is_key change.key ≡ false) rows v b k numbers (version_at row) (λ block has. refl))
+            (subst (λ (c : List Change). AreInGrammar (after_changes c rows)) is after))
+            (noted_each IsFit rows v b k numbers (version_at row) (λ block has. ((volume, bucket, (omega arith), (among IsBlock (version_at row) blocks.1 block has).1), key))),
+      ))
+  of_change fit request named changes is after = subst (λ (c : List Change). AreOperations (operations_for request c)) (sym is) (none_fit request)
+
+  pub change_fit : AreInGrammar rows → (request : Request) (reply : Reply) (changes : List Change) → AreChanged rows request reply changes → (is_code reply ≡ false → name_fault request ≡ None) → AreInGrammar (after_changes changes rows) → AreOperations (operations_for request changes)
   unfolding is_code
-  change_fit fit request replies.Done named after = of_change fit request (named refl) after
-  change_fit fit request reply named after = none_fit request
+  change_fit fit request replies.Done changes recorded named after = of_change fit request (named refl) changes recorded after
+  change_fit fit request reply changes recorded named after = subst (λ (c : List Change). AreOperations (operations_for request c)) (sym recorded) (none_fit request)

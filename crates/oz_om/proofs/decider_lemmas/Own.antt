@@ -1,5 +1,6 @@
 -- No decision changes a row of another stripe.
 use Rattle.std.proofs.Common.{◌≡◌, ℕ, Bool, true, false, List, [], ◌∷◌, ◌++◌, map, Option, None, Some, cond, refl, subst, sym}
+use mathlib.Core.Bool.{false≢true}
 use Rattle.std.specs.List.{flat_map}
 use Rattle.oz_om.specs.decider.Records.{AreRecordedBy}
 use Rattle.oz_om.specs.declared.decider.decider.Decider.{Decider}
@@ -11,7 +12,9 @@ use Rattle.oz_effects.specs.Effects.{closed, freed, operation_changes}
 use Rattle.oz_fields.specs.declared.block.Block.{Block}
 use Rattle.oz_names.specs.Names.{stripe_of}
 use Rattle.oz_om_bucket.specs.Records.{changes_for, recorded_changes}
-use Rattle.oz_om_key.specs.om_change.Records.{moved, changes_of_change, recorded_change}
+use Rattle.oz_om_key.specs.om_change.Noting.{noted}
+use Rattle.oz_om_key.specs.om_change.Records.{AreChangesOf, moved}
+use Rattle.oz_om_key.specs.om_change.Records.{AreRecorded as AreChanged}
 use Rattle.oz_om_session.specs.om_open.Records.{changes_of_create, AreRecorded as AreOpened}
 use Rattle.oz_om_session.specs.Records.{unused, changes_of_grant, changes_of_commit, recorded_grant, recorded_commit}
 use Rattle.oz_requests.specs.declared.reply.Reply.{Reply}
@@ -30,9 +33,14 @@ use Rattle.oz_rows.specs.declared.row.Row.{Row}
 use Rattle.oz_rows.specs.declared.row.Row.TheVariants as values
 use Rattle.oz_rows.specs.RowMaps.{Rows, AreRows, is_bucket, put}
 use Rattle.oz_sound.specs.stripes.Stripes.{stripe_of_key, ChangeOnly}
+use Rattle.oz_om.proofs.decider_lemmas.Choice.{is_by_rows}
+use Rattle.oz_om.proofs.decider_lemmas.Noted.{noted_each}
 
 abbrev AreOwn : Request → List Change → Type 0
 AreOwn request changes = ChangeOnly (stripe_of (volume_in request)) changes
+
+abbrev pub IsOwn : List ℕ → Change → Type 0
+IsOwn volume change = stripe_of_key change.key ≡ stripe_of volume
 
 own_of_buckets : (request : Request) → AreOwn request (changes_for request)
 own_of_buckets (CreateVolume v) = (refl, tt)
@@ -53,14 +61,17 @@ moved_own : (v b k : List ℕ) (row : Option Row) → ChangeOnly (stripe_of v) (
 moved_own v b k None = tt
 moved_own v b k (Some row) = (refl, tt)
 
-own_of_change : (rows : Rows) (request : Request) → AreOwn request (changes_of_change rows request)
-own_of_change rows (DeleteKey v b k) = (refl, deleted_own v b k (version_at (rows (keys.Key v b k))))
-own_of_change rows (RenameKey v b k to) = (refl, moved_own v b to (rows (keys.Key v b k)))
-own_of_change rows request = tt
+own_of_change : (rows : Rows) (request : Request) (changes : List Change) → AreChangesOf rows request changes → AreOwn request changes
+own_of_change rows (DeleteKey v b k) changes is = subst (ChangeOnly (stripe_of v)) (sym is) (refl, deleted_own v b k (version_at (rows (keys.Key v b k))))
+own_of_change rows (RenameKey v b k to) changes (numbers, are, is) =
+    let row = rows (keys.Key v b k) in
+    subst (ChangeOnly (stripe_of v)) (sym is)
+    (refl, all_append (IsOwn v) (moved (keys.Key v b to) row) (noted rows v b k numbers (version_at row)) (moved_own v b to row) (noted_each (IsOwn v) rows v b k numbers (version_at row) (λ block has. refl)))
+own_of_change rows request changes is = subst (AreOwn request) (sym is) tt
 
-change_own : (rows : Rows) (request : Request) (reply : Reply) → AreOwn request (recorded_change rows request reply)
-change_own rows request replies.Done = own_of_change rows request
-change_own rows request reply = tt
+change_own : (rows : Rows) (request : Request) (reply : Reply) (changes : List Change) → AreChanged rows request reply changes → AreOwn request changes
+change_own rows request replies.Done changes recorded = own_of_change rows request changes recorded
+change_own rows request reply changes recorded = subst (AreOwn request) (sym recorded) tt
 
 own_of_grant : (rows : Rows) (request : Request) (block : Block) → AreOwn request (changes_of_grant rows request block)
 own_of_grant rows (AllocateBlock v b k n exclude) block = (refl, tt)
@@ -69,9 +80,6 @@ own_of_grant rows request block = tt
 grant_own : (rows : Rows) (request : Request) (reply : Reply) → AreOwn request (recorded_grant rows request reply)
 grant_own rows request (replies.Granted block pipeline) = own_of_grant rows request block
 grant_own rows request reply = tt
-
-abbrev IsOwn : List ℕ → Change → Type 0
-IsOwn volume change = stripe_of_key change.key ≡ stripe_of volume
 
 own_of_commit : (rows : Rows) (request : Request) → AreOwn request (changes_of_commit rows request)
 own_of_commit rows (CommitKey v b k n pieces) =
@@ -130,12 +138,11 @@ module _ (rows : Rows) (entries : List RowEntry) (are : AreRows entries rows) wh
   opened_own request (replies.Count count) changes recorded = expired_own request count changes recorded
   opened_own request reply changes recorded = none request changes recorded
 
--- those of the other requests need no list of the rows
-pub recorded_own : (rows : Rows) (request : Request) (decider : Decider) (reply : Reply) (changes : List Change) → (decider ≡ deciders.Opening → ⊥) → AreRecordedBy decider rows request reply changes → AreOwn request changes
-recorded_own rows request deciders.Buckets reply changes other recorded = subst (AreOwn request) (sym recorded) (buckets_own request reply)
-recorded_own rows request deciders.Reading reply changes other recorded = subst (AreOwn request) (sym recorded) tt
-recorded_own rows request deciders.Changing reply changes other recorded = subst (AreOwn request) (sym recorded) (change_own rows request reply)
-recorded_own rows request deciders.Opening reply changes other recorded = absurd (other refl)
-recorded_own rows request deciders.Granting reply changes other recorded = subst (AreOwn request) (sym recorded) (grant_own rows request reply)
-recorded_own rows request deciders.Committing reply changes other recorded = subst (AreOwn request) (sym recorded) (commit_own rows request reply)
-recorded_own rows request deciders.Nobody reply changes other recorded = absurd recorded
+-- those that are written row by row need no list of the rows
+pub recorded_own : (rows : Rows) (request : Request) (decider : Decider) (reply : Reply) (bytes : List ℕ) (changes : List Change) → is_by_rows decider ≡ true → AreRecordedBy decider rows request reply bytes changes → AreOwn request changes
+recorded_own rows request deciders.Buckets reply bytes changes by recorded = subst (AreOwn request) (sym recorded) (buckets_own request reply)
+recorded_own rows request deciders.Reading reply bytes changes by recorded = subst (AreOwn request) (sym recorded) tt
+recorded_own rows request deciders.Changing reply bytes changes by recorded = change_own rows request reply changes recorded
+recorded_own rows request deciders.Granting reply bytes changes by recorded = subst (AreOwn request) (sym recorded) (grant_own rows request reply)
+recorded_own rows request deciders.Committing reply bytes changes by recorded = subst (AreOwn request) (sym recorded) (commit_own rows request reply)
+recorded_own rows request decider reply bytes changes by recorded = absurd (false≢true by)

@@ -1,15 +1,22 @@
--- Which requests are decided so far.
+-- Which requests are decided.
 use Rattle.std.specs.Prelude.{Bool, true, false}
-use Rattle.oz_requests.specs.declared.request.Family.{Family}
-use Rattle.oz_requests.specs.declared.request.Family.TheVariants.{Snapshots, Service}
+use Rattle.oz_om.specs.declared.decider.decider.Decider.{Decider}
+use Rattle.oz_om.specs.declared.decider.decider.Decider.TheVariants.{Buckets, Reading, Changing, Opening, Granting}
+use Rattle.oz_om.specs.declared.decider.decider.Decider.TheVariants.{Committing, Snapshots, Reclaiming, Nobody}
+use Rattle.oz_om.specs.decider.Deciders.{decider_of}
 use Rattle.oz_requests.specs.declared.request.Request.{Request}
-use Rattle.oz_requests.specs.Families.{family_of}
 
--- all but those on snapshots, and those that the manager asks itself
-abbrev pub are_decided : Family → Bool
-are_decided Snapshots = false
-are_decided Service = false
-are_decided family = true
+-- all that a crate decides
+abbrev pub decides : Decider → Bool
+decides Buckets = true
+decides Reading = true
+decides Changing = true
+decides Opening = true
+decides Granting = true
+decides Committing = true
+decides Snapshots = true
+decides Reclaiming = true
+decides Nobody = false
 
 abbrev pub is_decided : Request → Bool
-is_decided request = are_decided (family_of request)
+is_decided request = decides (decider_of request)

@@ -1,7 +1,8 @@
 -- Which crate decides a request.
-use Rattle.std.specs.Prelude.{Bool, true, false}
+use Rattle.std.specs.Prelude.{Bool, true, false, nat_le, length, if◌then◌else◌}
 use Rattle.oz_om.specs.declared.decider.decider.Decider.{Decider}
-use Rattle.oz_om.specs.declared.decider.decider.Decider.TheVariants.{Buckets, Reading, Changing, Opening, Granting, Committing, Nobody}
+use Rattle.oz_om.specs.declared.decider.decider.Decider.TheVariants.{Buckets, Reading, Changing, Opening, Granting}
+use Rattle.oz_om.specs.declared.decider.decider.Decider.TheVariants.{Committing, Snapshots, Reclaiming, Nobody}
 use Rattle.oz_requests.specs.declared.request.Request.{Request}
 use Rattle.oz_requests.specs.declared.request.Request.TheVariants.{CreateVolume, InfoVolume, DeleteVolume, CreateBucket}
 use Rattle.oz_requests.specs.declared.request.Request.TheVariants.{InfoBucket, DeleteBucket, ListBuckets, CreateKey}
@@ -9,7 +10,9 @@ use Rattle.oz_requests.specs.declared.request.Request.TheVariants.{AllocateBlock
 use Rattle.oz_requests.specs.declared.request.Request.TheVariants.{LookupKey, ListKeys, ExpireOpen, CreateSnapshot}
 use Rattle.oz_requests.specs.declared.request.Request.TheVariants.{DeleteSnapshot, ListSnapshots, InfoSnapshot, Purge}
 use Rattle.oz_requests.specs.declared.request.Request.TheVariants.{MoveDeleted, PurgeSnapshot}
+use Rattle.oz_rows.specs.declared.operation.TheConstants.{MOST_REMOVALS}
 
+-- a Purge that names more rows than may be removed at a time is decided by none
 abbrev pub decider_of : Request → Decider
 decider_of (CreateVolume volume) = Buckets
 decider_of (InfoVolume volume) = Buckets
@@ -26,16 +29,22 @@ decider_of (RenameKey volume bucket key to) = Changing
 decider_of (LookupKey volume bucket snapshot key) = Reading
 decider_of (ListKeys volume bucket snapshot prefix start count) = Reading
 decider_of (ExpireOpen volume bucket) = Opening
-decider_of (CreateSnapshot volume bucket snapshot) = Nobody
-decider_of (DeleteSnapshot volume bucket snapshot) = Nobody
-decider_of (ListSnapshots volume bucket) = Nobody
-decider_of (InfoSnapshot volume bucket snapshot) = Nobody
-decider_of (Purge volume rows) = Nobody
-decider_of (MoveDeleted volume bucket number to) = Nobody
-decider_of (PurgeSnapshot volume bucket number) = Nobody
+decider_of (CreateSnapshot volume bucket snapshot) = Snapshots
+decider_of (DeleteSnapshot volume bucket snapshot) = Snapshots
+decider_of (ListSnapshots volume bucket) = Snapshots
+decider_of (InfoSnapshot volume bucket snapshot) = Snapshots
+decider_of (Purge volume rows) = if nat_le (length rows) MOST_REMOVALS then Reclaiming else Nobody
+decider_of (MoveDeleted volume bucket number to) = Reclaiming
+decider_of (PurgeSnapshot volume bucket number) = Reclaiming
 
 -- no picked block is needed
 abbrev pub decides_alone : Decider → Bool
+decides_alone Buckets = true
+decides_alone Reading = true
+decides_alone Changing = true
+decides_alone Opening = true
+decides_alone Committing = true
+decides_alone Snapshots = true
+decides_alone Reclaiming = true
 decides_alone Granting = false
 decides_alone Nobody = false
-decides_alone decider = true

@@ -4,6 +4,7 @@ ghost use Rattle.std.specs.Prelude.{◌≡◌};
 ghost use Rattle.oz_om.specs.decider.Deciders.{decider_of};
 
 use oz_requests::Request;
+use oz_rows::MOST_REMOVALS;
 
 /// What a request is about, by which the crate is chosen that decides it.
 #[derive(Clone, Copy, Debug, PartialEq, Eq)]
@@ -20,7 +21,11 @@ pub enum Decider {
     Granting,
     /// A session that becomes a key.
     Committing,
-    /// No crate decides it yet.
+    /// Snapshots of a bucket.
+    Snapshots,
+    /// What the manager asks itself: deleted rows that move or go, and snapshots that were deleted.
+    Reclaiming,
+    /// No crate decides it: a Purge that names more rows than may be removed at a time.
     Nobody,
 }
 
@@ -43,9 +48,14 @@ pub fn who_decides(request: &Request) -> Decider
         Request::CreateSnapshot { .. }
         | Request::DeleteSnapshot { .. }
         | Request::ListSnapshots { .. }
-        | Request::InfoSnapshot { .. }
-        | Request::Purge { .. }
-        | Request::MoveDeleted { .. }
-        | Request::PurgeSnapshot { .. } => Decider::Nobody,
+        | Request::InfoSnapshot { .. } => Decider::Snapshots,
+        Request::Purge { rows, .. } => {
+            if rows.len() <= MOST_REMOVALS {
+                Decider::Reclaiming
+            } else {
+                Decider::Nobody
+            }
+        }
+        Request::MoveDeleted { .. } | Request::PurgeSnapshot { .. } => Decider::Reclaiming,
     }
 }

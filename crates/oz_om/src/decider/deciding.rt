@@ -22,6 +22,7 @@ use oz_decision::Decision;
 use oz_fields::{Block, OutOfMemory};
 use oz_om_key::decide_change;
 use oz_om_session::{decide_allocate, decide_commit, decide_open};
+use oz_reclaim::decide_snapshot;
 use oz_requests::Request;
 use std::alloc::Global;
 
@@ -83,6 +84,8 @@ fn decide_alone(alloc: Global, cached: &Cached, request: &Request) -> Result<Dec
         Decider::Changing => decide_change(alloc, cached, request),
         Decider::Opening => open(alloc, cached, request),
         Decider::Committing => decide_commit(alloc, cached, request),
+        Decider::Snapshots => on_snapshots(alloc, cached, request),
+        Decider::Reclaiming => reclaim(alloc, cached, request),
         Decider::Granting | Decider::Nobody => unreachable!(),
     }
 }
@@ -95,4 +98,26 @@ fn open(alloc: Global, cached: &Cached, request: &Request) -> Result<Decision, O
 {
     cached.durable().rows_are_in_order();
     decide_open(alloc, cached, request)
+}
+
+/// Decides a request on snapshots.
+fn on_snapshots(alloc: Global, cached: &Cached, request: &Request) -> Result<Decision, OutOfMemory>
+    requires { decider_of request.now ≡ Decider.Snapshots }
+    ensures { IfOk result (λ decision. (pick : Perhaps (AnyBlock × ℕ)) →
+        IsDecision (newest cached.now) request.now pick decision) }
+{
+    cached.durable().rows_are_in_order();
+    let decision = decide_snapshot(alloc, cached, request)?;
+    Ok(decision)
+}
+
+/// Decides a request of the manager's own.
+fn reclaim(alloc: Global, cached: &Cached, request: &Request) -> Result<Decision, OutOfMemory>
+    requires { decider_of request.now ≡ Decider.Reclaiming }
+    ensures { IfOk result (λ decision. (pick : Perhaps (AnyBlock × ℕ)) →
+        IsDecision (newest cached.now) request.now pick decision) }
+{
+    cached.durable().rows_are_in_order();
+    let decision = oz_reclaim::decide(alloc, cached, request)?;
+    Ok(decision)
 }

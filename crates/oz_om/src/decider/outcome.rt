@@ -8,6 +8,6 @@ pub enum Outcome {
     Decided(Decision),
     /// A session is to get a block, and none was picked. Nothing is decided.
     NoBlock,
-    /// Requests of this kind aren't decided yet.
+    /// No crate decides such a request.
     NotYet,
 }

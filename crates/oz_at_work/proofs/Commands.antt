@@ -1,13 +1,15 @@
 -- A line that has something done to a datanode, and what it is told of that.
 use Rattle.std.proofs.Common.{◌≡◌, ℕ, ◌<◌, ◌≤◌, true, List, length, Option, None, Some, refl, sym, subst}
+use Rattle.std.proofs.lemmas.Bool.{false≢true}
 use Rattle.oz_command.specs.declared.command.Command.{Command}
+use Rattle.oz_command.specs.declared.command.Command.TheVariants.{Admin}
 use Rattle.oz_core.specs.declared.event.Event.{Event}
 use Rattle.oz_core.specs.declared.event.EventKind.TheVariants.{Told}
 use Rattle.oz_core.specs.declared.event.Node.TheVariants.{Datanode}
 use Rattle.oz_core.specs.declared.opening.Opening.{Opening}
 use Rattle.oz_core.specs.Asks.{is_told}
 use Rattle.oz_core.specs.Contents.{OpeningBytes}
-use Rattle.oz_core.specs.Due.{IsDue}
+use Rattle.oz_core.specs.Due.{IsDue, NamesNode}
 use Rattle.oz_core.specs.Fits.{EventFits}
 use Rattle.oz_core.specs.Lines.{HasStarted}
 use Rattle.oz_core.specs.Manager.{halt_of}
@@ -16,6 +18,8 @@ use Rattle.oz_script.specs.declared.lines.script.Script.{Script}
 use Rattle.oz_node_admin.specs.Came.{WasDone}
 use Rattle.oz_node_admin.specs.laws.Due.{done_due, halt_stays, halted_due, no_node_due}
 use Rattle.oz_node_events.specs.declared.command.NodeCommand.{NodeCommand}
+use Rattle.oz_node_events.specs.declared.command.NodeCommand.TheVariants as command
+use Rattle.oz_node_events.specs.Led.{admin_command}
 use Rattle.oz_requests.specs.declared.answer.Answer.{Answer}
 use Rattle.oz_requests.specs.declared.answer.Answer.TheVariants as answers
 use Rattle.oz_requests.specs.declared.request.AskId.{AskId}
@@ -24,9 +28,14 @@ use Rattle.oz_asker.specs.telling.Done.{IsToldDone, answer_done}
 use Rattle.oz_asker.specs.telling.laws.Told.{told_now}
 use Rattle.oz_turn.specs.Told.{BeginsWith}
 use Rattle.oz_underway.specs.laws.Starting.{started_still}
-use Rattle.oz_at_work.specs.AtWork.{HasLeft, IsAtWork, IsLabelOf, IsStarted, WorkView}
+use Rattle.oz_at_work.specs.AtWork.{HasLeft, IsAtWork, IsDoneFit, IsLabelOf, IsStarted, WorkView}
 use Rattle.oz_at_work.specs.inner.Commanded.{IsCommandOf, IsDoneDue}
 use Rattle.oz_at_work.specs.inner.Replied.{cut_with}
+
+names_one : (dn other : ℕ) (done : NodeCommand) → NamesNode (Admin (admin_command dn done)) other → dn ≡ other
+names_one dn other command.Stop named = named
+names_one dn other command.Start named = named
+names_one dn other command.Wipe named = named
 
 -- such a line opens no label
 no_label : (story : List Event) (line : Line) (dn : ℕ) (done : NodeCommand) (left : Option Label) → IsCommandOf line dn done → IsLabelOf story line line.command left
@@ -57,6 +66,7 @@ module _ (Coherent : Type 0) (opening : Opening) (bytes : OpeningBytes) (script 
       leaves = λ story begins all before seat said from as_said may behind. no_label story work.line dn done None its;
     };
     refusal = tt;
+    done = λ wrong. absurd (false≢true wrong);
   })
 
   -- what was done is due to be told, until the datanode halts
@@ -76,6 +86,13 @@ module _ (Coherent : Type 0) (opening : Opening) (bytes : OpeningBytes) (script 
       by : (halt : Option ℕ) → halt_of (Datanode dn) story ≡ halt → IsDue opening bytes script story line (answer_done dn halt)
       by None none = absurd (halt_stays (Datanode dn) seen story count begins halted none)
       by (Some other) is = halted_due opening bytes script line dn done other story its is
+
+  -- so it is due of the datanode that the line names
+  pub done_fits : (seen : List Event) (line : Line) (dn : ℕ) (done : NodeCommand) → IsCommandOf line dn done → IsDoneDue Coherent opening bytes script seen line dn
+      → IsDoneFit Coherent opening bytes script seen line true
+  done_fits seen line dn done its due is other named =
+      let same : dn ≡ other = names_one dn other done (subst (λ (c : Command). NamesNode c other) its named) in
+      subst (λ (n : ℕ). IsDoneDue Coherent opening bytes script seen line n) same due
 
   -- a line that was told so has left nothing
   pub done_left : (seen after mine mine_after : List Event) (line : Line) (dn : ℕ) (done : NodeCommand) (seat said : ℕ) (last : Option AskId) → IsCommandOf line dn done

@@ -35,7 +35,7 @@ label_none story line command shut = tt
 
 -- who is cut has gone on
 pub cut_goes_on : (before work new : WorkView) (asked : ℕ) (answer : Answer) → new ≡ cut_with work asked answer → HasGoneOn before new
-cut_goes_on before work new asked answer is = inr (inl (subst (λ (w : WorkView). IsTelling w.next) (sym is) tt))
+cut_goes_on before work new asked answer is = inr (inl (inl (subst (λ (w : WorkView). IsTelling w.next) (sym is) tt)))
 
 end_not_ok : (asked : ℕ) (answer : Answer) → IsOfEnd asked answer → was_told_ok (Some answer) ≡ false
 end_not_ok asked (answers.Ok values) of_end = absurd of_end
@@ -97,6 +97,7 @@ module _ (Coherent : Type 0) (opening : Opening) (bytes : OpeningBytes) (script 
     said = said;
     next = end_fits seen work.line asked _ answer coherent begun of_end;
     refusal = tt;
+    done = λ wrong. absurd (false≢true wrong);
   }
 
   pub cut_so : (later seen : List Event) (work new : WorkView) (asked : ℕ) (answer : Answer) → Coherent → BeginsWith later seen → IsOfEnd asked answer

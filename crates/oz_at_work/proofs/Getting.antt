@@ -67,8 +67,8 @@ read_goes_on before after read asked said gave_up taken = ⊎_elim
     (λ stepped.
     let more : length after.state.progress.read ≡ length before.state.progress.read + 1 =
     ap (λ (w : WorkView). length w.state.progress.read) stepped.is ∙ length-append before.state.progress.read (read.items ∷ []) in
-    inr (inr (inr (inr (omega (arith, more))))))
-    (λ stopped. inr (inl (subst IsTelling (sym (ap (λ (w : WorkView). w.next) stopped.is)) tt)))
+    inr (inr (inr (omega (arith, more)))))
+    (λ stopped. inr (inl (inl (subst IsTelling (sym (ap (λ (w : WorkView). w.next) stopped.is)) tt))))
     taken
 
 module _ (Coherent : Type 0) (opening : Opening) (bytes : OpeningBytes) (script : Script) (seen : List Event) (work : WorkView) (piece : Piece) (coherent : Coherent)

@@ -26,7 +26,7 @@ use Rattle.oz_underway.specs.UnderWay.{LabelStays}
 use Rattle.oz_underway.specs.laws.Going.{begins_through}
 use Rattle.oz_underway.specs.laws.Told.{told_still}
 use Rattle.oz_at_work.specs.AtWork.{HasLeft, IsAtWork, IsLabelOf, IsNextFit, MayBeTold, WorkView, last_of, left_of}
-use Rattle.oz_at_work.proofs.Staying.{begun_still, refusal_still, said_was}
+use Rattle.oz_at_work.proofs.Staying.{begun_still, done_still, refusal_still, said_was}
 
 -- ---- the label of a line that commits
 
@@ -99,6 +99,7 @@ module _ (Coherent : Type 0) (opening : Opening) (bytes : OpeningBytes) (script 
       leaves = λ story begins all before by said from as_said may behind. absurd (untold_no_more before _ said _ from may);
     };
     refusal = refusal_still Coherent opening bytes script after seen goes work.line work.refused at_work.refusal;
+    done = done_still Coherent opening bytes script after seen goes work.line work.was_done at_work.done;
   }
 
   pub has_left : HasLeft Coherent opening bytes script after work.line (left_of work)

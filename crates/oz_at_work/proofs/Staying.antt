@@ -31,7 +31,7 @@ use Rattle.oz_underway.specs.laws.Going.{begins_itself, begins_through, happened
 use Rattle.oz_underway.specs.laws.Starting.{started_still}
 use Rattle.oz_underway.specs.laws.Told.{told_still}
 use Rattle.oz_underway.specs.laws.UnderWay.{still_under_way, whatever_said}
-use Rattle.oz_at_work.specs.AtWork.{HasLeft, IsAtWork, IsFollowed, IsNextFit, IsRefusalFit, IsStarted, MayBegin, MayBeTold, WasSaid, WorkView, id_of}
+use Rattle.oz_at_work.specs.AtWork.{HasLeft, IsAtWork, IsDoneFit, IsFollowed, IsNextFit, IsRefusalFit, IsStarted, MayBegin, MayBeTold, WasSaid, WorkView, id_of}
 use Rattle.oz_at_work.specs.declared.refused.Refused.{Refused}
 use Rattle.oz_at_work.specs.inner.Replied.{holds_where_said, is_write}
 
@@ -114,6 +114,9 @@ module _ (Coherent : Type 0) (opening : Opening) (bytes : OpeningBytes) (script 
   refusal_still line None fit = tt
   refusal_still line (Some refused) fit = told_fit_still line _ _ _ _ _ fit
 
+  pub done_still : (line : Line) (was_done : Bool) → IsDoneFit Coherent opening bytes script seen line was_done → IsDoneFit Coherent opening bytes script later line was_done
+  done_still line was_done fit is dn named story goes all = fit is dn named story (begins_through story later seen goes begins) all
+
   -- whatever was said of its blocks, where what comes next doesn't rest on that
   said_fit : (work : WorkView) (said : ℕ) (step : Step) → (is_write step || work.gave_up) ≡ false → IsNextFit Coherent opening bytes script later work step
       → IsNextFit Coherent opening bytes script later (record work { said = said }) step
@@ -157,6 +160,7 @@ module _ (Coherent : Type 0) (opening : Opening) (bytes : OpeningBytes) (script 
     said = said_now later work.line said now;
     next = said_fit work said work.next none (next_still work work.next at_work.next);
     refusal = refusal_still work.line work.refused at_work.refusal;
+    done = done_still work.line work.was_done at_work.done;
   }
 
   pub work_still : (work : WorkView) → IsAtWork Coherent opening bytes script seen work → IsAtWork Coherent opening bytes script later work
@@ -168,6 +172,7 @@ module _ (Coherent : Type 0) (opening : Opening) (bytes : OpeningBytes) (script 
     said = said_was later seen work.line work.said begins at_work.said;
     next = next_still work work.next at_work.next;
     refusal = refusal_still work.line work.refused at_work.refusal;
+    done = done_still work.line work.was_done at_work.done;
   }
 
   pub looked : (work : WorkView) (said : ℕ) → holds_where_said work said ≡ true → times_said work.line.client work.line.number later ≡ said
@@ -212,6 +217,29 @@ module _ (Coherent : Type 0) (opening : Opening) (bytes : OpeningBytes) (script 
     said = at_work.said;
     next = refused_fit work refused work.next at_work.next;
     refusal = fits;
+    done = at_work.done;
+  }
+
+  -- nor does it whether what it commands was done
+  done_fit : (work : WorkView) (was_done : Bool) (step : Step) → IsNextFit Coherent opening bytes script seen work step
+      → IsNextFit Coherent opening bytes script seen (record work { was_done = was_done }) step
+  done_fit work was_done (steps.Ask request) fit = fit
+  done_fit work was_done (steps.Write block members first count) fit = fit
+  done_fit work was_done (steps.Read piece) fit = fit
+  done_fit work was_done (steps.Tell answer) fit = fit
+  done_fit work was_done step fit = tt
+
+  pub with_done : (work : WorkView) → IsDoneFit Coherent opening bytes script seen work.line true
+      → IsAtWork Coherent opening bytes script seen work → IsAtWork Coherent opening bytes script seen (record work { was_done = true })
+  with_done work fits at_work = record {
+    begun = at_work.begun;
+    does = at_work.does;
+    nodes = at_work.nodes;
+    opened = at_work.opened;
+    said = at_work.said;
+    next = done_fit work true work.next at_work.next;
+    refusal = at_work.refusal;
+    done = fits;
   }
 
   -- nor does it otherwise which members were doubted, but for what it reads
@@ -234,4 +262,5 @@ module _ (Coherent : Type 0) (opening : Opening) (bytes : OpeningBytes) (script 
     said = at_work.said;
     next = doubted_fit work doubted piece work.next is are at_work.next;
     refusal = at_work.refusal;
+    done = at_work.done;
   }

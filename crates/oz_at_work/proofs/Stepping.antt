@@ -307,7 +307,7 @@ module _ (Coherent : Type 0) (opening : Opening) (bytes : OpeningBytes) (script 
         → (IsNoCode step → HasPutAlone progress gave_up) → (IsBeforeReading step → progress.read ≡ [])
         → IsNext line.command progress got step → IsStepEverywhere line.command progress got step
         → IsNextFit Coherent opening bytes script seen
-        (record { line = line; state = state; nodes = nodes; asked = asked; said = said; next = step; is_cut = false; gave_up = gave_up; doubted = none_doubted; refused = None }) step
+        (record { line = line; state = state; nodes = nodes; asked = asked; said = said; next = step; is_cut = false; gave_up = gave_up; doubted = none_doubted; refused = None; was_done = false }) step
     next_fits nodes state (steps.Ask request) same left idle alone unread next everywhere =
         let its = onward line.command progress got (steps.Ask request) plain next tt in
         subst (λ (p : Progress). IsNextAsk Coherent opening bytes script seen line asked said gave_up request p) (sym same) (record {
@@ -349,7 +349,7 @@ module _ (Coherent : Type 0) (opening : Opening) (bytes : OpeningBytes) (script 
       → AllFollow Follow [] seen
       → IsNext line.command (nothing_yet nodes label) gots.Start step → IsStepEverywhere line.command (nothing_yet nodes label) gots.Start step
       → IsAtWork Coherent opening bytes script seen
-      (record { line = line; state = state_after (state_before line.command nodes label) gots.Start step; nodes = nodes; asked = 0; said = 0; next = step; is_cut = false; gave_up = false; doubted = none_doubted; refused = None })
+      (record { line = line; state = state_after (state_before line.command nodes label) gots.Start step; nodes = nodes; asked = 0; said = 0; next = step; is_cut = false; gave_up = false; doubted = none_doubted; refused = None; was_done = false })
   begin_works seen line nodes label step opened coherent may all next everywhere =
       let way = begins_started Coherent opening bytes script may.begun.numbered seen line 0 line.command nodes label coherent may.begun.there all may.begun.started refl
       (may.labelled seen (begins_itself seen) all) in
@@ -363,6 +363,7 @@ module _ (Coherent : Type 0) (opening : Opening) (bytes : OpeningBytes) (script 
             (state_after (state_before line.command nodes label) gots.Start step) step refl refl (λ tells. refl)
             (λ other. record { no_code = refl; put = λ none. refl }) (λ before. refl) next everywhere;
         refusal = tt;
+        done = λ wrong. absurd (false≢true wrong);
       }
 
   pub begin_so : (seen : List Event) (line : Line) (nodes : ℕ) (label : Option Label) (before after : LineState) (step : Step) → nodes ≡ length opening.nodes → Coherent
@@ -370,13 +371,13 @@ module _ (Coherent : Type 0) (opening : Opening) (bytes : OpeningBytes) (script 
       → before ≡ state_before line.command nodes label → after ≡ state_after before gots.Start step
       → IsNext before.command after.progress gots.Start step → IsStepEverywhere before.command after.progress gots.Start step
       → IsAtWork Coherent opening bytes script seen
-      (record { line = line; state = after; nodes = nodes; asked = 0; said = 0; next = step; is_cut = false; gave_up = false; doubted = none_doubted; refused = None })
+      (record { line = line; state = after; nodes = nodes; asked = 0; said = 0; next = step; is_cut = false; gave_up = false; doubted = none_doubted; refused = None; was_done = false })
   begin_so seen line nodes label before after step opened coherent may all is_before is_after next everywhere =
       let first : after ≡ state_after (state_before line.command nodes label) gots.Start step = is_after ∙ ap (λ (s : LineState). state_after s gots.Start step) is_before in
       let command : before.command ≡ line.command = ap (λ (s : LineState). s.command) is_before in
       let progress : after.progress ≡ nothing_yet nodes label = ap (λ (s : LineState). s.progress) first in
       subst (λ (s : LineState). IsAtWork Coherent opening bytes script seen
-      (record { line = line; state = s; nodes = nodes; asked = 0; said = 0; next = step; is_cut = false; gave_up = false; doubted = none_doubted; refused = None })) (sym first)
+      (record { line = line; state = s; nodes = nodes; asked = 0; said = 0; next = step; is_cut = false; gave_up = false; doubted = none_doubted; refused = None; was_done = false })) (sym first)
       (begin_works seen line nodes label step opened coherent may all
       (subst (λ (p : Progress). IsNext line.command p gots.Start step) progress (subst (λ (c : Command). IsNext c after.progress gots.Start step) command next))
       (subst (λ (p : Progress). IsStepEverywhere line.command p gots.Start step) progress
@@ -411,6 +412,7 @@ module _ (Coherent : Type 0) (opening : Opening) (bytes : OpeningBytes) (script 
         next = next_fits seen line asked said gave_up progress got coherent begun plain put way before.nodes state stepped.step refl
             (ap (λ (c : Command). left_by c progress.came stepped.step) does) (idle stepped.step next) (alone stepped.step next) (unread stepped.step next) next so;
         refusal = tt;
+        done = λ wrong. absurd (false≢true wrong);
       })
 
   pub stopped_works : (seen : List Event) (before after : WorkView) (asked : ℕ) → Coherent → IsStarted script seen before.line → before.state.command ≡ before.line.command

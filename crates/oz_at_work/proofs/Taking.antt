@@ -59,6 +59,6 @@ reply_goes_on before got asked said gave_up after more taken = ⊎_elim
 pub written_goes_on : (before : WorkView) (got : Got) (asked said : ℕ) (gave_up : Bool) (after : WorkView) → before.said < said
     → IsTakenUp before got asked said gave_up after → HasGoneOn before after
 written_goes_on before got asked said gave_up after more taken = ⊎_elim
-    (λ stepped. inr (inr (inr (inl (subst (λ (n : ℕ). before.said < n) (sym (ap (λ (w : WorkView). w.said) stepped.is)) more)))))
-    (λ stopped. inr (inl (subst (λ (w : WorkView). IsTelling w.next) (sym stopped.is) tt)))
+    (λ stepped. inr (inr (inl (subst (λ (n : ℕ). before.said < n) (sym (ap (λ (w : WorkView). w.said) stepped.is)) more))))
+    (λ stopped. inr (inl (inl (subst (λ (w : WorkView). IsTelling w.next) (sym stopped.is) tt))))
     taken

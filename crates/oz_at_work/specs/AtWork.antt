@@ -12,12 +12,15 @@ use Rattle.oz_command.specs.declared.command.Command.{Command}
 use Rattle.oz_command.specs.declared.command.Command.TheVariants as commands
 use Rattle.oz_core.specs.declared.event.Event.{Event}
 use Rattle.oz_core.specs.declared.event.EventKind.TheVariants.{Ask, Told}
+use Rattle.oz_core.specs.declared.event.Node.TheVariants.{Datanode}
 use Rattle.oz_core.specs.declared.opening.Opening.{Opening}
 use Rattle.oz_core.specs.Asks.{is_told, pending}
 use Rattle.oz_core.specs.Contents.{OpeningBytes}
+use Rattle.oz_core.specs.Due.{IsDue, NamesNode}
 use Rattle.oz_core.specs.Fits.{EventFits}
 use Rattle.oz_core.specs.Law.{AskIsEnabled}
 use Rattle.oz_core.specs.Lines.{HasStarted}
+use Rattle.oz_core.specs.Manager.{halt_of}
 use Rattle.oz_core.specs.Steps.{commit_step, is_code, is_open_at}
 use Rattle.oz_fields.specs.declared.block.Block.{Block}
 use Rattle.oz_fields.specs.declared.block.Piece.{Piece}
@@ -34,6 +37,7 @@ use Rattle.oz_steps.specs.Grants.{has_fate_written}
 use Rattle.oz_steps.specs.Lines.{commit_of_label}
 use Rattle.oz_steps.specs.Requests.{request_by}
 use Rattle.oz_asker.specs.declared.telling.still.Still.{Still}
+use Rattle.oz_asker.specs.telling.Done.{answer_done}
 use Rattle.oz_asker.specs.telling.Tells.{MayTell, told_event}
 use Rattle.oz_turn.specs.Told.{BeginsWith}
 use Rattle.oz_underway.specs.GoingOn.{FromHereOn}
@@ -42,8 +46,8 @@ use Rattle.oz_at_work.specs.declared.refused.Refused.{Refused}
 
 -- A line, what came back to it, for how many datanodes its steps are, how often it has asked, how often something was
 -- said of its blocks at its last look, what it does next, whether that isn't of its steps, whether a block that it was
--- granted was given up, which members of the block that it reads next were doubted when it looked before, and with what it
--- is refused for now, if it is.
+-- granted was given up, which members of the block that it reads next were doubted when it looked before, with what it
+-- is refused for now, if it is, and whether what it commands a datanode was done.
 pub record WorkView : Type 0 where
   pub line : Line
   pub state : LineState
@@ -55,6 +59,7 @@ pub record WorkView : Type 0 where
   pub gave_up : Bool
   pub doubted : Doubted
   pub refused : Option Refused
+  pub was_done : Bool
 
 -- the id of a line's Ask of this number, and of the last of so many
 abbrev pub id_of : Line → ℕ → AskId
@@ -76,11 +81,15 @@ IsTelling _ = ⊥
 abbrev pub IsSaidAsKnown : Bool → ℕ → ℕ → Type 0
 IsSaidAsKnown gave_up known said = gave_up ≡ true → said ≡ known
 
+-- there is something that it is told next
+abbrev pub IsToldNext : WorkView → Type 0
+IsToldNext work = IsTelling work.next ⊎ IsSome work.refused ⊎ (work.was_done ≡ true)
+
 -- It has asked once more, or there is something that it is told next, or it wrote a block: more was said of its blocks;
 -- or it read a piece more.
 abbrev pub HasGoneOn : WorkView → WorkView → Type 0
 HasGoneOn before after =
-    (after.asked ≡ before.asked + 1) ⊎ IsTelling after.next ⊎ IsSome after.refused ⊎ (before.said < after.said)
+    (after.asked ≡ before.asked + 1) ⊎ IsToldNext after ⊎ (before.said < after.said)
     ⊎ (length before.state.progress.read < length after.state.progress.read)
 
 -- The label that a line opened stands for this; for nothing where the line was told something else than OK.
@@ -179,6 +188,13 @@ module _ (Coherent : Type 0) (opening : Opening) (bytes : OpeningBytes) (script 
   IsRefusalFit line (Some refused) =
       MayBeTold line (last_of line refused.asked) (λ said. Unit {0}) refused.still refused.answer None
 
+  -- Once what the line commands a datanode was done, it is due from here on that it is told so; or with which count the
+  -- datanode halted, where it did.
+  abbrev pub IsDoneFit : Line → Bool → Type 0
+  IsDoneFit line was_done = was_done ≡ true → (dn : ℕ) → NamesNode line.command dn
+      → FromHereOn Coherent opening bytes script seen
+      (λ story. IsDue opening bytes script story line (answer_done dn (halt_of (Datanode dn) story)))
+
   -- What is known of a line that is worked for.
   pub record IsAtWork (work : WorkView) : Type 0 where
     pub begun : IsStarted script seen work.line
@@ -188,6 +204,7 @@ module _ (Coherent : Type 0) (opening : Opening) (bytes : OpeningBytes) (script 
     pub said : WasSaid seen work.line work.said
     pub next : IsNextFit work work.next
     pub refusal : IsRefusalFit work.line work.refused
+    pub done : IsDoneFit work.line work.was_done
 
   -- The line was told, and from here on this is what it left.
   pub record HasLeft (line : Line) (left : Option Label) : Type 0 where

@@ -32,6 +32,8 @@ pub struct LineAtWork<'s> {
     pub(crate) doubted: Doubted,
     /// With what it is refused for now: it is told that, or tries again what comes next.
     pub(crate) refused: Option<Refused>,
+    /// Whether the datanode that it commands was stopped, started or wiped for it, or had halted: it is told so next.
+    pub(crate) was_done: bool,
 }
 
 impl<'s> Model for LineAtWork<'s> {
@@ -50,6 +52,7 @@ impl<'s> Model for LineAtWork<'s> {
       gave_up = w.gave_up;
       doubted = w.doubted;
       refused = w.refused;
+      was_done = w.was_done;
     } };
 }
 
@@ -76,6 +79,7 @@ impl<'s> LineAtWork<'s> {
             gave_up: _,
             doubted: _,
             refused: _,
+            was_done: _,
         } = self;
         if is_cut { None } else { steps.label() }
     }
@@ -111,5 +115,6 @@ impl<'s> LineAtWork<'s> {
         self.is_cut = true;
         self.gave_up = false;
         self.refused = None;
+        self.was_done = false;
     }
 }

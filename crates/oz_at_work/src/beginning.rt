@@ -48,6 +48,7 @@ impl<'s> LineAtWork<'s> {
             gave_up: false,
             doubted: Doubted::none(),
             refused: None,
+            was_done: false,
         })
     }
 }

@@ -28,8 +28,8 @@ struct Commanded {
 }
 
 impl<'s> LineAtWork<'s> {
-    /// The line has a datanode stopped, started or wiped, and is told so, or that the datanode has halted. Where no datanode has
-    /// the number it is told that next. Where memory runs out before anything was done, or the line isn't one that has
+    /// The line has a datanode stopped, started or wiped once, and is told so, or that the datanode has halted. Where no datanode
+    /// has the number it is told that next. Where memory runs out before anything was done, or the line isn't one that has
     /// this done, it is told next that there is none.
     pub(crate) fn command<D: Disk, O: Opened, L: Loaded, R: Ring, W: Wait, G: Gate>(
         &mut self,
@@ -48,6 +48,9 @@ impl<'s> LineAtWork<'s> {
             self.cut(asked, Answer::OutOfMemory);
             return Did::WentOn;
         };
+        if self.was_done {
+            return self.tell_of(shared, seat, by, dn, done);
+        }
         let (rt, alloc, turn, servers) = (shared.rt, shared.alloc, shared.turn, shared.servers);
         if dn >= servers.node_count() {
             self.cut(asked, Answer::NoSuchNode);
@@ -64,7 +67,8 @@ impl<'s> LineAtWork<'s> {
         }
     }
 
-    /// It is told that this was done to the datanode, or that the datanode has halted by then, if it may be told.
+    /// It is told that this was done to the datanode, or that the datanode has halted by then, if it may be told. Where it may not
+    /// it remembers that it was done.
     fn tell_of<D: Disk, O: Opened, L: Loaded, R: Ring, W: Wait, G: Gate>(
         &mut self,
         shared: &Shared<'_, D, O, L, R, W, G>,
@@ -81,6 +85,7 @@ impl<'s> LineAtWork<'s> {
         ensures stays { StaysAtWork O.Opened (seen_of seat.new) (result ≡ Did.WentOn) self.old self.new }
         ensures ended { result ≡ Did.Ended → HasEnded O.Opened (seen_of seat.new) self.new }
     {
+        self.was_done = true;
         let (asked, said) = (self.asked, self.said);
         let (client, line, last) = (self.line.client, self.line.number, self.last_of(asked));
         let (rt, alloc, turn) = (shared.rt, shared.alloc, shared.turn);

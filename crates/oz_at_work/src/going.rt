@@ -36,8 +36,8 @@ impl<'s> LineAtWork<'s> {
         match &self.next {
             Step::Ask(_) => self.ask(shared, seat, by),
             Step::Tell(_) => self.tell(shared, seat, by),
-            Step::Write { .. } => self.write(shared, seat, by),
-            Step::Read { .. } => self.read(shared, seat, by),
+            Step::Write { .. } => self.write_next(shared, seat, by),
+            Step::Read { .. } => self.read_next(shared, seat, by),
             Step::Admin(_) => self.command(shared, seat, by),
         }
     }

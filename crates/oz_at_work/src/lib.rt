@@ -8,6 +8,7 @@ mod commanding;
 mod counted;
 mod going;
 mod granting;
+mod halting;
 mod laws;
 mod onward;
 mod outcome;

@@ -59,5 +59,6 @@ impl<'s> LineAtWork<'s> {
         self.gave_up = gave_up;
         self.doubted = Doubted::none();
         self.refused = None;
+        self.was_done = false;
     }
 }

@@ -1,7 +1,7 @@
 //! How a line is told its answer.
 
 ghost use Rattle.std.specs.Prelude.{◌≡◌, ◌≢◌, None, Some};
-ghost use Rattle.oz_at_work.specs.AtWork.{IsTelling};
+ghost use Rattle.oz_at_work.specs.AtWork.{IsToldNext, IsTelling};
 ghost use Rattle.oz_at_work.specs.Part.{Gone, HasEnded, IsAtWorkIn, IsLinePart, StaysAtWork};
 ghost use Rattle.oz_turn.specs.Seat.{IsReady, seen_of};
 
@@ -112,8 +112,8 @@ impl<'s> LineAtWork<'s> {
     }
 
     /// What keeps the line from being told, that has asked so often: what isn't stable is waited for, what is said of its
-    /// blocks is looked at, and where it asked once more than is known, as it may where memory ran out, it is told that there
-    /// is none.
+    /// blocks is looked at, a datanode that has halted and is up is taken down, and where it asked once more than is known, as it
+    /// may where memory ran out, it is told that there is none.
     pub(crate) fn put_off<D: Disk, O: Opened, L: Loaded, R: Ring, W: Wait, G: Gate>(
         &mut self,
         shared: &Shared<'_, D, O, L, R, W, G>,
@@ -124,6 +124,7 @@ impl<'s> LineAtWork<'s> {
     ) -> Did
         requires ready { IsReady R.turn by seat.old }
         requires works { IsAtWorkIn O.Opened (seen_of seat.old) self.old }
+        requires tells { IsToldNext self.old }
         ensures gone { Gone R.turn by seat.old seat.new }
         ensures stays { StaysAtWork O.Opened (seen_of seat.new) (result ≡ Did.WentOn) self.old self.new }
         ensures unended { result ≢ Did.Ended }
@@ -135,6 +136,10 @@ impl<'s> LineAtWork<'s> {
                 Did::WentOn
             }
             (Untold::OtherBlocks, _) => self.look_again(shared, seat, by),
+            (Untold::LeftUp { .. }, _) => {
+                self.take_down(shared, seat, by, asked);
+                Did::WentOn
+            }
             (Untold::OutOfMemory, _) => Did::OutOfMemory,
             (Untold::Told | Untold::Moved | Untold::NotDue | Untold::OtherAsk, _) => Did::Waits,
         }

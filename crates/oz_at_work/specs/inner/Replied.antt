@@ -55,4 +55,5 @@ cut_with work asked answer = record work {
   is_cut = true;
   gave_up = false;
   refused = None;
+  was_done = false;
 }

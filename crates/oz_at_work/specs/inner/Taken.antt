@@ -23,6 +23,7 @@ come_to work asked said gave_up step = record work {
   gave_up = gave_up;
   doubted = none_doubted;
   refused = None;
+  was_done = false;
 }
 
 -- Its steps went on with what came back, and this comes next, once it has asked so often, so often something was said of

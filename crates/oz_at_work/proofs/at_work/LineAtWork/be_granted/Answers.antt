@@ -62,7 +62,7 @@ returns-in-Ok-Refused-clause-stays g c = record {
       let wanted = c.in-Some.wanted in
       let answer = c.in-Ok-Refused.answer in
       let still = c.in-Ok-Refused.still in
-      let work : WorkView = record { line = inside.line.now; state = inside.steps; nodes = inside.nodes; asked = inside.asked; said = inside.said; next = inside.next; is_cut = inside.is_cut; gave_up = inside.gave_up; doubted = inside.doubted; refused = inside.refused } in
+      let work : WorkView = record { line = inside.line.now; state = inside.steps; nodes = inside.nodes; asked = inside.asked; said = inside.said; next = inside.next; is_cut = inside.is_cut; gave_up = inside.gave_up; doubted = inside.doubted; refused = inside.refused; was_done = inside.was_done } in
       let at_work : IsAtWork O.coherent O.opening O.bytes O.script seen work =
       subst (IsAtWork O.coherent O.opening O.bytes O.script seen) (sym c.self.view_is) (c.requires.works coherent) in
       let short : IsShort O.opening seen work = subst (IsShort O.opening seen) (sym c.self.view_is) (c.requires.short coherent) in
@@ -77,7 +77,7 @@ returns-in-Ok-Refused-clause-stays g c = record {
       (subst (λ (l : List Still). MayBeTold O.coherent O.opening O.bytes O.script later work.line (last_of work.line wanted.id.step) (λ said. Unit {0}) l answer None) (sym c.two.ensures)
       (subst (λ (n : ℕ). MayBeTold O.coherent O.opening O.bytes O.script later work.line (last_of work.line n) (λ said. Unit {0}) still answer None) (sym step) fits))
       (work_still O.coherent O.opening O.bytes O.script later seen c.grant_for.ensures.looked.goes_on work at_work);
-  went_on = λ went. inr (inr (inl refl));
+  went_on = λ went. inr (inl (inr (inl refl)));
 }
 
 pub returns-in-Ok-Refused-2-clause-stays : goal.returns-in-Ok-Refused-2-clause-stays

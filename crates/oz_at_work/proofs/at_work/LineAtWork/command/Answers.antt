@@ -1,7 +1,8 @@
-use Rattle.std.proofs.Common.{◌≡◌, ◌≤◌, ◌<◌, length, ap, ◌∙◌, subst, arith}
+use Rattle.std.proofs.Common.{◌≡◌, ◌≤◌, ◌<◌, length, sym, ap, ◌∙◌, subst, arith}
 use Rattle.std.specs.Prelude.{Err}
 use Rattle.oz_node_admin.specs.declared.fault.AdminFault.TheVariants.{Halted}
 use Rattle.oz_node_admin.specs.Came.{CameOf}
+use Rattle.oz_node_admin.specs.laws.Due.{names_its}
 use Rattle.oz_requests.specs.declared.answer.Answer.TheVariants as answers
 use Rattle.oz_turn.specs.Seat.{seen_of}
 use Rattle.oz_underway.specs.laws.Going.{begins_itself}
@@ -35,12 +36,22 @@ returns-then-dn-node_count-clause-stays g c =
     }
 
 pub tell_of-requires-clause-works : goal.tell_of-requires-clause-works
-tell_of-requires-clause-works g c coherent =
-    let O = g.O.Opened in
-    work_still O.coherent O.opening O.bytes O.script (seen_of c.have_done.new.seat) (seen_of c.args.seat.now) c.have_done.ensures.looked.begins c.args.self.now (c.requires.works coherent)
+tell_of-requires-clause-works g c = c.requires.works
 
 pub tell_of-requires-clause-due : goal.tell_of-requires-clause-due
 tell_of-requires-clause-due g c coherent =
+    let work : WorkView = c.args.self.now in
+    let it = c.in-Some.field-0 in
+    let its : IsCommandOf work.line it.dn it.done = subst (λ (w : WorkView). IsCommandOf w.line it.dn it.done) c.self.view_is c.in-Some.ensures.its in
+    (c.requires.works coherent).done (sym (ap (λ (w : WorkView). w.was_done) c.self.view_is) ∙ c.if-self.true) it.dn (names_its work.line it.dn it.done its)
+
+pub tell_of-requires-in-Ok-clause-works : goal.tell_of-requires-in-Ok-clause-works
+tell_of-requires-in-Ok-clause-works g c coherent =
+    let O = g.O.Opened in
+    work_still O.coherent O.opening O.bytes O.script (seen_of c.have_done.new.seat) (seen_of c.args.seat.now) c.have_done.ensures.looked.begins c.args.self.now (c.requires.works coherent)
+
+pub tell_of-requires-in-Ok-clause-due : goal.tell_of-requires-in-Ok-clause-due
+tell_of-requires-in-Ok-clause-due g c coherent =
     let O = g.O.Opened in
     let work : WorkView = c.args.self.now in
     let it = c.in-Some.field-0 in

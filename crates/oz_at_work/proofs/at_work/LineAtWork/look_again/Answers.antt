@@ -19,7 +19,7 @@ returns-clause-stays g c =
     let inside = c.self.inside in
     let look = c.times_said-said in
     let seen = seen_of c.args.seat.now in
-    let work : WorkView = record { line = inside.line.now; state = inside.steps; nodes = inside.nodes; asked = inside.asked; said = inside.said; next = inside.next; is_cut = inside.is_cut; gave_up = inside.gave_up; doubted = inside.doubted; refused = inside.refused } in
+    let work : WorkView = record { line = inside.line.now; state = inside.steps; nodes = inside.nodes; asked = inside.asked; said = inside.said; next = inside.next; is_cut = inside.is_cut; gave_up = inside.gave_up; doubted = inside.doubted; refused = inside.refused; was_done = inside.was_done } in
     let holds : holds_where_said work look.result ≡ true =
     ap (λ (w : WorkView). holds_where_said w look.result) c.self.view_is ∙ (sym c.holds_where_said.ensures ∙ c.if-not-holds_where_said.false) in
     record {

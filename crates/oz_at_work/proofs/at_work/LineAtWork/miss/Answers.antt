@@ -17,7 +17,7 @@ pub returns-clause-works : goal.returns-clause-works
 returns-clause-works g c coherent seen was =
     let O = g.O.Opened in
     let inside = c.self.inside in
-    let work : WorkView = record { line = inside.line.now; state = inside.steps; nodes = inside.nodes; asked = inside.asked; said = inside.said; next = inside.next; is_cut = inside.is_cut; gave_up = inside.gave_up; doubted = inside.doubted; refused = inside.refused } in
+    let work : WorkView = record { line = inside.line.now; state = inside.steps; nodes = inside.nodes; asked = inside.asked; said = inside.said; next = inside.next; is_cut = inside.is_cut; gave_up = inside.gave_up; doubted = inside.doubted; refused = inside.refused; was_done = inside.was_done } in
     let so : WasMissed O.coherent O.opening O.bytes O.script seen work c.args.piece c.args.lacks =
     subst (λ (w : WorkView). WasMissed O.coherent O.opening O.bytes O.script seen w c.args.piece c.args.lacks) (sym c.self.view_is) was in
     subst (λ (l : List Still). IsAtWork O.coherent O.opening O.bytes O.script seen

@@ -14,7 +14,7 @@ tell-requires-clause-fits g c coherent story begins all may =
     let O = g.O.Opened in
     let inside = c.self.inside in
     let seen = seen_of c.args.seat.now in
-    let work : WorkView = record { line = inside.line.now; state = inside.steps; nodes = inside.nodes; asked = inside.asked; said = inside.said; next = inside.next; is_cut = inside.is_cut; gave_up = inside.gave_up; doubted = inside.doubted; refused = inside.refused } in
+    let work : WorkView = record { line = inside.line.now; state = inside.steps; nodes = inside.nodes; asked = inside.asked; said = inside.said; next = inside.next; is_cut = inside.is_cut; gave_up = inside.gave_up; doubted = inside.doubted; refused = inside.refused; was_done = inside.was_done } in
     let at_work : IsAtWork O.coherent O.opening O.bytes O.script seen work =
     subst (IsAtWork O.coherent O.opening O.bytes O.script seen) (sym c.self.view_is) (c.requires.works coherent) in
     let fit : MayBeTold O.coherent O.opening O.bytes O.script seen work.line (last_of work.line work.asked) (IsSaidAsKnown work.gave_up work.said) [] c.in-Tell.answer (left_of work) =
@@ -28,7 +28,7 @@ put_off-requires-clause-works g c coherent =
     let inside = c.self.inside in
     let seen = seen_of c.args.seat.now in
     let later = seen_of c.tell.new.seat in
-    let work : WorkView = record { line = inside.line.now; state = inside.steps; nodes = inside.nodes; asked = inside.asked; said = inside.said; next = inside.next; is_cut = inside.is_cut; gave_up = inside.gave_up; doubted = inside.doubted; refused = inside.refused } in
+    let work : WorkView = record { line = inside.line.now; state = inside.steps; nodes = inside.nodes; asked = inside.asked; said = inside.said; next = inside.next; is_cut = inside.is_cut; gave_up = inside.gave_up; doubted = inside.doubted; refused = inside.refused; was_done = inside.was_done } in
     let at_work : IsAtWork O.coherent O.opening O.bytes O.script seen work =
     subst (IsAtWork O.coherent O.opening O.bytes O.script seen) (sym c.self.view_is) (c.requires.works coherent) in
     let same : steps.Tell c.in-Err.answer ≡ inside.next = ap steps.Tell c.in-Err.ensures.answer ∙ c.in-Tell.ensures.value in
@@ -41,7 +41,7 @@ returns-in-Ok-clause-stays g c =
     let inside = c.self.inside in
     let seen = seen_of c.args.seat.now in
     let later = seen_of c.tell.new.seat in
-    let work : WorkView = record { line = inside.line.now; state = inside.steps; nodes = inside.nodes; asked = inside.asked; said = inside.said; next = inside.next; is_cut = inside.is_cut; gave_up = inside.gave_up; doubted = inside.doubted; refused = inside.refused } in
+    let work : WorkView = record { line = inside.line.now; state = inside.steps; nodes = inside.nodes; asked = inside.asked; said = inside.said; next = inside.next; is_cut = inside.is_cut; gave_up = inside.gave_up; doubted = inside.doubted; refused = inside.refused; was_done = inside.was_done } in
     let told = subst (λ (last : Option AskId). IsTold O.opening c.args.by work.line.client work.line.number last work.said [] c.in-Tell.answer seen (mine_of c.args.seat.now) later (mine_of c.tell.new.seat))
     c.last_of-last.ensures c.in-Ok.ensures.told in
     record {
@@ -61,7 +61,7 @@ returns-in-Ok-clause-ended g c ended coherent =
     let inside = c.self.inside in
     let seen = seen_of c.args.seat.now in
     let later = seen_of c.tell.new.seat in
-    let work : WorkView = record { line = inside.line.now; state = inside.steps; nodes = inside.nodes; asked = inside.asked; said = inside.said; next = inside.next; is_cut = inside.is_cut; gave_up = inside.gave_up; doubted = inside.doubted; refused = inside.refused } in
+    let work : WorkView = record { line = inside.line.now; state = inside.steps; nodes = inside.nodes; asked = inside.asked; said = inside.said; next = inside.next; is_cut = inside.is_cut; gave_up = inside.gave_up; doubted = inside.doubted; refused = inside.refused; was_done = inside.was_done } in
     let at_work : IsAtWork O.coherent O.opening O.bytes O.script seen work =
     subst (IsAtWork O.coherent O.opening O.bytes O.script seen) (sym c.self.view_is) (c.requires.works coherent) in
     let told = subst (λ (last : Option AskId). IsTold O.opening c.args.by work.line.client work.line.number last work.said [] c.in-Tell.answer seen (mine_of c.args.seat.now) later (mine_of c.tell.new.seat))

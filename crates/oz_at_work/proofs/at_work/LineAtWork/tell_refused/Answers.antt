@@ -20,7 +20,7 @@ tell-requires-clause-fits g c coherent story begins all may =
     let inside = c.self.inside in
     let seen = seen_of c.args.seat.now in
     let refused = c.in_ok-answer.field-0 in
-    let work : WorkView = record { line = inside.line.now; state = inside.steps; nodes = inside.nodes; asked = inside.asked; said = inside.said; next = inside.next; is_cut = inside.is_cut; gave_up = inside.gave_up; doubted = inside.doubted; refused = inside.refused } in
+    let work : WorkView = record { line = inside.line.now; state = inside.steps; nodes = inside.nodes; asked = inside.asked; said = inside.said; next = inside.next; is_cut = inside.is_cut; gave_up = inside.gave_up; doubted = inside.doubted; refused = inside.refused; was_done = inside.was_done } in
     let at_work : IsAtWork O.coherent O.opening O.bytes O.script seen work =
     subst (IsAtWork O.coherent O.opening O.bytes O.script seen) (sym c.self.view_is) (c.requires.works coherent) in
     let fit : MayBeTold O.coherent O.opening O.bytes O.script seen work.line (last_of work.line refused.asked) (λ said. Unit {0}) refused.still refused.answer None =
@@ -36,7 +36,7 @@ put_off-requires-clause-works g c coherent =
     let seen = seen_of c.args.seat.now in
     let later = seen_of c.tell.new.seat in
     let refused = c.in_ok-answer.field-0 in
-    let work : WorkView = record { line = inside.line.now; state = inside.steps; nodes = inside.nodes; asked = inside.asked; said = inside.said; next = inside.next; is_cut = inside.is_cut; gave_up = inside.gave_up; doubted = inside.doubted; refused = inside.refused } in
+    let work : WorkView = record { line = inside.line.now; state = inside.steps; nodes = inside.nodes; asked = inside.asked; said = inside.said; next = inside.next; is_cut = inside.is_cut; gave_up = inside.gave_up; doubted = inside.doubted; refused = inside.refused; was_done = inside.was_done } in
     let at_work : IsAtWork O.coherent O.opening O.bytes O.script seen work =
     subst (IsAtWork O.coherent O.opening O.bytes O.script seen) (sym c.self.view_is) (c.requires.works coherent) in
     let fit : IsRefusalFit O.coherent O.opening O.bytes O.script seen work.line (Some refused) =
@@ -52,7 +52,7 @@ returns-in-Ok-clause-stays g c =
     let O = g.O.Opened in
     let inside = c.self.inside in
     let seen = seen_of c.args.seat.now in
-    let work : WorkView = record { line = inside.line.now; state = inside.steps; nodes = inside.nodes; asked = inside.asked; said = inside.said; next = inside.next; is_cut = inside.is_cut; gave_up = inside.gave_up; doubted = inside.doubted; refused = inside.refused } in
+    let work : WorkView = record { line = inside.line.now; state = inside.steps; nodes = inside.nodes; asked = inside.asked; said = inside.said; next = inside.next; is_cut = inside.is_cut; gave_up = inside.gave_up; doubted = inside.doubted; refused = inside.refused; was_done = inside.was_done } in
     cut_inside O (seen_of c.tell.new.seat) seen work c.args.self.now c.cut.new.self _ answers.OutOfMemory c.self.view_is c.in-Ok.ensures.goes_on tt c.cut.ensures
     c.requires.works
 
@@ -63,7 +63,7 @@ returns-in-Ok-clause-ended g c ended coherent =
     let seen = seen_of c.args.seat.now in
     let later = seen_of c.tell.new.seat in
     let refused = c.in_ok-answer.field-0 in
-    let work : WorkView = record { line = inside.line.now; state = inside.steps; nodes = inside.nodes; asked = inside.asked; said = inside.said; next = inside.next; is_cut = inside.is_cut; gave_up = inside.gave_up; doubted = inside.doubted; refused = inside.refused } in
+    let work : WorkView = record { line = inside.line.now; state = inside.steps; nodes = inside.nodes; asked = inside.asked; said = inside.said; next = inside.next; is_cut = inside.is_cut; gave_up = inside.gave_up; doubted = inside.doubted; refused = inside.refused; was_done = inside.was_done } in
     let at_work : IsAtWork O.coherent O.opening O.bytes O.script seen work =
     subst (IsAtWork O.coherent O.opening O.bytes O.script seen) (sym c.self.view_is) (c.requires.works coherent) in
     let fit : IsRefusalFit O.coherent O.opening O.bytes O.script seen work.line (Some refused) =
@@ -82,7 +82,7 @@ returns-in-Err-default-Moved-clause-stays g c =
     let inside = c.self.inside in
     let seen = seen_of c.args.seat.now in
     let later = seen_of c.tell.new.seat in
-    let work : WorkView = record { line = inside.line.now; state = inside.steps; nodes = inside.nodes; asked = inside.asked; said = inside.said; next = inside.next; is_cut = inside.is_cut; gave_up = inside.gave_up; doubted = inside.doubted; refused = inside.refused } in
+    let work : WorkView = record { line = inside.line.now; state = inside.steps; nodes = inside.nodes; asked = inside.asked; said = inside.said; next = inside.next; is_cut = inside.is_cut; gave_up = inside.gave_up; doubted = inside.doubted; refused = inside.refused; was_done = inside.was_done } in
     record {
       line = ap (λ (w : WorkView). w.line) c.self.view_is;
       works = λ coherent.

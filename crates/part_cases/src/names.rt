@@ -1,6 +1,6 @@
 //! Names in texts that show values.
 
-use std::alloc::{AllocError, Global};
+use std::alloc::AllocError;
 
 const FRONT: &str = "Name { bytes: [";
 
@@ -17,17 +17,16 @@ fn add_name(text: &mut String, bytes: &str) -> Result<(), AllocError> {
     text.push('"')
 }
 
-/// A value as it is shown, with each name as its bytes, between quotes.
-pub fn named(alloc: Global, shown: &str) -> Result<String, AllocError> {
-    let mut text = String::new(alloc);
+/// Adds a value as it is shown, with each name as its bytes, between quotes. The text is empty before.
+pub fn add_named(text: &mut String, shown: &str) -> Result<(), AllocError> {
     for part in shown.split(FRONT) {
         match part.split_once(BEHIND) {
             Some((bytes, rest)) if !text.is_empty() => {
-                add_name(&mut text, bytes)?;
+                add_name(text, bytes)?;
                 text.push_str(rest)?;
             }
             _ => text.push_str(part)?,
         }
     }
-    Ok(text)
+    Ok(())
 }

@@ -9,21 +9,20 @@
 //!   steps, and `unfit` says that this can't come back;
 //! - `leaves label` and `leaves nothing` stand at the end.
 
-use crate::found::{Found, compared, judged, no_such, tell};
-use crate::names::named;
-use crate::parts::{answer_shown, refusal_of, reply_of, request_shown};
+use crate::found::{Wrong, compared, judged, no_such, tell, tell_unread};
+use crate::names::add_named;
+use crate::parts::{add_request, add_told, refusal_of, reply_of};
 use case_files::{Judged, Statement, bytes_of};
 use oz_client::{Got, LineSteps, Step, Written};
 use oz_command::{Command, command_of};
 use oz_requests::{Answer, Values};
 use oz_steps::Label;
 use std::alloc::{AllocError, Global};
-use story_parts::Unread;
 
 /// How many datanodes there are. Each pipeline has the datanode of its own number and the next two, going round.
 const NODES: u8 = 4;
 
-fn written_of(alloc: Global, words: &str) -> Result<Got, Unread> {
+fn written_of(alloc: Global, words: &str, why: &mut String) -> Result<Got, Wrong> {
     let mut members = words.split(", ");
     let (Some(one), Some(two), Some(three), None) = (
         members.next(),
@@ -31,50 +30,57 @@ fn written_of(alloc: Global, words: &str) -> Result<Got, Unread> {
         members.next(),
         members.next(),
     ) else {
-        return Err(no_such(alloc, words));
+        return no_such(words, why);
     };
     Ok(Got::Written(Written {
         answers: [
-            refusal_of(alloc, one)?,
-            refusal_of(alloc, two)?,
-            refusal_of(alloc, three)?,
+            refusal_of(alloc, one, why)?,
+            refusal_of(alloc, two, why)?,
+            refusal_of(alloc, three, why)?,
         ],
     }))
 }
 
-fn read_of(alloc: Global, words: &str) -> Result<Got, Unread> {
+fn read_of(alloc: Global, words: &str, why: &mut String) -> Result<Got, Wrong> {
     match bytes_of(alloc, words)? {
         Some(bytes) => Ok(Got::Read(Some(bytes))),
-        None => Err(no_such(alloc, words)),
+        None => no_such(words, why),
     }
 }
 
-fn answered_of(alloc: Global, words: &str) -> Result<Got, Unread> {
+fn answered_of(words: &str, why: &mut String) -> Result<Got, Wrong> {
     match words {
         "ok" => Ok(Got::Answered(Answer::Ok(Values::Done))),
         "NO_PIPELINE" => Ok(Got::Answered(Answer::NoPipeline)),
-        _ => Err(no_such(alloc, words)),
+        _ => no_such(words, why),
     }
 }
 
-/// What comes back, and nothing where the row says something else.
-fn got_of(alloc: Global, row: &Statement) -> Result<Option<Got>, Unread> {
-    let words = row.words_from(alloc, 1)?;
+/// What comes back with these words.
+fn got_of(alloc: Global, word: &str, words: &str, why: &mut String) -> Result<Got, Wrong> {
+    match word {
+        "start" => Ok(Got::Start),
+        "reply" => Ok(Got::Reply(reply_of(alloc, words, why)?)),
+        "written" => written_of(alloc, words, why),
+        "bytes" => read_of(alloc, words, why),
+        "answered" => answered_of(words, why),
+        _ => Ok(Got::Read(None)),
+    }
+}
+
+/// Whether a row says what comes back.
+fn comes_back(row: &Statement) -> bool {
     match row.word(0) {
-        "start" if words.is_empty() => Ok(Some(Got::Start)),
-        "reply" => Ok(Some(Got::Reply(reply_of(alloc, words.as_str())?))),
-        "written" => Ok(Some(written_of(alloc, words.as_str())?)),
-        "bytes" => Ok(Some(read_of(alloc, words.as_str())?)),
-        "no-bytes" if words.is_empty() => Ok(Some(Got::Read(None))),
-        "answered" => Ok(Some(answered_of(alloc, words.as_str())?)),
-        _ => Ok(None),
+        "start" | "no-bytes" => row.words.len() == 1,
+        "reply" | "written" | "bytes" | "answered" => true,
+        _ => false,
     }
 }
 
-/// A step as it is compared.
-fn shown(alloc: Global, step: &Step) -> Result<String, AllocError> {
+/// Adds a step as it is compared.
+fn add_step(text: &mut String, step: &Step) -> Result<(), AllocError> {
     match step {
-        Step::Ask(request) => format!(in alloc; "asks {request:?}"),
+        Step::Ask(request) => write!(text, "asks {request:?}"),
         Step::Write {
             block,
             members,
@@ -82,67 +88,144 @@ fn shown(alloc: Global, step: &Step) -> Result<String, AllocError> {
             length,
         } => {
             let [one, two, three] = *members;
-            let at = format!(in alloc;
-                "{}.{} at {one} {two} {three}",
+            write!(
+                text,
+                "writes {}.{} at {one} {two} {three} from {first} for {length}",
                 block.container, block.local
-            )?;
-            format!(in alloc; "writes {at} from {first} for {length}")
+            )
         }
         Step::Read { piece } => {
             let block = piece.block;
-            format!(in alloc;
+            write!(
+                text,
                 "reads {}.{}:{}",
                 block.container, block.local, piece.length
             )
         }
-        Step::Admin(command) => format!(in alloc; "does {:?}", Command::Admin(*command)),
-        Step::Tell(answer) => format!(in alloc; "told {answer:?}"),
+        Step::Admin(command) => write!(text, "does {:?}", Command::Admin(*command)),
+        Step::Tell(answer) => write!(text, "told {answer:?}"),
     }
 }
 
-/// The step behind what comes back, or that it can't come back now.
-fn stepped(alloc: Global, steps: &mut LineSteps<'_>, got: Got) -> Result<String, AllocError> {
+/// Puts the step behind what comes back in the place of the last, or that it can't come back now.
+fn take_step(
+    alloc: Global,
+    steps: &mut LineSteps<'_>,
+    came: &mut String,
+    got: Got,
+) -> Result<(), AllocError> {
+    came.clear();
     if !steps.fits(&got) {
-        return String::from_str(alloc, "unfit");
+        return came.push_str("unfit");
     }
-    shown(alloc, &steps.next(alloc, got)?)
+    add_step(came, &steps.next(alloc, got)?)
 }
 
-/// An administrator's command as it is compared.
-fn command_shown(alloc: Global, words: &str) -> Result<String, Unread> {
+/// Adds an administrator's command as it is compared.
+fn add_command(
+    alloc: Global,
+    text: &mut String,
+    words: &str,
+    why: &mut String,
+) -> Result<(), Wrong> {
     match command_of(alloc, words.as_bytes())? {
-        Some(command) => Ok(format!(in alloc; "does {command:?}")?),
-        None => Err(no_such(alloc, words)),
+        Some(command) => Ok(write!(text, "does {command:?}")?),
+        None => no_such(words, why),
     }
+}
+
+/// Adds the wanted step of these words as it is compared.
+fn add_wanted(
+    alloc: Global,
+    text: &mut String,
+    row: &Statement,
+    words: &str,
+    why: &mut String,
+) -> Result<(), Wrong> {
+    match row.word(0) {
+        "asks" => {
+            text.push_str("asks ")?;
+            add_request(alloc, text, words, why)
+        }
+        "told" => {
+            text.push_str("told ")?;
+            add_told(alloc, text, words, why)
+        }
+        "does" => add_command(alloc, text, words, why),
+        "writes" | "reads" | "unfit" => {
+            let all = row.words_from(alloc, 0)?;
+            Ok(text.push_str(all.as_str())?)
+        }
+        other => no_such(other, why),
+    }
+}
+
+/// A shown value with each name as its bytes, between quotes.
+fn named(alloc: Global, shown: &str) -> Result<String, AllocError> {
+    let mut text = String::new(alloc);
+    add_named(&mut text, shown)?;
+    Ok(text)
 }
 
 /// The wanted step as it is compared.
-fn wanted(alloc: Global, row: &Statement) -> Result<String, Unread> {
+fn wanted(alloc: Global, row: &Statement, why: &mut String) -> Result<String, Wrong> {
     let words = row.words_from(alloc, 1)?;
-    match row.word(0) {
-        "asks" => Ok(format!(in alloc; "asks {}", request_shown(alloc, words.as_str())?)?),
-        "told" => Ok(format!(in alloc; "told {}", answer_shown(alloc, words.as_str())?)?),
-        "does" => command_shown(alloc, words.as_str()),
-        "writes" | "reads" | "unfit" => Ok(row.words_from(alloc, 0)?),
-        other => Err(no_such(alloc, other)),
-    }
+    let mut shown = String::new(alloc);
+    add_wanted(alloc, &mut shown, row, words.as_str(), why)?;
+    Ok(named(alloc, shown.as_str())?)
 }
 
 /// The step that came last is the wanted one.
-fn step_compared(alloc: Global, row: &Statement, came: &str) -> Found {
-    let wanted = named(alloc, wanted(alloc, row)?.as_str())?;
-    compared(alloc, wanted.as_str(), named(alloc, came)?.as_str())
+fn step_compared(
+    alloc: Global,
+    row: &Statement,
+    came: &str,
+    why: &mut String,
+) -> Result<(), Wrong> {
+    let wanted = wanted(alloc, row, why)?;
+    let came = named(alloc, came)?;
+    compared(wanted.as_str(), came.as_str(), why)
+}
+
+/// Takes what comes back.
+fn take_got(
+    alloc: Global,
+    steps: &mut LineSteps<'_>,
+    came: &mut String,
+    row: &Statement,
+    why: &mut String,
+) -> Result<(), Wrong> {
+    let words = row.words_from(alloc, 1)?;
+    let got = got_of(alloc, row.word(0), words.as_str(), why)?;
+    Ok(take_step(alloc, steps, came, got)?)
 }
 
 /// Goes through a row of a line: what comes back is taken, and a step is compared with the last.
-fn go(alloc: Global, steps: &mut LineSteps<'_>, came: &mut String, row: &Statement) -> Found {
-    match got_of(alloc, row)? {
-        Some(got) => {
-            *came = stepped(alloc, steps, got)?;
-            Ok(None)
-        }
-        None => step_compared(alloc, row, came.as_str()),
+fn go(
+    alloc: Global,
+    steps: &mut LineSteps<'_>,
+    came: &mut String,
+    row: &Statement,
+    why: &mut String,
+) -> Result<(), Wrong> {
+    if comes_back(row) {
+        take_got(alloc, steps, came, row, why)
+    } else {
+        step_compared(alloc, row, came.as_str(), why)
     }
+}
+
+/// Goes through a row of a line, and tells of it.
+fn tell_row(
+    alloc: Global,
+    told: &mut Vec<String>,
+    steps: &mut LineSteps<'_>,
+    came: &mut String,
+    row: &Statement,
+) -> Result<(), AllocError> {
+    let mut why = String::new(alloc);
+    let found = go(alloc, steps, came, row, &mut why);
+    tell(alloc, told, row, found, why.as_str())
 }
 
 fn begins(row: &Statement) -> bool {
@@ -164,9 +247,55 @@ fn go_through<'a>(
         if begins(row) {
             return Ok(None);
         }
-        tell(alloc, told, row, go(alloc, steps, &mut came, row))?;
+        tell_row(alloc, told, steps, &mut came, row)?;
     }
     Ok(None)
+}
+
+/// Tells whether a line leaves what a row says.
+fn tell_left(
+    alloc: Global,
+    told: &mut Vec<String>,
+    row: &Statement,
+    is_label: bool,
+) -> Result<(), AllocError> {
+    let what = if is_label { "label" } else { "nothing" };
+    let mut why = String::new(alloc);
+    let found = compared(row.word(1), what, &mut why);
+    tell(alloc, told, row, found, why.as_str())
+}
+
+/// Goes through the rows of a line of this command, and gives what it leaves.
+fn judge_rows(
+    alloc: Global,
+    told: &mut Vec<String>,
+    rows: &[Statement],
+    command: &Command,
+    label: Option<&Label>,
+) -> Result<Option<Label>, AllocError> {
+    let mut steps = LineSteps::new(alloc, command, NODES, label)?;
+    let leaves = go_through(alloc, told, &mut steps, rows)?;
+    let left = steps.label();
+    if let Some(row) = leaves {
+        tell_left(alloc, told, row, left.is_some())?;
+    }
+    Ok(left)
+}
+
+/// The command of a line, if its words say one.
+fn command_in(alloc: Global, row: &Statement) -> Result<Option<Command>, AllocError> {
+    let words = row.words_from(alloc, 1)?;
+    command_of(alloc, words.as_bytes())
+}
+
+/// Tells that the words of a line say no command.
+fn tell_no_command(
+    alloc: Global,
+    told: &mut Vec<String>,
+    row: &Statement,
+) -> Result<(), AllocError> {
+    let words = row.words_from(alloc, 1)?;
+    tell_unread(alloc, told, row, words.as_str())
 }
 
 /// Goes through a line, whose statement is the first, and gives what it leaves.
@@ -179,19 +308,13 @@ fn judge_line(
     let Some((first, rows)) = rows.split_first() else {
         return Ok(None);
     };
-    let words = first.words_from(alloc, 1)?;
-    let Some(command) = command_of(alloc, words.as_bytes())? else {
-        tell(alloc, told, first, Err(no_such(alloc, words.as_str())))?;
-        return Ok(None);
-    };
-    let mut steps = LineSteps::new(alloc, &command, NODES, label)?;
-    let leaves = go_through(alloc, told, &mut steps, rows)?;
-    let left = steps.label();
-    if let Some(row) = leaves {
-        let what = if left.is_some() { "label" } else { "nothing" };
-        tell(alloc, told, row, compared(alloc, row.word(1), what))?;
+    match command_in(alloc, first)? {
+        Some(command) => judge_rows(alloc, told, rows, &command, label),
+        None => {
+            tell_no_command(alloc, told, first)?;
+            Ok(None)
+        }
     }
-    Ok(left)
 }
 
 /// The rows that belong to no line.
@@ -205,10 +328,26 @@ fn tell_strays(
         if begins(row) {
             is_over = false;
         } else if is_over {
-            tell(alloc, told, row, Err(no_such(alloc, row.word(0))))?;
+            tell_unread(alloc, told, row, row.word(0))?;
         } else {
             is_over = row.word(0) == "leaves";
         }
+    }
+    Ok(())
+}
+
+/// Goes through the line that begins at a place, and keeps the label that it leaves, if it does.
+fn judge_from(
+    alloc: Global,
+    told: &mut Vec<String>,
+    label: &mut Option<Label>,
+    rows: &[Statement],
+) -> Result<(), AllocError> {
+    let is_labelled = rows.first().is_some_and(|row| row.word(0) == "labelled");
+    let given = if is_labelled { label.as_ref() } else { None };
+    let left = judge_line(alloc, told, rows, given)?;
+    if left.is_some() {
+        *label = left;
     }
     Ok(())
 }
@@ -220,17 +359,8 @@ pub fn judge_steps(alloc: Global, case: &[Statement]) -> Result<Judged, AllocErr
     let rows = case.get(1..).unwrap_or(&[]);
     tell_strays(alloc, &mut told, rows)?;
     for place in 0..rows.len() {
-        let row = &rows[place];
-        if begins(row) {
-            let given = if row.word(0) == "labelled" {
-                label.as_ref()
-            } else {
-                None
-            };
-            let left = judge_line(alloc, &mut told, &rows[place..], given)?;
-            if left.is_some() {
-                label = left;
-            }
+        if begins(&rows[place]) {
+            judge_from(alloc, &mut told, &mut label, &rows[place..])?;
         }
     }
     Ok(judged(told))

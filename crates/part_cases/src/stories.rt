@@ -8,13 +8,12 @@
 //! - `prints LINES`: the report of the events so far, of a script of so many lines, is the block;
 //! - `no-events` and `no-things`: no line of the block can be read, as an event or as what is there.
 
-use crate::found::{Found, compared, judged, no_such, tell};
+use crate::found::{Wrong, compared, judged, no_such, opening_in, story_in, tell};
 use case_files::{Judged, Statement, joined};
 use oz_core::{Event, Opening};
 use oz_legal::{enabled, legal};
 use oz_report::text;
 use std::alloc::{AllocError, Global};
-use story_parts::{Unread, opening_of, story_of};
 
 /// What the rows begin with, as texts.
 #[derive(Drop)]
@@ -23,14 +22,22 @@ struct Before {
     events: String,
 }
 
-/// The events so far and those of a row.
-fn events_of(alloc: Global, before: &Before, row: &Statement) -> Result<Vec<Event>, Unread> {
-    let further = joined(alloc, &row.block)?;
+/// The lines of the events so far and of those of a row: one behind its first word, and those in its block.
+fn lines_of(alloc: Global, before: &Before, row: &Statement) -> Result<String, AllocError> {
     let event = row.words_from(alloc, 1)?;
-    story_of(
-        alloc,
-        &format!(in alloc; "{}{event}\n{further}", before.events)?,
-    )
+    let further = joined(alloc, &row.block)?;
+    format!(in alloc; "{}{event}\n{further}", before.events)
+}
+
+/// The events so far and those of a row.
+fn events_of(
+    alloc: Global,
+    before: &Before,
+    row: &Statement,
+    why: &mut String,
+) -> Result<Vec<Event>, Wrong> {
+    let lines = lines_of(alloc, before, row)?;
+    story_in(alloc, lines.as_str(), why)
 }
 
 /// Whether the last event may follow the others, and where the story first breaks the law.
@@ -38,109 +45,193 @@ fn lawful(
     alloc: Global,
     opening: &Opening,
     story: &[Event],
-) -> Result<(bool, Option<usize>), Unread> {
+    why: &mut String,
+) -> Result<(bool, Option<usize>), Wrong> {
     let Some((event, before)) = story.split_last() else {
-        return Err(no_such(alloc, "no event"));
+        return no_such("no event", why);
     };
     let may = enabled(alloc, opening, before, event)?;
     Ok((may, legal(alloc, opening, story)?))
 }
 
-/// A story whose last event may follow isn't broken there, and one whose last event may not is broken somewhere.
-fn follows(alloc: Global, before: &Before, row: &Statement, wanted: bool) -> Found {
-    let opening = opening_of(alloc, before.opening.as_str())?;
-    let story = events_of(alloc, before, row)?;
-    let (may, fault) = lawful(alloc, &opening, &story)?;
-    let agrees = match fault {
-        Some(place) => !may || place.saturating_add(1) < story.len(),
+/// Whether the last event of a story of so many may follow agrees with where the story first breaks the law.
+fn agrees(may: bool, fault: Option<usize>, count: usize) -> bool {
+    match fault {
+        Some(place) => !may || place.saturating_add(1) < count,
         None => may,
-    };
-    if !agrees {
-        return Ok(Some(format!(in alloc; "legal says {fault:?}")?));
     }
-    compared(alloc, shown(wanted), shown(may))
+}
+
+/// A story whose last event may follow isn't broken there, and one whose last event may not is broken somewhere.
+fn follows_so(
+    alloc: Global,
+    opening: &Opening,
+    story: &[Event],
+    wanted: bool,
+    why: &mut String,
+) -> Result<(), Wrong> {
+    let (may, fault) = lawful(alloc, opening, story, why)?;
+    if !agrees(may, fault, story.len()) {
+        write!(why, "legal says {fault:?}")?;
+        return Err(Wrong::Differs);
+    }
+    compared(shown(wanted), shown(may), why)
+}
+
+/// The last event of a row may follow, or may not.
+fn follows(
+    alloc: Global,
+    before: &Before,
+    row: &Statement,
+    wanted: bool,
+    why: &mut String,
+) -> Result<(), Wrong> {
+    let opening = opening_in(alloc, before.opening.as_str(), why)?;
+    let story = events_of(alloc, before, row, why)?;
+    follows_so(alloc, &opening, &story, wanted, why)
 }
 
 fn shown(may: bool) -> &'static str {
     if may { "may" } else { "may-not" }
 }
 
-/// Where the story first breaks the law.
-fn breaks(alloc: Global, before: &Before, row: &Statement, wanted: Option<u64>) -> Found {
-    let opening = opening_of(alloc, before.opening.as_str())?;
+/// The lines of the events so far and of those in the block of a row.
+fn block_of(alloc: Global, before: &Before, row: &Statement) -> Result<String, AllocError> {
     let further = joined(alloc, &row.block)?;
-    let story = story_of(alloc, &format!(in alloc; "{}{further}", before.events)?)?;
-    let fault = legal(alloc, &opening, &story)?;
-    let came = format!(in alloc; "{fault:?}")?;
-    compared(
-        alloc,
-        format!(in alloc; "{wanted:?}")?.as_str(),
-        came.as_str(),
-    )
+    format!(in alloc; "{}{further}", before.events)
+}
+
+/// The story first breaks the law there.
+fn breaks_at(
+    alloc: Global,
+    opening: &Opening,
+    story: &[Event],
+    wanted: Option<u64>,
+    why: &mut String,
+) -> Result<(), Wrong> {
+    let mut came = String::new(alloc);
+    let fault = legal(alloc, opening, story)?;
+    write!(came, "{fault:?}")?;
+    let mut at = String::new(alloc);
+    write!(at, "{wanted:?}")?;
+    compared(at.as_str(), came.as_str(), why)
+}
+
+/// Where the story of a row first breaks the law.
+fn breaks(
+    alloc: Global,
+    before: &Before,
+    row: &Statement,
+    wanted: Option<u64>,
+    why: &mut String,
+) -> Result<(), Wrong> {
+    let opening = opening_in(alloc, before.opening.as_str(), why)?;
+    let lines = block_of(alloc, before, row)?;
+    let story = story_in(alloc, lines.as_str(), why)?;
+    breaks_at(alloc, &opening, &story, wanted, why)
 }
 
 /// The first line that isn't the wanted one.
-fn line_compared(alloc: Global, wanted: &str, came: &str) -> Found {
+fn line_compared(wanted: &str, came: &str, why: &mut String) -> Result<(), Wrong> {
     for (wanted, came) in wanted.lines().zip(came.lines()) {
         if wanted != came {
-            return compared(alloc, wanted, came);
+            return compared(wanted, came, why);
         }
     }
-    compared(alloc, wanted, came)
+    compared(wanted, came, why)
+}
+
+/// The report of events.
+fn printed(alloc: Global, lines: u64, story: &[Event]) -> Result<String, AllocError> {
+    let bytes = text(alloc, lines, story)?;
+    String::from_utf8_lossy(alloc, &bytes)
 }
 
 /// What is printed of the events so far.
-fn prints(alloc: Global, before: &Before, row: &Statement) -> Found {
+fn prints(alloc: Global, before: &Before, row: &Statement, why: &mut String) -> Result<(), Wrong> {
     let Some(lines) = row.number(1) else {
-        return Err(no_such(alloc, "no number of lines"));
+        return no_such("no number of lines", why);
     };
-    let story = story_of(alloc, before.events.as_str())?;
-    let printed = String::from_utf8_lossy(alloc, &text(alloc, lines, &story)?)?;
-    line_compared(alloc, row.text(alloc)?.as_str(), printed.as_str())
+    let story = story_in(alloc, before.events.as_str(), why)?;
+    let printed = printed(alloc, lines, &story)?;
+    let wanted = row.text(alloc)?;
+    line_compared(wanted.as_str(), printed.as_str(), why)
 }
 
-/// This very line was refused.
-fn refused<T: Drop>(alloc: Global, read: Result<T, Unread>, line: &str) -> Found {
+/// This very line was refused: nothing was read, and the text has the line.
+fn refused<T: Drop>(
+    read: Result<T, Wrong>,
+    line: &str,
+    unread: &str,
+    why: &mut String,
+) -> Result<(), Wrong> {
     match read {
-        Err(Unread::Line(unread)) => compared(alloc, line, unread.as_str()),
-        Err(Unread::OutOfMemory) => Err(Unread::OutOfMemory),
-        Ok(_) => Ok(Some(format!(in alloc; "\"{line}\" was read")?)),
+        Err(Wrong::OutOfMemory) => Err(Wrong::OutOfMemory),
+        Err(Wrong::Unread | Wrong::Differs) => compared(line, unread, why),
+        Ok(_) => {
+            write!(why, "\"{line}\" was read")?;
+            Err(Wrong::Differs)
+        }
     }
+}
+
+/// A line isn't an event.
+fn no_event(alloc: Global, line: &str, why: &mut String) -> Result<(), Wrong> {
+    let text = format!(in alloc; "0 swap 1\n{line}\n0 swap 2")?;
+    let mut unread = String::new(alloc);
+    let read = story_in(alloc, text.as_str(), &mut unread);
+    refused(read, line, unread.as_str(), why)
 }
 
 /// No line of the block is an event.
-fn no_events(alloc: Global, row: &Statement) -> Found {
+fn no_events(alloc: Global, row: &Statement, why: &mut String) -> Result<(), Wrong> {
     for line in &row.block {
-        let text = format!(in alloc; "0 swap 1\n{line}\n0 swap 2")?;
-        if let Some(differs) = refused(alloc, story_of(alloc, &text), line.as_str())? {
-            return Ok(Some(differs));
-        }
+        no_event(alloc, line.as_str(), why)?;
     }
-    Ok(None)
+    Ok(())
+}
+
+/// A line doesn't say what is there.
+fn no_thing(alloc: Global, line: &str, why: &mut String) -> Result<(), Wrong> {
+    let mut unread = String::new(alloc);
+    let read = opening_in(alloc, line, &mut unread);
+    refused(read, line, unread.as_str(), why)
 }
 
 /// No line of the block says what is there.
-fn no_things(alloc: Global, row: &Statement) -> Found {
+fn no_things(alloc: Global, row: &Statement, why: &mut String) -> Result<(), Wrong> {
     for line in &row.block {
-        if let Some(differs) = refused(alloc, opening_of(alloc, line.as_str()), line.as_str())? {
-            return Ok(Some(differs));
-        }
+        no_thing(alloc, line.as_str(), why)?;
     }
-    Ok(None)
+    Ok(())
 }
 
-/// What a row comes to.
-fn found(alloc: Global, before: &Before, row: &Statement) -> Found {
+/// A row comes to what it says.
+fn found(alloc: Global, before: &Before, row: &Statement, why: &mut String) -> Result<(), Wrong> {
     match (row.word(0), row.words.len()) {
-        ("may", _) => follows(alloc, before, row, true),
-        ("may-not", _) => follows(alloc, before, row, false),
-        ("lawful", 1) => breaks(alloc, before, row, None),
-        ("breaks", 2) if row.number(1).is_some() => breaks(alloc, before, row, row.number(1)),
-        ("prints", 2) => prints(alloc, before, row),
-        ("no-events", 1) => no_events(alloc, row),
-        ("no-things", 1) => no_things(alloc, row),
-        (other, _) => Err(no_such(alloc, other)),
+        ("may", _) => follows(alloc, before, row, true, why),
+        ("may-not", _) => follows(alloc, before, row, false, why),
+        ("lawful", 1) => breaks(alloc, before, row, None, why),
+        ("breaks", 2) if row.number(1).is_some() => {
+            breaks(alloc, before, row, row.number(1), why)
+        }
+        ("prints", 2) => prints(alloc, before, row, why),
+        ("no-events", 1) => no_events(alloc, row, why),
+        ("no-things", 1) => no_things(alloc, row, why),
+        (other, _) => no_such(other, why),
     }
+}
+
+/// Tells of a row.
+fn tell_row(
+    alloc: Global,
+    told: &mut Vec<String>,
+    before: &Before,
+    row: &Statement,
+) -> Result<(), AllocError> {
+    let mut why = String::new(alloc);
+    let found = found(alloc, before, row, &mut why);
+    tell(alloc, told, row, found, why.as_str())
 }
 
 /// Judges a case of stories.
@@ -154,7 +245,7 @@ pub fn judge_stories(alloc: Global, case: &[Statement]) -> Result<Judged, AllocE
         match (row.word(0), row.words.len()) {
             ("opening", 1) => before.opening = row.text(alloc)?,
             ("after", 1) => before.events = row.text(alloc)?,
-            _ => tell(alloc, &mut told, row, found(alloc, &before, row))?,
+            _ => tell_row(alloc, &mut told, &before, row)?,
         }
     }
     Ok(judged(told))

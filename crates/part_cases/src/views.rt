@@ -12,13 +12,13 @@ ghost use Rattle.std.specs.List.Sorted.{IsStrictlyIncreasing};
 ghost use Rattle.oz_repl.specs.repl.View.{AreRising};
 
 use crate::due::{plain_copies, plain_event};
-use crate::found::{Found, compared, judged, no_such, tell};
+use crate::found::{Wrong, compared, judged, no_such, tell};
 use case_files::{Judged, Statement};
 use oz_container::{Event, State};
 use oz_fields::List;
 use oz_repl::{CopyOrder, View, plan, step};
 use std::alloc::{AllocError, Global};
-use story_parts::{Unread, Words};
+use story_parts::Words;
 
 /// The members of each container.
 const MEMBERS: [u8; 3] = [4, 5, 6];
@@ -33,53 +33,62 @@ const LISTS: u64 = 4;
 /// How many views these make.
 const VIEWS: u64 = 98_304;
 
+/// A row comes to what it says.
+fn found(alloc: Global, statement: &Statement, why: &mut String) -> Result<(), Wrong> {
+    match statement.word(0) {
+        "view" => of_view(alloc, statement, why),
+        "each-view" => of_each(alloc, statement, why),
+        _ => no_such("no statement begins so", why),
+    }
+}
+
+/// Tells of a row.
+fn tell_row(
+    alloc: Global,
+    told: &mut Vec<String>,
+    statement: &Statement,
+) -> Result<(), AllocError> {
+    let mut why = String::new(alloc);
+    let found = found(alloc, statement, &mut why);
+    tell(alloc, told, statement, found, why.as_str())
+}
+
 /// Judges a case of views.
 pub fn judge_views(alloc: Global, case: &[Statement]) -> Result<Judged, AllocError> {
     let mut told = Vec::new(alloc);
     for statement in case.iter().skip(1) {
-        let found = match statement.word(0) {
-            "view" => of_view(alloc, statement),
-            "each-view" => of_each(alloc, statement),
-            _ => Err(no_such(alloc, "no statement begins so")),
-        };
-        tell(alloc, &mut told, statement, found)?;
+        tell_row(alloc, &mut told, statement)?;
     }
     Ok(judged(told))
 }
 
-/// What differs of one view.
-fn of_view(alloc: Global, statement: &Statement) -> Found {
-    let view = read_view(alloc, statement)?;
-    let mut wanted = String::new(alloc);
-    for line in &statement.block {
-        wanted.push_str(line.as_str())?;
-        wanted.push('\n')?;
+/// What is due of a view is the block of the statement.
+fn of_view(alloc: Global, statement: &Statement, why: &mut String) -> Result<(), Wrong> {
+    let view = read_view(alloc, statement, why)?;
+    let mut came = String::new(alloc);
+    if !add_due(alloc, &mut came, &view)? {
+        return no_such("its lists don't rise, or have more than two local ids", why);
     }
-    match due_text(alloc, &view)? {
-        Some(came) => compared(alloc, wanted.as_str(), came.as_str()),
-        None => Err(no_such(
-            alloc,
-            "its lists don't rise, or have more than two local ids",
-        )),
-    }
+    let wanted = statement.text(alloc)?;
+    compared(wanted.as_str(), came.as_str(), why)
 }
 
-/// What is due of a view whose lists rise.
-fn due_text(alloc: Global, view: &View) -> Result<Option<String>, AllocError> {
+/// Adds what is due of a view whose lists rise, and says whether they do.
+fn add_due(alloc: Global, text: &mut String, view: &View) -> Result<bool, AllocError> {
     if !are_rising(view) {
-        return Ok(None);
+        return Ok(false);
     }
     let mut orders = plan(alloc, view)?;
     orders.sort_by_key(|order: &CopyOrder| (order.local, order.target))?;
-    Ok(Some(text_of(alloc, &orders, step(view))?))
+    add_all(text, &orders, step(view))?;
+    Ok(true)
 }
 
-fn text_of(
-    alloc: Global,
+fn add_all(
+    text: &mut String,
     orders: &[CopyOrder],
     event: Option<Event>,
-) -> Result<String, AllocError> {
-    let mut text = String::new(alloc);
+) -> Result<(), AllocError> {
     for CopyOrder {
         source,
         target,
@@ -88,10 +97,9 @@ fn text_of(
         write!(text, "copy {source} {target} {local}\n")?;
     }
     match event {
-        Some(event) => write!(text, "next {event:?}\n")?,
-        None => text.push_str("next nothing\n")?,
+        Some(event) => write!(text, "next {event:?}\n"),
+        None => text.push_str("next nothing\n"),
     }
-    Ok(text)
 }
 
 fn are_rising(view: &View) -> bool
@@ -113,11 +121,11 @@ fn is_rising(locals: &[u64]) -> bool
 
 // ---- a view
 
-fn read_view(alloc: Global, statement: &Statement) -> Result<View, Unread> {
+fn read_view(alloc: Global, statement: &Statement, why: &mut String) -> Result<View, Wrong> {
     let mut words = Words::new(statement.word(1), ' ');
     let state = words.state();
     if !words.are_read() {
-        return Err(no_such(alloc, statement.word(1)));
+        return no_such(statement.word(1), why);
     }
     Ok(View {
         state,
@@ -125,11 +133,11 @@ fn read_view(alloc: Global, statement: &Statement) -> Result<View, Unread> {
         up: places(statement.word(2)),
         closed: places(statement.word(3)),
         held: [
-            locals(alloc, statement.word(4))?,
-            locals(alloc, statement.word(5))?,
-            locals(alloc, statement.word(6))?,
+            locals(alloc, statement.word(4), why)?,
+            locals(alloc, statement.word(5), why)?,
+            locals(alloc, statement.word(6), why)?,
         ],
-        logged: locals(alloc, statement.word(7))?,
+        logged: locals(alloc, statement.word(7), why)?,
     })
 }
 
@@ -139,10 +147,10 @@ fn places(said: &str) -> [bool; 3] {
     [stands("0"), stands("1"), stands("2")]
 }
 
-fn locals(alloc: Global, said: &str) -> Result<List<u64>, Unread> {
+fn locals(alloc: Global, said: &str, why: &mut String) -> Result<List<u64>, Wrong> {
     match numbers(alloc, said)? {
         Some(locals) => Ok(List::of(locals)),
-        None => Err(no_such(alloc, said)),
+        None => no_such(said, why),
     }
 }
 
@@ -163,20 +171,37 @@ fn numbers(alloc: Global, said: &str) -> Result<Option<Vec<u64>>, AllocError> {
 
 // ---- all views
 
-/// The first of all views that comes to something else than by the plain reading.
-fn of_each(alloc: Global, statement: &Statement) -> Found {
+/// All views come to what they come to by the plain reading, each after another.
+fn of_each(alloc: Global, statement: &Statement, why: &mut String) -> Result<(), Wrong> {
     if statement.number(1) != Some(VIEWS) {
-        return Ok(Some(format!(in alloc; "there are {VIEWS} views")?));
+        write!(why, "there are {VIEWS} views")?;
+        return Err(Wrong::Differs);
     }
     for number in 0..VIEWS {
-        let view = view_numbered(alloc, number)?;
-        let plain = text_of(alloc, &plain_copies(alloc, &view)?, plain_event(&view))?;
-        let came = due_text(alloc, &view)?;
-        if came.as_ref() != Some(&plain) {
-            return Ok(Some(format!(in alloc; "of {view:?} {came:?} came")?));
-        }
+        of_number(alloc, number, why)?;
     }
-    Ok(None)
+    Ok(())
+}
+
+/// The view of a number comes to what it comes to by the plain reading.
+fn of_number(alloc: Global, number: u64, why: &mut String) -> Result<(), Wrong> {
+    let view = view_numbered(alloc, number)?;
+    let mut plain = String::new(alloc);
+    add_plain(alloc, &mut plain, &view)?;
+    let mut came = String::new(alloc);
+    let is_due = add_due(alloc, &mut came, &view)?;
+    if is_due && came == plain {
+        return Ok(());
+    }
+    let came = is_due.then_some(came.as_str());
+    write!(why, "of {view:?} {came:?} came")?;
+    Err(Wrong::Differs)
+}
+
+/// Adds what is due of a view by the plain reading.
+fn add_plain(alloc: Global, text: &mut String, view: &View) -> Result<(), AllocError> {
+    let orders = plain_copies(alloc, view)?;
+    add_all(text, &orders, plain_event(view))
 }
 
 fn view_numbered(alloc: Global, number: u64) -> Result<View, AllocError> {

@@ -4,8 +4,9 @@ ghost use Rattle.std.specs.Prelude.{IfOk, IsTrue};
 ghost use Rattle.oz_om_session.specs.Picks.{IsPick};
 ghost use Rattle.oz_rows.specs.Rows.{IsBlock, IsBlockNumber};
 
+use crate::knowing::is_decided_alike;
 use crate::rows::stand_alike;
-use crate::said::{line, reply_text, request_of};
+use crate::said::{cannot, reply_text, request_of};
 use crate::store::Store;
 use crate::sweeping::note_left;
 use crate::wrong::Wrong;
@@ -58,17 +59,21 @@ fn is_code(reply: &str) -> bool {
 /// Asks these requests of both programs. A request that is to be refused is asked twice, without a picked block and with one.
 pub fn ask_all(alloc: Global, store: &mut Store, block: &[String]) -> Result<(), Wrong> {
     for text in block {
-        if let Some(batch) = text.strip_prefix("  ") {
-            is_batch(alloc, store, batch)?;
-        } else {
-            let asked = Asked::of(text.as_str());
-            ask(alloc, store, asked, pick_in(alloc, asked.wanted)?)?;
-            if is_code(asked.wanted) {
-                ask(alloc, store, asked, Some((SPARE, 0)))?;
-            }
+        match text.strip_prefix("  ") {
+            Some(batch) => is_batch(alloc, store, batch)?,
+            None => ask_line(alloc, store, Asked::of(text.as_str()))?,
         }
     }
     stand_alike(alloc, store)
+}
+
+/// Asks the request of a line.
+fn ask_line(alloc: Global, store: &mut Store, asked: Asked<'_>) -> Result<(), Wrong> {
+    ask(alloc, store, asked, pick_in(alloc, asked.wanted)?)?;
+    if is_code(asked.wanted) {
+        ask(alloc, store, asked, Some((SPARE, 0)))?;
+    }
+    Ok(())
 }
 
 /// The block that a wanted reply grants.
@@ -94,28 +99,31 @@ fn is_number(number: u64) -> bool
 }
 
 /// The operations of the last request were these.
-fn is_batch(alloc: Global, store: &Store, words: &str) -> Result<(), Wrong> {
-    let wanted = if words == "none" {
-        Some(Vec::new(alloc))
-    } else {
-        bytes_of(alloc, words)?
-    };
-    let batch = store.batch.items();
-    match wanted {
-        Some(bytes) if bytes.as_slice() == batch => Ok(()),
-        _ => line(format!(in alloc;
-            "wanted the batch `{words}`, there is `{}`",
-            hex(alloc, batch)?
-        )),
+fn is_batch(alloc: Global, store: &mut Store, words: &str) -> Result<(), Wrong> {
+    if are_said(alloc, store.batch.items(), words)? {
+        return Ok(());
+    }
+    write!(store.why, "wanted the batch `{words}`, there is `")?;
+    add_hex(&mut store.why, store.batch.items())?;
+    cannot(&mut store.why, "`")
+}
+
+/// Whether words say these bytes, and `none` that there are none.
+fn are_said(alloc: Global, bytes: &[u8], words: &str) -> Result<bool, AllocError> {
+    if words == "none" {
+        return Ok(bytes.is_empty());
+    }
+    match bytes_of(alloc, words)? {
+        Some(said) => Ok(said.as_slice() == bytes),
+        None => Ok(false),
     }
 }
 
-fn hex(alloc: Global, bytes: &[u8]) -> Result<String, AllocError> {
-    let mut text = String::new(alloc);
+fn add_hex(text: &mut String, bytes: &[u8]) -> Result<(), AllocError> {
     for byte in bytes {
         write!(text, "{byte:02x}")?;
     }
-    Ok(text)
+    Ok(())
 }
 
 /// Asks a request of both programs, and goes on to what it leaves.
@@ -127,11 +135,14 @@ pub fn ask(
 ) -> Result<(), Wrong>
     requires { IsPick pick }
 {
-    let request = request_of(alloc, asked.said)?;
+    let request = request_of(alloc, asked.said, &mut store.why)?;
     match decide(alloc, &store.cached, &request, pick)? {
-        Outcome::Decided(decision) => decided(alloc, store, asked, &request, pick, decision),
-        Outcome::NoBlock => is_wanted(alloc, asked, "no_block"),
-        Outcome::NotYet => is_wanted(alloc, asked, "not_yet"),
+        Outcome::Decided(decision) => {
+            is_decided_alike(alloc, store, &request, &decision)?;
+            decided(alloc, store, asked, &request, pick, decision)
+        }
+        Outcome::NoBlock => is_wanted(store, asked, "no_block"),
+        Outcome::NotYet => is_wanted(store, asked, "not_yet"),
     }
 }
 
@@ -144,14 +155,26 @@ fn decided(
     pick: Option<(Block, u8)>,
     decision: Decision,
 ) -> Result<(), Wrong> {
-    let plain = replied(alloc, store, request, pick)?;
-    compare(alloc, asked, &decision.reply, &plain)?;
-    store.note(alloc, asked.said, &plain)?;
+    are_alike(alloc, store, asked, request, pick, &decision.reply)?;
     if matches!(request, Request::Purge { .. }) {
         store.is_purged = true;
     }
     go_on(alloc, store, decision)?;
     Ok(note_left(alloc, store, request)?)
+}
+
+/// What was decided is what the plain program replies, which goes on to what it leaves.
+fn are_alike(
+    alloc: Global,
+    store: &mut Store,
+    asked: Asked<'_>,
+    request: &Request,
+    pick: Option<(Block, u8)>,
+    decided: &Reply,
+) -> Result<(), Wrong> {
+    let plain = replied(alloc, store, request, pick)?;
+    compare(alloc, store, asked, decided, &plain)?;
+    Ok(store.note(alloc, asked.said, &plain)?)
 }
 
 /// What the plain program replies. It goes on to the namespace that is left.
@@ -168,24 +191,33 @@ fn replied(
 }
 
 /// Both replies are one, and it is wanted.
-fn compare(alloc: Global, asked: Asked<'_>, decided: &Reply, plain: &Reply) -> Result<(), Wrong> {
+fn compare(
+    alloc: Global,
+    store: &mut Store,
+    asked: Asked<'_>,
+    decided: &Reply,
+    plain: &Reply,
+) -> Result<(), Wrong> {
     let decided = reply_text(alloc, decided)?;
     let plain = reply_text(alloc, plain)?;
     if asked.is_wanted(decided.as_str()) && decided == plain {
         return Ok(());
     }
     let Asked { said, wanted } = asked;
-    line(format!(in alloc;
+    write!(
+        store.why,
         "{said}: wanted `{wanted}`, over rows `{decided}`, by one thread `{plain}`"
-    ))
+    )?;
+    Err(Wrong::Line)
 }
 
-fn is_wanted(alloc: Global, asked: Asked<'_>, came: &str) -> Result<(), Wrong> {
+fn is_wanted(store: &mut Store, asked: Asked<'_>, came: &str) -> Result<(), Wrong> {
     if asked.is_wanted(came) {
         return Ok(());
     }
     let Asked { said, wanted } = asked;
-    line(format!(in alloc; "{said}: wanted `{wanted}`, there came `{came}`"))
+    write!(store.why, "{said}: wanted `{wanted}`, there came `{came}`")?;
+    Err(Wrong::Line)
 }
 
 /// Enters what a decision changes. A refusal changes nothing.
@@ -196,7 +228,7 @@ fn go_on(alloc: Global, store: &mut Store, decision: Decision) -> Result<(), Wro
         changes,
     } = decision;
     if matches!(&reply, Reply::Code(_)) && !(bytes.is_empty() && changes.is_empty()) {
-        return line(String::from_str(alloc, "a refusal has operations"));
+        return cannot(&mut store.why, "a refusal has operations");
     }
     store.batch = bytes;
     Ok(store.enter(alloc, changes)?)
@@ -205,11 +237,15 @@ fn go_on(alloc: Global, store: &mut Store, decision: Decision) -> Result<(), Wro
 /// Asks these requests of the plain program alone.
 pub fn tell_all(alloc: Global, store: &mut Store, block: &[String]) -> Result<(), Wrong> {
     for text in block {
-        let asked = Asked::of(text.as_str());
-        let request = request_of(alloc, asked.said)?;
-        let pick = pick_in(alloc, asked.wanted)?;
-        let reply = replied(alloc, store, &request, pick)?;
-        is_wanted(alloc, asked, reply_text(alloc, &reply)?.as_str())?;
+        tell(alloc, store, Asked::of(text.as_str()))?;
     }
     Ok(())
+}
+
+/// Asks a request of the plain program.
+fn tell(alloc: Global, store: &mut Store, asked: Asked<'_>) -> Result<(), Wrong> {
+    let request = request_of(alloc, asked.said, &mut store.why)?;
+    let pick = pick_in(alloc, asked.wanted)?;
+    let reply = replied(alloc, store, &request, pick)?;
+    is_wanted(store, asked, reply_text(alloc, &reply)?.as_str())
 }

@@ -9,7 +9,7 @@ ghost use Rattle.oz_rows.specs.Rows.{IsBlock};
 
 use crate::asked::{Asked, ask};
 use crate::rows::{row_lines, stand_alike};
-use crate::said::{cannot, line};
+use crate::said::cannot;
 use crate::store::{Store, flush, some_words};
 use crate::sweeping::sweep;
 use crate::wrong::Wrong;
@@ -42,11 +42,12 @@ pub fn drawn<'a>(
     store: &mut Store,
     statement: &'a Statement,
 ) -> Result<(), Wrong> {
-    let Some((state, stream, count)) = start_of(statement) else {
-        return cannot(alloc, "what is drawn has five numbers");
-    };
-    let (Some(least), Some(most)) = (statement.number(4), statement.number(5)) else {
-        return cannot(alloc, "what is drawn has five numbers");
+    let (Some((state, stream, count)), Some(least), Some(most)) = (
+        start_of(statement),
+        statement.number(4),
+        statement.number(5),
+    ) else {
+        return cannot(&mut store.why, "what is drawn has five numbers");
     };
     let source = Source {
         case,
@@ -66,7 +67,8 @@ pub fn drawn<'a>(
     if least <= changed && changed <= most {
         return Ok(());
     }
-    line(format!(in alloc; "{changed} requests changed something"))
+    write!(store.why, "{changed} requests changed something")?;
+    Err(Wrong::Line)
 }
 
 /// Draws a request, asks it of both programs and compares what they leave.
@@ -83,11 +85,16 @@ fn ask_drawn(
     };
     let block = block_of(u32::try_from(store.grants.len()).unwrap_or(0));
     ask(alloc, store, asked, Some((block, 0)))?;
-    match stand_alike(alloc, store) {
-        Ok(()) => Ok(()),
-        Err(Wrong::OutOfMemory) => Err(Wrong::OutOfMemory),
-        Err(Wrong::Line(why)) => line(format!(in alloc; "{text}: {why}")),
-    }
+    stand_alike_behind(alloc, store, text.as_str())
+}
+
+/// The rows are those of the namespace behind this request.
+fn stand_alike_behind(alloc: Global, store: &mut Store, request: &str) -> Result<(), Wrong> {
+    let line = String::from_str(alloc, store.why.as_str())?;
+    write!(store.why, "{request}: ")?;
+    stand_alike(alloc, store)?;
+    store.why = line;
+    Ok(())
 }
 
 /// A block by its number, in a container of four blocks each.

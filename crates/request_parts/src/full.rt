@@ -17,20 +17,54 @@ pub fn give_full(alloc: Global, store: &mut Store, statement: &Statement) -> Res
         statement.number(3),
         statement.number(4),
     ) else {
-        return cannot(alloc, "a full volume has three counts");
+        return cannot(&mut store.why, "a full volume has three counts");
     };
     let volume = Name::copy(alloc, statement.word(1).as_bytes())?;
+    Ok(enter_full(alloc, store, volume, [count, keys, sessions])?)
+}
+
+/// Enters the rows of a volume, and the volume itself in the namespace.
+fn enter_full(
+    alloc: Global,
+    store: &mut Store,
+    volume: Name,
+    counts: [u64; 3],
+) -> Result<(), AllocError> {
     let mut changes = Vec::new(alloc);
-    changes.push(put(RowKey::of_volume(alloc, &volume)?, Row::Volume))?;
-    let mut buckets = with_buckets(alloc, &mut changes, &volume, count)?;
-    let first = Name::copy(alloc, b"b-1")?;
-    let mut bucket = Bucket::new(alloc);
-    add_keys(alloc, &mut changes, &volume, &mut bucket, keys)?;
-    add_sessions(alloc, &mut changes, &volume, &mut bucket, sessions)?;
-    buckets.insert(alloc, first, bucket)?;
+    let buckets = made_full(alloc, &mut changes, &volume, counts)?;
     store.namespace.volumes.insert(alloc, volume, buckets)?;
     store.enter(alloc, List::of(changes))?;
-    Ok(flush(&mut store.cached))
+    flush(&mut store.cached);
+    Ok(())
+}
+
+/// The buckets of a volume, of which the first is full.
+fn made_full(
+    alloc: Global,
+    changes: &mut Vec<Change>,
+    volume: &Name,
+    counts: [u64; 3],
+) -> Result<NameMap<Bucket>, AllocError> {
+    let [count, keys, sessions] = counts;
+    changes.push(put(RowKey::of_volume(alloc, volume)?, Row::Volume))?;
+    let mut buckets = with_buckets(alloc, changes, volume, count)?;
+    let bucket = first_bucket(alloc, changes, volume, keys, sessions)?;
+    buckets.insert(alloc, Name::copy(alloc, b"b-1")?, bucket)?;
+    Ok(buckets)
+}
+
+/// The first bucket.
+fn first_bucket(
+    alloc: Global,
+    changes: &mut Vec<Change>,
+    volume: &Name,
+    keys: u64,
+    sessions: u64,
+) -> Result<Bucket, AllocError> {
+    let mut bucket = Bucket::new(alloc);
+    add_keys(alloc, changes, volume, &mut bucket, keys)?;
+    add_sessions(alloc, changes, volume, &mut bucket, sessions)?;
+    Ok(bucket)
 }
 
 fn put(key: RowKey, row: Row) -> Change {

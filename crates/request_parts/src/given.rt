@@ -7,13 +7,17 @@ use case_files::Statement;
 use oz_fields::List;
 use oz_names::STRIPES;
 use oz_rows::{Change, Row, RowKey};
-use std::alloc::Global;
+use std::alloc::{AllocError, Global};
 
 /// `stripes NUMBER`: so many numbers were drawn in each stripe, of the rows and of the namespace.
 pub fn give_stripes(alloc: Global, store: &mut Store, statement: &Statement) -> Result<(), Wrong> {
-    let Some(number) = statement.number(1) else {
-        return cannot(alloc, "stripes have a number");
-    };
+    match statement.number(1) {
+        Some(number) => Ok(enter_stripes(alloc, store, number)?),
+        None => cannot(&mut store.why, "stripes have a number"),
+    }
+}
+
+fn enter_stripes(alloc: Global, store: &mut Store, number: u64) -> Result<(), AllocError> {
     let mut changes = Vec::new(alloc);
     for stripe in 0..STRIPES {
         changes.push(Change {
@@ -24,5 +28,5 @@ pub fn give_stripes(alloc: Global, store: &mut Store, statement: &Statement) -> 
     for drawn in store.namespace.stripes.iter_mut() {
         *drawn = number;
     }
-    Ok(store.enter(alloc, List::of(changes))?)
+    store.enter(alloc, List::of(changes))
 }

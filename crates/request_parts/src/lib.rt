@@ -8,6 +8,8 @@ mod asked;
 mod drawn;
 mod full;
 mod given;
+mod knowing;
+mod lines;
 mod reclaiming;
 mod requests;
 mod rows;

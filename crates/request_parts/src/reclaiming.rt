@@ -7,12 +7,14 @@
 ghost use Rattle.std.specs.Prelude.{◌≤◌, IfSome};
 ghost use Rattle.oz_reclaim.specs.declared.finding.TheConstants.{MOST_PURGED as MOST};
 
+use crate::lines::{Place, add_deleted_key};
 use crate::rows::first_other;
-use crate::said::{cannot, line, name_text};
+use crate::said::cannot;
 use crate::store::Store;
 use crate::wrong::Wrong;
 use case_files::Statement;
-use oz_fields::{Block, Name};
+use oz_cache::Cached;
+use oz_fields::Block;
 use oz_reclaim::{MOST_PURGED, chain_work, reclaimable};
 use oz_requests::Request;
 use oz_rows::RowKey;
@@ -20,22 +22,48 @@ use std::alloc::{AllocError, Global};
 use story_parts::Words;
 
 /// The deleted rows that may go are these.
-pub fn are_reclaimable(alloc: Global, store: &Store, statement: &Statement) -> Result<(), Wrong> {
+pub fn are_reclaimable(
+    alloc: Global,
+    store: &mut Store,
+    statement: &Statement,
+) -> Result<(), Wrong> {
     let Some(most) = most_in(statement) else {
         return cannot(
-            alloc,
+            &mut store.why,
             "at least one row is asked for, and no more than go at a time",
         );
     };
-    let pinned = blocks_in(alloc, statement.word(2))?;
+    let pinned = blocks_in(alloc, statement.word(2), &mut store.why)?;
+    let found = reclaimable(alloc, store.cached.durable(), &pinned, most)?;
+    are_wanted_to_go(alloc, &found, &statement.block, &mut store.why)
+}
+
+/// The rows that may go are these.
+fn are_wanted_to_go(
+    alloc: Global,
+    found: &[RowKey],
+    wanted: &[String],
+    why: &mut String,
+) -> Result<(), Wrong> {
     let mut lines = Vec::new(alloc);
-    for key in &reclaimable(alloc, store.cached.durable(), &pinned, most)? {
-        lines.push(key_line(alloc, key)?)?;
+    for key in found {
+        push_key(alloc, &mut lines, key)?;
     }
-    match first_other(&lines, &statement.block) {
+    match first_other(&lines, wanted) {
         None => Ok(()),
-        Some((row, wanted)) => line(format!(in alloc; "wanted the row `{wanted}`, `{row}` may go")),
+        Some((row, wanted)) => {
+            write!(why, "wanted the row `{wanted}`, `{row}` may go")?;
+            Err(Wrong::Line)
+        }
     }
+}
+
+/// Adds the line of a deleted row's key.
+pub fn push_key(alloc: Global, lines: &mut Vec<String>, key: &RowKey) -> Result<(), AllocError> {
+    let mut line = String::new(alloc);
+    add_deleted_key(alloc, &mut line, key)?;
+    lines.push(line)?;
+    Ok(())
 }
 
 fn most_in(statement: &Statement) -> Option<u16>
@@ -46,7 +74,7 @@ fn most_in(statement: &Statement) -> Option<u16>
     (1 <= most && most <= MOST_PURGED).then_some(most)
 }
 
-fn blocks_in(alloc: Global, said: &str) -> Result<Vec<Block>, Wrong> {
+fn blocks_in(alloc: Global, said: &str, why: &mut String) -> Result<Vec<Block>, Wrong> {
     let mut blocks = Vec::new(alloc);
     if said == "-" {
         return Ok(blocks);
@@ -55,78 +83,54 @@ fn blocks_in(alloc: Global, said: &str) -> Result<Vec<Block>, Wrong> {
         let mut words = Words::new(word, ' ');
         blocks.push(words.block())?;
         if !words.are_read() {
-            return line(format!(in alloc; "no block is written so: `{word}`"));
+            write!(why, "no block is written so: `{word}`")?;
+            return Err(Wrong::Line);
         }
     }
     Ok(blocks)
 }
 
-/// The key of a deleted row as a line.
-pub fn key_line(alloc: Global, key: &RowKey) -> Result<String, AllocError> {
-    match key {
-        RowKey::Deleted {
-            volume,
-            bucket,
-            owner,
-            key,
-            local,
-        } => {
-            let place = place_text(alloc, volume, bucket)?;
-            format!(in alloc; "{place} {owner} {} {local}", name_text(alloc, key)?)
-        }
-        _ => format!(in alloc; "{key:?}"),
-    }
-}
-
-fn place_text(alloc: Global, volume: &Name, bucket: &Name) -> Result<String, AllocError> {
-    format!(in alloc;
-        "{} {}",
-        name_text(alloc, volume)?,
-        name_text(alloc, bucket)?
-    )
-}
-
 /// The request that is due of deleted snapshots is this.
-pub fn is_chain_work(alloc: Global, store: &Store, statement: &Statement) -> Result<(), Wrong> {
-    let mut wanted = String::new(alloc);
-    for word in statement.words.iter().skip(1) {
-        if !wanted.is_empty() {
-            wanted.push(' ')?;
-        }
-        wanted.push_str(word.as_str())?;
-    }
-    let work = chain_work(alloc, &store.cached)?;
-    let came = work_text(alloc, work.as_ref())?;
+pub fn is_chain_work(alloc: Global, store: &mut Store, statement: &Statement) -> Result<(), Wrong> {
+    let wanted = statement.words_from(alloc, 1)?;
+    let mut came = String::new(alloc);
+    add_work(alloc, &mut came, &store.cached)?;
     if came == wanted {
         return Ok(());
     }
-    line(format!(in alloc; "wanted `{wanted}`, there is `{came}` to be done"))
+    write!(store.why, "wanted `{wanted}`, there is `{came}` to be done")?;
+    Err(Wrong::Line)
 }
 
-fn work_text(alloc: Global, work: Option<&Request>) -> Result<String, AllocError> {
-    match work {
-        None => String::from_str(alloc, "nothing"),
-        Some(
-            Request::MoveDeleted {
-                volume,
-                bucket,
-                number,
-                to,
-            },
-        ) => {
-            let place = place_text(alloc, volume, bucket)?;
-            format!(in alloc; "MoveDeleted {place} {number} {to}")
+/// Adds the request that is due of deleted snapshots, or `nothing`.
+fn add_work(alloc: Global, text: &mut String, cached: &Cached) -> Result<(), AllocError> {
+    match chain_work(alloc, cached)? {
+        None => text.push_str("nothing"),
+        Some(request) => add_request(alloc, text, &request),
+    }
+}
+
+fn add_request(alloc: Global, text: &mut String, request: &Request) -> Result<(), AllocError> {
+    match request {
+        Request::MoveDeleted {
+            volume,
+            bucket,
+            number,
+            to,
+        } => {
+            text.push_str("MoveDeleted ")?;
+            Place { volume, bucket }.add(alloc, text)?;
+            write!(text, " {number} {to}")
         }
-        Some(
-            Request::PurgeSnapshot {
-                volume,
-                bucket,
-                number,
-            },
-        ) => {
-            let place = place_text(alloc, volume, bucket)?;
-            format!(in alloc; "PurgeSnapshot {place} {number}")
+        Request::PurgeSnapshot {
+            volume,
+            bucket,
+            number,
+        } => {
+            text.push_str("PurgeSnapshot ")?;
+            Place { volume, bucket }.add(alloc, text)?;
+            write!(text, " {number}")
         }
-        Some(request) => format!(in alloc; "{request:?}"),
+        _ => write!(text, "{request:?}"),
     }
 }

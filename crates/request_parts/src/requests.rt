@@ -17,48 +17,51 @@ use crate::drawn::drawn;
 use crate::full::give_full;
 use crate::given::give_stripes;
 use crate::reclaiming::{are_reclaimable, is_chain_work};
-use crate::rows::{first_other, row_lines};
-use crate::said::{blocks_text, cannot, line};
+use crate::rows::{are_wanted, row_lines};
+use crate::said::{add_blocks, cannot};
 use crate::store::{Store, flush};
 use crate::sweeping::sweep;
 use crate::wrong::Wrong;
 use case_files::{Judged, Statement};
-use oz_fields::List;
 use oz_model::reach;
 use std::alloc::{AllocError, Global};
 
 /// Judges a case of requests.
 pub fn judge_requests(alloc: Global, case: &[Statement]) -> Result<Judged, AllocError> {
+    let mut store = Store::new(alloc);
+    let went = go(alloc, case, &mut store);
     let mut differs = Vec::new(alloc);
-    match go(alloc, case) {
-        Ok(()) => {}
-        Err(Wrong::Line(line)) => differs.push(line)?,
-        Err(Wrong::OutOfMemory) => {
-            differs.push(String::from_str(alloc, "a call answered that memory ran out")?)?
-        }
-    }
+    push_wrong(alloc, &mut differs, went, store.why.as_str())?;
     Ok(Judged {
         differs,
         is_last: false,
     })
 }
 
-fn go(alloc: Global, case: &[Statement]) -> Result<(), Wrong> {
-    let mut store = Store::new(alloc);
-    for statement in case.iter().skip(1) {
-        if let Err(wrong) = step(alloc, case, &mut store, statement) {
-            return Err(at(alloc, statement.line, wrong)?);
-        }
-    }
+/// Tells why a case doesn't hold.
+fn push_wrong(
+    alloc: Global,
+    differs: &mut Vec<String>,
+    went: Result<(), Wrong>,
+    why: &str,
+) -> Result<(), AllocError> {
+    let told = match went {
+        Ok(()) => return Ok(()),
+        Err(Wrong::Line) => why,
+        Err(Wrong::OutOfMemory) => "a call answered that memory ran out",
+    };
+    differs.push(String::from_str(alloc, told)?)?;
     Ok(())
 }
 
-/// The same with the number of the line.
-fn at(alloc: Global, number: u64, wrong: Wrong) -> Result<Wrong, AllocError> {
-    match wrong {
-        Wrong::Line(text) => Ok(Wrong::Line(format!(in alloc; "line {number}: {text}")?)),
-        Wrong::OutOfMemory => Ok(Wrong::OutOfMemory),
+/// Goes through the statements of a case. Where one doesn't hold, the store has its line, and why.
+fn go(alloc: Global, case: &[Statement], store: &mut Store) -> Result<(), Wrong> {
+    for statement in case.iter().skip(1) {
+        store.why.clear();
+        write!(store.why, "line {}: ", statement.line)?;
+        step(alloc, case, store, statement)?;
     }
+    Ok(())
 }
 
 fn step(
@@ -82,27 +85,26 @@ fn step(
         "reclaimable" => are_reclaimable(alloc, store, statement),
         "chain-work" => is_chain_work(alloc, store, statement),
         "among" => Ok(()),
-        _ => cannot(alloc, "no statement begins so"),
+        _ => cannot(&mut store.why, "no statement begins so"),
     }
 }
 
 /// The rows are these.
-fn are_rows(alloc: Global, store: &Store, wanted: &[String]) -> Result<(), Wrong> {
+fn are_rows(alloc: Global, store: &mut Store, wanted: &[String]) -> Result<(), Wrong> {
     let rows = row_lines(alloc, &store.cached)?;
-    match first_other(&rows.lines, wanted) {
-        None => Ok(()),
-        Some((row, wanted)) => line(format!(in alloc;
-            "wanted the row `{wanted}`, there is `{row}`"
-        )),
-    }
+    are_wanted(&rows.lines, wanted, &mut store.why)
 }
 
 /// The blocks that are reached are these.
-fn is_reached(alloc: Global, store: &Store, wanted: &str) -> Result<(), Wrong> {
-    let reached = List::of(reach(alloc, &store.namespace)?);
-    let reached = blocks_text(alloc, &reached)?;
+fn is_reached(alloc: Global, store: &mut Store, wanted: &str) -> Result<(), Wrong> {
+    let mut reached = String::new(alloc);
+    add_blocks(&mut reached, &reach(alloc, &store.namespace)?)?;
     if reached.as_str() == wanted {
         return Ok(());
     }
-    line(format!(in alloc; "wanted the blocks `{wanted}`, reached are `{reached}`"))
+    write!(
+        store.why,
+        "wanted the blocks `{wanted}`, reached are `{reached}`"
+    )?;
+    Err(Wrong::Line)
 }

@@ -1,10 +1,11 @@
-//! Rows as lines, and those that a namespace has to have.
+//! The rows of a cache, and those that a namespace has to have.
 
-use crate::said::{blocks_text, line, name_text, pieces_text};
+use crate::lines::{Place, add_deleted_name, add_row_line, add_stripe, add_volume};
+use crate::said::add_blocks;
 use crate::store::Store;
 use crate::wrong::Wrong;
 use oz_cache::Cached;
-use oz_fields::{Block, List, Name, Piece};
+use oz_fields::{Block, Name};
 use oz_model::{Bucket, NameMap, Namespace, Snapshot, reach};
 use oz_rows::{Row, RowKey, SnapshotState};
 use std::alloc::{AllocError, Global};
@@ -18,18 +19,24 @@ pub struct Rows {
     blocks: Vec<Block>,
 }
 
+/// Adds the least keys of what a bucket has.
+fn push_least_keys(alloc: Global, keys: &mut Vec<RowKey>, none: &Name) -> Result<(), AllocError> {
+    keys.push(RowKey::of_key(alloc, none, none, none)?)?;
+    keys.push(RowKey::of_session(alloc, none, none, none, 0)?)?;
+    keys.push(RowKey::of_deleted(alloc, none, none, 0, none, 0)?)?;
+    keys.push(RowKey::of_snapshot(alloc, none, none, 0)?)?;
+    keys.push(RowKey::of_snapshot_key(alloc, none, none, 0, none)?)?;
+    keys.push(RowKey::of_renamed(alloc, none, none, 0, 0)?)?;
+    Ok(())
+}
+
 /// The least keys of the kinds that requests make.
 fn least_keys(alloc: Global) -> Result<Vec<RowKey>, AllocError> {
     let none = Name::copy(alloc, b"")?;
     let mut keys = Vec::new(alloc);
     keys.push(RowKey::of_volume(alloc, &none)?)?;
     keys.push(RowKey::of_bucket(alloc, &none, &none)?)?;
-    keys.push(RowKey::of_key(alloc, &none, &none, &none)?)?;
-    keys.push(RowKey::of_session(alloc, &none, &none, &none, 0)?)?;
-    keys.push(RowKey::of_deleted(alloc, &none, &none, 0, &none, 0)?)?;
-    keys.push(RowKey::of_snapshot(alloc, &none, &none, 0)?)?;
-    keys.push(RowKey::of_snapshot_key(alloc, &none, &none, 0, &none)?)?;
-    keys.push(RowKey::of_renamed(alloc, &none, &none, 0, 0)?)?;
+    push_least_keys(alloc, &mut keys, &none)?;
     keys.push(RowKey::Stripe { stripe: 0 })?;
     Ok(keys)
 }
@@ -42,287 +49,104 @@ pub fn row_lines(alloc: Global, cached: &Cached) -> Result<Rows, AllocError> {
         blocks: Vec::new(alloc),
     };
     for least in &least_keys(alloc)? {
-        add_kind(alloc, &mut rows, cached, least)?;
+        push_kind(alloc, &mut rows, cached, least)?;
     }
     Ok(rows)
 }
 
 /// Adds the rows of a kind, whose least key this is.
-fn add_kind(
+fn push_kind(
     alloc: Global,
     rows: &mut Rows,
     cached: &Cached,
     least: &RowKey,
 ) -> Result<(), AllocError> {
     if let Some(row) = cached.get(least) {
-        add_row(alloc, rows, cached, least, row)?;
+        push_row(alloc, rows, cached, least, row)?;
     }
     let mut from = least;
     for _ in 0..u64::MAX {
         let Some((key, row)) = cached.next(from) else {
             return Ok(());
         };
-        add_row(alloc, rows, cached, key, row)?;
+        push_row(alloc, rows, cached, key, row)?;
         from = key;
     }
     Ok(())
 }
 
-fn add_row(
+fn push_row(
     alloc: Global,
     rows: &mut Rows,
     cached: &Cached,
     key: &RowKey,
     row: &Row,
 ) -> Result<(), AllocError> {
-    rows.lines.push(row_line(alloc, cached, key, row)?)?;
-    if let RowKey::Deleted {
-        volume,
-        bucket,
-        owner,
-        key,
-        local,
-    } = key
-    {
-        let of_bucket = format!(in alloc;
-            "{} {}",
-            name_text(alloc, volume)?,
-            name_text(alloc, bucket)?
-        )?;
-        let named = format!(in alloc; "{of_bucket}:{owner}:{}:{local}", name_text(alloc, key)?)?;
-        rows.deleted.push(named)?;
+    let mut line = String::new(alloc);
+    add_row_line(alloc, cached, &mut line, key, row)?;
+    rows.lines.push(line)?;
+    if matches!(key, RowKey::Deleted { .. }) {
+        push_deleted(alloc, &mut rows.deleted, key)?;
     }
+    push_blocks(&mut rows.blocks, row)
+}
+
+fn push_deleted(alloc: Global, deleted: &mut Vec<String>, key: &RowKey) -> Result<(), AllocError> {
+    let mut named = String::new(alloc);
+    add_deleted_name(alloc, &mut named, key)?;
+    deleted.push(named)?;
+    Ok(())
+}
+
+/// Adds the blocks that stand in a row.
+fn push_blocks(all: &mut Vec<Block>, row: &Row) -> Result<(), AllocError> {
     match row {
         Row::Key { pieces, .. } => {
             for piece in pieces {
-                rows.blocks.push(piece.block)?;
+                all.push(piece.block)?;
             }
+            Ok(())
         }
-        Row::Open { blocks } | Row::Deleted { blocks } => {
-            for block in blocks {
-                rows.blocks.push(*block)?;
-            }
+        Row::Open { blocks } | Row::Deleted { blocks } => all.extend_from_slice(blocks.items()),
+        _ => Ok(()),
+    }
+}
+
+fn push_volume(alloc: Global, lines: &mut Vec<String>, volume: &Name) -> Result<(), AllocError> {
+    let mut line = String::new(alloc);
+    add_volume(alloc, &mut line, volume)?;
+    lines.push(line)?;
+    Ok(())
+}
+
+/// Adds the lines of the stripes of which a number was drawn.
+fn push_stripes(alloc: Global, lines: &mut Vec<String>, stripes: &[u64]) -> Result<(), AllocError> {
+    for (stripe, number) in stripes.iter().enumerate() {
+        if *number > 0 {
+            let mut line = String::new(alloc);
+            add_stripe(&mut line, stripe, *number)?;
+            lines.push(line)?;
         }
-        _ => {}
     }
     Ok(())
 }
 
-/// A row as a line. A key of a snapshot has the name of the snapshot's row.
-fn row_line(alloc: Global, cached: &Cached, key: &RowKey, row: &Row) -> Result<String, AllocError> {
-    match (key, row) {
-        (RowKey::SnapshotKey { .. }, Row::SnapshotKey { pieces, .. }) => {
-            kept_line(alloc, cached, key, pieces)
-        }
-        (
-            RowKey::Renamed {
-                volume,
-                bucket,
-                owner,
-                local,
-            },
-            Row::Renamed { key },
-        ) => {
-            let rest = format!(in alloc; "{owner} {local}")?;
-            Place { volume, bucket }.named(alloc, "renamed", key, rest)
-        }
-        (RowKey::Volume { volume }, Row::Volume) => volume_line(alloc, volume),
-        (RowKey::Bucket { volume, bucket }, Row::Bucket) => {
-            Place { volume, bucket }.line(alloc, "bucket", "")
-        }
-        (RowKey::Snapshot { volume, bucket, .. }, Row::Snapshot { name, state, .. }) => {
-            Place { volume, bucket }.snapshot(alloc, name, *state)
-        }
-        (RowKey::Stripe { stripe }, Row::Stripe { number }) => {
-            format!(in alloc; "stripe {stripe} {number}")
-        }
-        _ => key_line(alloc, key, row),
-    }
-}
-
-/// The line of a key that a snapshot keeps, whose row this is.
-fn kept_line(
+/// Adds the rows that a namespace has to have, but for those of what is deleted.
+fn push_namespace(
     alloc: Global,
-    cached: &Cached,
-    key: &RowKey,
-    pieces: &List<Piece>,
-) -> Result<String, AllocError> {
-    let RowKey::SnapshotKey {
-        volume,
-        bucket,
-        snapshot,
-        key,
-    } = key
-    else {
-        return format!(in alloc; "{key:?}");
-    };
-    let place = Place { volume, bucket };
-    match cached.get(&RowKey::of_snapshot(alloc, volume, bucket, *snapshot)?) {
-        Some(
-            Row::Snapshot {
-                name,
-                state: SnapshotState::Live,
-                ..
-            },
-        ) => place.kept(alloc, name, key, pieces),
-        Some(
-            Row::Snapshot {
-                state: SnapshotState::Marked,
-                ..
-            },
-        ) => {
-            let rest = pieces_text(alloc, pieces)?;
-            place.named(alloc, "deleted-snapshot-key", key, rest)
-        }
-        _ => place.named(alloc, "stray-snapshot-key", key, String::new(alloc)),
-    }
-}
-
-fn key_line(alloc: Global, key: &RowKey, row: &Row) -> Result<String, AllocError> {
-    match (key, row) {
-        (
-            RowKey::Key {
-                volume,
-                bucket,
-                key,
-            },
-            Row::Key { pieces, .. },
-        ) => { Place { volume, bucket }.key(alloc, key, pieces) }
-        (
-            RowKey::Open {
-                volume,
-                bucket,
-                key,
-                number,
-            },
-            Row::Open { blocks },
-        ) => { Place { volume, bucket }.session(alloc, *number, key, blocks) }
-        (
-            RowKey::Deleted {
-                volume,
-                bucket,
-                owner,
-                key,
-                ..
-            },
-            Row::Deleted { blocks },
-        ) => Place { volume, bucket }.deleted(alloc, *owner, key, blocks),
-        _ => format!(in alloc; "{key:?} {row:?}"),
-    }
-}
-
-fn volume_line(alloc: Global, volume: &Name) -> Result<String, AllocError> {
-    format!(in alloc; "volume {}", name_text(alloc, volume)?)
-}
-
-/// A bucket by its volume's name and its own, and the lines of what it has.
-#[derive(Clone, Copy)]
-struct Place<'a> {
-    volume: &'a Name,
-    bucket: &'a Name,
-}
-
-impl Place<'_> {
-    fn line(&self, alloc: Global, kind: &str, rest: &str) -> Result<String, AllocError> {
-        let volume = name_text(alloc, self.volume)?;
-        let bucket = name_text(alloc, self.bucket)?;
-        format!(in alloc; "{kind} {volume} {bucket}{rest}")
-    }
-
-    fn named(
-        &self,
-        alloc: Global,
-        kind: &str,
-        name: &Name,
-        rest: String,
-    ) -> Result<String, AllocError> {
-        let name = name_text(alloc, name)?;
-        self.line(alloc, kind, format!(in alloc; " {name} {rest}")?.as_str())
-    }
-
-    fn key(&self, alloc: Global, key: &Name, pieces: &List<Piece>) -> Result<String, AllocError> {
-        self.named(alloc, "key", key, pieces_text(alloc, pieces)?)
-    }
-
-    /// A deleted row, with its owner where that is a snapshot.
-    fn deleted(
-        &self,
-        alloc: Global,
-        owner: u64,
-        key: &Name,
-        blocks: &List<Block>,
-    ) -> Result<String, AllocError> {
-        let rest = blocks_text(alloc, blocks)?;
-        match owner {
-            0 => self.named(alloc, "deleted", key, rest),
-            _ => self.named(alloc, "deleted", key, format!(in alloc; "{rest} {owner}")?),
-        }
-    }
-
-    /// A key that a live snapshot of this name keeps.
-    fn kept(
-        &self,
-        alloc: Global,
-        snapshot: &Name,
-        key: &Name,
-        pieces: &List<Piece>,
-    ) -> Result<String, AllocError> {
-        let rest = format!(in alloc;
-            "{} {}",
-            name_text(alloc, key)?,
-            pieces_text(alloc, pieces)?
-        )?;
-        self.named(alloc, "snapshot-key", snapshot, rest)
-    }
-
-    fn session(
-        &self,
-        alloc: Global,
-        number: u64,
-        key: &Name,
-        blocks: &List<Block>,
-    ) -> Result<String, AllocError> {
-        let blocks = blocks_text(alloc, blocks)?;
-        self.named(
-            alloc,
-            "session",
-            key,
-            format!(in alloc; "{number} {blocks}")?,
-        )
-    }
-
-    fn snapshot(
-        &self,
-        alloc: Global,
-        name: &Name,
-        state: SnapshotState,
-    ) -> Result<String, AllocError> {
-        let (kind, state) = match state {
-            SnapshotState::Live => ("snapshot", "live"),
-            SnapshotState::Marked => ("deleted-snapshot", "marked"),
-        };
-        self.named(alloc, kind, name, String::from_str(alloc, state)?)
-    }
-}
-
-/// The rows that a namespace has to have, but for those of what is deleted.
-fn namespace_lines(alloc: Global, namespace: &Namespace) -> Result<Vec<String>, AllocError> {
-    let mut lines = Vec::new(alloc);
+    lines: &mut Vec<String>,
+    namespace: &Namespace,
+) -> Result<(), AllocError> {
     for volume in &namespace.volumes.names(alloc)? {
-        lines.push(volume_line(alloc, volume)?)?;
+        push_volume(alloc, lines, volume)?;
         if let Some(buckets) = namespace.volumes.get(volume) {
-            add_buckets(alloc, &mut lines, volume, buckets)?;
+            push_buckets(alloc, lines, volume, buckets)?;
         }
     }
-    for (stripe, number) in namespace.stripes.iter().enumerate() {
-        if *number > 0 {
-            lines.push(format!(in alloc; "stripe {stripe} {number}")?)?;
-        }
-    }
-    Ok(lines)
+    push_stripes(alloc, lines, &namespace.stripes)
 }
 
-fn add_buckets(
+fn push_buckets(
     alloc: Global,
     lines: &mut Vec<String>,
     volume: &Name,
@@ -333,34 +157,64 @@ fn add_buckets(
             volume,
             bucket: name,
         };
-        lines.push(place.line(alloc, "bucket", "")?)?;
+        push_bucket(alloc, lines, place)?;
         if let Some(bucket) = buckets.get(name) {
-            add_keys(alloc, lines, place, bucket)?;
-            add_sessions(alloc, lines, place, bucket)?;
+            push_bucket_rows(alloc, lines, place, bucket)?;
         }
     }
     Ok(())
 }
 
-/// Adds a bucket's keys and its snapshots.
-fn add_keys(
+fn push_bucket(alloc: Global, lines: &mut Vec<String>, place: Place<'_>) -> Result<(), AllocError> {
+    let mut line = String::new(alloc);
+    place.add_bucket(alloc, &mut line)?;
+    lines.push(line)?;
+    Ok(())
+}
+
+/// Adds what a bucket has.
+fn push_bucket_rows(
+    alloc: Global,
+    lines: &mut Vec<String>,
+    place: Place<'_>,
+    bucket: &Bucket,
+) -> Result<(), AllocError> {
+    push_keys(alloc, lines, place, bucket)?;
+    for snapshot in &bucket.snapshots {
+        push_snapshot(alloc, lines, place, &snapshot.name)?;
+        push_kept(alloc, lines, place, snapshot)?;
+    }
+    push_sessions(alloc, lines, place, bucket)
+}
+
+fn push_keys(
     alloc: Global,
     lines: &mut Vec<String>,
     place: Place<'_>,
     bucket: &Bucket,
 ) -> Result<(), AllocError> {
     for (key, pieces) in bucket.keys.names(alloc)?.iter().zip(bucket.keys.values()) {
-        lines.push(place.key(alloc, key, pieces)?)?;
-    }
-    for snapshot in &bucket.snapshots {
-        lines.push(place.snapshot(alloc, &snapshot.name, SnapshotState::Live)?)?;
-        add_kept(alloc, lines, place, snapshot)?;
+        let mut line = String::new(alloc);
+        place.add_key(alloc, &mut line, key, pieces.items())?;
+        lines.push(line)?;
     }
     Ok(())
 }
 
+fn push_snapshot(
+    alloc: Global,
+    lines: &mut Vec<String>,
+    place: Place<'_>,
+    name: &Name,
+) -> Result<(), AllocError> {
+    let mut line = String::new(alloc);
+    place.add_snapshot(alloc, &mut line, name, SnapshotState::Live)?;
+    lines.push(line)?;
+    Ok(())
+}
+
 /// Adds the keys that a snapshot keeps.
-fn add_kept(
+fn push_kept(
     alloc: Global,
     lines: &mut Vec<String>,
     place: Place<'_>,
@@ -368,12 +222,14 @@ fn add_kept(
 ) -> Result<(), AllocError> {
     let keys = &snapshot.keys;
     for (key, pieces) in keys.names(alloc)?.iter().zip(keys.values()) {
-        lines.push(place.kept(alloc, &snapshot.name, key, pieces)?)?;
+        let mut line = String::new(alloc);
+        place.add_kept(alloc, &mut line, &snapshot.name, key, pieces.items())?;
+        lines.push(line)?;
     }
     Ok(())
 }
 
-fn add_sessions(
+fn push_sessions(
     alloc: Global,
     lines: &mut Vec<String>,
     place: Place<'_>,
@@ -381,7 +237,15 @@ fn add_sessions(
 ) -> Result<(), AllocError> {
     let sessions = &bucket.sessions;
     for (number, session) in sessions.numbers(alloc)?.iter().zip(sessions.values()) {
-        lines.push(place.session(alloc, *number, &session.key, &session.blocks)?)?;
+        let mut line = String::new(alloc);
+        place.add_session(
+            alloc,
+            &mut line,
+            *number,
+            &session.key,
+            session.blocks.items(),
+        )?;
+        lines.push(line)?;
     }
     Ok(())
 }
@@ -404,45 +268,72 @@ pub fn first_other<'a>(lines: &'a [String], wanted: &'a [String]) -> Option<(&'a
     None
 }
 
-/// The rows are those of the namespace, and each block that was granted stands in them once, but that a Purge took away what
-/// nothing reaches.
-pub fn stand_alike(alloc: Global, store: &Store) -> Result<(), Wrong> {
-    let Rows {
-        mut lines,
-        blocks,
-        ..
-    } = row_lines(alloc, &store.cached)?;
-    lines.retain(|line| !(line.starts_with("deleted") || line.starts_with("renamed")));
-    lines.sort()?;
-    let mut wanted = namespace_lines(alloc, &store.namespace)?;
-    wanted.sort()?;
-    if let Some((row, wanted)) = first_other(&lines, &wanted) {
-        return line(format!(in alloc; "wanted the row `{wanted}`, there is `{row}`"));
+/// These rows are the wanted ones.
+pub fn are_wanted(lines: &[String], wanted: &[String], why: &mut String) -> Result<(), Wrong> {
+    match first_other(lines, wanted) {
+        None => Ok(()),
+        Some((row, wanted)) => {
+            write!(why, "wanted the row `{wanted}`, there is `{row}`")?;
+            Err(Wrong::Line)
+        }
     }
-    each_stands_once(alloc, store, blocks)
 }
 
-/// These are the blocks that were granted, each once; and some more of them that nothing reaches, where something was purged.
-fn each_stands_once(alloc: Global, store: &Store, blocks: Vec<Block>) -> Result<(), Wrong> {
-    let mut standing = blocks;
-    if store.is_purged {
-        add_purged(alloc, store, &mut standing)?;
-    }
-    standing.sort()?;
+/// These rows, but for those of what is deleted, are those of the namespace.
+fn are_of_namespace(
+    alloc: Global,
+    namespace: &Namespace,
+    lines: &mut Vec<String>,
+    why: &mut String,
+) -> Result<(), Wrong> {
+    lines.retain(|line| !(line.starts_with("deleted") || line.starts_with("renamed")));
+    lines.sort()?;
+    let mut wanted = Vec::new(alloc);
+    push_namespace(alloc, &mut wanted, namespace)?;
+    wanted.sort()?;
+    are_wanted(lines, &wanted, why)
+}
+
+/// The rows are those of the namespace, and each block that was granted stands in them once, but that a Purge took away what
+/// nothing reaches.
+pub fn stand_alike(alloc: Global, store: &mut Store) -> Result<(), Wrong> {
+    let mut rows = row_lines(alloc, &store.cached)?;
+    are_of_namespace(alloc, &store.namespace, &mut rows.lines, &mut store.why)?;
+    each_stands_once(alloc, store, &mut rows.blocks)
+}
+
+/// The blocks that were granted, rising.
+fn granted_blocks(alloc: Global, store: &Store) -> Result<Vec<Block>, AllocError> {
     let mut granted = Vec::new(alloc);
     for grant in &store.grants {
         granted.push(grant.block)?;
     }
     granted.sort()?;
+    Ok(granted)
+}
+
+/// These are the blocks that were granted, each once; and some more of them that nothing reaches, where something was purged.
+fn each_stands_once(
+    alloc: Global,
+    store: &mut Store,
+    standing: &mut Vec<Block>,
+) -> Result<(), Wrong> {
+    if store.is_purged {
+        push_purged(alloc, store, standing)?;
+    }
+    standing.sort()?;
+    let granted = granted_blocks(alloc, store)?;
     if standing.as_slice() == granted.as_slice() {
         return Ok(());
     }
-    let standing = blocks_text(alloc, &List::of(standing))?;
-    line(format!(in alloc; "the granted blocks don't each stand once in the rows: {standing}"))
+    let why = &mut store.why;
+    why.push_str("the granted blocks don't each stand once in the rows: ")?;
+    add_blocks(why, standing)?;
+    Err(Wrong::Line)
 }
 
 /// Adds the blocks that were granted, stand nowhere, and aren't reached.
-fn add_purged(alloc: Global, store: &Store, standing: &mut Vec<Block>) -> Result<(), AllocError> {
+fn push_purged(alloc: Global, store: &Store, standing: &mut Vec<Block>) -> Result<(), AllocError> {
     let reached = reach(alloc, &store.namespace)?;
     let before = standing.len();
     for grant in &store.grants {

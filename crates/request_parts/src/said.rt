@@ -7,123 +7,155 @@ use oz_requests::{Reply, Request};
 use std::alloc::{AllocError, Global};
 use story_parts::{Words, request};
 
-/// The case doesn't hold, as this line says.
-pub fn line<T>(line: Result<String, AllocError>) -> Result<T, Wrong> {
-    Err(Wrong::Line(line?))
+/// The case can't be read, or doesn't hold, as this line says.
+pub fn cannot(why: &mut String, line: &str) -> Result<(), Wrong> {
+    why.push_str(line)?;
+    Err(Wrong::Line)
 }
 
-/// The case can't be read, or doesn't hold.
-pub fn cannot<T>(alloc: Global, why: &str) -> Result<T, Wrong> {
-    line(String::from_str(alloc, why))
+/// Adds the bytes of a word as text, and says whether it is one.
+fn add_bytes(alloc: Global, text: &mut String, word: &str) -> Result<bool, AllocError> {
+    match bytes_of(alloc, word)? {
+        Some(bytes) => {
+            text.push_str(String::from_utf8_lossy(alloc, bytes.as_slice())?.as_str())?;
+            Ok(true)
+        }
+        None => Ok(false),
+    }
 }
 
 /// Adds the name that these words say, which stand between commas.
-fn add_name(alloc: Global, text: &mut String, said: &str) -> Result<(), Wrong> {
+fn add_said_name(
+    alloc: Global,
+    text: &mut String,
+    said: &str,
+    why: &mut String,
+) -> Result<(), Wrong> {
     for word in said.split(',') {
-        let Some(bytes) = bytes_of(alloc, word)? else {
-            return line(format!(in alloc; "no name is written so: `{said}`"));
-        };
-        text.push_str(String::from_utf8_lossy(alloc, bytes.as_slice())?.as_str())?;
+        if !add_bytes(alloc, text, word)? {
+            write!(why, "no name is written so: `{said}`")?;
+            return Err(Wrong::Line);
+        }
     }
     Ok(())
 }
 
-/// The words of a request with a tab between two. A word `name:WORDS` is the name whose bytes these words are, with a comma
+/// Adds the words of a request with a tab between two. A word `name:WORDS` is the name whose bytes these words are, with a comma
 /// between two.
-fn spelled(alloc: Global, said: &str) -> Result<String, Wrong> {
-    let mut text = String::new(alloc);
+fn spell(alloc: Global, text: &mut String, said: &str, why: &mut String) -> Result<(), Wrong> {
     for word in said.split(' ') {
         if !text.is_empty() {
             text.push('\t')?;
         }
         match word.strip_prefix("name:") {
-            Some(name) => add_name(alloc, &mut text, name)?,
+            Some(name) => add_said_name(alloc, text, name, why)?,
             None => text.push_str(word)?,
         }
     }
-    Ok(text)
+    Ok(())
 }
 
 /// The request that a case says so.
-pub fn request_of(alloc: Global, said: &str) -> Result<Request, Wrong> {
-    let text = spelled(alloc, said)?;
+pub fn request_of(alloc: Global, said: &str, why: &mut String) -> Result<Request, Wrong> {
+    let mut text = String::new(alloc);
+    spell(alloc, &mut text, said, why)?;
     let mut words = Words::new(text.as_str(), '\t');
     let request = request(alloc, &mut words)?;
     if words.are_read() {
         return Ok(request);
     }
-    line(format!(in alloc; "no request is written so: `{said}`"))
+    write!(why, "no request is written so: `{said}`")?;
+    Err(Wrong::Line)
 }
 
-/// A name as a word, `-` where it is empty.
-pub fn name_text(alloc: Global, name: &Name) -> Result<String, AllocError> {
+/// Adds a name as a word, `-` where it is empty.
+pub fn add_name(alloc: Global, text: &mut String, name: &Name) -> Result<(), AllocError> {
     if name.bytes().is_empty() {
-        return String::from_str(alloc, "-");
+        return text.push('-');
     }
-    String::from_utf8_lossy(alloc, name.bytes())
+    text.push_str(String::from_utf8_lossy(alloc, name.bytes())?.as_str())
 }
 
-/// Adds an item of a list.
-fn add_item(list: &mut String, item: &str) -> Result<(), AllocError> {
-    if !list.is_empty() {
-        list.push(',')?;
+fn add_names(alloc: Global, text: &mut String, names: &[Name]) -> Result<(), AllocError> {
+    if names.is_empty() {
+        return text.push('-');
     }
-    list.push_str(item)
-}
-
-/// The list, or `-` for nothing.
-fn listed(alloc: Global, list: String) -> Result<String, AllocError> {
-    if list.is_empty() {
-        return String::from_str(alloc, "-");
-    }
-    Ok(list)
-}
-
-fn names_text(alloc: Global, names: &List<Name>) -> Result<String, AllocError> {
-    let mut list = String::new(alloc);
+    let mut is_first = true;
     for name in names {
-        add_item(&mut list, name_text(alloc, name)?.as_str())?;
+        if !is_first {
+            text.push(',')?;
+        }
+        is_first = false;
+        add_name(alloc, text, name)?;
     }
-    listed(alloc, list)
+    Ok(())
 }
 
-pub fn pieces_text(alloc: Global, pieces: &List<Piece>) -> Result<String, AllocError> {
-    let mut list = String::new(alloc);
+/// Adds pieces with commas between them, or `-` for none.
+pub fn add_pieces(text: &mut String, pieces: &[Piece]) -> Result<(), AllocError> {
+    if pieces.is_empty() {
+        return text.push('-');
+    }
+    let mut is_first = true;
     for Piece { block, length } in pieces {
-        let Block { container, local } = block;
-        add_item(
-            &mut list,
-            format!(in alloc; "{container}.{local}:{length}")?.as_str(),
-        )?;
+        if !is_first {
+            text.push(',')?;
+        }
+        is_first = false;
+        write!(text, "{}.{}:{length}", block.container, block.local)?;
     }
-    listed(alloc, list)
+    Ok(())
 }
 
-pub fn blocks_text(alloc: Global, blocks: &List<Block>) -> Result<String, AllocError> {
-    let mut list = String::new(alloc);
-    for Block { container, local } in blocks {
-        add_item(
-            &mut list,
-            format!(in alloc; "{container}.{local}")?.as_str(),
-        )?;
+/// Adds blocks with commas between them, or `-` for none.
+pub fn add_blocks(text: &mut String, blocks: &[Block]) -> Result<(), AllocError> {
+    if blocks.is_empty() {
+        return text.push('-');
     }
-    listed(alloc, list)
+    let mut is_first = true;
+    for Block { container, local } in blocks {
+        if !is_first {
+            text.push(',')?;
+        }
+        is_first = false;
+        write!(text, "{container}.{local}")?;
+    }
+    Ok(())
+}
+
+fn add_names_reply(alloc: Global, text: &mut String, names: &List<Name>) -> Result<(), AllocError> {
+    text.push_str("names ")?;
+    add_names(alloc, text, names.items())
+}
+
+fn add_pieces_reply(text: &mut String, pieces: &List<Piece>) -> Result<(), AllocError> {
+    text.push_str("pieces ")?;
+    add_pieces(text, pieces.items())
+}
+
+/// Adds a reply, as cases and stories have it.
+fn add_reply(alloc: Global, text: &mut String, reply: &Reply) -> Result<(), AllocError> {
+    match reply {
+        Reply::Done => text.push_str("done"),
+        Reply::Count(count) => write!(text, "count {count}"),
+        Reply::Counts(it) => { write!(text, "counts {} {} {}", it.keys, it.sessions, it.snapshots) }
+        Reply::Names(names) => add_names_reply(alloc, text, names),
+        Reply::Session(number) => write!(text, "session {number}"),
+        Reply::Granted(block, pipeline) => {
+            write!(
+                text,
+                "granted {}.{} {pipeline}",
+                block.container, block.local
+            )
+        }
+        Reply::Pieces(pieces) => add_pieces_reply(text, pieces),
+        Reply::Code(code) => text.push_str(code.text()),
+    }
 }
 
 /// A reply, as cases and stories have it.
 pub fn reply_text(alloc: Global, reply: &Reply) -> Result<String, AllocError> {
-    match reply {
-        Reply::Done => String::from_str(alloc, "done"),
-        Reply::Count(count) => format!(in alloc; "count {count}"),
-        Reply::Counts(it) => {
-            format!(in alloc; "counts {} {} {}", it.keys, it.sessions, it.snapshots)
-        }
-        Reply::Names(names) => format!(in alloc; "names {}", names_text(alloc, names)?),
-        Reply::Session(number) => format!(in alloc; "session {number}"),
-        Reply::Granted(block, pipeline) => {
-            format!(in alloc; "granted {}.{} {pipeline}", block.container, block.local)
-        }
-        Reply::Pieces(pieces) => format!(in alloc; "pieces {}", pieces_text(alloc, pieces)?),
-        Reply::Code(code) => String::from_str(alloc, code.text()),
-    }
+    let mut text = String::new(alloc);
+    add_reply(alloc, &mut text, reply)?;
+    Ok(text)
 }

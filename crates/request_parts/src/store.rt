@@ -40,6 +40,8 @@ pub struct Store {
     pub is_marked: bool,
     /// Whether a deleted snapshot was worked off before the sweep knew of its deletion, so that it may date a row later.
     pub is_early: bool,
+    /// The line of the statement that is gone through, and what doesn't hold, once something doesn't.
+    pub why: String,
 }
 
 impl Store {
@@ -54,6 +56,7 @@ impl Store {
             sweep: Sweep::new(alloc),
             is_marked: false,
             is_early: false,
+            why: String::new(alloc),
         }
     }
 
@@ -75,23 +78,38 @@ impl Store {
     /// Notes what the reply to a request opened or granted.
     pub fn note(&mut self, alloc: Global, said: &str, reply: &Reply) -> Result<(), AllocError> {
         match reply {
-            Reply::Session(number) => {
-                let key = some_words(alloc, said, 3)?;
-                self.opened.push(format!(in alloc; "{key} {number}")?)?;
-            }
-            Reply::Granted(block, _) => {
-                let session = some_words(alloc, said, 4)?;
-                let block = *block;
-                self.grants.push(Grant {
-                    session,
-                    block,
-                    left: None,
-                })?;
-            }
-            _ => {}
+            Reply::Session(number) => note_opened(alloc, &mut self.opened, said, *number),
+            Reply::Granted(block, _) => note_granted(alloc, &mut self.grants, said, *block),
+            _ => Ok(()),
         }
-        Ok(())
     }
+}
+
+fn note_opened(
+    alloc: Global,
+    opened: &mut Vec<String>,
+    said: &str,
+    number: u64,
+) -> Result<(), AllocError> {
+    let mut session = some_words(alloc, said, 3)?;
+    write!(session, " {number}")?;
+    opened.push(session)?;
+    Ok(())
+}
+
+fn note_granted(
+    alloc: Global,
+    grants: &mut Vec<Grant>,
+    said: &str,
+    block: Block,
+) -> Result<(), AllocError> {
+    let session = some_words(alloc, said, 4)?;
+    grants.push(Grant {
+        session,
+        block,
+        left: None,
+    })?;
+    Ok(())
 }
 
 /// So many words of a request, behind the first.

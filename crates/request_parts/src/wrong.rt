@@ -3,12 +3,12 @@
 use std::alloc::{AllocError, AllocFailed};
 
 /// Why a case doesn't hold.
-#[derive(Debug, Drop)]
+#[derive(Clone, Copy, Debug, PartialEq, Eq)]
 pub enum Wrong {
     /// A call answered that memory ran out.
     OutOfMemory,
-    /// What differs, or can't be read.
-    Line(String),
+    /// Something differs, or can't be read, as the text beside it says.
+    Line,
 }
 
 impl From<AllocError> for Wrong {

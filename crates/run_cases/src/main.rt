@@ -1,24 +1,10 @@
 //! Goes through the cases in its folder that are whole runs over disks in memory, and prints what came of each.
 #![tactic(auto)]
 
-mod bytes;
-mod changes;
 mod gate;
 mod going;
-mod history;
-mod inputs;
 mod judge;
-mod law;
 mod nodes;
-mod opened;
-mod patterns;
-mod places;
-mod rows;
-mod said;
-mod same;
-mod stage;
-mod texts;
-mod wants;
 
 use case_files::{Counts, Statement, go_through};
 use judge::judge;

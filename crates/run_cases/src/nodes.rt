@@ -4,14 +4,15 @@ ghost use Rattle.std.specs.Prelude.{◌≡◌, ◌≤◌, ℕ, length, map, IfOk
 ghost use Rattle.std.specs.String.{string_bytes};
 ghost use Rattle.oz_command.specs.command_line.Words.{IsRead, IsRunWith};
 
-use crate::going::{CaseDisk, Fused, disk_of};
+use crate::going::{Fused, disk_of};
 use oz_cluster::{DiskName, NodeDisks, Words, read_words};
 use oz_command::{words_are_one_run, words_of_a_run_have_no_fault};
+use oz_fused::FusedDisk;
 use oz_world::OutOfMemory;
 use std::alloc::Global;
 
 /// The disks of a datanode.
-fn node_of(alloc: Global, dn: u8, fused: &Fused) -> Result<NodeDisks<CaseDisk>, OutOfMemory> {
+fn node_of(alloc: Global, dn: u8, fused: &Fused) -> Result<NodeDisks<FusedDisk>, OutOfMemory> {
     Ok(NodeDisks {
         meta: disk_of(alloc, DiskName::Meta(dn), fused)?,
         slots: disk_of(alloc, DiskName::Slots(dn), fused)?,
@@ -23,7 +24,7 @@ fn nodes_of(
     alloc: Global,
     count: u8,
     fused: &Fused,
-) -> Result<Vec<NodeDisks<CaseDisk>>, OutOfMemory>
+) -> Result<Vec<NodeDisks<FusedDisk>>, OutOfMemory>
     ensures { IfOk result (λ nodes. length nodes.items ≡ count) }
 {
     let mut nodes = Vec::new(alloc);
@@ -39,7 +40,7 @@ fn nodes_named(
     words: &[String],
     read: Words,
     fused: &Fused,
-) -> Result<Vec<NodeDisks<CaseDisk>>, OutOfMemory>
+) -> Result<Vec<NodeDisks<FusedDisk>>, OutOfMemory>
     requires { IsRead (map string_bytes words.now) read }
     ensures { (nodes workers : ℕ) → IsRunWith (map string_bytes words.now) nodes workers →
         IfOk result (λ disks. length disks.items ≡ nodes) }
@@ -55,7 +56,7 @@ pub fn nodes_for(
     alloc: Global,
     words: &[String],
     fused: &Fused,
-) -> Result<Vec<NodeDisks<CaseDisk>>, OutOfMemory>
+) -> Result<Vec<NodeDisks<FusedDisk>>, OutOfMemory>
     ensures { (nodes workers : ℕ) → IsRunWith (map string_bytes words.now) nodes workers →
         IfOk result (λ disks. length disks.items ≡ nodes) }
 {

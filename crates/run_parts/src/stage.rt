@@ -1,9 +1,9 @@
 //! What a case has set up, and what its last run left.
 
-use crate::going::CaseDisk;
 use crate::places::{Bytes, Place, nothing};
-use oz_cluster::Disks;
 use oz_core::Event;
+use oz_datanode::NodeDisks;
+use oz_fused::FusedDisk;
 use std::alloc::Global;
 
 /// The room of each disk, in bytes, where a case says nothing.
@@ -22,7 +22,9 @@ pub struct Left {
     pub status: u8,
     pub text: String,
     pub story: Vec<Event>,
-    pub disks: Disks<CaseDisk>,
+    pub manager: FusedDisk,
+    pub scm: FusedDisk,
+    pub nodes: Vec<NodeDisks<FusedDisk>>,
     pub flusher: u64,
     pub others: u64,
 }

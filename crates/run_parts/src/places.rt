@@ -1,11 +1,17 @@
 //! The disks and streams of a run by their names.
 
-use oz_cluster::{DiskName, Disks, NodeDisks};
+use oz_datanode::NodeDisks;
+use oz_nodes_loaded::DiskName;
 use oz_world::OutOfMemory;
 use std::alloc::Global;
 
-/// The bytes of all disks of a store.
-pub type Bytes = Disks<Vec<u8>>;
+/// The bytes of all disks of a store: the manager's, the storage container manager's, and those of each datanode in the place of its number.
+#[derive(Drop)]
+pub struct Bytes {
+    pub manager: Vec<u8>,
+    pub scm: Vec<u8>,
+    pub nodes: Vec<NodeDisks<Vec<u8>>>,
+}
 
 /// The most datanodes.
 const MOST: u8 = 16;
@@ -52,7 +58,7 @@ pub fn place_named(word: &str) -> Option<Place> {
 
 /// A store whose disks have nothing.
 pub fn nothing(alloc: Global) -> Bytes {
-    Disks {
+    Bytes {
         manager: Vec::new(alloc),
         scm: Vec::new(alloc),
         nodes: Vec::new(alloc),
@@ -88,28 +94,39 @@ fn reach(alloc: Global, nodes: &mut Vec<NodeDisks<Vec<u8>>>, dn: u8) -> Result<(
     Ok(())
 }
 
+/// Puts these bytes in the place of others.
+fn put_over(bytes: &mut Vec<u8>, these: &[u8]) -> Result<(), OutOfMemory> {
+    bytes.clear();
+    bytes.extend_from_slice(these)
+}
+
+/// Gives a disk of a datanode these bytes.
+fn put_at_node(
+    alloc: Global,
+    nodes: &mut Vec<NodeDisks<Vec<u8>>>,
+    dn: u8,
+    is_meta: bool,
+    these: &[u8],
+) -> Result<(), OutOfMemory> {
+    reach(alloc, nodes, dn)?;
+    match nodes.get_mut(usize::from(dn)) {
+        Some(node) if is_meta => put_over(&mut node.meta, these),
+        Some(node) => put_over(&mut node.slots, these),
+        None => Ok(()),
+    }
+}
+
 /// Gives a disk these bytes.
 pub fn put_bytes(
     alloc: Global,
     bytes: &mut Bytes,
     name: DiskName,
-    these: Vec<u8>,
+    these: &[u8],
 ) -> Result<(), OutOfMemory> {
     match name {
-        DiskName::Manager => bytes.manager = these,
-        DiskName::Scm => bytes.scm = these,
-        DiskName::Meta(dn) => {
-            reach(alloc, &mut bytes.nodes, dn)?;
-            if let Some(node) = bytes.nodes.get_mut(usize::from(dn)) {
-                node.meta = these;
-            }
-        }
-        DiskName::Slots(dn) => {
-            reach(alloc, &mut bytes.nodes, dn)?;
-            if let Some(node) = bytes.nodes.get_mut(usize::from(dn)) {
-                node.slots = these;
-            }
-        }
+        DiskName::Manager => put_over(&mut bytes.manager, these),
+        DiskName::Scm => put_over(&mut bytes.scm, these),
+        DiskName::Meta(dn) => put_at_node(alloc, &mut bytes.nodes, dn, true, these),
+        DiskName::Slots(dn) => put_at_node(alloc, &mut bytes.nodes, dn, false, these),
     }
-    Ok(())
 }

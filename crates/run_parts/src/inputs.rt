@@ -1,12 +1,13 @@
 //! The statements that say what a run is given.
 
-use crate::bytes::bytes_from;
-use crate::changes::changed;
+use crate::bytes::add_bytes;
+use crate::changes::change;
 use crate::places::{bytes_at, disk_named, nothing, place_named, put_bytes};
 use crate::said::Said;
-use crate::stage::{Failing, Stage};
+use crate::stage::{Failing, Left, Stage};
 use case_files::{Statement, values_of};
-use oz_cluster::DiskName;
+use oz_fused::FusedDisk;
+use oz_nodes_loaded::DiskName;
 use oz_world::OutOfMemory;
 use std::alloc::Global;
 
@@ -20,13 +21,12 @@ fn take_script(
         stage.script = statement.text(alloc)?.into_bytes();
         return Ok(Said::if_read(statement.words.len() == 1));
     }
-    match bytes_from(alloc, statement, 1)? {
-        Some(bytes) => {
-            stage.script = bytes;
-            Ok(Said::Well)
-        }
-        None => Ok(Said::Unread),
+    let mut bytes = Vec::new(alloc);
+    if !add_bytes(alloc, &mut bytes, statement, 1)? {
+        return Ok(Said::Unread);
     }
+    stage.script = bytes;
+    Ok(Said::Well)
 }
 
 /// `fail PLACE NUMBERS`: these calls of the next run fail. Of one place this is said once.
@@ -58,29 +58,13 @@ fn choice_at(statement: &Statement, place: usize) -> Option<u8> {
     }
 }
 
-/// The image that a stop may leave of a disk of the last run, at this choice; none where there was no such disk.
-fn image_of(
-    alloc: Global,
-    stage: &Stage,
-    name: DiskName,
-    choice: u8,
-) -> Result<Option<Vec<u8>>, OutOfMemory> {
-    let Some(left) = &stage.left else {
-        return Ok(None);
-    };
-    let disk = match name {
-        DiskName::Manager => Some(&left.disks.manager),
-        DiskName::Scm => Some(&left.disks.scm),
-        DiskName::Meta(dn) => left.disks.nodes.get(usize::from(dn)).map(|node| &node.meta),
-        DiskName::Slots(dn) => left
-            .disks
-            .nodes
-            .get(usize::from(dn))
-            .map(|node| &node.slots),
-    };
-    match disk {
-        Some(disk) => Ok(Some(disk.inner().image(alloc, choice)?)),
-        None => Ok(None),
+/// A disk of a run that ended, where it had such a one.
+fn disk_of(left: &Left, name: DiskName) -> Option<&FusedDisk> {
+    match name {
+        DiskName::Manager => Some(&left.manager),
+        DiskName::Scm => Some(&left.scm),
+        DiskName::Meta(dn) => Some(&left.nodes.get(usize::from(dn))?.meta),
+        DiskName::Slots(dn) => Some(&left.nodes.get(usize::from(dn))?.slots),
     }
 }
 
@@ -91,69 +75,100 @@ fn take_image(
     name: DiskName,
     choice: u8,
 ) -> Result<bool, OutOfMemory> {
-    match image_of(alloc, stage, name, choice)? {
-        Some(bytes) => {
-            put_bytes(alloc, &mut stage.given, name, bytes)?;
-            Ok(true)
+    let Some(left) = &stage.left else {
+        return Ok(false);
+    };
+    let Some(disk) = disk_of(left, name) else {
+        return Ok(false);
+    };
+    let image = disk.inner().image(alloc, choice)?;
+    put_bytes(alloc, &mut stage.given, name, &image)?;
+    Ok(true)
+}
+
+/// `disk NAME image CHOICE`.
+fn take_one_image(
+    alloc: Global,
+    stage: &mut Stage,
+    name: DiskName,
+    statement: &Statement,
+) -> Result<Said, OutOfMemory> {
+    match choice_at(statement, 3) {
+        Some(choice) if statement.words.len() == 4 => {
+            let is_there = take_image(alloc, stage, name, choice)?;
+            Ok(Said::if_read(is_there))
         }
-        None => Ok(false),
+        _ => Ok(Said::Unread),
     }
+}
+
+/// Gives a disk what a statement makes of its bytes.
+fn take_change(
+    alloc: Global,
+    stage: &mut Stage,
+    name: DiskName,
+    statement: &Statement,
+) -> Result<Said, OutOfMemory> {
+    let mut bytes = bytes_at(&stage.given, name).to_vec(alloc)?;
+    if !change(alloc, &mut bytes, statement)? {
+        return Ok(Said::Unread);
+    }
+    put_bytes(alloc, &mut stage.given, name, &bytes)?;
+    Ok(Said::Well)
 }
 
 /// `disk NAME ..`: `image CHOICE`, or what its bytes become.
 fn take_disk(alloc: Global, stage: &mut Stage, statement: &Statement) -> Result<Said, OutOfMemory> {
-    let Some(name) = disk_named(statement.word(1)) else {
-        return Ok(Said::Unread);
-    };
-    if statement.word(2) == "image" {
-        return match choice_at(statement, 3) {
-            Some(choice) if statement.words.len() == 4 => Ok(Said::if_read(take_image(
-                alloc, stage, name, choice,
-            )?)),
-            _ => Ok(Said::Unread),
-        };
-    }
-    match changed(alloc, bytes_at(&stage.given, name), statement)? {
-        Some(bytes) => {
-            put_bytes(alloc, &mut stage.given, name, bytes)?;
-            Ok(Said::Well)
-        }
+    match disk_named(statement.word(1)) {
         None => Ok(Said::Unread),
+        Some(name) if statement.word(2) == "image" => {
+            take_one_image(alloc, stage, name, statement)
+        }
+        Some(name) => take_change(alloc, stage, name, statement),
     }
 }
 
 /// Gives the next run the images of one choice of the disks of all datanodes of the last one.
 fn take_node_images(alloc: Global, stage: &mut Stage, choice: u8) -> Result<(), OutOfMemory> {
     for dn in 0..16u8 {
-        for name in [DiskName::Meta(dn), DiskName::Slots(dn)] {
-            take_image(alloc, stage, name, choice)?;
-        }
+        take_image(alloc, stage, DiskName::Meta(dn), choice)?;
+        take_image(alloc, stage, DiskName::Slots(dn), choice)?;
     }
     Ok(())
 }
 
-/// `disks empty`, or `disks images M S D`, with a choice for the manager, for the storage container manager and for all datanodes.
+/// `disks images M S D`, with a choice for the manager, for the storage container manager and for all datanodes.
+fn take_images(
+    alloc: Global,
+    stage: &mut Stage,
+    statement: &Statement,
+) -> Result<Said, OutOfMemory> {
+    let (Some(manager), Some(scm), Some(nodes), 5) = (
+        choice_at(statement, 2),
+        choice_at(statement, 3),
+        choice_at(statement, 4),
+        statement.words.len(),
+    ) else {
+        return Ok(Said::Unread);
+    };
+    take_node_images(alloc, stage, nodes)?;
+    let is_read = take_image(alloc, stage, DiskName::Manager, manager)?
+        && take_image(alloc, stage, DiskName::Scm, scm)?;
+    Ok(Said::if_read(is_read))
+}
+
+/// `disks empty`, or `disks images M S D`.
 fn take_disks(
     alloc: Global,
     stage: &mut Stage,
     statement: &Statement,
 ) -> Result<Said, OutOfMemory> {
-    let choices = (
-        choice_at(statement, 2),
-        choice_at(statement, 3),
-        choice_at(statement, 4),
-    );
-    match (statement.word(1), choices, statement.words.len()) {
-        ("empty", (None, None, None), 2) => {
+    match (statement.word(1), statement.words.len()) {
+        ("empty", 2) => {
             stage.given = nothing(alloc);
             Ok(Said::Well)
         }
-        ("images", (Some(manager), Some(scm), Some(nodes)), 5) => {
-            take_node_images(alloc, stage, nodes)?;
-            let is_read = take_image(alloc, stage, DiskName::Manager, manager)?
-                && take_image(alloc, stage, DiskName::Scm, scm)?;
-            Ok(Said::if_read(is_read))
-        }
+        ("images", _) => take_images(alloc, stage, statement),
         _ => Ok(Said::Unread),
     }
 }

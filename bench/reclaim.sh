@@ -32,7 +32,7 @@ below() {
     done
     echo "$1"
 }
-mkdir -p "$work"/crates/bench_reclaim/{src,proofs/is_rising}
+mkdir -p "$work"/crates/bench_reclaim/{src,proofs/is_rising,proofs/known_round}
 for crate in $( (below oz_reclaim; below oz_freon; below oz_repl) | sort -u); do
     grep "^$crate\b" "$top/crates.txt" >>"$work/crates.txt"
     cp -r "$top/crates/$crate" "$work/crates/"
@@ -271,7 +271,8 @@ fn known_round(
 ) -> anyhow::Result<(usize, u128)> {
     let alloc = rt.alloc();
     if is_purge(request) && names_few(request) {
-        if are_unreached(alloc, cached, known)? {
+        let are = are_unreached(alloc, cached, known)?;
+        if are {
             let start = Instant::now(rt)?;
             let decision = decide_purge(alloc, cached, request, known)?;
             let took = start.elapsed(rt)?.as_micros();
@@ -336,5 +337,11 @@ use Rattle.bench_reclaim.proofs.is_rising.Given as goal
 
 abbrev pub invariant-loop-at : goal.invariant-loop-at
 invariant-loop-at l = (k : ℕ) → k + 1 < l.at → slice_index l.locals k < slice_index l.locals (k + 1)
+PROOF
+cat >"$work/crates/bench_reclaim/proofs/known_round/Answers.antt" <<'PROOF'
+use Rattle.bench_reclaim.proofs.known_round.Goals as goal
+
+pub decide_purge-requires-clause-known : goal.decide_purge-requires-clause-known
+decide_purge-requires-clause-known c = c.in_ok-are.ensures.0 c.if-are.true
 PROOF
 (cd "$work/crates/bench_reclaim" && rt fmt && rt run -- "$rounds" "${sizes[@]}") 2>"$work/errors" || { cat "$work/errors" >&2; exit 1; }

@@ -437,11 +437,12 @@ STEPS = {1: {1: 2}, 2: {2: 3, 3: 4}, 3: {4: 4}, 4: {5: 5}, 5: {6: 6}, 6: {}}
 
 
 class Scm:
-    """What the bodies of the storage container manager's journal make: the containers with their pipelines and states, and the
-    grants."""
+    """What the bodies of the storage container manager's journal make: the containers with their pipelines and states, the
+    grants, and the deletions that aren't retired: by their numbers the container, and who acknowledged them."""
 
     def __init__(self):
         self.nodes, self.pipelines, self.states, self.grants, self.next = None, [], [], [], 1
+        self.last, self.log = 0, {}
 
     def read(self, body):
         fields = Fields(body)
@@ -451,8 +452,9 @@ class Scm:
             fields.end()
             self.nodes = nodes
             return {"entry": "nodes", "nodes": nodes}
-        if fields.number(1, "the entry 2, a grant, or 3, a step", (2, 3).__contains__) == 3:
-            return self.step(fields)
+        tag = fields.number(1, "an entry of 2 to 6", (2, 3, 4, 5, 6).__contains__)
+        if tag > 2:
+            return (self.step, self.logged, self.acknowledged, self.retired)[tag - 3](fields)
         grant = self.grant_in(fields)
         fields.end()
         if grant.container > len(self.pipelines):
@@ -469,6 +471,30 @@ class Scm:
         fields.end()
         self.states[container - 1] = steps[event]
         return {"entry": "step", "container": container, "event": EVENTS[event], "state": STATES[self.states[container - 1]]}
+
+    def logged(self, fields):
+        number = fields.long(f"the next transaction, {self.last + 1}", self.last + 1, self.last + 1)
+        container = fields.long("a container that was made", 1, len(self.states))
+        locals = fields.list("local ids", lambda: fields.long("a local id"), 1, 1024)
+        fields.end()
+        self.last, self.log[number] = number, (container, set())
+        return {"entry": "log", "transaction": number, "blocks": [(container, it) for it in locals]}
+
+    def acknowledged(self, fields):
+        number = fields.number(8, "a transaction that isn't retired", self.log.__contains__)
+        container, done = self.log[number]
+        waits = [it for it in self.members(container) if it not in done]
+        datanode = fields.number(1, f"a datanode of {waits}", waits.__contains__)
+        fields.end()
+        done.add(datanode)
+        return {"entry": "ack", "transaction": number, "datanode": datanode}
+
+    def retired(self, fields):
+        is_done = lambda value: value in self.log and len(self.log[value][1]) == REPLICAS
+        number = fields.number(8, "a transaction that three datanodes acknowledged", is_done)
+        fields.end()
+        del self.log[number]
+        return {"entry": "retire", "transaction": number}
 
     def grant_in(self, fields):
         stripe = fields.number(1, "a stripe below 16", lambda value: value < STRIPES)
@@ -607,6 +633,9 @@ ENTRY_TEXTS = {
     "nodes": lambda entry: counted(entry["nodes"], "datanode"),
     "grant": grant_text,
     "step": step_text,
+    "log": lambda entry: "transaction {transaction} is to take ".format(**entry) + " ".join(map(block_text, entry["blocks"])),
+    "ack": "datanode {datanode} has done transaction {transaction}".format_map,
+    "retire": "transaction {transaction} is done".format_map,
     "put": put_text,
     "state": lambda entry: "container {container} is {state}".format(**entry),
     "transaction": lambda entry: "transaction {transaction} takes ".format(**entry) + " ".join(map(block_text, entry["blocks"])),

@@ -4,6 +4,7 @@ use Rattle.std.proofs.lemmas.Bool.{false≢true}
 use Rattle.oz_cluster.specs.Disks.{ADiskRose}
 use Rattle.oz_cluster.specs.StatusCauses.{StatusCauses, StoreLoads}
 use Rattle.oz_cluster.specs.Stopped.{IsScript, status_of_store}
+use Rattle.oz_cluster.proofs.NoRows.{no_rows_are_sound}
 use Rattle.oz_cluster.proofs.Causes.{no_script_and_fault}
 use Rattle.oz_core.specs.Contents.{OpeningBytes}
 use Rattle.oz_datanode.specs.declared.disks.NodeDisks.{NodeDisks}
@@ -24,7 +25,7 @@ use Rattle.oz_running.specs.AllLoad.{AllLoad, is_of_bytes}
 use Rattle.oz_running.specs.Refused.{IsSo}
 use Rattle.oz_rows.specs.declared.entry.RowEntry.{RowEntry}
 use Rattle.oz_rows.specs.RowMaps.{row_of}
-use Rattle.oz_sound.specs.Sound.{IsSoundButRenames}
+use Rattle.oz_sound.specs.Sound.{IsSound}
 use Rattle.oz_sound.specs.StandsFor.{StandsFor}
 use Rattle.oz_store.specs.Store.{IsStore, empty_store}
 use Rattle.oz_command.specs.command_line.Words.{IsRun, IsFirstFault}
@@ -93,13 +94,13 @@ module _ {D : Type 0} (see : D → Seen)
 pub empty_opens : ((bodies : List (List ℕ)) (all other : List RowEntry) (index last : ℕ) → Builds bodies all index → Builds bodies other last → (all ≡ other) × (index ≡ last))
     → {bytes_are : OpeningBytes} → IsStore (row_of []) empty_store bytes_are
     → (bytes : List ℕ) (bodies : List (List ℕ)) (unseated : UnseatedView) → length bytes ≤ 1 → IsJournal bytes bodies → (this : IsLoaded bodies unseated)
-    → StandsFor (row_of this.all) nothing × IsSoundButRenames (row_of this.all) × (unseated.last_index ≡ 0)
+    → StandsFor (row_of this.all) nothing × IsSound (row_of this.all) × (unseated.last_index ≡ 0)
 unfolding BuildsFrom
 empty_opens one_table store bytes bodies unseated short journal this =
     let none : bodies ≡ [] = ⊎_elim (λ few. few.1) (λ many. absurd (omega (arith, many.0, short))) journal in
     let builds : Builds bodies [] 0 = subst (λ (l : List (List ℕ)). Builds l [] 0) (sym none) (no_head, (refl, refl), refl) in
     let same = one_table bodies this.all [] unseated.last_index 0 this.builds builds in (
       subst (λ (l : List RowEntry). StandsFor (row_of l) nothing) (sym same.0) store.stands,
-      subst (λ (l : List RowEntry). IsSoundButRenames (row_of l)) (sym same.0) store.sound,
+      subst (λ (l : List RowEntry). IsSound (row_of l)) (sym same.0) (no_rows_are_sound store.sound),
       same.1,
     )

@@ -4,6 +4,7 @@ use Rattle.std.specs.Prelude.{IsSome, IsSomeAnd}
 use Rattle.std.specs.List.{slice_index_or}
 use Rattle.std.proofs.lemmas.List.Elements.{All-cons, All-head, All-tail}
 use Rattle.oz_block.specs.Blocks.{StandsFor as StandsForNode}
+use Rattle.oz_cluster.proofs.NoRows.{unwritten_rows_are_sound}
 use Rattle.oz_cluster.specs.Unwritten.{AreUnwritten, IsBare}
 use Rattle.oz_core.specs.declared.opening.Opening.{Opening}
 use Rattle.oz_core.specs.Contents.{OpeningBytes}
@@ -77,7 +78,7 @@ module _ {D : Type 0} (see : D → Seen) where
     at_none this count =
         let store = empty unseated this count nodes (nodes_empty 0 disks.nodes.items nodes are bare.nodes) in record {
           stands = store.stands;
-          sound = store.sound;
+          sound = unwritten_rows_are_sound unseated this store.sound;
           agree = only (row_of this.all) (opening_of unseated nothing (begun count) nodes) (opening_bytes see nodes) store;
           told = λ k own within. let its = bare.nodes k own within in (tells (see (slice_index_or disks.nodes.items k own).meta).told its.0, its.1);
         }

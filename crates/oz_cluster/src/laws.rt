@@ -15,7 +15,7 @@ ghost use Rattle.oz_loaded.specs.Loads.{IsLoaded};
 ghost use Rattle.oz_loaded.specs.Unseated.{UnseatedView};
 ghost use Rattle.oz_namespace.specs.Namespace.{nothing};
 ghost use Rattle.oz_rows.specs.RowMaps.{row_of};
-ghost use Rattle.oz_sound.specs.Sound.{IsSoundButRenames};
+ghost use Rattle.oz_sound.specs.Sound.{IsSound};
 ghost use Rattle.oz_sound.specs.StandsFor.{StandsFor};
 ghost use Rattle.oz_running.specs.store_opening.Openings.{opening_bytes, opening_of};
 ghost use Rattle.oz_command.specs.command_line.Words.{IsRun};
@@ -48,7 +48,7 @@ pub fn a_run_that_nothing_disturbs_is_done<D: Disk>()
 pub fn an_empty_disk_opens_as_nothing()
     ensures { (bytes : List ℕ) (bodies : List (List ℕ)) (unseated : UnseatedView) → length bytes ≤ 1 →
         IsJournal bytes bodies → (this : IsLoaded bodies unseated) → StandsFor (row_of this.all) nothing
-        × IsSoundButRenames (row_of this.all) × (unseated.last_index ≡ 0) }
+        × IsSound (row_of this.all) × (unseated.last_index ≡ 0) }
 {
     an_empty_store_is_one();
     bodies_make_one_thing();

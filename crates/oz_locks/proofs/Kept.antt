@@ -15,14 +15,16 @@ use Rattle.oz_rows.specs.RowMaps.{Rows}
 use Rattle.oz_sound.specs.stripes.Stripes.{only}
 use Rattle.oz_locks.specs.declared.pins.Pin.{Pin}
 use Rattle.oz_locks.specs.declared.pool.FreeBlock.{FreeBlock}
+use Rattle.oz_locks.specs.declared.reclaim.Reclaim.{Reclaim}
 use Rattle.oz_locks.specs.Flushes.{IsFlushed, flushed_in}
 use Rattle.oz_locks.specs.Pins.{pins_in}
 use Rattle.oz_locks.specs.Pool.{AreFresh, AreOfGrants, blocks_granted, pool_of, without}
 use Rattle.oz_locks.specs.Purges.{AreAskedWhole}
+use Rattle.oz_locks.specs.Reclaims.{KeepsUp}
 use Rattle.oz_locks.specs.Rows.{IsReplayed}
 use Rattle.oz_locks.specs.Stripe.{IsKept, StripeView}
 use Rattle.oz_locks.specs.Writes.{writes_of}
-use Rattle.oz_locks.proofs.Pinning.{pinned_seen, pinned_named}
+use Rattle.oz_locks.proofs.Pinning.{named_more, pinned_seen, pinned_named}
 use Rattle.oz_locks.proofs.Pools.{of_grants_granted, of_more_grants, pool_granted, pool_more}
 
 -- ---- what is flushed
@@ -84,24 +86,28 @@ module _ {T : Type 0} {Coherent : Type 0} (loaded : Rows) (opened : ℕ) (s : St
     pool_is = λ coherent. kept.pool_is coherent ∙ ap (λ (known : List Event). pool_of s.number known s.mine) (sym (same_known more));
     used = λ coherent. subst (λ (known : List Event). AreOfGrants s.number known s.mine) (sym (same_known more)) (kept.used coherent);
     pinned = pinned_seen s.seen more s.mine s.pins kept.pinned;
+    named = kept.named;
     asked = kept.asked;
+    reclaims = kept.reclaims;
   }
 
   -- its seat gave an event
-  pub kept_given : (event : Event) (cache : CacheView) (granted : Option Block) (named : List Pin) (pin_room room : ℕ) (taken : Option T)
+  pub kept_given : (event : Event) (cache : CacheView) (granted : Option Block) (named : List Pin) (pin_room room : ℕ) (reclaim : Reclaim) (taken : Option T)
       → IsReplayed (only s.number loaded) (writes_of (s.mine ++ event ∷ [])) s.flushed cache → granted_block event.kind ≡ granted → named ≡ pins_in event.kind
-      → IfSome granted (λ block. Any (λ (free : FreeBlock). free.block ≡ block) s.pool) → AreAskedWhole (newest cache) (s.mine ++ event ∷ [])
+      → IfSome granted (λ block. Any (λ (free : FreeBlock). free.block ≡ block) s.pool) → (Coherent → AreAskedWhole (newest cache) (s.mine ++ event ∷ []))
+      → KeepsUp Coherent s.flushed cache reclaim
       → IsKept loaded opened Coherent (record s {
         cache = cache;
         pool = without granted s.pool;
         pins = s.pins ++ named;
         pin_room = pin_room;
+        reclaim = reclaim;
         mine = s.mine ++ event ∷ [];
         seen = s.seen ++ event ∷ [];
         room = room;
         taken = taken;
       })
-  kept_given event cache granted named pin_room room taken rows grants names pooled asked = record {
+  kept_given event cache granted named pin_room room reclaim taken rows grants names pooled asked keeps = record {
     there = kept.there;
     rows = rows;
     on_disk = flushed_seen opened s.seen (event ∷ []) s.flushed kept.on_disk;
@@ -111,7 +117,9 @@ module _ {T : Type 0} {Coherent : Type 0} (loaded : Rows) (opened : ℕ) (s : St
     used = λ coherent. subst (λ (known : List Event). AreOfGrants s.number known (s.mine ++ event ∷ [])) (sym (same_known (event ∷ [])))
         (of_grants_granted s.number (take s.known s.seen) s.mine event granted s.pool grants (kept.pool_is coherent) pooled (kept.used coherent));
     pinned = pinned_named s.seen s.mine event s.pins named names kept.pinned;
+    named = named_more s.mine event s.pins named names kept.named;
     asked = asked;
+    reclaims = keeps;
   }
 
   -- it has looked at all that its seat has seen
@@ -133,6 +141,8 @@ module _ {T : Type 0} {Coherent : Type 0} (loaded : Rows) (opened : ℕ) (s : St
           used = λ coherent. subst (λ (known : List Event). AreOfGrants s.number known s.mine) (all ∙ sym whole)
               (of_more_grants s.number (take s.known s.seen) (drop s.known s.seen) s.mine (kept.used coherent));
           pinned = kept.pinned;
+          named = kept.named;
           asked = kept.asked;
+          reclaims = kept.reclaims;
         },
       )

@@ -4,5 +4,6 @@ pub mod Pools
 pub mod Pinning
 pub mod Purging
 pub mod Listed
+pub mod Reclaiming
 pub mod Kept
 pub mod Seated

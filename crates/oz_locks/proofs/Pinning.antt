@@ -1,15 +1,13 @@
 -- Pins whose seat has seen more, or has named more blocks.
-use Rattle.std.proofs.Common.{◌≡◌, ⊎_elim, ℕ, ◌==◌, Bool, true, false, not, ◌&&◌, ◌||◌, List, [], ◌∷◌, ◌++◌, is_some, Contains, refl, sym, ◌∙◌, ap, subst, append-nil}
-use mathlib.Core.Bool.{false≢true}
-use Rattle.std.proofs.lemmas.Bool.{eqb-true}
+use Rattle.std.proofs.Common.{◌≡◌, ⊎_elim, ℕ, Bool, true, false, not, ◌||◌, List, [], ◌∷◌, ◌++◌, is_some, Contains, refl, sym, ◌∙◌, ap, subst, append-nil}
 use Rattle.std.proofs.lemmas.Grind.{flat_map-append}
 use Rattle.std.proofs.lemmas.List.Elements.{Contains-append_left, Contains-append_right, Contains-append_cases}
 use Rattle.std.proofs.lemmas.List.Folds.{list_any-append}
 use Rattle.oz_core.specs.declared.event.Event.{Event}
 use Rattle.oz_core.specs.Asks.{answer_to, is_told}
 use Rattle.oz_locks.specs.declared.pins.Pin.{Pin}
-use Rattle.oz_locks.specs.Pins.{ArePinned, pins_in, pins_of, without_line}
-use Rattle.oz_locks.proofs.Pools.{in_none, stays_filtered}
+use Rattle.oz_locks.specs.Pins.{AreNamed, ArePinned, pins_in, pins_of, untold}
+use Rattle.oz_locks.proofs.Pools.{in_none, of_filtered, stays_filtered}
 
 -- who isn't told yet wasn't told before
 told_before : (client line : ℕ) (seen more : List Event) → is_told client line (seen ++ more) ≡ false → is_told client line seen ≡ false
@@ -34,12 +32,23 @@ pinned_named seen mine event pins named is are pin there untold = ⊎_elim
     (Contains-append_cases (pins_of mine) (pins_of (event ∷ [])) pin
     (subst (λ (l : List Pin). Contains l pin) (flat_map-append (λ (event : Event). pins_in event.kind) mine (event ∷ [])) there))
 
-pub pinned_without : (client line : ℕ) (seen mine : List Event) (pins : List Pin) → is_told client line seen ≡ true → ArePinned seen mine pins
-    → ArePinned seen mine (without_line client line pins)
-pinned_without client line seen mine pins told are pin there untold =
-    stays_filtered (λ (pin : Pin). not (pin.client == client && pin.line == line)) pins pin (are pin there untold) (by (pin.client == client) (pin.line == line) refl refl)
-  where
-    by : (a b : Bool) → (pin.client == client) ≡ a → (pin.line == line) ≡ b → not ((pin.client == client) && (pin.line == line)) ≡ true
-    by true true c l = absurd (false≢true (sym untold ∙ ap (λ n. is_told n pin.line seen) (eqb-true pin.client client c) ∙ ap (λ n. is_told client n seen) (eqb-true pin.line line l) ∙ told))
-    by true false c l = ap (λ t. not (t && (pin.line == line))) c ∙ ap not l
-    by false b c l = ap (λ t. not (t && (pin.line == line))) c
+pub pinned_untold : (seen mine : List Event) (pins : List Pin) → ArePinned seen mine pins → ArePinned seen mine (untold seen pins)
+pinned_untold seen mine pins are pin there none =
+    stays_filtered (λ (pin : Pin). not (is_told pin.client pin.line seen)) pins pin (are pin there none) (ap not none)
+
+-- each pin is of a block that was named
+
+pub none_named : (mine : List Event) → AreNamed mine []
+none_named mine pin there = absurd (in_none pin there)
+
+pub named_more : (mine : List Event) (event : Event) (pins named : List Pin) → named ≡ pins_in event.kind → AreNamed mine pins → AreNamed (mine ++ event ∷ []) (pins ++ named)
+named_more mine event pins named is are pin there =
+    let last = pins_of (event ∷ []) in
+    subst (λ (l : List Pin). Contains l pin) (sym (flat_map-append (λ (event : Event). pins_in event.kind) mine (event ∷ [])))
+    (⊎_elim
+    (λ before. Contains-append_left (pins_of mine) last pin (are pin before))
+    (λ now. Contains-append_right (pins_of mine) last pin (subst (λ (l : List Pin). Contains l pin) (is ∙ sym (append-nil (pins_in event.kind))) now))
+    (Contains-append_cases pins named pin there))
+
+pub named_untold : (seen mine : List Event) (pins : List Pin) → AreNamed mine pins → AreNamed mine (untold seen pins)
+named_untold seen mine pins are pin there = are pin (of_filtered (λ (pin : Pin). not (is_told pin.client pin.line seen)) pins pin there).0

@@ -10,8 +10,11 @@ use Rattle.oz_rows.specs.RowMaps.{Rows}
 use Rattle.oz_locks.specs.Purges.{AreAskedWhole, HaveWholeRows, asked_by, asked_in}
 use Rattle.oz_locks.proofs.Pools.{in_none, first_or_later}
 
-pub none_asked : (all : Rows) → AreAskedWhole all []
+none_asked : (all : Rows) → AreAskedWhole all []
 none_asked all blocks there = absurd (in_none blocks there)
+
+pub asked_none : (all : Rows) (mine : List Event) → mine ≡ [] → AreAskedWhole all mine
+asked_none all mine none = subst (AreAskedWhole all) (sym none) (none_asked all)
 
 asked_more : (mine : List Event) (event : Event) (asked : Option (List Block)) → asked_in event.kind ≡ asked → asked_by (mine ++ event ∷ []) ≡ asked_by mine ++ cons_option asked []
 asked_more mine event asked is =

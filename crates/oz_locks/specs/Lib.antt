@@ -4,6 +4,7 @@ pub mod Flushes
 pub mod Pool
 pub mod Pins
 pub mod Purges
+pub mod Reclaims
 pub mod Stripe
 pub mod Seats
 pub mod Decides

@@ -1,11 +1,12 @@
 -- The blocks that a stripe's Decides named to lines, for as long as these work with them.
-use Rattle.std.specs.Prelude.{◌≡◌, ℕ, false, not, ◌&&◌, ◌==◌, List, [], filter, map, Contains}
+use Rattle.std.specs.Prelude.{◌≡◌, false, not, List, [], filter, map, Contains}
 use Rattle.std.specs.List.{flat_map}
 use Rattle.oz_core.specs.declared.event.Event.{Event}
 use Rattle.oz_core.specs.declared.event.EventKind.{EventKind}
 use Rattle.oz_core.specs.declared.event.EventKind.TheVariants.{Decide}
 use Rattle.oz_core.specs.Asks.{is_told}
 use Rattle.oz_core.specs.Manager.{named_by}
+use Rattle.oz_fields.specs.declared.block.Block.{Block}
 use Rattle.oz_requests.specs.declared.request.AskId.{AskId}
 use Rattle.oz_requests.specs.declared.reply.Reply.{Reply}
 use Rattle.oz_locks.specs.declared.pins.Pin.{Pin}
@@ -26,6 +27,14 @@ abbrev pub ArePinned : List Event → List Event → List Pin → Type 0
 ArePinned seen mine pins =
     (pin : Pin) → Contains (pins_of mine) pin → is_told pin.client pin.line seen ≡ false → Contains pins pin
 
--- the pins of all other lines
-abbrev pub without_line : ℕ → ℕ → List Pin → List Pin
-without_line client line pins = filter (λ (pin : Pin). not (pin.client == client && pin.line == line)) pins
+-- Each pin is of a block that its own Decides named.
+abbrev pub AreNamed : List Event → List Pin → Type 0
+AreNamed mine pins = (pin : Pin) → Contains pins pin → Contains (pins_of mine) pin
+
+-- the pins of lines that aren't told
+abbrev pub untold : List Event → List Pin → List Pin
+untold seen pins = filter (λ (pin : Pin). not (is_told pin.client pin.line seen)) pins
+
+-- the blocks that are pinned
+abbrev pub pinned_blocks : List Pin → List Block
+pinned_blocks pins = map (λ (pin : Pin). pin.block) pins

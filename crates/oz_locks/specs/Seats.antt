@@ -9,6 +9,7 @@ use Rattle.oz_core.specs.declared.event.Event.{Event}
 use Rattle.oz_core.specs.Seats.{stripe_seat}
 use Rattle.oz_locks.specs.declared.pins.Pin.{Pin}
 use Rattle.oz_locks.specs.declared.pool.FreeBlock.{FreeBlock}
+use Rattle.oz_locks.specs.declared.reclaim.Reclaim.{Reclaim}
 use Rattle.oz_locks.specs.Stripe.{StripeView}
 
 module _ {T : Type 0} {told : Ghosts T Event} where
@@ -17,8 +18,8 @@ module _ {T : Type 0} {told : Ghosts T Event} where
     pub of_turn : turn_of s ≡ turn
     pub numbered : number_of s ≡ stripe_seat stripe
 
-  abbrev pub seen_as : ℕ → CacheView → ℕ → List FreeBlock → ℕ → List Pin → ℕ → Seat T Event told → StripeView T
-  seen_as number cache flushed pool known pins pin_room s = record {
+  abbrev pub seen_as : ℕ → CacheView → ℕ → List FreeBlock → ℕ → List Pin → ℕ → Reclaim → Seat T Event told → StripeView T
+  seen_as number cache flushed pool known pins pin_room reclaim s = record {
     number = number;
     cache = cache;
     flushed = flushed;
@@ -26,6 +27,7 @@ module _ {T : Type 0} {told : Ghosts T Event} where
     known = known;
     pins = pins;
     pin_room = pin_room;
+    reclaim = reclaim;
     mine = mine_of s;
     seen = seen_of s;
     room = room_of s;

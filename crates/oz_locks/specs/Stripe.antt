@@ -7,16 +7,19 @@ use Rattle.oz_rows.specs.RowMaps.{Rows}
 use Rattle.oz_sound.specs.stripes.Stripes.{only}
 use Rattle.oz_locks.specs.declared.pins.Pin.{Pin}
 use Rattle.oz_locks.specs.declared.pool.FreeBlock.{FreeBlock}
+use Rattle.oz_locks.specs.declared.reclaim.Reclaim.{Reclaim}
 use Rattle.oz_locks.specs.Flushes.{IsFlushed, flushed_in}
-use Rattle.oz_locks.specs.Pins.{ArePinned}
+use Rattle.oz_locks.specs.Pins.{AreNamed, ArePinned}
 use Rattle.oz_locks.specs.Pool.{AreOfGrants, pool_of}
 use Rattle.oz_locks.specs.Purges.{AreAskedWhole}
+use Rattle.oz_locks.specs.Reclaims.{KeepsUp}
 use Rattle.oz_locks.specs.Rows.{IsReplayed}
 use Rattle.oz_locks.specs.Writes.{writes_of}
 
 -- The stripe's number and its rows; the index up to which they were brought down into the tables; the blocks that it may still
 -- grant, and how many of the events that its seat has seen were looked at for Grants; the pins, and for how many more there is
--- room; what its seat gave and what it has seen, the seat's room, and the value as the seat took it, while it holds it.
+-- room; what is kept of rows that may go; what its seat gave and what it has seen, the seat's room, and the value as the seat took
+-- it, while it holds it.
 pub record StripeView (T : Type 0) : Type 0 where
   pub number : ℕ
   pub cache : CacheView
@@ -25,6 +28,7 @@ pub record StripeView (T : Type 0) : Type 0 where
   pub known : ℕ
   pub pins : List Pin
   pub pin_room : ℕ
+  pub reclaim : Reclaim
   pub mine : List Event
   pub seen : List Event
   pub room : ℕ
@@ -43,10 +47,14 @@ module _ {T : Type 0} (loaded : Rows) (opened : ℕ) (Coherent : Type 0) where
     pub looked_at : s.known ≤ length s.seen
     pub pool_is : Coherent → s.pool ≡ pool_of s.number (take s.known s.seen) s.mine
     pub used : Coherent → AreOfGrants s.number (take s.known s.seen) s.mine
-    -- What its Decides named is pinned.
+    -- What its Decides named is pinned until the line is told, and nothing else is.
     pub pinned : ArePinned s.seen s.mine s.pins
-    -- A deleted row of which a block stands in a PurgeAsk of the stripe has all of them there.
-    pub asked : AreAskedWhole (newest s.cache) s.mine
+    pub named : AreNamed s.mine s.pins
+    -- A deleted row of which a block stands in a PurgeAsk of the stripe has all of them there. Over disks that don't agree
+    -- two rows may share a block.
+    pub asked : Coherent → AreAskedWhole (newest s.cache) s.mine
+    -- What is kept of rows that may go keeps up with them.
+    pub reclaims : KeepsUp Coherent s.flushed s.cache s.reclaim
 
 -- the last index that was loaded; that the disks agree; and what holds of each stripe's number, of the events that its
 -- seat gave and of those that it has seen, and of its newest rows, while nobody works on it

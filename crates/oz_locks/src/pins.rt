@@ -1,7 +1,7 @@
 //! The blocks that lines work with.
 
 ghost use Rattle.std.specs.Prelude.{◌≡◌, ◌+◌, ◌≤◌, ◌++◌, [], ◌∷◌, map, length, vec_capacity, IfOk};
-ghost use Rattle.oz_locks.specs.Pins.{pins_for, without_line};
+ghost use Rattle.oz_locks.specs.Pins.{pinned_blocks as all_pinned, pins_for, untold};
 ghost use Rattle.oz_model.specs.Reach.{blocks_of};
 
 use oz_fields::{Block, OutOfMemory, Piece};
@@ -65,11 +65,34 @@ pub(crate) fn pin_all(pins: &mut Vec<Pin>, more: &[Pin])
     pins.extend_from_slice(more).unwrap();
 }
 
-/// The pins of all other lines stay.
-pub(crate) fn unpin_line(pins: &mut Vec<Pin>, client: u16, line: u16)
-    ensures items { pins.new.items ≡ without_line client line pins.old.items }
+/// What tells of each line whether it was told, by a story.
+pub trait ToldLines {
+    ghost use Rattle.std.specs.Prelude.{◌≡◌, List};
+    ghost use Rattle.oz_core.specs.Asks.{is_told};
+    ghost use Rattle.oz_core.specs.declared.event.Event.{Event};
+
+    ghost story: { Self → List Event };
+
+    fn is_told(&self, client: u16, line: u16) -> bool
+        ensures { result ≡ is_told client line (story self.now) };
+}
+
+/// The pins of lines that aren't told stay.
+pub(crate) fn keep_untold<S: ToldLines>(pins: &mut Vec<Pin>, lines: &S)
+    ensures items { pins.new.items ≡ untold (S.story lines.now) pins.old.items }
     ensures fewer { length pins.new.items ≤ length pins.old.items }
     ensures capacity { vec_capacity pins.new ≡ vec_capacity pins.old }
 {
-    pins.retain(|pin| !(pin.client == client && pin.line == line));
+    pins.retain(|pin| !lines.is_told(pin.client, pin.line));
+}
+
+/// The blocks that are pinned.
+pub(crate) fn pinned_blocks(alloc: Global, pins: &[Pin]) -> Result<Vec<Block>, OutOfMemory>
+    ensures { IfOk result (λ blocks. blocks.items ≡ all_pinned pins.now) }
+{
+    let mut blocks = Vec::with_capacity(alloc, pins.len())?;
+    for pin in pins {
+        blocks.push(pin.block)?;
+    }
+    Ok(blocks)
 }

@@ -11,12 +11,14 @@ ghost use Rattle.std.specs.Prelude.{
   ◌∷◌,
   ◌++◌,
   length,
+  map,
   take,
   drop,
   true,
   All,
   Any,
   None,
+  Some,
   IsSome,
   IfOk,
   IfSome,
@@ -24,23 +26,30 @@ ghost use Rattle.std.specs.Prelude.{
   OnErr,
   MatchOption,
 };
+ghost use Rattle.std.specs.List.{AllByRecursion};
 ghost use Rattle.oz_cache.specs.Cache.{batch_of, batched_changes, last_epoch, later, newest, up_to};
-ghost use Rattle.oz_core.specs.Asks.{is_told};
 ghost use Rattle.oz_core.specs.Grants.{IsExcluded};
 ghost use Rattle.oz_core.specs.Seats.{stripe_seat};
 ghost use Rattle.oz_core.specs.declared.event.Event.{Event as AnyEvent};
 ghost use Rattle.oz_effects.specs.Batches.{IsBatchOf};
 ghost use Rattle.oz_locks.specs.Decides.{AddsDecide, AddsPurgeAsk};
 ghost use Rattle.oz_locks.specs.Flushes.{flushed_in};
-ghost use Rattle.oz_locks.specs.Pins.{without_line};
+ghost use Rattle.oz_locks.specs.Pins.{pinned_blocks as all_pinned, untold};
 ghost use Rattle.oz_locks.specs.Pool.{AreFresh, GrantFits, IsFirstAllowed, pool_of, without};
 ghost use Rattle.oz_locks.specs.Purges.{AreAskedWhole, HaveWholeRows};
+ghost use Rattle.oz_locks.specs.Reclaims.{AreFound, AreReady};
 ghost use Rattle.oz_locks.specs.declared.pool.FreeBlock.{FreeBlock as AnyBlock};
 ghost use Rattle.oz_locks.specs.Stripe.{IsKept, IsAtRest};
 ghost use Rattle.oz_locks.specs.Rows.{AreReplayed};
 ghost use Rattle.oz_locks.specs.Writes.{writes_of};
+ghost use Rattle.oz_reclaim.specs.Origins.{SnapshotKeysStay};
+ghost use Rattle.oz_reclaim.specs.Work.{IsChainWork};
+ghost use Rattle.oz_reclaim.specs.sweep.Found.{keyed};
+ghost use Rattle.oz_reclaim.specs.sweep.Swept.{IsSwept};
+ghost use Rattle.oz_reclaim.specs.sweep.View.{date_of};
 ghost use Rattle.oz_names.specs.declared.limits.TheConstants.{STRIPES};
-ghost use Rattle.oz_rows.specs.RowMaps.{after_changes, row_of, row_after};
+ghost use Rattle.oz_rows.specs.Counts.{AllRise};
+ghost use Rattle.oz_rows.specs.RowMaps.{Rows, after_changes, row_of, row_after};
 ghost use Rattle.oz_rows.specs.declared.key.RowKey.{RowKey as AnyKey};
 ghost use Rattle.oz_rows.specs.declared.operation.TheConstants.{END_OF_INDEXES};
 ghost use Rattle.oz_sound.specs.stripes.Stripes.{only};
@@ -50,13 +59,15 @@ ghost use Rattle.oz_turn.specs.Told.{own_entries, BeginsWith, KeepsOtherRooms};
 ghost use Rattle.oz_turn.specs.Turn.{turn_id};
 
 use crate::loaded::Loaded;
-use crate::pins::{Pin, pin_all, unpin_line};
+use crate::pins::{Pin, ToldLines, keep_untold, pin_all, pinned_blocks};
 use crate::pool::{FreeBlock, add_granted, count_granted, first_allowed, withdraw};
+use crate::reclaim::Reclaim;
 use oz_cache::{Cached, Prepared};
 use oz_core::Event;
 use oz_epochs::Steps;
 use oz_fields::{Block, OutOfMemory};
-use oz_requests::Exclude;
+use oz_reclaim::{Found, MOST_PURGED, what_is_noted_may_change};
+use oz_requests::{Exclude, Request};
 use oz_rows::Change;
 use oz_turn::{Held, Ring, Seat, Told, Turn};
 use std::alloc::Global;
@@ -64,8 +75,8 @@ use std::marker::{Model, PhantomData};
 use std::sync::Wait;
 use std::sync::ledger::Ledger;
 
-/// The rows of one stripe's volumes and its stripe row, the blocks that it may grant, those that lines work with, and the seat
-/// whose Decides the rows are.
+/// The rows of one stripe's volumes and its stripe row, the blocks that it may grant, those that lines work with, what is kept of
+/// rows that may go, and the seat whose Decides the rows are.
 #[derive(Drop)]
 pub struct Stripe<T: Told<Entry = Event>, L: Loaded, R: Ring> {
     number: u8,
@@ -74,6 +85,7 @@ pub struct Stripe<T: Told<Entry = Event>, L: Loaded, R: Ring> {
     pool: Vec<FreeBlock>,
     known: usize,
     pins: Vec<Pin>,
+    reclaim: Reclaim,
     seat: Seat<T>,
     of: PhantomData<(L, R)>,
 }
@@ -86,11 +98,11 @@ impl<T: Told<Entry = Event>, L: Loaded, R: Ring> Model for Stripe<T, L, R> {
     ghost Value = { StripeView T };
 
     ghost view = { λ s. seen_as s.number s.cached s.flushed s.pool.items s.known s.pins.items
-        (vec_capacity s.pins - length s.pins.items) s.seat };
+        (vec_capacity s.pins - length s.pins.items) s.reclaim s.seat };
 
     ghost invariant = { λ s. IsSeated R.turn s.number s.seat × IsKept L.rows L.last_index L.coherent
         (seen_as s.number s.cached s.flushed s.pool.items s.known s.pins.items
-        (vec_capacity s.pins - length s.pins.items) s.seat) };
+        (vec_capacity s.pins - length s.pins.items) s.reclaim s.seat) };
 }
 
 impl<T: Told<Entry = Event>, L: Loaded, R: Ring> Stripe<T, L, R> {
@@ -116,6 +128,7 @@ impl<T: Told<Entry = Event>, L: Loaded, R: Ring> Stripe<T, L, R> {
             pool: Vec::new(alloc),
             known: 0,
             pins: Vec::new(alloc),
+            reclaim: Reclaim::new(alloc),
             seat,
             of: PhantomData,
         }
@@ -135,6 +148,7 @@ impl<T: Told<Entry = Event>, L: Loaded, R: Ring> Stripe<T, L, R> {
             pool: _,
             known: _,
             pins: _,
+            reclaim: _,
             seat,
             of: _,
         } = self;
@@ -184,8 +198,10 @@ impl<T: Told<Entry = Event>, L: Loaded, R: Ring> Stripe<T, L, R> {
         ensures rows { self.new.cache.durable.rows ≡ self.old.cache.durable.rows }
         ensures last_index { self.new.cache.durable.last_index ≡ self.old.cache.durable.last_index }
         ensures entered { self.new.cache.entered ≡ self.old.cache.entered }
-        ensures same { self.new ≡ record self.old { cache = self.new.cache } }
+        ensures ready { OnOk result (AreReady changes.items self.new.reclaim) }
+        ensures same { self.new ≡ record self.old { cache = self.new.cache; reclaim = self.new.reclaim } }
     {
+        self.reclaim.room(alloc, &changes)?;
         self.cached.prepare(alloc, changes)
     }
 
@@ -268,8 +284,8 @@ impl<T: Told<Entry = Event>, L: Loaded, R: Ring> Stripe<T, L, R> {
         turn.give(&mut self.seat, value, held)
     }
 
-    /// Gives the value back with a Decide of the stripe, and enters the changes of its batch. The block that it granted leaves
-    /// the pool, and what it named is pinned. It takes no memory.
+    /// Gives the value back with a Decide of the stripe, and enters the changes of its batch, which were prepared last. The block
+    /// that it granted leaves the pool, and what it named is pinned. It takes no memory.
     pub fn enter(
         &mut self,
         turn: &Turn<T>,
@@ -291,7 +307,9 @@ impl<T: Told<Entry = Event>, L: Loaded, R: Ring> Stripe<T, L, R> {
         requires room { length changes ≤ self.old.cache.spare }
         requires pins { length pins.now ≤ self.old.pin_room }
         requires pooled { IfSome granted (λ block. Any (λ (free : AnyBlock). free.block ≡ block) self.old.pool) }
-        requires asked { AreAskedWhole (after_changes changes (newest self.old.cache)) self.old.mine }
+        requires asked { L.coherent → AreAskedWhole (after_changes changes (newest self.old.cache)) self.old.mine }
+        requires ready { AreReady changes self.old.reclaim }
+        requires tidy { L.coherent → SnapshotKeysStay changes }
         ensures length { result ≡ length (T.entries value) }
         ensures mine { (event : AnyEvent) → T.entries value ≡ self.old.seen ++ event ∷ []
             → self.new.mine ≡ self.old.mine ++ event ∷ [] }
@@ -306,6 +324,7 @@ impl<T: Told<Entry = Event>, L: Loaded, R: Ring> Stripe<T, L, R> {
           pool = without granted self.old.pool;
           pins = self.old.pins ++ pins.now;
           pin_room = self.new.pin_room;
+          reclaim = self.new.reclaim;
           mine = self.new.mine;
           seen = T.entries value;
           room = T.room value (stripe_seat self.old.number);
@@ -313,6 +332,7 @@ impl<T: Told<Entry = Event>, L: Loaded, R: Ring> Stripe<T, L, R> {
         } }
     {
         self.cached.enter(index, changes);
+        self.reclaim.sweep.enter(index);
         withdraw(&mut self.pool, granted);
         pin_all(&mut self.pins, pins);
         turn.give(&mut self.seat, value, held)
@@ -323,7 +343,7 @@ impl<T: Told<Entry = Event>, L: Loaded, R: Ring> Stripe<T, L, R> {
         requires turn { turn_id turn.now ≡ R.turn }
         requires tells_seats { (event : AnyEvent) → T.seat_of event ≡ event.seat }
         requires asks { (blocks : AnyList Block) × AddsPurgeAsk self.old (T.entries value) blocks
-            × HaveWholeRows (newest self.old.cache) blocks }
+            × (L.coherent → HaveWholeRows (newest self.old.cache) blocks) }
         requires rooms { KeepsOtherRooms T.room (stripe_seat self.old.number) self.old.taken value }
         ensures length { result ≡ length (T.entries value) }
         ensures mine { (event : AnyEvent) → T.entries value ≡ self.old.seen ++ event ∷ []
@@ -351,6 +371,7 @@ impl<T: Told<Entry = Event>, L: Loaded, R: Ring> Stripe<T, L, R> {
         ensures steps { steps.new + length self.new.cache.epochs ≤ steps.old + length self.old.cache.epochs + 1 }
         ensures same { self.new ≡ record self.old { cache = self.new.cache; flushed = index } }
     {
+        what_is_noted_may_change();
         self.cached.flushed(index, steps);
         self.flushed = index;
     }
@@ -387,12 +408,49 @@ impl<T: Told<Entry = Event>, L: Loaded, R: Ring> Stripe<T, L, R> {
         first_allowed(self.pool.as_slice(), exclude)
     }
 
-    /// The pins of a line go, once its Told was seen.
-    pub fn unpin(&mut self, client: u16, line: u16)
-        requires { is_told client line self.old.seen ≡ true }
+    /// The pins of the lines go that are told in the story that the seat has seen. It takes no memory.
+    pub fn unpin_told<S: ToldLines>(&mut self, lines: &S)
+        requires { S.story lines.now ≡ self.old.seen }
         ensures room { self.old.pin_room ≤ self.new.pin_room }
-        ensures same { self.new ≡ record self.old { pins = without_line client line self.old.pins; pin_room = self.new.pin_room } }
+        ensures same { self.new ≡ record self.old { pins = untold self.old.seen self.old.pins; pin_room = self.new.pin_room } }
     {
-        unpin_line(&mut self.pins, client, line);
+        keep_untold(&mut self.pins, lines);
+    }
+
+    /// Brings the sweep on to the tables. Where memory runs out, the next call goes on.
+    pub fn sweep(&mut self, alloc: Global) -> Result<(), OutOfMemory>
+        ensures swept { OnOk result (L.coherent → IsSwept self.new.reclaim.sweep (row_of self.old.cache.durable.rows)) }
+        ensures same { self.new ≡ record self.old { reclaim = self.new.reclaim } }
+    {
+        let durable = self.cached.durable();
+        self.reclaim.sweep.bring(alloc, durable, self.flushed)?;
+        Ok(())
+    }
+
+    /// Deleted rows of the tables, as the sweep has them, of which no block is in reach or pinned. Where there are more than
+    /// `most`, these are the first by the order of row keys.
+    pub fn found(&self, alloc: Global, most: u16) -> Result<Found, OutOfMemory>
+        requires some { 1 ≤ most }
+        requires few { most ≤ MOST_PURGED }
+        ensures found { IfOk result (λ found. (all : Rows) → IsSwept self.now.reclaim.sweep all
+            → AreFound all (all_pinned self.now.pins) most found) }
+        ensures few { IfOk result (λ found. length found.rows.items ≤ most) }
+        // Each stands there once, with the index since which its blocks are out of reach.
+        ensures in_order { IfOk result (λ found. AllRise (map keyed found.rows.items)) }
+        ensures dated { IfOk result (λ found. AllByRecursion (λ row. date_of self.now.reclaim.sweep row.0 ≡ Some row.1) found.rows.items) }
+    {
+        let pinned = pinned_blocks(alloc, self.pins.as_slice())?;
+        let found = self.reclaim.sweep.find(alloc, &pinned, most)?;
+        Ok(found)
+    }
+
+    /// The request by which the first of the stripe's deleted snapshots is worked off, by the order of row keys. Where no snapshot
+    /// may be deleted, it looks at no row.
+    pub fn next_work(&mut self, alloc: Global) -> Result<Option<Request>, OutOfMemory>
+        ensures work { IfOk result (IsChainWork (newest self.old.cache)) }
+        ensures same { self.new ≡ record self.old { reclaim = self.new.reclaim } }
+        ensures sweep { self.new.reclaim.sweep ≡ self.old.reclaim.sweep }
+    {
+        self.reclaim.next_work(alloc, &self.cached)
     }
 }

@@ -1,9 +1,10 @@
 -- Whether a datanode runs, and what the seats have told of a wipe.
-use Rattle.std.proofs.Common.{◌≡◌, ◌↔◌, ℕ, Bool, true, false, ◌&&◌, cond, List, [], ◌∷◌, ◌++◌, Option, None, Some, is_none, Ok, IsTrue, refl, sym, ap, ◌∙◌, subst, append_assoc}
+use Rattle.std.proofs.Common.{◌≡◌, ◌↔◌, ℕ, Bool, true, false, ◌&&◌, cond, List, [], ◌∷◌, ◌++◌, Option, None, Some, Result, Ok, Err, inr, is_none, IsTrue, refl, sym, ap, ◌∙◌, subst, append_assoc}
 use Rattle.std.specs.Prelude.{not, slice_set}
 use Rattle.oz_buffer.specs.Buffer.{AllFollow, Follows}
 use Rattle.oz_core.specs.declared.event.Event.{Event}
 use Rattle.oz_core.specs.declared.event.EventKind.{EventKind}
+use Rattle.oz_core.specs.declared.event.EventKind.TheVariants.{Halt, Wipe}
 use Rattle.oz_core.specs.declared.event.Node.{Node}
 use Rattle.oz_core.specs.declared.event.Node.TheVariants.{Datanode}
 use Rattle.oz_core.specs.declared.opening.Opening.{Opening}
@@ -14,15 +15,16 @@ use Rattle.oz_core.specs.Scm.{is_up}
 use Rattle.oz_core.specs.Seats.{datanode_seat, scm_seat}
 use Rattle.oz_core.specs.Stories.{last_told}
 use Rattle.oz_datanode.specs.Datanode.{State, Runs, count_of, is_halted}
+use Rattle.oz_script.specs.declared.lines.script.Line.{Line}
 use Rattle.oz_script.specs.declared.lines.script.Script.{Script}
 use Rattle.oz_node_events.specs.Beside.{ShareAPlace}
 use Rattle.oz_node_events.specs.Commands.{by_node}
 use Rattle.oz_node_events.specs.NodeSeat.{IsAppended, IsKept, SeatView, StandsFor, events_of}
 use Rattle.oz_scm_events.specs.Kept.{ScmView}
 use Rattle.oz_scm_events.specs.Tracked.{IsTracked}
-use Rattle.oz_turn.specs.Told.{BeginsWith, own_entries}
+use Rattle.oz_turn.specs.Told.{own_entries}
 use Rattle.oz_world.specs.Disk.{Images}
-use Rattle.oz_node_admin.specs.Wipes.{HasTold, HaveTold, runs_now}
+use Rattle.oz_node_admin.specs.Wipes.{Empties, HasTold, HaveTold, WipeComesTo, answer_of, last_wiped, runs_now, wipe_event}
 use Rattle.oz_node_admin.proofs.Told.{scm_as, tracked_up}
 
 true_false : true ≡ false → ⊥
@@ -120,22 +122,6 @@ module _ (Coherent : Type 0) (opening : Opening) (bytes : OpeningBytes) (script 
             ∙ sym (running_own shared.place coherent shared.follow ∙ (ap (is_running dn) shared.its ∙ running)))));
       }
 
--- what was told since more was seen was told since less was
-pub has_told_since : (Coherent : Type 0) (dn : ℕ) (kind : EventKind) (before more story : List Event) → BeginsWith more before → HasTold Coherent dn kind more story
-    → HasTold Coherent dn kind before story
-has_told_since Coherent dn kind before more story begins told =
-    let event = by_node dn kind in
-    let is : more ++ (told.front ++ event ∷ told.behind) ≡ before ++ ((begins.0 ++ told.front) ++ event ∷ told.behind) =
-    ap (λ (l : List Event). l ++ (told.front ++ event ∷ told.behind)) begins.1
-    ∙ (append_assoc before begins.0 (told.front ++ event ∷ told.behind)
-    ∙ ap (λ (l : List Event). before ++ l) (sym (append_assoc begins.0 told.front (event ∷ told.behind)))) in
-    record {
-      front = begins.0 ++ told.front;
-      behind = told.behind;
-      within = (told.within.0, told.within.1 ∙ ap (λ (l : List Event). l ++ told.within.0) is);
-      agrees = λ coherent. subst (λ (l : List Event). is_up dn l ≡ is_running dn l) is (told.agrees coherent);
-    }
-
 -- they told it of what was before room was made
 pub told_before : {S : Type 0} (kind : ℕ → EventKind) (runs up : Bool) (old before after : SeatView) (scm_old scm_before scm_after : ScmView S)
     → before.dn ≡ old.dn → before.mine ≡ old.mine → scm_before.scm ≡ scm_old.scm → scm_before.mine ≡ scm_old.mine → runs ≡ up
@@ -151,3 +137,29 @@ told_before {S} kind runs up old before after scm_old scm_before scm_after numbe
   scm = subst (λ (r : Bool). scm_after.scm ≡ record scm_old.scm { up = slice_set scm_old.scm.up old.dn r }) same
       (scm_as scm_after.scm scm_before.scm scm_old.scm before.dn old.dn runs told.scm scm number);
 }
+
+-- what a wipe comes to, whether it was done or a disk failed
+pub wiped_so : {D S : Type 0} (told : D → Option (List ℕ)) (clock : D → ℕ) (image : D → Images) (faults : D → ℕ) (Coherent : Type 0) (script : Script) (line : Line) (old new : State D)
+    (before after : SeatView) (scm_old scm_before scm_after : ScmView S) (seen_before seen_after : List Event)
+    → is_halted old ≡ false → scm_before.scm ≡ scm_old.scm → scm_before.mine ≡ scm_old.mine
+    → (is_halted new ≡ true → halt_of (Datanode before.dn) seen_after ≡ Some (count_of faults new))
+    → (done : Result (Unit {0}) ℕ) → Empties told clock image faults Coherent old new done → HaveTold before after scm_before scm_after (wipe_event before.dn done) (runs_now new)
+    → after.last ≡ last_wiped line before.last done → HasTold Coherent before.dn (wipe_event before.dn done) seen_before seen_after
+    → WipeComesTo (record { node = old; kept = before }) (record { node = new; kept = after }) scm_old scm_after told clock image faults Coherent script line seen_before seen_after (answer_of done)
+wiped_so told clock image faults Coherent script line old new before after scm_old scm_before scm_after seen_before seen_after unhalted scm of_the_scm halted (Ok it) empties seats last has = record {
+  node = empties;
+  seats = told_before (λ n. Wipe n) (runs_now new) (not old.stopped) before before after scm_old scm_before scm_after refl refl scm of_the_scm
+      (still_runs old new empties.unhalted empties.line) seats;
+  last = last;
+  has_told = has;
+}
+wiped_so told clock image faults Coherent script line old new before after scm_old scm_before scm_after seen_before seen_after unhalted scm of_the_scm halted (Err count) empties seats last has =
+    inr (record {
+      unhalted = unhalted;
+      node = empties;
+      seats = told_before (λ n. Halt (Datanode n) count) (runs_now new) false before before after scm_old scm_before scm_after refl refl scm of_the_scm
+          (still_halted new empties.halted) seats;
+      last = last;
+      has_told = has;
+      seen = halted empties.halted ∙ ap (λ (n : ℕ). Some n) (sym empties.counted);
+    })

@@ -1,4 +1,5 @@
 pub mod Emptying
 pub mod Told
+pub mod Changed
 pub mod Came
 pub mod Down

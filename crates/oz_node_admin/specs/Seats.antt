@@ -37,9 +37,8 @@ pub record MayCommand {O : Type 0} (run : Run O) (seen : List Event) (dn : ℕ) 
   pub line : run.coherent → HasItDone run.script seen dn done by
 
 module _ {D O : Type 0} (disk : Disk D) (run : Run O) where
-  -- Something may be done to the datanode: its disks haven't failed, and its seat, which stands for it, has room for an event.
+  -- Something may be done to the datanode: its disks haven't failed, and its seat stands for it.
   pub record MayChange (view : SeatView) (node : State D) : Type 0 where
-    pub room : 1 ≤ view.room
     pub unhalted : is_halted node ≡ false
     pub kept : IsKept run.coherent run.opening run.bytes run.script view
     pub stood : StandsFor disk.told disk.clock disk.image disk.faults run.coherent run.opening run.bytes run.script run.faults
@@ -52,6 +51,12 @@ module _ {D O : Type 0} (disk : Disk D) (run : Run O) where
     pub stands : StandsFor disk.told disk.clock disk.image disk.faults run.coherent run.opening run.bytes run.script run.faults
         new node
     pub goes_on : BeginsWith new.seen old.seen
+
+-- Nothing was done to a datanode, and its seat gave no event.
+pub record WasLeft {D : Type 0} (old new : SeatView) (before after : State D) : Type 0 where
+  pub node : after ≡ before
+  pub its : new.mine ≡ old.mine
+  pub last : new.last ≡ old.last
 
 -- The storage container manager's seat has seen what it had seen, or more, and has as much room.
 pub record ScmWentOn {D : Type 0} (old new : ScmView D) : Type 0 where

@@ -42,6 +42,11 @@ abbrev pub wipe_event : ℕ → Result (Unit {0}) ℕ → EventKind
 wipe_event dn (Ok done) = Wipe dn
 wipe_event dn (Err count) = Halt (Datanode dn) count
 
+-- what is answered then
+abbrev pub answer_of : Result (Unit {0}) ℕ → Result (Unit {0}) AdminFault
+answer_of (Ok done) = Ok done
+answer_of (Err count) = Err (Halted count)
+
 -- The datanode's seat gave this event, and the storage container manager takes the datanode for up exactly if it
 -- runs, and told so where it hadn't before.
 pub record HaveTold {S : Type 0} (before after : SeatView) (scm_before scm_after : ScmView S) (kind : EventKind)

@@ -28,7 +28,8 @@ use std::sync::Wait;
 /// The line is one of the script, with this command, and has started.
 ///
 /// Errors: `Halted` exactly where a disk of the datanode had failed; `Repeated` where the datanode is to be stopped and this
-/// line, or a later one of its client, had something done to it before; `OutOfMemory`. Then nothing happens.
+/// line, or a later one of its client, had something done to it before; `OutOfMemory`, also where the line was told its answer
+/// before, which no worker does. Then nothing happens.
 pub fn stop_at<D: Disk, S: Disk, O: Opened, R: Ring, W: Wait>(
     rt: &W,
     alloc: Global,

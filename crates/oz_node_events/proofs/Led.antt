@@ -1,11 +1,11 @@
 -- Each Stop, Start and Wipe of a datanode stays a line's, and one more is where a line comes that none was before.
-use Rattle.std.proofs.Common.{◌≡◌, ◌≢◌, ℕ, zero, suc, ◌+◌, ◌-◌, ◌<◌, ◌≤◌, Bool, true, false, ◌||◌, ◌==◌, cond, List, [], ◌∷◌, ◌++◌, length, replicate, slice_index, slice_set, Option, None, Some, ◌⊎◌, eq-eqb, refl, sym, ap, ◌∙◌, subst, append-nil, inl, inr, arith, get_or-set_same, get_or-set_other}
-use Rattle.std.proofs.lemmas.Bool.{cases_eq, eqb-true, false≢true}
+use Rattle.std.proofs.Common.{◌≡◌, ◌≢◌, ℕ, zero, suc, ◌+◌, ◌<◌, ◌≤◌, Bool, true, false, ◌==◌, cond, List, [], ◌∷◌, ◌++◌, length, replicate, slice_index, slice_set, ◌⊎◌, eq-eqb, refl, sym, ap, ◌∙◌, subst, append-nil, inl, inr, arith, get_or-set_same, get_or-set_other}
+use Rattle.std.proofs.lemmas.Bool.{cases_eq}
 use Rattle.std.proofs.lemmas.List.{length-set, length-replicate}
 use Rattle.std.proofs.lemmas.List.Elements.{All-cons, All-nil, All-weaker, Contains-append_left, Contains-push}
 use Rattle.std.proofs.lemmas.List.Kept.{AllPairs-cons}
 use Rattle.std.proofs.lemmas.List.Sums.{sum_by-append, sum_by-cons}
-use Rattle.std.specs.Prelude.{All, AllPairs, Contains}
+use Rattle.std.specs.Prelude.{All, Contains}
 use Rattle.oz_buffer.specs.Buffer.{AllFollow, Follows}
 use Rattle.oz_buffer.specs.laws.Following.{follow-each}
 use Rattle.oz_command.specs.declared.command.Command.TheVariants.{Admin}
@@ -26,7 +26,7 @@ use Rattle.oz_turn.specs.Told.{BeginsWith}
 use Rattle.oz_node_events.specs.declared.command.NodeCommand.{NodeCommand}
 use Rattle.oz_node_events.specs.declared.command.NodeCommand.TheVariants as command
 use Rattle.oz_node_events.specs.Commands.{by_node}
-use Rattle.oz_node_events.specs.Led.{AreLed, HasItDone, HasLed, HaveLed, IsUncommanded, admin_command, done_kind, is_done, last_of, no_lines}
+use Rattle.oz_node_events.specs.Led.{AreForLines, AreLed, HasItDone, HasLed, HaveLed, IsUncommanded, admin_command, done_kind, is_done, last_of, no_lines}
 use Rattle.oz_node_events.specs.NodeSeat.{events_of}
 use Rattle.oz_node_events.specs.laws.Lines.{done_later, started_later}
 use Rattle.oz_node_events.proofs.Telling.{is_its, its_kept, its_left, its_parts, not_its}
@@ -44,7 +44,7 @@ count_push same story event =
     let one = sum_by-cons f event [] in
     omega (arith, parts, one)
 
-uncommanded_none : (dn : ℕ) (done : NodeCommand) (kind : EventKind) → IsUncommanded kind → is_done dn done kind ≡ false
+pub uncommanded_none : (dn : ℕ) (done : NodeCommand) (kind : EventKind) → IsUncommanded kind → is_done dn done kind ≡ false
 uncommanded_none dn done (Stop other) none = absurd none
 uncommanded_none dn done (Start other) none = absurd none
 uncommanded_none dn done (Wipe other) none = absurd none
@@ -52,12 +52,12 @@ uncommanded_none dn command.Stop kind none = refl
 uncommanded_none dn command.Start kind none = refl
 uncommanded_none dn command.Wipe kind none = refl
 
-its_own : (dn : ℕ) (done : NodeCommand) → is_done dn done (done_kind dn done) ≡ true
+pub its_own : (dn : ℕ) (done : NodeCommand) → is_done dn done (done_kind dn done) ≡ true
 its_own dn command.Stop = eq-eqb dn dn refl
 its_own dn command.Start = eq-eqb dn dn refl
 its_own dn command.Wipe = eq-eqb dn dn refl
 
-away : (opening : Opening) (front : List Event) (dn : ℕ) (done : NodeCommand) (seat : ℕ) (kind : EventKind) → KindIsEnabled opening front seat kind
+pub away : (opening : Opening) (front : List Event) (dn : ℕ) (done : NodeCommand) (seat : ℕ) (kind : EventKind) → KindIsEnabled opening front seat kind
     → (seat == datanode_seat dn) ≡ false → is_done dn done kind ≡ false
 away opening front dn command.Stop seat (Stop other) may not = not_its dn seat other not may.of_datanode.its
 away opening front dn command.Start seat (Start other) may not = not_its dn seat other not may.of_datanode.its
@@ -116,7 +116,7 @@ zeros (suc n) zero = refl
 zeros (suc n) (suc i) = zeros n i
 
 -- a line that isn't behind the last of its client isn't behind a later one
-still_old : (last : List ℕ) (client number other at : ℕ) → client < length last → last_of last client < number → at ≤ last_of last other → at ≤ last_of (slice_set last client number) other
+pub still_old : (last : List ℕ) (client number other at : ℕ) → client < length last → last_of last client < number → at ≤ last_of last other → at ≤ last_of (slice_set last client number) other
 still_old last client number other at within behind old = by (cases_eq other client)
   where
     by : (other ≡ client) ⊎ (other ≢ client) → at ≤ last_of (slice_set last client number) other
@@ -153,10 +153,11 @@ module _ (script : Script) (dn : ℕ) where
     old = All-nil (λ (line : Line). line.number ≤ last_of no_lines line.client);
   }
 
-  pub led_new : (seen mine : List Event) → mine ≡ [] → HaveLed script dn no_lines seen mine
-  led_new seen mine none = subst (λ (l : List Event). HaveLed script dn no_lines seen l) (sym none) (record {
+  pub led_new : (seen mine : List Event) → AreForLines script dn no_lines seen → mine ≡ [] → HaveLed script dn no_lines seen mine
+  led_new seen mine for_lines none = subst (λ (l : List Event). HaveLed script dn no_lines seen l) (sym none) (record {
     many = length-replicate {A = ℕ} (MOST_CLIENTS + 1) 0;
     each = led_by_none seen;
+    for_lines = for_lines;
     latest = λ client some. absurd (omega (arith, some, zeros (MOST_CLIENTS + 1) client));
   })
 
@@ -185,20 +186,23 @@ module _ (script : Script) (dn : ℕ) where
     }
 
     -- nothing was done since, as far as this seat tells
-    pub led_on : HaveLed script dn last seen mine → HaveLed script dn last later mine
-    led_on led = record {
+    pub led_on : AreForLines script dn last later → HaveLed script dn last seen mine → HaveLed script dn last later mine
+    led_on for_lines led = record {
       many = led.many;
       each = λ done. led_later done mine refl (led.each done);
+      for_lines = for_lines;
       latest = λ client some. has_led_later mine ([], sym (append-nil mine)) client (last_of last client) (led.latest client some);
     }
 
-    pub led_noted : (kind : EventKind) → IsUncommanded kind → HaveLed script dn last seen mine → HaveLed script dn last later (mine ++ by_node dn kind ∷ [])
-    led_noted kind none led = record {
+    pub led_noted : (kind : EventKind) → IsUncommanded kind → AreForLines script dn last later → HaveLed script dn last seen mine
+        → HaveLed script dn last later (mine ++ by_node dn kind ∷ [])
+    led_noted kind none for_lines led = record {
       many = led.many;
       each = λ done.
           let pushed = count_push (is_done dn done) mine (by_node dn kind) in
           let nothing = ap one_if (uncommanded_none dn done kind none) in
           led_later done (mine ++ by_node dn kind ∷ []) (omega (arith, pushed, nothing)) (led.each done);
+      for_lines = for_lines;
       latest = λ client some. has_led_later (mine ++ by_node dn kind ∷ []) (by_node dn kind ∷ [], refl) client (last_of last client) (led.latest client some);
     }
 
@@ -250,10 +254,11 @@ module _ (script : Script) (dn : ℕ) where
           from (inl same) = subst (AreLed script dn then later (mine ++ event ∷ [])) same (led_more (led.each done))
           from (inr none) = led_beside other none (led.each other)
 
-      pub led_done : HaveLed script dn then later (mine ++ event ∷ [])
-      led_done = record {
+      pub led_done : AreForLines script dn then later → HaveLed script dn then later (mine ++ event ∷ [])
+      led_done for_lines = record {
         many = length-set last line.client line.number ∙ led.many;
         each = each_then;
+        for_lines = for_lines;
         latest = λ other some. by_client other some (cases_eq other line.client);
       }
         where

@@ -10,6 +10,8 @@ pub mod Noted
 pub mod Lasting
 pub mod Commanding
 pub mod Led
+pub mod ForLines
+pub mod Outcomes
 pub mod Wiping
 pub mod Sound
 pub mod Seated

@@ -1,9 +1,10 @@
 -- What holds of a datanode's seat, and of what lines had done to the datanode, once the seat has seen and given more.
-use Rattle.std.proofs.Common.{◌≡◌, ℕ, ◌+◌, ◌<◌, ◌≤◌, false, List, [], ◌∷◌, ◌++◌, slice_set, refl, sym, ap, ◌∙◌, subst}
+use Rattle.std.proofs.Common.{◌≡◌, ℕ, ◌+◌, ◌<◌, ◌≤◌, false, List, [], ◌∷◌, ◌++◌, slice_set, refl, sym, ap, ◌∙◌, subst, arith}
 use Rattle.oz_buffer.specs.Buffer.{AllFollow, Follows}
 use Rattle.oz_core.specs.declared.event.Event.{Event}
 use Rattle.oz_core.specs.declared.event.EventKind.{EventKind}
 use Rattle.oz_core.specs.declared.opening.Opening.{Opening}
+use Rattle.oz_core.specs.Asks.{is_told}
 use Rattle.oz_core.specs.Contents.{OpeningBytes}
 use Rattle.oz_core.specs.Stories.{has_event}
 use Rattle.oz_script.specs.declared.lines.script.Line.{Line}
@@ -14,8 +15,11 @@ use Rattle.oz_node_events.specs.declared.command.NodeCommand.{NodeCommand}
 use Rattle.oz_node_events.specs.Commands.{by_node}
 use Rattle.oz_node_events.specs.Led.{HasItDone, HaveLed, IsUncommanded, done_kind, last_of}
 use Rattle.oz_node_events.specs.NodeSeat.{IsAppended, IsKept, events_of, is_bad}
+use Rattle.oz_node_events.specs.laws.Lines.{done_later}
+use Rattle.oz_node_events.proofs.ForLines.{for_done, for_noted, for_on}
 use Rattle.oz_node_events.proofs.Led.{led_done, led_noted, led_on}
-use Rattle.oz_node_events.proofs.Noted.{begins_through}
+use Rattle.oz_node_events.proofs.Moving.{follow_front}
+use Rattle.oz_node_events.proofs.Noted.{begins_through, own_before, own_behind}
 use Rattle.oz_node_events.proofs.Own.{kept_later}
 use Rattle.oz_node_events.proofs.Sound.{none_more}
 
@@ -38,7 +42,11 @@ module _ (Coherent : Type 0) (opening : Opening) (bytes : OpeningBytes) (script 
       (λ coherent. ap (has_event is_bad) same ∙ kept.no_bad coherent)
 
   pub done_on : given ≡ mine → Coherent → HaveLed script dn last later given
-  done_on same coherent = subst (λ (l : List Event). HaveLed script dn last later l) (sym same) (led_on script dn last seen mine later begins (led coherent))
+  done_on same coherent =
+      let was = led coherent in
+      subst (λ (l : List Event). HaveLed script dn last later l) (sym same)
+      (led_on script dn last seen mine later begins
+      (for_on script dn Coherent opening bytes coherent last seen later begins follow (known ∙ (same ∙ sym kept.own)) was.for_lines) was)
 
   module _ (kind : EventKind) (no_bad : Coherent → is_bad kind ≡ false) (more : given ≡ mine ++ by_node dn kind ∷ []) where
     pub kept_more : (then : List ℕ) → IsKept Coherent opening bytes script (record { dn = dn; seen = later; mine = given; room = places; last = then })
@@ -47,11 +55,32 @@ module _ (Coherent : Type 0) (opening : Opening) (bytes : OpeningBytes) (script 
         (λ coherent. ap (has_event is_bad) more ∙ none_more mine (by_node dn kind) (kept.no_bad coherent) (no_bad coherent))
 
     pub noted_more : IsUncommanded kind → Coherent → HaveLed script dn last later given
-    noted_more none coherent = subst (λ (l : List Event). HaveLed script dn last later l) (sym more) (led_noted script dn last seen mine later begins kind none (led coherent))
+    noted_more none coherent =
+        let was = led coherent in
+        subst (λ (l : List Event). HaveLed script dn last later l) (sym more)
+        (led_noted script dn last seen mine later begins kind none
+        (for_noted script dn Coherent opening bytes coherent last seen later kind none begins follow
+        (known ∙ (more ∙ ap (λ (l : List Event). l ++ by_node dn kind ∷ []) (sym kept.own))) was.for_lines) was)
 
+  -- a line had something done, right behind what was seen then
   pub done_more : (line : Line) (done : NodeCommand) → line.client ≤ MOST_CLIENTS → last_of last line.client < line.number
-      → (Coherent → HasItDone script later dn done line) → given ≡ mine ++ by_node dn (done_kind dn done) ∷ []
+      → (before : List Event) → BeginsWith before seen → BeginsWith later (before ++ by_node dn (done_kind dn done) ∷ [])
+      → (Coherent → HasItDone script before dn done line) → is_told line.client line.number before ≡ false
+      → given ≡ mine ++ by_node dn (done_kind dn done) ∷ []
       → Coherent → HaveLed script dn (slice_set last line.client line.number) later given
-  done_more line done few behind by more coherent =
+  done_more line done few behind before begun ends by untold more coherent =
+      let Follow = Follows Coherent opening bytes script in
+      let event = by_node dn (done_kind dn done) in
+      let was = led coherent in
+      let all : AllFollow Follow [] ((before ++ event ∷ []) ++ ends.0) = subst (λ (l : List Event). AllFollow Follow [] l) ends.1 follow in
+      let all_behind : AllFollow Follow [] (before ++ event ∷ []) = follow_front Follow [] (before ++ event ∷ []) ends.0 all in
+      let all_before : AllFollow Follow [] before = follow_front Follow [] before (event ∷ []) all_behind in
+      let own = own_before dn event refl seen before ends.0 mine later kept.own begun ends.1 (known ∙ more) in
+      let own_then = own_behind dn event refl seen before ends.0 mine later kept.own begun ends.1 (known ∙ more) in
+      let here = for_on script dn Coherent opening bytes coherent last seen before begun all_before (own ∙ sym kept.own) was.for_lines in
+      let now = for_done script dn last before line done (omega (arith, few, was.many)) behind (by coherent) untold here in
+      let then = for_on script dn Coherent opening bytes coherent (slice_set last line.client line.number) (before ++ event ∷ []) later ends follow
+      (known ∙ (more ∙ sym own_then)) now in
+      let by_then = done_later script before later dn done line (begins_through later (before ++ event ∷ []) before ends (event ∷ [], refl)) (by coherent) in
       subst (λ (l : List Event). HaveLed script dn (slice_set last line.client line.number) later l) (sym more)
-      (led_done script dn last seen mine later begins line few behind done (by coherent) (led coherent))
+      (led_done script dn last seen mine later begins line few behind done by_then was then)

@@ -1,11 +1,12 @@
 -- What lines of a script had done to a datanode: each of its Stops, Starts and Wipes is that of a line.
-use Rattle.std.specs.Prelude.{◌≡◌, ◌≢◌, ℕ, ◌+◌, ◌≤◌, Bool, List, length, replicate, slice_index, All, AllPairs, Contains}
+use Rattle.std.specs.Prelude.{◌≡◌, ◌≢◌, ℕ, ◌+◌, ◌≤◌, Bool, true, false, List, [], ◌∷◌, ◌++◌, length, replicate, slice_index, All, AllPairs, Contains}
 use Rattle.oz_command.specs.declared.command.AdminCommand.{AdminCommand}
 use Rattle.oz_command.specs.declared.command.AdminCommand.TheVariants as admin
 use Rattle.oz_command.specs.declared.command.Command.TheVariants.{Admin}
 use Rattle.oz_core.specs.declared.event.Event.{Event}
 use Rattle.oz_core.specs.declared.event.EventKind.{EventKind}
 use Rattle.oz_core.specs.declared.event.EventKind.TheVariants.{Stop, Start, Wipe}
+use Rattle.oz_core.specs.Asks.{is_told}
 use Rattle.oz_core.specs.Due.{wipes}
 use Rattle.oz_core.specs.Fits.{starts, stops}
 use Rattle.oz_core.specs.Lines.{HasStarted}
@@ -13,6 +14,7 @@ use Rattle.oz_core.specs.Stories.{count_events}
 use Rattle.oz_script.specs.declared.lines.script.Line.{Line}
 use Rattle.oz_script.specs.declared.lines.script.Script.{Script}
 use Rattle.oz_script.specs.declared.lines.script.TheConstants.{MOST_CLIENTS}
+use Rattle.oz_turn.specs.Told.{BeginsWith}
 use Rattle.oz_node_events.specs.declared.command.NodeCommand.{NodeCommand}
 use Rattle.oz_node_events.specs.declared.command.NodeCommand.TheVariants as command
 use Rattle.oz_node_events.specs.Commands.{by_node}
@@ -74,8 +76,31 @@ pub record AreLed (script : Script) (dn : ℕ) (last : List ℕ) (seen mine : Li
   pub enough : count_events (is_done dn done) mine ≤ length lines
   pub old : All (λ (line : Line). line.number ≤ last_of last line.client) lines
 
--- So it is of all that may be done. The last line of each client that is kept had something done.
+-- A line, and the story up to where it had something done to a datanode.
+pub record DoneFor : Type 0 where
+  pub place : List Event
+  pub line : Line
+
+-- There the line had started and wasn't told, and the event that tells of it stands next.
+pub record IsDoneFor (script : Script) (dn : ℕ) (story : List Event) (it : DoneFor) : Type 0 where
+  pub done : NodeCommand
+  pub by : HasItDone script it.place dn done it.line
+  pub untold : is_told it.line.client it.line.number it.place ≡ false
+  pub told : BeginsWith story (it.place ++ by_node dn (done_kind dn done) ∷ [])
+
+-- Each Stop, Start and Wipe of the datanode in a story was done for a line of its own. None of the lines is behind the last of its
+-- client.
+pub record AreForLines (script : Script) (dn : ℕ) (last : List ℕ) (story : List Event) : Type 0 where
+  pub list : List DoneFor
+  pub each : All (IsDoneFor script dn story) list
+  pub all : (done : NodeCommand) (place : List Event) (event : Event) → BeginsWith story (place ++ event ∷ [])
+      → is_done dn done event.kind ≡ true → (it : DoneFor) × (Contains list it × (it.place ≡ place))
+  pub apart : AllPairs (λ (one other : DoneFor). one.line ≢ other.line) list
+  pub old : All (λ (it : DoneFor). it.line.number ≤ last_of last it.line.client) list
+
+-- So it is of all that may be done, each for a line of its own. The last line of each client that is kept had something done.
 pub record HaveLed (script : Script) (dn : ℕ) (last : List ℕ) (seen mine : List Event) : Type 0 where
   pub many : length last ≡ MOST_CLIENTS + 1
   pub each : (done : NodeCommand) → AreLed script dn last seen mine done
+  pub for_lines : AreForLines script dn last seen
   pub latest : (client : ℕ) → 1 ≤ last_of last client → HasLed script dn seen mine client (last_of last client)

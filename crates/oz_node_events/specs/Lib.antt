@@ -4,6 +4,7 @@ pub mod Answers
 pub mod Beside
 pub mod Commands
 pub mod Led
+pub mod Doing
 pub mod laws
 pub mod full
 pub mod filled

@@ -15,6 +15,9 @@ use oz_turn::{Seat, Told, Turn};
 use std::alloc::Global;
 use std::sync::Wait;
 
+/// The seat of datanode 0. Those of the others follow it.
+pub(crate) const FIRST_DATANODE_SEAT: u16 = 4;
+
 /// Makes a seat's room greater by so many events, and another seat sees all that this one has. `by` is its number.
 pub(crate) fn reserve<O: Opened, W: Wait>(
     rt: &W,

@@ -2,10 +2,12 @@
 
 ghost use Rattle.std.specs.Prelude.{◌≡◌, false};
 ghost use Rattle.oz_buffer.specs.Buffer.{IsNote};
+ghost use Rattle.oz_node_events.specs.declared.command.DoneRefusal.TheVariants.{OutOfMemory as NoMemory};
 ghost use Rattle.oz_node_events.specs.Led.{done_kind};
 ghost use Rattle.oz_node_events.specs.NodeSeat.{is_bad};
 
 use oz_core::EventKind;
+use oz_fields::OutOfMemory;
 
 /// It no longer runs, it runs again, or it holds nothing any more.
 #[derive(Clone, Copy, Debug, PartialEq, Eq)]
@@ -13,6 +15,24 @@ pub enum NodeCommand {
     Stop,
     Start,
     Wipe,
+}
+
+/// Why a line had nothing done to a datanode.
+#[derive(Clone, Copy, Debug, PartialEq, Eq)]
+pub enum DoneRefusal {
+    /// A disk of it failed as it was wiped: how often both have.
+    Halted { count: u64 },
+    /// The line was told its answer before.
+    Told,
+    OutOfMemory,
+}
+
+impl From<OutOfMemory> for DoneRefusal {
+    ghost from_gives = { λ _ refusal. refusal ≡ NoMemory };
+
+    fn from(_: OutOfMemory) -> DoneRefusal {
+        DoneRefusal::OutOfMemory
+    }
 }
 
 /// The event that tells of it.

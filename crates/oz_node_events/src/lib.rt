@@ -4,6 +4,7 @@
 
 mod appending;
 mod command;
+mod doing;
 mod events;
 mod filled;
 mod full;
@@ -11,7 +12,7 @@ mod laws;
 mod noting;
 mod seat;
 
-pub use command::NodeCommand;
+pub use command::{DoneRefusal, NodeCommand};
 pub use filled::{blocks_have_slots_of_their_own, slots_are_taken_by_blocks_or_chunks};
 pub use full::{a_filled_datanode_is_full, a_journal_keeps_slots_apart};
 pub use laws::{

@@ -1,26 +1,31 @@
 //! The seat of a datanode, which is kept beside it.
 
-ghost use Rattle.std.specs.Prelude.{◌≡◌, ◌+◌, ◌<◌, ◌≤◌, ◌++◌, ◌∷◌, [], List, length, slice_index, slice_set, false, None, Ok, OnOk, OnErr};
+ghost use Rattle.std.specs.Prelude.{◌≡◌, ◌+◌, ◌<◌, ◌≤◌, ◌++◌, ◌∷◌, [], List, length, slice_index, slice_set, true, false, None, Ok, Err, OnOk, OnErr};
 ghost use Rattle.oz_buffer.specs.Buffer.{AllFollow, Follows, IsNote};
 ghost use Rattle.oz_core.specs.declared.event.Event.{Event as AnyEvent};
-ghost use Rattle.oz_core.specs.Fits.{EventFits};
+ghost use Rattle.oz_core.specs.Asks.{is_told};
 ghost use Rattle.oz_core.specs.Nodes.{is_running};
 ghost use Rattle.oz_core.specs.Seats.{datanode_seat};
 ghost use Rattle.oz_script.specs.declared.lines.script.TheConstants.{MOST_CLIENTS as MOST};
 ghost use Rattle.oz_nodes.specs.declared.nodes.TheConstants.{MOST_NODES};
-ghost use Rattle.oz_node_events.specs.Commands.{by_node};
-ghost use Rattle.oz_node_events.specs.Led.{HasItDone, HaveLed, IsUncommanded, done_kind, no_lines};
-ghost use Rattle.oz_node_events.specs.NodeSeat.{IsAppended, IsKept, NumbersAreOld, events_of, is_bad};
+ghost use Rattle.oz_datanode.specs.Datanode.{is_halted};
+ghost use Rattle.oz_node_events.specs.declared.command.DoneRefusal.TheVariants.{Told as WasTold};
+ghost use Rattle.oz_node_events.specs.Doing.{IsToldSo, IsWanted, LeftSo, last_done, told_of};
+ghost use Rattle.oz_node_events.specs.Led.{HasItDone, HaveLed, IsUncommanded, no_lines};
+ghost use Rattle.oz_node_events.specs.NodeSeat.{IsAppended, IsKept, NumbersAreOld, StandsFor, events_of, is_bad};
+ghost use Rattle.oz_replicas.specs.Stays.{IsIdle};
 ghost use Rattle.oz_node_events.specs.Beside.{ShareAPlace};
 ghost use Rattle.oz_scm_events.specs.Tracked.{IsTracked};
 ghost use Rattle.oz_turn.specs.Seat.{IsNewSeat, IsReady, IsSameSeat, mine_of, room_of, seen_of, taken_of, turn_of};
 ghost use Rattle.oz_turn.specs.Told.{BeginsWith};
 ghost use Rattle.oz_turn.specs.Turn.{turn_id};
 
-use crate::appending::{append, reserve, show};
-use crate::command::{NodeCommand, done_kind};
+use crate::appending::{FIRST_DATANODE_SEAT, append, reserve, show};
+use crate::command::{DoneRefusal, NodeCommand};
+use crate::doing::do_held;
 use oz_buffer::{Ledger, Opened};
 use oz_core::{Event, EventKind};
+use oz_datanode::Datanode;
 use oz_fields::OutOfMemory;
 use oz_replicas::Kept;
 use oz_scm_events::ScmCell;
@@ -30,9 +35,6 @@ use oz_world::Disk;
 use std::alloc::Global;
 use std::marker::{Model, PhantomData};
 use std::sync::Wait;
-
-/// The seat of datanode 0. Those of the others follow it.
-const FIRST_DATANODE_SEAT: u16 = 4;
 
 /// How many notes a seat is made ready for.
 const NOTES: u32 = 2;
@@ -217,48 +219,59 @@ impl<O: Opened, R: Ring> NodeSeat<Ledger<O>, O, R> {
         self.room -= 1;
     }
 
-    /// Appends the event of what a line had done to the datanode, as `note` does, and keeps the line as the last of its client. The
-    /// line has started by what the other seat has seen, and none of its client that isn't before it had anything done: so there
-    /// are more lines that have started than events of what they had done, and the script leads to this one.
-    pub fn note_done<W: Wait>(
+    /// Has something done to the datanode for a line that isn't told, and appends its event, or the Halt where a disk fails now: all
+    /// in one hold of the turn, in which room for the event is made first. A wipe calls the disks in it. The line is kept as the
+    /// last of its client. It has started by what another seat has seen, and none of its client that isn't before it had anything
+    /// done: so the script leads to what is done. The other seat sees all of it. Who calls holds the datanode's lock.
+    ///
+    /// Errors: `Halted` where a disk failed as the datanode was wiped, and nothing is said of what it holds then; `Told` where the
+    /// line was told its answer before, and `OutOfMemory`: nothing happens.
+    pub fn do_for<D: Disk, W: Wait>(
         &mut self,
         rt: &W,
+        alloc: Global,
         turn: &Turn<Ledger<O>>,
         other: &mut Seat<Ledger<O>>,
+        node: &mut Datanode<D>,
         line: &Line,
         done: NodeCommand,
-    )
+    ) -> Result<(), DoneRefusal>
         requires turn { turn_id turn.now ≡ R.turn }
         requires other_turn { turn_of other.old ≡ R.turn }
         requires other_free { taken_of other.old ≡ None }
-        requires room { 1 ≤ self.old.room }
+        requires stood { StandsFor D.told D.clock D.image D.faults O.coherent O.opening O.bytes O.script O.faults self.old node.old }
+        requires unhalted { is_halted node.old ≡ false }
+        requires idle { IsIdle node.old }
+        requires wanted { IsWanted done node.old.stopped }
         requires client { line.now.client ≤ MOST }
         requires behind { slice_index self.old.last line.now.client < line.now.number }
         requires line { O.coherent → HasItDone O.script (seen_of other.old) self.old.dn done line.now }
-        requires follows { (story : List AnyEvent) → BeginsWith story self.old.seen → BeginsWith story (seen_of other.old)
-            → AllFollow (Follows O.coherent O.opening O.bytes O.script) [] story
-            → events_of self.old.dn story ≡ self.old.mine
-            → (O.coherent → EventFits O.opening O.bytes O.script story (done_kind self.old.dn done))
-            → Follows O.coherent O.opening O.bytes O.script story (by_node self.old.dn (done_kind self.old.dn done)) }
         ensures number { self.new.dn ≡ self.old.dn }
-        ensures room { self.new.room + 1 ≡ self.old.room }
-        ensures told { IsAppended (by_node self.old.dn (done_kind self.old.dn done)) self.old.seen (seen_of other.old) self.new.seen }
-        ensures mine { self.new.mine ≡ self.old.mine ++ by_node self.old.dn (done_kind self.old.dn done) ∷ [] }
-        ensures last { self.new.last ≡ slice_set self.old.last line.now.client line.now.number }
+        ensures room { self.new.room ≡ self.old.room }
+        ensures node { LeftSo D.told D.clock D.image D.faults O.coherent done node.old node.new result }
+        ensures idle { IsIdle node.new }
+        ensures told { IsToldSo self.old.dn done self.old.seen (seen_of other.old) self.new.seen result }
+        ensures mine { self.new.mine ≡ self.old.mine ++ told_of self.old.dn done result }
+        ensures last { self.new.last ≡ last_done line.now self.old.last result }
+        ensures goes_on { BeginsWith self.new.seen self.old.seen }
+        ensures refused { result ≡ Err WasTold → is_told line.now.client line.now.number self.new.seen ≡ true }
         ensures kept { IsKept O.coherent O.opening O.bytes O.script self.new }
-        ensures kept_before { IsKept O.coherent O.opening O.bytes O.script self.old }
+        ensures stands { StandsFor D.told D.clock D.image D.faults O.coherent O.opening O.bytes O.script O.faults self.new node.new }
         ensures other { IsSameSeat other.old other.new }
         ensures other_free { taken_of other.new ≡ None }
+        ensures other_begins { BeginsWith (seen_of other.new) (seen_of other.old) }
         ensures other_seen { seen_of other.new ≡ self.new.seen }
         ensures other_mine { mine_of other.new ≡ mine_of other.old }
         ensures other_room { room_of other.new ≡ room_of other.old }
     {
-        let by = FIRST_DATANODE_SEAT + u16::from(self.dn);
-        let kind = done_kind(self.dn, done);
-        append(rt, turn, &mut self.seat, other, by, kind);
-        show(rt, turn, &mut self.seat, other, by);
-        self.room -= 1;
-        self.last[usize::from(line.client)] = line.number;
+        self.is_kept();
+        let dn = self.dn;
+        let by = FIRST_DATANODE_SEAT + u16::from(dn);
+        let seat = &mut self.seat;
+        let came = do_held(rt, alloc, turn, seat, other, node, dn, line, done);
+        show(rt, turn, seat, other, by);
+        keep_line(&mut self.last, line, came);
+        came
     }
 
     /// Has the storage container manager, which has room for one event, take the datanode for up, which runs, or for down, which
@@ -333,5 +346,15 @@ impl<O: Opened, R: Ring> NodeSeat<Ledger<O>, O, R> {
     {
         let number = FIRST_DATANODE_SEAT + u16::from(self.dn);
         show(rt, turn, &mut self.seat, other, number)
+    }
+}
+
+/// Keeps a line that had something done as the last of its client.
+fn keep_line(last: &mut [u16; CLIENTS], line: &Line, came: Result<(), DoneRefusal>)
+    requires { line.now.client ≤ MOST }
+    ensures { last.new ≡ last_done line.now last.old came }
+{
+    if came.is_ok() {
+        last[usize::from(line.client)] = line.number;
     }
 }

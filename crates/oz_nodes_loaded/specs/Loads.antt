@@ -7,6 +7,7 @@ use Rattle.oz_datanode.specs.Datanode.{State as Datanode, Runs, node_in, meta_of
 use Rattle.oz_entries.specs.Node.{is_used}
 use Rattle.oz_journal.specs.Grammar.{IsJournal, TellsBodies}
 use Rattle.oz_journal.specs.Load.{loaded_at}
+use Rattle.oz_scm.specs.grants.Log.{IsOrdered}
 use Rattle.oz_scm.specs.Scm.{State as Scm, StandsFor, or_first}
 use Rattle.oz_world.specs.Disk.{Seen, IsStable}
 use Rattle.oz_nodes_loaded.specs.Disks.{LeavesScm, LeavesJournal, LeavesSlots}
@@ -21,6 +22,7 @@ module _ {D : Type 0} (see : D → Seen) where
   pub record IsScmFrom (given : ℕ) (disk : D) (scm : Scm D) : Type 0 where
     pub stands : IfSome (see disk).told (λ bytes. StandsFor given bytes scm.made)
     pub nodes : scm.made.nodes ≡ given
+    pub ordered : IsOrdered scm.made
     pub up : scm.up ≡ replicate given true
     pub running : scm.stopped ≡ false
     pub bodies : IfSome (see disk).told (λ bytes. (bodies : List (List ℕ)) → IsJournal bytes bodies

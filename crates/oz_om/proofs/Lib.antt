@@ -1,16 +1,20 @@
 pub mod Legal
 pub mod Recorded
 pub mod Old
+pub mod Homes
+pub mod Asked
+pub mod Purged
+pub mod Tables
 pub mod Granting
 pub mod Tellable
 pub mod Empty
 mod Full
 pub mod Picking
 pub mod Roomier
-pub mod Stood
 pub mod Told
 pub mod Longer
 pub mod Rests
+pub mod Works
 pub mod Answered
 pub mod Placed
 pub mod Undecided

@@ -78,7 +78,7 @@ handed_with stripe story id index reply batch =
     ∙ ap (λ (t : Bool). mine (stripe_seat stripe) story ++ cond t (event ∷ []) []) (eq-eqb (stripe_seat stripe) (stripe_seat stripe) refl))
     ∙ filter_map-append (λ (e : Event). granted_block e.kind) (mine (stripe_seat stripe) story) (event ∷ [])
 
-same_granted : (reply : Reply) → granted_in reply ≡ block_of_reply reply
+pub same_granted : (reply : Reply) → granted_in reply ≡ block_of_reply reply
 same_granted (replies.Granted block pipeline) = refl
 same_granted reply = refl
 

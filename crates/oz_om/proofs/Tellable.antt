@@ -14,11 +14,11 @@ use Rattle.oz_core.specs.Manager.{last_index, namespace_of}
 use Rattle.oz_core.specs.Seats.{stripe_seat}
 use Rattle.oz_om.specs.decider.Premises.{GrantsNew}
 use Rattle.oz_om.specs.decider.Deciders.{decider_of}
-use Rattle.oz_om.specs.decider.Records.{AreRecordedBy, IsBatchOfStripe}
+use Rattle.oz_om.specs.decider.Records.{AreRecordedBy}
 use Rattle.oz_om.specs.declared.decider.decider.Decider.{Decider}
 use Rattle.oz_om.specs.declared.decider.decider.Decider.TheVariants as deciders
 use Rattle.oz_decision.specs.declared.decision.Decision.{Decision}
-use Rattle.oz_decision.specs.Meets.{Meets, Stand, MayGo}
+use Rattle.oz_decision.specs.Meets.{Meets, Stand, MayGo, granted_in}
 use Rattle.oz_fields.specs.declared.block.Block.{Block}
 use Rattle.oz_store.specs.granted.Granted.{AreOld, IsFree, handed_out}
 use Rattle.oz_store.specs.granted.laws.Free.{free_allowed, free_new}
@@ -31,6 +31,9 @@ use Rattle.oz_model.specs.Answers.{after}
 use Rattle.oz_model.specs.Grants.{IsPicked as IsPickedBy}
 use Rattle.oz_names.specs.Names.{stripe_of}
 use Rattle.oz_namespace.specs.declared.namespace.Namespace.{Namespace}
+use Rattle.oz_owned.specs.Stood.{AreBased, IsBatchOfStripe, StandAt}
+use Rattle.oz_owned.specs.laws.Standing.{newest_based}
+use Rattle.oz_reclaim.specs.Origins.{RowsComeFrom}
 use Rattle.oz_requests.specs.declared.reply.Reply.{Reply}
 use Rattle.oz_requests.specs.declared.reply.Reply.TheVariants as replies
 use Rattle.oz_requests.specs.declared.request.AskId.{AskId}
@@ -41,10 +44,9 @@ use Rattle.oz_requests.specs.declared.request.Request.TheVariants.{AllocateBlock
 use Rattle.oz_requests.specs.Families.{family_of}
 use Rattle.oz_requests.specs.Names.{volume_in}
 use Rattle.oz_rows.specs.declared.operation.Change.{Change}
-use Rattle.oz_rows.specs.laws.Changes.{become}
 use Rattle.oz_rows.specs.declared.entry.RowEntry.{RowEntry}
-use Rattle.oz_rows.specs.RowMaps.{AreRows, Rows, after_changes, row_after}
-use Rattle.oz_sound.specs.Sound.{IsSoundButRenames}
+use Rattle.oz_rows.specs.RowMaps.{AreRows, Rows, after_changes}
+use Rattle.oz_sound.specs.Sound.{IsSound, IsSoundButRenames}
 use Rattle.oz_sound.specs.StandsFor.{StandsFor}
 use Rattle.oz_store.specs.Store.{IsStore}
 use Rattle.oz_store.specs.striped.Shares.{HasAllStripes, IsOfStripe, share_of}
@@ -54,10 +56,13 @@ use Rattle.oz_store.specs.striped.laws.Rows.{left_as_it_was, standing_has_all}
 use Rattle.oz_store.specs.striped.laws.Shares.{one_share, share_is_there}
 use Rattle.oz_store.specs.striped.laws.Stories.{share_decided, story_has_all}
 use Rattle.oz_om.specs.Held.{IsHeld, IsMade, IsOpenAsk, IsPickFor, IsPicked, IsTellable}
-use Rattle.oz_om.specs.Keeps.{AreListed, StandAt}
+use Rattle.oz_om.specs.Keeps.{AreAsked}
 use Rattle.oz_om.specs.Opens.{Opens}
+use Rattle.oz_om.proofs.Asked.{asked_after}
+use Rattle.oz_om.proofs.Homes.{granted_home, homes_after, kept_after, locals_after}
 use Rattle.oz_om.proofs.Legal.{legal_of}
 use Rattle.oz_om.proofs.Old.{contains_at, handed_with, old_after, old_whole}
+use Rattle.oz_om.proofs.Purged.{gone_logged}
 use Rattle.oz_sound.specs.stripes.Stripes.{only}
 use Rattle.oz_om.proofs.Recorded.{recorded_spares, spares_opened}
 use Rattle.oz_om.proofs.decider_lemmas.Choice.{is_on_snapshots}
@@ -85,12 +90,13 @@ recorded_copies all list are deciders.Snapshots request is reply bytes changes r
 recorded_copies all list are deciders.Reclaiming request is reply bytes changes recorded = service_copies all list are request changes recorded
 recorded_copies all list are deciders.Nobody request is reply bytes changes recorded = absurd recorded
 
-pub listed_after : (all : Rows) (changes : List Change) → AreListed all → AreListed (after_changes changes all)
-listed_after all changes listed =
-    let made = become changes listed.all listed.are.in_order in
-    record {
-      all = made.0;
-      are = record { in_order = made.1.in_order; rows_are = λ key. made.1.rows key ∙ ap (row_after changes key) (listed.are.rows_are key) };
+-- sound rows are so in all but what renamed rows say
+pub but_renames : (all : Rows) (namespace : Namespace) → Stand IsSound all namespace → Stand IsSoundButRenames all namespace
+but_renames all namespace stand =
+    let sound = stand.sound in record {
+      fit = stand.fit;
+      stands = stand.stands;
+      sound = record { blocks = sound.blocks; names = sound.names; numbers = sound.numbers; counts = sound.counts };
     }
 
 module _ {T : Type 0} (Coherent Agrees : Type 0) (opening : Opening) (bytes : OpeningBytes) (script : Script) (loaded : Rows) (last : ℕ)
@@ -170,8 +176,17 @@ module _ {T : Type 0} (Coherent Agrees : Type 0) (opening : Opening) (bytes : Op
       its : stripe_of (volume_in made.request) ≡ s.number
       its = made.ask.of_stripe
 
-      meets : Meets IsSoundButRenames rows (part coherent) made.request decision.reply decision.bytes decision.changes
-      meets = made.made.but_renames (grants_new coherent made.request made.pick made.picked) (part coherent) (at coherent).stand
+      meets : Meets IsSound rows (part coherent) made.request decision.reply decision.bytes decision.changes
+      meets = made.made.meets (grants_new coherent made.request made.pick made.picked) (part coherent) (at coherent).stand
+
+      loosely : Stand IsSoundButRenames rows (part coherent)
+      loosely = but_renames rows (part coherent) (at coherent).stand
+
+      come : RowsComeFrom rows (after_changes decision.changes rows) (granted_in decision.reply)
+      come = made.made.origins (part coherent) loosely
+
+      listed : AreBased rows
+      listed = newest_based opening loaded s.number story rows held.keeps.listed.all held.keeps.listed.are (held.keeps.stood coherent)
 
       whole_stays : (after (namespace_of opening story) made.request decision.reply ≡ namespace_of opening story) ↔ (after (part coherent) made.request decision.reply ≡ part coherent)
       whole_stays = share_stays s.number (namespace_of opening story) (part coherent) made.request decision.reply its (of coherent) (all_now coherent)
@@ -216,26 +231,42 @@ module _ {T : Type 0} (Coherent Agrees : Type 0) (opening : Opening) (bytes : Op
           (share_decided s.number opening story (part coherent) (stripe_seat s.number) id index decision.reply decision.bytes made.request (all coherent) is its (of coherent))
           (share_is_there s.number (namespace_of opening (story ++ event ∷ [])))
 
+      old_next : AreOld (only s.number loaded) (handed_out s.number (story ++ event ∷ [])) (after_changes decision.changes rows)
+      old_next = subst (λ (l : List Block). AreOld (only s.number loaded) l (after_changes decision.changes rows))
+          (sym (handed_with s.number story id index decision.reply decision.bytes))
+          (old_after (only s.number loaded) rows (handed_out s.number story) (at coherent).old decision.changes meets.leads.fit
+          (recorded_copies rows listed.all listed.are (decider_of made.request) made.request refl decision.reply decision.bytes decision.changes made.made.exact)
+          decision.reply (MayGo rows made.request) meets.blocks)
+
       pub stands : StandAt opening loaded s.number (story ++ event ∷ []) (after_changes decision.changes rows)
       stands = record {
-        stand = subst (λ (n : Namespace). Stand IsSoundButRenames (after_changes decision.changes rows) n) share_now meets.leads;
-        old = subst (λ (l : List Block). AreOld (only s.number loaded) l (after_changes decision.changes rows))
-            (sym (handed_with s.number story id index decision.reply decision.bytes))
-            (old_after (only s.number loaded) rows (handed_out s.number story) (at coherent).old decision.changes meets.leads.fit
-            (recorded_copies rows held.keeps.listed.all held.keeps.listed.are (decider_of made.request) made.request refl decision.reply decision.bytes decision.changes made.made.exact)
-            decision.reply (MayGo rows made.request) meets.blocks);
+        stand = subst (λ (n : Namespace). Stand IsSound (after_changes decision.changes rows) n) share_now meets.leads;
+        old = old_next;
+        homes_old = homes_after opening loaded s.number story rows (at coherent) id index decision.reply decision.bytes decision.changes
+            (MayGo rows made.request) meets.blocks;
+        keys_old = locals_after opening loaded s.number story rows (at coherent) id index decision.reply decision.bytes decision.changes
+            (MayGo rows made.request) meets.blocks old_next meets.leads.fit come;
+        kept_or_logged = kept_after opening loaded s.number story rows (at coherent) id index decision.reply decision.bytes decision.changes
+            (MayGo rows made.request) meets.blocks
+            (gone_logged opening bytes loaded (store coherent) s.number story s.mine (legal coherent) held.own rows (at coherent) (held.keeps.asked coherent)
+            id made.request is its)
+            (granted_home rows (part coherent) made.request decision.reply decision.bytes decision.changes meets.answers made.made.exact);
       }
 
-    pub tellable : IsTellable Coherent opening loaded s.number (newest s.cache) story id decision.reply decision.bytes decision.changes index
+      pub asks : AreAsked loaded s.number s.mine story (after_changes decision.changes rows)
+      asks = asked_after opening loaded s.number story s.mine (legal coherent) held.own rows (at coherent) (after_changes decision.changes rows)
+          (granted_in decision.reply) meets.leads.fit come (held.keeps.asked coherent)
+
+    pub tellable : IsTellable Coherent opening loaded s.number (newest s.cache) s.mine story id decision.reply decision.bytes decision.changes index
     tellable =
         let safe = made.made.safe held.keeps.fit in
         record {
           batch_of = safe.batch;
           recorded = made.made.recorded;
           fit = safe.fit;
-          listed = listed_after rows decision.changes held.keeps.listed;
           enabled = enabled;
           of_stripe = λ coherent. subst (λ (n : ℕ). IsBatchOfStripe n rows decision.bytes decision.changes) (its coherent)
-              (made.made.own_batch (part coherent) (at coherent).stand);
+              (made.made.own_batch (part coherent) (loosely coherent));
           stands = stands;
+          asked = asks;
         }

@@ -14,7 +14,6 @@ use Rattle.oz_core.specs.Law.{DecideIsEnabled}
 use Rattle.oz_core.specs.Manager.{asked_late, block_of_reply}
 use Rattle.oz_core.specs.Seats.{stripe_seat}
 use Rattle.oz_om.specs.decider.Promises.{IsDecision}
-use Rattle.oz_om.specs.decider.Records.{IsBatchOfStripe}
 use Rattle.oz_decision.specs.declared.decision.Decision.{Decision}
 use Rattle.oz_decision.specs.Meets.{AreInGrammar}
 use Rattle.oz_effects.specs.Batches.{IsBatchOf}
@@ -22,9 +21,12 @@ use Rattle.oz_fields.specs.declared.block.Block.{Block}
 use Rattle.oz_script.specs.declared.lines.script.Script.{Script}
 use Rattle.oz_locks.specs.Pins.{pins_for}
 use Rattle.oz_locks.specs.Pool.{IsFirstAllowed, pool_of}
+use Rattle.oz_locks.specs.Reclaims.{AreReady}
 use Rattle.oz_locks.specs.Stripe.{StripeView}
 use Rattle.oz_locks.specs.declared.pool.FreeBlock.{FreeBlock}
 use Rattle.oz_names.specs.Names.{stripe_of}
+use Rattle.oz_owned.specs.Stood.{IsBatchOfStripe, StandAt}
+use Rattle.oz_reclaim.specs.Origins.{SnapshotKeysStay}
 use Rattle.oz_requests.specs.declared.reply.Reply.{Reply}
 use Rattle.oz_requests.specs.declared.request.AskId.{AskId}
 use Rattle.oz_requests.specs.declared.request.Exclude.{Exclude}
@@ -36,7 +38,7 @@ use Rattle.oz_rows.specs.declared.operation.TheConstants.{END_OF_INDEXES}
 use Rattle.oz_rows.specs.RowMaps.{Rows, after_changes}
 use Rattle.oz_turn.specs.Told.{own_entries}
 use Rattle.oz_om.specs.declared.draft.Draft.{Draft}
-use Rattle.oz_om.specs.Keeps.{AreListed, KeepsRows, StandAt}
+use Rattle.oz_om.specs.Keeps.{AreAsked, KeepsRows}
 
 -- the request of an Ask that is undecided, and that the manager hadn't halted before, is the stripe's
 pub record IsOpenAsk (story : List Event) (place : ℕ) (id : AskId) (stripe : ℕ) (request : Request) : Type 0 where
@@ -61,19 +63,20 @@ pub record IsGrantOf (pool : List FreeBlock) (reply : Reply) (granted : Option B
   pub granted_is : granted ≡ block_of_reply reply
   pub pooled : IfSome granted (λ block. Any (λ (free : FreeBlock). free.block ≡ block) pool)
 
--- A decision of a stripe over its rows may be told under an index, and the stripe's rows stand then.
+-- A decision of a stripe over its rows may be told under an index, and the stripe's rows stand then. What it asked to be
+-- deleted, by these events, stays in whole rows.
 pub record IsTellable (Coherent : Type 0) (opening : Opening) (loaded : Rows) (stripe : ℕ) (rows : Rows)
-    (story : List Event) (id : AskId) (reply : Reply) (batch : List ℕ) (changes : List Change) (index : ℕ)
+    (given story : List Event) (id : AskId) (reply : Reply) (batch : List ℕ) (changes : List Change) (index : ℕ)
     : Type 0 where
   pub batch_of : IsBatchOf rows batch changes
   pub recorded : (batch ≡ []) ↔ (changes ≡ [])
   pub fit : AreInGrammar (after_changes changes rows)
-  pub listed : AreListed (after_changes changes rows)
   pub enabled : Coherent → DecideIsEnabled opening story (stripe_seat stripe) id index reply batch
   pub of_stripe : Coherent → IsBatchOfStripe stripe rows batch changes
   pub stands : Coherent → StandAt opening loaded stripe
       (story ++ record { seat = stripe_seat stripe; kind = Decide id index reply batch } ∷ [])
       (after_changes changes rows)
+  pub asked : Coherent → AreAsked loaded stripe given story (after_changes changes rows)
 
 module _ {T : Type 0} where
   -- The stripe's seat has just seen the whole story, and its rows stand.
@@ -115,7 +118,7 @@ module _ {T : Type 0} where
   pub record IsDraft (Coherent : Type 0) (opening : Opening) (loaded : Rows) (s : StripeView T) (story : List Event)
       (id : AskId) (room spare : ℕ) (draft : Draft) : Type 0 where
     pub told_is : draft.told ≡ draft.reply
-    pub tellable : IsTellable Coherent opening loaded s.number (newest s.cache) story id draft.reply draft.batch
+    pub tellable : IsTellable Coherent opening loaded s.number (newest s.cache) s.mine story id draft.reply draft.batch
         draft.changes draft.index
     pub above : draft.batch ≢ [] → IsAbove s draft.index
     pub granted : IsGrantOf s.pool draft.reply draft.granted
@@ -123,6 +126,8 @@ module _ {T : Type 0} where
     pub pins_are : draft.pins.items ≡ pins_for id draft.reply
     pub pin_room : length draft.pins.items ≤ s.pin_room
     pub cache_room : length draft.changes ≤ s.cache.spare
+    pub ready : AreReady draft.changes s.reclaim
+    pub tidy : SnapshotKeysStay draft.changes
     pub event_room : 4 ≤ room
     pub buffer_room : length draft.batch ≤ spare
 
@@ -146,6 +151,7 @@ module _ {T : Type 0} where
       pool = after.pool;
       known = after.known;
       pin_room = after.pin_room;
+      reclaim = after.reclaim;
     }
     pub rows : IsRoomier before.cache after.cache
 

@@ -5,6 +5,8 @@ pub mod Held
 pub mod Refusals
 pub mod Seated
 pub mod Shown
+pub mod Working
 pub mod decider
+pub mod laws
 pub use Rattle.oz_asker.specs.laws.Asks
 pub use Rattle.oz_asker.specs.laws.Halts

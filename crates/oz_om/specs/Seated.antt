@@ -11,7 +11,7 @@ use Rattle.oz_names.specs.declared.limits.TheConstants.{STRIPES}
 use Rattle.oz_rows.specs.declared.entry.RowEntry.{RowEntry}
 use Rattle.oz_rows.specs.declared.key.RowKey.{RowKey}
 use Rattle.oz_rows.specs.RowMaps.{Rows, row_of}
-use Rattle.oz_om.specs.Keeps.{HasStood}
+use Rattle.oz_owned.specs.Stood.{HasStood}
 use Rattle.oz_sound.specs.stripes.Stripes.{only}
 use Rattle.oz_turn.specs.declared.seat.Seat.{Seat}
 use Rattle.oz_turn.specs.declared.told.Told.{Ghosts}

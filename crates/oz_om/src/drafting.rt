@@ -42,7 +42,11 @@ pub(crate) fn draft<O: Opened, L: Loaded, R: Ring>(
     requires made { (place : ℕ) × IsMade L.coherent stripe.old ledger.old.story place id made.decision }
     requires quiet { made.decision.bytes ≡ [] → made.granted ≡ None }
     requires granted { IsGrantOf stripe.old.pool made.decision.reply made.granted }
-    ensures same { stripe.new ≡ record stripe.old { cache = stripe.new.cache; pin_room = stripe.new.pin_room } }
+    ensures same { stripe.new ≡ record stripe.old {
+      cache = stripe.new.cache;
+      pin_room = stripe.new.pin_room;
+      reclaim = stripe.new.reclaim;
+    } }
     ensures rows { IsRoomier stripe.old.cache stripe.new.cache }
     ensures story { ledger.new.story ≡ ledger.old.story }
     ensures others { (n : ℕ) → n ≢ stripe_seat stripe.old.number →

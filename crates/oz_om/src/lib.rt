@@ -7,13 +7,17 @@ mod deciding;
 mod draft;
 mod drafting;
 mod finding;
+mod looking;
 mod making;
 mod manager;
 mod refusal;
 mod seating;
+mod standing;
 mod telling;
+mod working;
 
 pub use decider::{Outcome, decide};
 pub use manager::Manager;
 pub use oz_locks::Loaded;
 pub use refusal::Refusal;
+pub use standing::{a_run_keeps_used_blocks, a_stripes_tables_stood};

@@ -36,6 +36,7 @@ pub(crate) fn tell<O: Opened, L: Loaded, R: Ring>(
     draft: Draft,
 ) -> (u64, Reply)
     requires turn { turn_id turn.now ≡ R.turn }
+    requires opens { Opens O.coherent O.opening O.bytes L.rows L.last_index L.coherent L.keeps }
     requires held { IsHeld O.coherent O.opening O.bytes O.script L.rows stripe.old ledger.story }
     requires rooms { KeepsOtherRooms (λ (l : Book) n. slice_index l.rooms n) (stripe_seat stripe.old.number)
         stripe.old.taken ledger }

@@ -7,6 +7,7 @@ pub mod Becoming
 pub mod Walked
 pub mod Passed
 pub mod Noted
+pub mod Passing
 pub mod Notes
 pub mod Naming
 pub mod Deleted

@@ -4,6 +4,7 @@ mod deleting;
 mod keys;
 mod noting;
 mod numbers;
+mod passing;
 mod path;
 mod renaming;
 

@@ -19,6 +19,7 @@ pub use owned::{
     what_has_a_home_was_used, what_is_reached_of_a_stripes_own_is_in_its_share,
 };
 pub use stood::{
-    brought_tables_stand, rows_that_stood_are_one, tables_stand_as_the_story_goes_on,
+    a_used_block_has_a_home_or_is_logged_at_each_place, brought_tables_stand,
+    rows_stand_while_other_seats_act, rows_that_stood_are_one, tables_stand_as_the_story_goes_on,
     what_tables_stand_for,
 };

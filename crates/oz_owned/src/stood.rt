@@ -1,12 +1,14 @@
 //! What a stripe's tables are: rows that stood at one place of the story, behind which only later indexes were decided.
 
-ghost use Rattle.std.specs.Prelude.{◌≡◌, ◌<◌, ◌≤◌, ◌&&◌, ℕ, nat_le, nat_lt, List, [], ◌∷◌, ◌++◌, None, Some, Contains};
+ghost use Rattle.std.specs.Prelude.{◌≡◌, ◌⊎◌, true, ◌<◌, ◌≤◌, ◌&&◌, ℕ, nat_le, nat_lt, List, [], ◌∷◌, ◌++◌, None, Some, Contains};
 ghost use Rattle.oz_fields.specs.declared.block.Block.{Block as AnyBlock};
 ghost use Rattle.oz_namespace.specs.declared.namespace.Namespace.{Namespace as AnyNamespace};
 ghost use Rattle.oz_requests.specs.declared.reply.Reply.{Reply as AnyReply};
 ghost use Rattle.oz_requests.specs.declared.request.AskId.{AskId as AnyId};
 ghost use Rattle.oz_rows.specs.declared.entry.RowEntry.{RowEntry as AnyEntry};
 ghost use Rattle.oz_rows.specs.RowMaps.{AreRows, Rows as AnyRows};
+ghost use Rattle.oz_names.specs.declared.limits.TheConstants.{STRIPES};
+ghost use Rattle.oz_sound.specs.Kept.{HasHome};
 ghost use Rattle.oz_sound.specs.StandsFor.{StandsFor};
 ghost use Rattle.oz_sound.specs.stripes.Stripes.{only};
 ghost use Rattle.oz_model.specs.Reach.{IsReached};
@@ -15,13 +17,14 @@ ghost use Rattle.oz_core.specs.declared.event.EventKind.TheVariants.{Decide};
 ghost use Rattle.oz_core.specs.declared.opening.Opening.{Opening as AnyOpening};
 ghost use Rattle.oz_core.specs.Contents.{OpeningBytes};
 ghost use Rattle.oz_core.specs.Law.{IsLegal};
-ghost use Rattle.oz_core.specs.Manager.{decided_index, kept_block, kept_up_to, namespace_of};
+ghost use Rattle.oz_core.specs.Manager.{IsUsed, decided_index, kept_block, kept_up_to, namespace_of};
+ghost use Rattle.oz_core.specs.Scm.{is_logged};
 ghost use Rattle.oz_core.specs.Seats.{stripe_seat};
-ghost use Rattle.oz_core.specs.Stories.{all_told};
+ghost use Rattle.oz_core.specs.Stories.{all_told, mine};
 ghost use Rattle.oz_store.specs.Store.{IsStore};
 ghost use Rattle.oz_store.specs.granted.Granted.{handed_out};
 ghost use Rattle.oz_owned.specs.Own.{IsOwn};
-ghost use Rattle.oz_owned.specs.Stood.{AreWritten, HaveStood, IsWritten, StandAt, TablesStand, batches_of};
+ghost use Rattle.oz_owned.specs.Stood.{AreWritten, HasStood, IsWritten, StandAt, TablesStand, batches_of};
 
 /// Loaded rows of a stripe that stand for what the opening has of it are its tables as the story begins. They stay that
 /// where an event comes that is no Decide of the stripe, where any Decide has an index above theirs, and where the stripe's
@@ -42,10 +45,29 @@ pub fn tables_stand_as_the_story_goes_on()
     ensures writes_nothing { (opening : AnyOpening) (loaded tables : AnyRows) (stripe most index : ℕ)
         (story : List AnyEvent) (id : AnyId) (reply : AnyReply) →
         IsLegal opening (story ++ record { seat = stripe_seat stripe; kind = Decide id index reply [] } ∷ []) →
-        (HaveStood (StandAt opening loaded stripe) loaded stripe story tables → StandAt opening loaded stripe
+        (HasStood opening loaded stripe story tables → StandAt opening loaded stripe
         (story ++ record { seat = stripe_seat stripe; kind = Decide id index reply [] } ∷ []) tables) →
         TablesStand opening loaded stripe story most tables → TablesStand opening loaded stripe
         (story ++ record { seat = stripe_seat stripe; kind = Decide id index reply [] } ∷ []) most tables }
+{}
+
+/// Rows of a stripe that stood at each place of a story go on standing while its seat gives nothing.
+pub fn rows_stand_while_other_seats_act()
+    ensures { (opening : AnyOpening) (loaded rows : AnyRows) (stripe : ℕ) (story more : List AnyEvent) →
+        IsLegal opening (story ++ more) → mine (stripe_seat stripe) more ≡ [] →
+        HasStood opening loaded stripe story rows → HasStood opening loaded stripe (story ++ more) rows }
+{}
+
+/// Where the rows of each stripe stood at each place of a story, each block that was used by one of these places has a home
+/// there in the rows of a stripe, in a key, an open key or a deleted row; or it is logged there.
+pub fn a_used_block_has_a_home_or_is_logged_at_each_place()
+    ensures { (opening : AnyOpening) (bytes : OpeningBytes) (loaded : AnyRows) (story front more : List AnyEvent)
+        (last : ℕ → AnyRows) (block : AnyBlock) → IsStore loaded opening bytes → IsLegal opening story →
+        story ≡ front ++ more →
+        ((stripe : ℕ) → stripe < STRIPES → HasStood opening loaded stripe story (last stripe)) →
+        IsUsed opening front block →
+        ((stripe : ℕ) × (rows : AnyRows) × HasStood opening loaded stripe front rows × HasHome rows block)
+        ⊎ (is_logged opening front block ≡ true) }
 {}
 
 /// Rows that stood at each place of a story, from those that were loaded, are one at its end. So are those at the front of
@@ -53,10 +75,10 @@ pub fn tables_stand_as_the_story_goes_on()
 pub fn rows_that_stood_are_one()
     ensures end { (opening : AnyOpening) (loaded rows other : AnyRows) (stripe : ℕ) (story : List AnyEvent)
         (listed : List AnyEntry) → AreRows listed (only stripe loaded) →
-        HaveStood (StandAt opening loaded stripe) loaded stripe story rows →
-        HaveStood (StandAt opening loaded stripe) loaded stripe story other → rows ≡ other }
+        HasStood opening loaded stripe story rows →
+        HasStood opening loaded stripe story other → rows ≡ other }
     ensures fronts { (opening : AnyOpening) (loaded rows : AnyRows) (stripe most : ℕ) (story : List AnyEvent) →
-        IsLegal opening story → HaveStood (StandAt opening loaded stripe) loaded stripe story rows →
+        IsLegal opening story → HasStood opening loaded stripe story rows →
         (tables : AnyRows) × TablesStand opening loaded stripe story most tables }
 {}
 
@@ -66,18 +88,18 @@ pub fn rows_that_stood_are_one()
 pub fn brought_tables_stand()
     ensures all { (opening : AnyOpening) (loaded newest tables : AnyRows) (stripe most : ℕ) (story : List AnyEvent)
         (listed : List AnyEntry) → IsLegal opening story → AreRows listed (only stripe loaded) →
-        HaveStood (StandAt opening loaded stripe) loaded stripe story newest → opening.last_index ≤ most →
+        HasStood opening loaded stripe story newest → opening.last_index ≤ most →
         AreWritten (only stripe loaded) (batches_of (λ index. nat_le index most) stripe story) tables →
         TablesStand opening loaded stripe story most tables }
     ensures more { (opening : AnyOpening) (loaded newest tables next : AnyRows) (stripe most later : ℕ)
         (story : List AnyEvent) (listed : List AnyEntry) → IsLegal opening story → AreRows listed (only stripe loaded) →
-        HaveStood (StandAt opening loaded stripe) loaded stripe story newest → opening.last_index ≤ most → most ≤ later →
+        HasStood opening loaded stripe story newest → opening.last_index ≤ most → most ≤ later →
         TablesStand opening loaded stripe story most tables →
         AreWritten tables (batches_of (λ index. nat_lt most index && nat_le index later) stripe story) next →
         TablesStand opening loaded stripe story later next }
     ensures one { (opening : AnyOpening) (loaded newest tables next : AnyRows) (stripe most later : ℕ)
         (story : List AnyEvent) (batch : List ℕ) (listed : List AnyEntry) → IsLegal opening story →
-        AreRows listed (only stripe loaded) → HaveStood (StandAt opening loaded stripe) loaded stripe story newest →
+        AreRows listed (only stripe loaded) → HasStood opening loaded stripe story newest →
         opening.last_index ≤ most → most ≤ later → TablesStand opening loaded stripe story most tables →
         batches_of (λ index. nat_lt most index && nat_le index later) stripe story ≡ batch ∷ [] →
         IsWritten tables batch next → TablesStand opening loaded stripe story later next }

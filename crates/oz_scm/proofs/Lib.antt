@@ -3,6 +3,10 @@ pub mod Counting
 pub mod Firsts
 pub mod Granting
 pub mod Handing
+pub mod Logs
+pub mod Noted
+pub mod Numbered
+pub mod Ordered
 pub mod Places
 pub mod Sizes
 pub mod grants_lemmas

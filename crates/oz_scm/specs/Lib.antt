@@ -1,5 +1,7 @@
 pub mod Applying
+pub mod Codes
 pub mod Frames
 pub mod Granting
+pub mod Noting
 pub mod Scm
 pub mod grants

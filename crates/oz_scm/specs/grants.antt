@@ -1,8 +1,10 @@
 pub mod Build
+pub mod Codes
 pub mod Counts
 pub mod Due
 pub mod Entries
 pub mod Fresh
+pub mod Log
 pub mod Made
 pub mod Reading
 pub mod Steps

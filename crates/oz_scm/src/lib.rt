@@ -16,8 +16,9 @@ mod stepping;
 pub use fault::{ApplyFault, GrantFault, ScmFault};
 pub use grants::{
     BuildFault, Container, Containers, Entry, FIRST_ID, GRANTED_IDS, Grant, MOST_GRANTED,
-    an_entry_is_one_body_more, are_ids_spent, bodies_make_one_thing, build, encode_granted,
-    encode_nodes, encode_stepped, no_id_is_granted_twice,
+    an_entry_is_one_body_more, are_ids_spent, bodies_make_one_thing, build, encode_acked,
+    encode_granted, encode_logged, encode_nodes, encode_retired, encode_stepped,
+    no_id_is_granted_twice, what_is_logged_is_ordered,
 };
 pub use laws::a_disk_stands_for_one_thing;
 pub use scm::Scm;

@@ -1,13 +1,20 @@
 //! The storage container manager.
 
-ghost use Rattle.std.specs.Prelude.{◌≡◌, ◌≢◌, ◌≤◌, ◌<◌, ◌+◌, ℕ, [], List, length, false, true, replicate, slice_set, map, Some};
+ghost use Rattle.std.specs.Prelude.{IsTrue, ◌↔◌, ◌≡◌, ◌≢◌, ◌≤◌, ◌<◌, ◌+◌, ℕ, [], List, length, false, true, replicate, slice_set, map, Some};
 ghost use Rattle.std.specs.Prelude.{IfOk, IfErr, IfSome, OnErr, OnOk, IsSomeAnd, Err, IsSome};
 ghost use Rattle.std.specs.List.{range_with_len};
 ghost use Rattle.std.specs.Option.{option_map};
 ghost use Rattle.oz_scm.specs.declared.grants.container.Container.{Container as AnyContainer};
 ghost use Rattle.oz_scm.specs.Applying.{Applies};
 ghost use Rattle.oz_scm.specs.grants.Counts.{AreCounts};
-ghost use Rattle.oz_scm.specs.grants.Made.{container_at, state_at};
+ghost use Rattle.oz_dellog.specs.Log.{IsLogged, is_done, pending};
+ghost use Rattle.oz_dellog.specs.declared.logged.Logged.{Logged as AnyLogged};
+ghost use Rattle.oz_scm.specs.declared.grants.entry.Entry.TheVariants.{Acked as Acks, Retired as Retires};
+ghost use Rattle.oz_scm.specs.Noting.{Notes};
+ghost use Rattle.std.specs.FinMap.{entries};
+ghost use Rattle.std.specs.Map.Iter.{ShowsInOrder, deref_pair};
+ghost use Rattle.oz_scm.specs.grants.Log.{IsOrdered};
+ghost use Rattle.oz_scm.specs.grants.Made.{container_at, state_at, MayAck, MayRetire, may_ack, log_of};
 ghost use Rattle.oz_journal.specs.Grammar.{IsJournal, TellsBodies};
 ghost use Rattle.oz_journal.specs.Load.{IsLoadable};
 ghost use Rattle.oz_names.specs.declared.limits.TheConstants.{STRIPES};
@@ -23,12 +30,13 @@ use crate::adding::{add, check};
 use crate::beginning::found_or_first;
 use crate::choosing::due;
 use crate::fault::{ApplyFault, GrantFault, ScmFault};
-use crate::grants::{Container, Containers, Grant, encode_stepped};
+use crate::grants::{Container, Containers, Grant, encode_acked, encode_retired, encode_stepped};
 use crate::loading::containers_of;
 use crate::planning::plan_grant;
 use crate::stepping::led_to;
 use oz_container::{Event, State};
-use oz_fields::OutOfMemory;
+use oz_dellog::{Logged, Txn};
+use oz_fields::{Block, OutOfMemory};
 use oz_journal::{
     Journal, LoadFault, bytes_left_alone_stand_for_the_same, bytes_stand_for_one_thing,
 };
@@ -36,6 +44,7 @@ use oz_nodes::Nodes;
 use oz_requests::Exclude;
 use oz_world::Disk;
 use std::alloc::Global;
+use std::collections::btree_map::Iter;
 use std::marker::Model;
 
 /// The storage container manager. Each grant, and each step of a container, is one body of its journal, and is made here once
@@ -50,9 +59,12 @@ pub struct Scm<D: Disk> {
 
 impl<D: Disk> Model for Scm<D> {
     ghost use Rattle.std.specs.Prelude.{◌≡◌, false, length};
+    ghost use Rattle.oz_scm.specs.Codes.{coded_scm};
     ghost use Rattle.oz_scm.specs.Scm.{State, Keeps};
 
     ghost Value = { State D };
+
+    ghost coded = { coded_scm D.code };
 
     ghost view = { λ scm. record {
       disk = scm.journal.disk;
@@ -75,6 +87,7 @@ impl<D: Disk> Scm<D> {
         requires most { nodes ≤ MOST_NODES }
         ensures stands { IfOk result (λ scm. IfSome (D.told disk) (λ bytes. StandsFor nodes bytes scm.made)) }
         ensures nodes { IfOk result (λ scm. scm.made.nodes ≡ nodes) }
+        ensures ordered { IfOk result (λ scm. IsOrdered scm.made) }
         ensures up { IfOk result (λ scm. scm.up ≡ replicate nodes true) }
         ensures running { IfOk result (λ scm. scm.stopped ≡ false) }
 
@@ -170,6 +183,93 @@ impl<D: Disk> Scm<D> {
         };
         self.containers.step(container, event);
         Ok(state)
+    }
+
+    /// Notes that a datanode acknowledged a transaction, which it owes (`may_ack`). It takes no memory, and is stable when
+    /// it is answered. The error is how often the disk has failed.
+    pub fn ack(&mut self, number: u64, dn: u8) -> Result<(), u64>
+        requires { MayAck self.old.made number dn }
+        ensures { Notes (Acks number dn) self.old self.new
+            (seen (D.told self.old.disk) (D.clock self.old.disk) (D.image self.old.disk) (D.faults self.old.disk))
+            (seen (D.told self.new.disk) (D.clock self.new.disk) (D.image self.new.disk) (D.faults self.new.disk))
+            result }
+    {
+        let Ok(()) = check(&self.journal) else {
+            let count = self.journal.faults();
+            return Err(count);
+        };
+        let mut frame = encode_acked(number, dn);
+        let Ok(()) = add(&mut self.journal, &mut frame) else {
+            let count = self.journal.faults();
+            return Err(count);
+        };
+        self.containers.ack(number, dn);
+        Ok(())
+    }
+
+    /// Retires a transaction that three datanodes acknowledged (`may_retire`). It takes no memory, and is stable when it is
+    /// answered. The error is how often the disk has failed.
+    pub fn retire(&mut self, number: u64) -> Result<(), u64>
+        requires { MayRetire self.old.made number }
+        ensures { Notes (Retires number) self.old self.new
+            (seen (D.told self.old.disk) (D.clock self.old.disk) (D.image self.old.disk) (D.faults self.old.disk))
+            (seen (D.told self.new.disk) (D.clock self.new.disk) (D.image self.new.disk) (D.faults self.new.disk))
+            result }
+    {
+        let Ok(()) = check(&self.journal) else {
+            let count = self.journal.faults();
+            return Err(count);
+        };
+        let mut frame = encode_retired(number);
+        let Ok(()) = add(&mut self.journal, &mut frame) else {
+            let count = self.journal.faults();
+            return Err(count);
+        };
+        self.containers.retire(number);
+        Ok(())
+    }
+
+    /// Whether a datanode owes a transaction's acknowledgement.
+    pub fn may_ack(&self, number: u64, dn: u8) -> bool
+        ensures { result ≡ may_ack self.now.made number dn }
+    {
+        self.containers.may_ack(number, dn)
+    }
+
+    /// Whether a transaction is there that three datanodes acknowledged.
+    pub fn may_retire(&self, number: u64) -> bool
+        ensures { result ≡ is_done (log_of self.now.made) number }
+    {
+        self.containers.may_retire(number)
+    }
+
+    /// The number of the last transaction that was logged, retired or not, 0 for none.
+    pub fn last_txn(&self) -> u64
+        ensures { result ≡ self.now.made.last_txn }
+    {
+        self.containers.last_txn()
+    }
+
+    /// Whether a transaction that isn't retired names the block.
+    pub fn logged(&self, block: Block) -> bool
+        ensures { IsTrue result ↔ IsLogged (log_of self.now.made) block }
+    {
+        self.containers.logged(block)
+    }
+
+    /// The transactions of a container that a datanode hasn't acknowledged, in the order of their numbers.
+    pub fn pending_in(&self, alloc: Global, container: u64, dn: u8) -> Result<Vec<Txn>, OutOfMemory>
+        ensures { IfOk result (λ txns. txns.items ≡ pending (log_of self.now.made) container dn) }
+    {
+        self.containers.pending(alloc, container, dn)
+    }
+
+    /// What was logged and isn't retired, in the order of the numbers.
+    pub fn unretired(&self) -> Iter<'_, u64, Logged>
+        ensures rest { result ≡ entries self.now.made.unretired }
+        ensures runs { ShowsInOrder (deref_pair {K = ℕ} {X = AnyLogged}) }
+    {
+        self.containers.unretired()
     }
 
     /// How many datanodes there are.

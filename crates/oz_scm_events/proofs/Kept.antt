@@ -1,16 +1,20 @@
 -- What is kept, from one call to the next.
-use Rattle.std.specs.Prelude.{Bool, true, false, if◌then◌else◌, replicate, slice_set, map, IsSome}
+use Rattle.std.specs.Prelude.{Bool, true, false, if◌then◌else◌, replicate, slice_set, map}
 use Rattle.std.specs.List.{range_with_len}
 use Rattle.std.specs.Bool.{beq}
 use Rattle.std.specs.Option.{option_map}
-use Rattle.std.proofs.Common.{◌≡◌, ⊎_elim, ℕ, zero, suc, ◌+◌, ◌<◌, ◌≤◌, List, [], ◌∷◌, ◌++◌, length, None, Some, Result, Ok, Err, IfErr, refl, sym, ap, ◌∙◌, subst, append_assoc, arith}
+use Rattle.std.proofs.Common.{◌≡◌, ⊎_elim, ℕ, ◌+◌, ◌<◌, ◌≤◌, List, [], ◌∷◌, ◌++◌, length, Option, None, Some, Result, Ok, Err, IfErr, refl, sym, ap, ◌∙◌, subst, append_assoc, arith}
 use Rattle.std.proofs.lemmas.Bool.{false≢true}
 use Rattle.std.proofs.lemmas.List.Sums.{fold_push}
 use Rattle.oz_buffer.specs.laws.Following.{told-push, untold-push}
+use Rattle.oz_container.specs.declared.state.Event.{Event as Step}
+use Rattle.oz_container.specs.declared.state.State.{State as Reached}
+use Rattle.oz_container.specs.Steps.{next}
 use Rattle.oz_core.specs.declared.event.Event.{Event}
 use Rattle.oz_core.specs.declared.event.EventKind.{EventKind}
 use Rattle.oz_core.specs.declared.event.EventKind.TheVariants as events
 use Rattle.oz_core.specs.declared.event.Node.TheVariants.{Scm}
+use Rattle.oz_core.specs.declared.opening.Container.{Container}
 use Rattle.oz_core.specs.declared.opening.Opening.{Opening}
 use Rattle.oz_core.specs.Manager.{halt_count, halt_of}
 use Rattle.oz_core.specs.Scm.{containers, containers_after, id_after, next_id, is_up, up_or_down, ups}
@@ -18,17 +22,24 @@ use Rattle.oz_core.specs.Seats.{scm_seat}
 use Rattle.oz_scm.specs.declared.grants.container.Container.{Container as MadeContainer}
 use Rattle.oz_scm.specs.declared.grants.entry.Grant.{Grant}
 use Rattle.oz_scm.specs.grants.Due.{IsChosen}
-use Rattle.oz_scm.specs.grants.Made.{Made, after_grant, container_at}
+use Rattle.oz_scm.specs.grants.Made.{Made, after_grant, after_step, container_at, state_at}
 use Rattle.oz_nodes.specs.Pipelines.{IsAnyUp, IsFree, is_node_up}
 use Rattle.oz_requests.specs.declared.request.Exclude.{Exclude}
 use Rattle.oz_scm.specs.declared.fault.GrantFault.{GrantFault}
 use Rattle.oz_scm.specs.declared.fault.GrantFault.TheVariants.{Stopped, NoPipeline, Excluded, IdsSpent, OutOfMemory}
+use Rattle.oz_scm.specs.declared.fault.ApplyFault.{ApplyFault}
+use Rattle.oz_scm.specs.declared.fault.ApplyFault.TheVariants as applying
+use Rattle.oz_scm.specs.Applying.{Applies}
 use Rattle.oz_scm.specs.Granting.{Grants}
 use Rattle.oz_scm.specs.Scm.{State}
 use Rattle.oz_scm_events.specs.Granted.{by_scm, told_of, with_told, IsRefusal}
 use Rattle.oz_scm_events.specs.Kept.{as_told, AreContainers, IsKept}
+use Rattle.oz_scm_events.specs.declared.stepping.StepFault.{StepFault}
+use Rattle.oz_scm_events.specs.declared.stepping.StepFault.TheVariants as stepping
+use Rattle.oz_scm_events.specs.Left.{IsMadeOf}
+use Rattle.oz_scm_events.specs.Stepped.{IsStepRefusal, state_told, stepped_as, told_of_step}
 use Rattle.oz_scm_events.specs.Tracked.{up_event}
-use Rattle.oz_scm_events.proofs.Made.{granted_more, within}
+use Rattle.oz_scm_events.proofs.Made.{chosen_there, granted_more, stepped_more}
 use Rattle.oz_scm_events.proofs.Ups.{all_up, length_ups, one_of_ups, set_again, ups_after}
 use Rattle.oz_turn.specs.Told.{own_entries, BeginsWith}
 use Rattle.oz_world.specs.Disk.{Seen}
@@ -81,80 +92,165 @@ module _ (opening : Opening) (mine : List Event) (kind : EventKind) where
 
 -- ---- a grant
 
-none_some : (made : List MadeContainer) (container : MadeContainer) → container_at made 0 ≡ Some container → ⊥
-none_some made container there = cc
-
-chosen_there : (made : List MadeContainer) (number : ℕ) (container : MadeContainer) → container_at made number ≡ Some container → (1 ≤ number) × (number ≤ length made + 1)
-chosen_there made zero container there = absurd (none_some made container there)
-chosen_there made (suc place) container there =
-    let le = within made (suc place) (subst (λ o. IsSome (option_map as_told o)) (sym there) refl) in
-    (omega arith, omega (arith, le))
-
 pub chosen_place : (made : List MadeContainer) (pipeline : ℕ) (excluded : List ℕ) (number : ℕ) → IsChosen made pipeline excluded number → (1 ≤ number) × (number ≤ length made + 1)
 chosen_place made pipeline excluded number chosen =
     ⊎_elim (λ it. chosen_there made number it.0.room.container it.0.room.there) (λ it. (omega (arith, it.0), omega (arith, it.0))) chosen
 
-module _ {D : Type 0} {loaded : ℕ} (opening : Opening) (old new : State D) (stripe : ℕ) (exclude : Exclude) (before after : Seen) (seen mine seen_after mine_after : List Event) (kept : IsKept opening loaded old before.faults seen mine) (running : old.stopped ≡ false) where
-  unhalted : halt_of Scm mine ≡ None
-  unhalted = kept.halt ∙ ap (λ t. if t then Some before.faults else None) running
+-- ---- what entries make
 
-  no_rise : new.stopped ≡ false → new.stopped ≡ true → Rose loaded after.faults
-  no_rise still stopped = absurd (false≢true (sym still ∙ stopped))
-
-  kept_granted : (grant : Grant) → Grants stripe exclude old new before after (Ok grant) → known seen_after ≡ mine ++ granted stripe grant ∷ [] → IsKept opening loaded new after.faults seen_after (mine ++ granted stripe grant ∷ [])
-  kept_granted grant grants own =
+module _ (opening : Opening) (story : List Event) (made : Made) (is : IsMadeOf opening story made) where
+  pub made_granted : (stripe : ℕ) (grant : Grant) → 1 ≤ grant.container → grant.container ≤ length made.containers + 1 → IsMadeOf opening (story ++ granted stripe grant ∷ []) (after_grant grant made)
+  made_granted stripe grant some within =
       let kind = events.Grant stripe grant.container grant.pipeline grant.first grant.count in
-      let place = chosen_place old.made.containers grant.pipeline exclude.containers grant.container grants.due.chosen in
       record {
-        own = own;
-        halt = quiet_halt opening mine kind refl ∙ unhalted ∙ sym (ap (λ t. if t then Some after.faults else None) grants.stops);
-        nodes = ap (λ (made : Made). made.nodes) grants.made ∙ kept.nodes;
-        next = ap (λ (made : Made). made.next_id) grants.made ∙ sym (told-push id_after opening.next_id mine (by_scm kind));
-        made = subst (λ (made : Made). AreContainers made.containers (containers opening (mine ++ granted stripe grant ∷ []))) (sym grants.made)
-            (subst (AreContainers (after_grant grant old.made).containers) (sym (containers_more opening mine kind))
-            (granted_more old.made.containers (containers opening mine) kept.made grant.container grant.pipeline grant.count place.0 place.1));
-        up = grants.ups ∙ kept.up ∙ sym (quiet_ups opening mine kind (λ dn. refl));
-        no_fewer = no_fewer_then loaded before.faults after.faults kept.no_fewer grants.never_falls;
-        rose = no_rise grants.stops;
+        nodes = is.nodes;
+        next = sym (told-push id_after opening.next_id story (by_scm kind));
+        containers = subst (AreContainers (after_grant grant made).containers) (sym (containers_more opening story kind))
+            (granted_more made.containers (containers opening story) is.containers grant.container grant.pipeline grant.count some within);
       }
 
-  kept_halted : (count : ℕ) → Grants stripe exclude old new before after (Err (Stopped count)) → known seen_after ≡ mine ++ by_scm (events.Halt Scm count) ∷ [] → IsKept opening loaded new after.faults seen_after (mine ++ by_scm (events.Halt Scm count) ∷ [])
-  kept_halted count grants own =
+  pub made_stepped : (number : ℕ) (event : Step) (from state : Reached) → state_at made.containers number ≡ Some from → next from event ≡ Some state
+      → IsMadeOf opening (story ++ by_scm (events.Closed number state) ∷ []) (after_step number event made)
+  made_stepped number event from state in_state leads =
+      let kind = events.Closed number state in
+      record {
+        nodes = is.nodes;
+        next = is.next ∙ sym (quiet_next opening story kind refl);
+        containers = subst (AreContainers (after_step number event made).containers) (sym (containers_more opening story kind))
+            (stepped_more made.containers (containers opening story) is.containers number event from state in_state leads);
+      }
+
+pub kept_made : {D : Type 0} {loaded : ℕ} {opening : Opening} {scm : State D} {faults : ℕ} {seen mine : List Event} → IsKept opening loaded scm faults seen mine → IsMadeOf opening mine scm.made
+kept_made kept = record { nodes = kept.nodes; next = kept.next; containers = kept.made }
+
+-- ---- a call that may fail
+
+module _ {D : Type 0} {loaded : ℕ} (opening : Opening) (old new : State D) (faults faults_after : ℕ) (seen mine seen_after : List Event) (kept : IsKept opening loaded old faults seen mine) (running : old.stopped ≡ false) where
+  unhalted : halt_of Scm mine ≡ None
+  unhalted = kept.halt ∙ ap (λ t. if t then Some faults else None) running
+
+  no_rise : new.stopped ≡ false → new.stopped ≡ true → Rose loaded faults_after
+  no_rise still stopped = absurd (false≢true (sym still ∙ stopped))
+
+  -- one entry more
+  pub kept_more : (kind : EventKind) → IsMadeOf opening (mine ++ by_scm kind ∷ []) new.made → halt_count Scm kind ≡ None → ((dn : ℕ) → up_or_down dn kind ≡ None)
+      → new.up ≡ old.up → new.stopped ≡ false → faults ≤ faults_after → known seen_after ≡ mine ++ by_scm kind ∷ [] → IsKept opening loaded new faults_after seen_after (mine ++ by_scm kind ∷ [])
+  kept_more kind made no_halt no_up up stops no_fall own = record {
+    own = own;
+    halt = quiet_halt opening mine kind no_halt ∙ unhalted ∙ sym (ap (λ t. if t then Some faults_after else None) stops);
+    nodes = made.nodes;
+    next = made.next;
+    made = made.containers;
+    up = up ∙ kept.up ∙ sym (quiet_ups opening mine kind no_up);
+    no_fewer = no_fewer_then loaded faults faults_after kept.no_fewer no_fall;
+    rose = no_rise stops;
+  }
+
+  pub kept_halted : (count : ℕ) → count ≡ faults_after → new.made ≡ old.made → new.up ≡ old.up → new.stopped ≡ true → Rose faults faults_after → faults ≤ faults_after
+      → known seen_after ≡ mine ++ by_scm (events.Halt Scm count) ∷ [] → IsKept opening loaded new faults_after seen_after (mine ++ by_scm (events.Halt Scm count) ∷ [])
+  kept_halted count counted made up stops rose no_fall own =
       let kind = events.Halt Scm count in
       record {
         own = own;
-        halt = told-push (halt_count Scm) None mine (by_scm kind) ∙ ap (λ n. Some n) (grants.count count refl) ∙ sym (ap (λ t. if t then Some after.faults else None) grants.stops);
-        nodes = ap (λ (made : Made). made.nodes) grants.same ∙ kept.nodes;
-        next = ap (λ (made : Made). made.next_id) grants.same ∙ kept.next ∙ sym (quiet_next opening mine kind refl);
-        made = subst (λ (made : Made). AreContainers made.containers (containers opening (mine ++ by_scm kind ∷ []))) (sym grants.same)
+        halt = told-push (halt_count Scm) None mine (by_scm kind) ∙ ap (λ n. Some n) counted ∙ sym (ap (λ t. if t then Some faults_after else None) stops);
+        nodes = ap (λ (made : Made). made.nodes) made ∙ kept.nodes;
+        next = ap (λ (made : Made). made.next_id) made ∙ kept.next ∙ sym (quiet_next opening mine kind refl);
+        made = subst (λ (made : Made). AreContainers made.containers (containers opening (mine ++ by_scm kind ∷ []))) (sym made)
             (subst (AreContainers old.made.containers) (sym (containers_more opening mine kind)) kept.made);
-        up = grants.ups ∙ kept.up ∙ sym (quiet_ups opening mine kind (λ dn. refl));
-        no_fewer = no_fewer_then loaded before.faults after.faults kept.no_fewer grants.never_falls;
-        rose = λ stopped. rose_then loaded before.faults after.faults kept.no_fewer (grants.cause running stopped);
+        up = up ∙ kept.up ∙ sym (quiet_ups opening mine kind (λ dn. refl));
+        no_fewer = no_fewer_then loaded faults faults_after kept.no_fewer no_fall;
+        rose = λ stopped. rose_then loaded faults faults_after kept.no_fewer rose;
       }
 
-  kept_same : new.made ≡ old.made → new.up ≡ old.up → new.stopped ≡ false → before.faults ≤ after.faults → known seen_after ≡ mine → IsKept opening loaded new after.faults seen_after mine
+  pub kept_same : new.made ≡ old.made → new.up ≡ old.up → new.stopped ≡ false → faults ≤ faults_after → known seen_after ≡ mine → IsKept opening loaded new faults_after seen_after mine
   kept_same made up still no_fall own = record {
     own = own;
-    halt = unhalted ∙ sym (ap (λ t. if t then Some after.faults else None) still);
+    halt = unhalted ∙ sym (ap (λ t. if t then Some faults_after else None) still);
     nodes = ap (λ (made : Made). made.nodes) made ∙ kept.nodes;
     next = ap (λ (made : Made). made.next_id) made ∙ kept.next;
     made = subst (λ (made : Made). AreContainers made.containers (containers opening mine)) (sym made) kept.made;
     up = up ∙ kept.up;
-    no_fewer = no_fewer_then loaded before.faults after.faults kept.no_fewer no_fall;
+    no_fewer = no_fewer_then loaded faults faults_after kept.no_fewer no_fall;
     rose = no_rise still;
   }
 
+module _ {D : Type 0} {loaded : ℕ} (opening : Opening) (old new : State D) (stripe : ℕ) (exclude : Exclude) (before after : Seen) (seen mine seen_after mine_after : List Event) (kept : IsKept opening loaded old before.faults seen mine) (running : old.stopped ≡ false) where
+  kept_granted : (grant : Grant) → Grants stripe exclude old new before after (Ok grant) → known seen_after ≡ mine ++ granted stripe grant ∷ [] → IsKept opening loaded new after.faults seen_after (mine ++ granted stripe grant ∷ [])
+  kept_granted grant grants own =
+      let place = chosen_place old.made.containers grant.pipeline exclude.containers grant.container grants.due.chosen in
+      kept_more opening old new before.faults after.faults seen mine seen_after kept running (events.Grant stripe grant.container grant.pipeline grant.first grant.count)
+      (subst (IsMadeOf opening (mine ++ granted stripe grant ∷ [])) (sym grants.made) (made_granted opening mine old.made (kept_made kept) stripe grant place.0 place.1))
+      refl (λ dn. refl) grants.ups grants.stops grants.never_falls own
+
+  as_before : new.made ≡ old.made → new.up ≡ old.up → new.stopped ≡ false → before.faults ≤ after.faults → known seen_after ≡ mine → IsKept opening loaded new after.faults seen_after mine
+  as_before = kept_same opening old new before.faults after.faults seen mine seen_after kept running
+
   kept_after : (result : Result Grant GrantFault) → Grants stripe exclude old new before after result → known seen_after ≡ with_told (told_of stripe result) mine → IsKept opening loaded new after.faults seen_after (with_told (told_of stripe result) mine)
   kept_after (Ok grant) grants own = kept_granted grant grants own
-  kept_after (Err (Stopped count)) grants own = kept_halted count grants own
-  kept_after (Err NoPipeline) grants own = kept_same grants.same grants.ups grants.stops grants.never_falls own
-  kept_after (Err Excluded) grants own = kept_same grants.same grants.ups grants.stops grants.never_falls own
-  kept_after (Err (IdsSpent next count)) grants own = kept_same grants.same grants.ups grants.stops grants.never_falls own
-  kept_after (Err OutOfMemory) grants own = kept_same grants.same grants.ups grants.stops grants.never_falls own
+  kept_after (Err (Stopped count)) grants own =
+      kept_halted opening old new before.faults after.faults seen mine seen_after kept running count (grants.count count refl) grants.same grants.ups grants.stops (grants.cause running grants.stops) grants.never_falls own
+  kept_after (Err NoPipeline) grants own = as_before grants.same grants.ups grants.stops grants.never_falls own
+  kept_after (Err Excluded) grants own = as_before grants.same grants.ups grants.stops grants.never_falls own
+  kept_after (Err (IdsSpent next count)) grants own = as_before grants.same grants.ups grants.stops grants.never_falls own
+  kept_after (Err OutOfMemory) grants own = as_before grants.same grants.ups grants.stops grants.never_falls own
 
   pub kept_told : (result : Result Grant GrantFault) → Grants stripe exclude old new before after result → mine_after ≡ with_told (told_of stripe result) mine → known seen_after ≡ mine_after → IsKept opening loaded new after.faults seen_after mine_after
   kept_told result grants told own = subst (λ (l : List Event). IsKept opening loaded new after.faults seen_after l) (sym told) (kept_after result grants (own ∙ told))
+
+-- ---- a step of a container
+
+abbrev back : Result Reached StepFault → Result Reached ApplyFault
+back (Ok state) = Ok state
+back (Err (stepping.Stopped count)) = Err (applying.Stopped count)
+back (Err (stepping.WrongState state event)) = Err (applying.WrongState state event)
+back (Err stepping.OutOfMemory) = Err (applying.Stopped 0)
+
+back_is : (answer : Result Reached ApplyFault) → back (stepped_as answer) ≡ answer
+back_is (Ok state) = refl
+back_is (Err (applying.Stopped count)) = refl
+back_is (Err (applying.WrongState state event)) = refl
+
+pub same_answer : (one other : Result Reached ApplyFault) (result : Result Reached StepFault) → result ≡ stepped_as one → result ≡ stepped_as other → one ≡ other
+same_answer one other result is too = sym (back_is one) ∙ ap back (sym is ∙ too) ∙ back_is other
+
+module _ {D : Type 0} {loaded : ℕ} (opening : Opening) (old new : State D) (container : ℕ) (event : Step) (before after : Seen) (seen mine seen_after mine_after : List Event) (kept : IsKept opening loaded old before.faults seen mine) (running : old.stopped ≡ false) where
+  kept_step : (answer : Result Reached ApplyFault) → Applies container event old new before after answer → known seen_after ≡ with_told (told_of_step container (stepped_as answer)) mine
+      → IsKept opening loaded new after.faults seen_after (with_told (told_of_step container (stepped_as answer)) mine)
+  kept_step (Ok state) applies own =
+      kept_more opening old new before.faults after.faults seen mine seen_after kept running (events.Closed container state)
+      (subst (IsMadeOf opening (mine ++ by_scm (events.Closed container state) ∷ [])) (sym applies.made)
+      (made_stepped opening mine old.made (kept_made kept) container event applies.reached.0 state applies.reached.1 applies.reached.2))
+      refl (λ dn. refl) applies.ups applies.stops applies.never_falls own
+  kept_step (Err (applying.Stopped count)) applies own =
+      kept_halted opening old new before.faults after.faults seen mine seen_after kept running count (applies.count count refl) applies.same applies.ups applies.stops (applies.cause running applies.stops) applies.never_falls own
+  kept_step (Err (applying.WrongState state of)) applies own =
+      kept_same opening old new before.faults after.faults seen mine seen_after kept running applies.same applies.ups applies.stops applies.never_falls own
+
+  pub kept_stepped : (answer : Result Reached ApplyFault) (result : Result Reached StepFault) → result ≡ stepped_as answer → Applies container event old new before after answer
+      → mine_after ≡ with_told (told_of_step container result) mine → known seen_after ≡ mine_after → IsKept opening loaded new after.faults seen_after mine_after
+  kept_stepped answer result is applies told own =
+      let given = told ∙ ap (λ r. with_told (told_of_step container r) mine) is in
+      subst (λ (l : List Event). IsKept opening loaded new after.faults seen_after l) (sym given) (kept_step answer applies (own ∙ given))
+
+-- where it had stopped
+module _ {D : Type 0} (see : D → Seen) (old new : State D) (container : ℕ) (event : Step) (stopped : old.stopped ≡ true) where
+  still_stopped : new ≡ old → new.stopped ≡ false → ⊥
+  still_stopped same stops = false≢true (sym stops ∙ ap (λ (s : State D). s.stopped) same ∙ stopped)
+
+  stopped_answer : (answer : Result Reached ApplyFault) → Applies container event old new (see old.disk) (see new.disk) answer → stepped_as answer ≡ Err (stepping.Stopped (see old.disk).faults)
+  stopped_answer (Ok state) applies = absurd (still_stopped (applies.still stopped) applies.stops)
+  stopped_answer (Err (applying.Stopped count)) applies =
+      ap (λ n. Err (stepping.Stopped n)) (applies.count count refl ∙ ap (λ (s : State D). (see s.disk).faults) (applies.still stopped))
+  stopped_answer (Err (applying.WrongState state of)) applies = absurd (still_stopped (applies.still stopped) applies.stops)
+
+  pub stopped_as : (answer : Result Reached ApplyFault) (result : Result Reached StepFault) → result ≡ stepped_as answer → Applies container event old new (see old.disk) (see new.disk) answer
+      → (new ≡ old) × (result ≡ Err (stepping.Stopped (see old.disk).faults))
+  stopped_as answer result is applies = (applies.still stopped, is ∙ stopped_answer answer applies)
+
+  pub stopped_refusal : {loaded : ℕ} (opening : Opening) (seen mine : List Event) → IsKept opening loaded old (see old.disk).faults seen mine → (result : Result Reached StepFault)
+      → result ≡ Err (stepping.Stopped (see old.disk).faults) → IfErr result (IsStepRefusal opening mine container event)
+  stopped_refusal opening seen mine kept result is =
+      subst (λ r. IfErr r (IsStepRefusal opening mine container event)) (sym is) (kept.halt ∙ ap (λ t. if t then Some (see old.disk).faults else None) stopped)
 
 -- ---- refusals
 
@@ -180,6 +276,30 @@ module _ {D : Type 0} {loaded : ℕ} (opening : Opening) (old new : State D) (st
         it.2,
       )
   says (Err OutOfMemory) grants = tt
+
+module _ {D : Type 0} {loaded : ℕ} (opening : Opening) (old new : State D) (container : ℕ) (event : Step) (before after : Seen) (seen mine : List Event) (kept : IsKept opening loaded new after.faults seen mine) where
+  halts_as : (stopped : Bool) → new.stopped ≡ stopped → halt_of Scm mine ≡ (if stopped then Some after.faults else None)
+  halts_as stopped is = kept.halt ∙ ap (λ t. if t then Some after.faults else None) is
+
+  state_is : state_told opening mine container ≡ state_at new.made.containers container
+  state_is = ap (option_map (λ (one : Container). one.state)) (kept.made container) ∙ by (container_at new.made.containers container)
+    where
+      by : (o : Option MadeContainer) → option_map (λ (one : Container). one.state) (option_map as_told o) ≡ option_map (λ (one : MadeContainer). one.state) o
+      by None = refl
+      by (Some one) = refl
+
+  says_step : (answer : Result Reached ApplyFault) → Applies container event old new before after answer → IfErr (stepped_as answer) (IsStepRefusal opening mine container event)
+  says_step (Ok state) applies = tt
+  says_step (Err (applying.Stopped count)) applies = halts_as true applies.stops ∙ ap (λ n. Some n) (sym (applies.count count refl))
+  says_step (Err (applying.WrongState state of)) applies = (
+    halts_as false applies.stops,
+    state_is ∙ ap (λ (made : Made). state_at made.containers container) applies.same ∙ applies.refused.0,
+    applies.refused.1,
+    applies.refused.2,
+  )
+
+  pub says_stepped : (answer : Result Reached ApplyFault) (result : Result Reached StepFault) → result ≡ stepped_as answer → Applies container event old new before after answer → IfErr result (IsStepRefusal opening mine container event)
+  says_stepped answer result is applies = subst (λ r. IfErr r (IsStepRefusal opening mine container event)) (sym is) (says_step answer applies)
 
 -- ---- what the seat sees
 

@@ -3,6 +3,7 @@ mod Telling
 mod Made
 mod Ups
 mod Kept
-mod Enabled
 mod Needed
+mod Left
+mod Enabled
 mod Members

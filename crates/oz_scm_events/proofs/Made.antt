@@ -8,9 +8,12 @@ use Rattle.std.specs.FinMap.{get, insert, keys, get-insert, contains_key-keys}
 use Rattle.std.specs.Option.{option_map}
 use Rattle.std.specs.Ordering.{eq_by_cmp, nat_cmp}
 use Rattle.oz_core.specs.declared.opening.Container.{Container}
-use Rattle.oz_core.specs.Scm.{Containers, granted_in}
+use Rattle.oz_container.specs.declared.state.Event.{Event as Step}
+use Rattle.oz_container.specs.declared.state.State.{State}
+use Rattle.oz_container.specs.Steps.{next}
+use Rattle.oz_core.specs.Scm.{Containers, come_to, granted_in}
 use Rattle.oz_scm.specs.declared.grants.container.Container.{Container as MadeContainer}
-use Rattle.oz_scm.specs.grants.Made.{container_at, granted_in as made_in, with_container}
+use Rattle.oz_scm.specs.grants.Made.{container_at, granted_in as made_in, state_at, stepped, with_container, with_stepped}
 use Rattle.oz_scm_events.specs.Kept.{as_told, AreContainers}
 
 -- ---- a list in which one place changes, or comes behind it
@@ -57,19 +60,10 @@ grows None pipeline count = refl
 grows (Some container) pipeline count = refl
 
 module _ (made : List MadeContainer) (all : Containers) (are : AreContainers made all) where
-  pub granted_more : (number pipeline count : ℕ) → 1 ≤ number → number ≤ length made + 1
-      → AreContainers (with_container number (made_in (container_at made number) pipeline count) made) (insert all number (granted_in (get all number) pipeline count))
-  granted_more number pipeline count some within other = by (other == number) refl
+  inserted : (number : ℕ) (new : MadeContainer) (told : Container) → told ≡ as_told new → 1 ≤ number → number ≤ length made + 1
+      → AreContainers (with_container number new made) (insert all number told)
+  inserted number new told told_is some within other = by (other == number) refl
     where
-      new : MadeContainer
-      new = made_in (container_at made number) pipeline count
-
-      told : Container
-      told = granted_in (get all number) pipeline count
-
-      told_is : told ≡ as_told new
-      told_is = ap (λ o. granted_in o pipeline count) (are number) ∙ grows (container_at made number) pipeline count
-
       got : get (insert all number told) other ≡ cond (eq_by_cmp nat_cmp other number) (Some told) (get all other)
       got = get-insert nat_cmp_total all number told other
 
@@ -83,6 +77,12 @@ module _ (made : List MadeContainer) (all : Containers) (are : AreContainers mad
           got ∙ ap (λ t. cond t (Some told) (get all other)) (sym (unsigned_ties other number) ∙ not)
           ∙ are other
           ∙ sym (ap (option_map as_told) (with_others made number new other some within (eqb-false other number not)))
+
+  pub granted_more : (number pipeline count : ℕ) → 1 ≤ number → number ≤ length made + 1
+      → AreContainers (with_container number (made_in (container_at made number) pipeline count) made) (insert all number (granted_in (get all number) pipeline count))
+  granted_more number pipeline count some within =
+      inserted number (made_in (container_at made number) pipeline count) (granted_in (get all number) pipeline count)
+      (ap (λ o. granted_in o pipeline count) (are number) ∙ grows (container_at made number) pipeline count) some within
 
 -- ---- the greatest number
 
@@ -121,6 +121,42 @@ within made (suc place) there = let lt = below made place there in omega (arith,
     below [] place there = absurd (subst (λ (t : Bool). cond t ⊥ (Unit {0})) there tt)
     below (first ∷ made) zero there = omega arith
     below (first ∷ made) (suc place) there = let lt = below made place there in omega (arith, lt)
+
+none_some : (made : List MadeContainer) (container : MadeContainer) → container_at made 0 ≡ Some container → ⊥
+none_some made container there = cc
+
+pub chosen_there : (made : List MadeContainer) (number : ℕ) (container : MadeContainer) → container_at made number ≡ Some container → (1 ≤ number) × (number ≤ length made + 1)
+chosen_there made zero container there = absurd (none_some made container there)
+chosen_there made (suc place) container there =
+    let le = within made (suc place) (subst (λ o. IsSome (option_map as_told o)) (sym there) refl) in
+    (omega arith, omega (arith, le))
+
+-- ---- a step
+
+module _ (made : List MadeContainer) (all : Containers) (are : AreContainers made all) where
+  pub stepped_more : (number : ℕ) (event : Step) (from state : State) → state_at made number ≡ Some from → next from event ≡ Some state
+      → AreContainers (with_stepped number (stepped (container_at made number) event) made) (come_to all number state (get all number))
+  stepped_more number event from state in_state leads = by (container_at made number) refl (are number)
+    where
+      some_same : (a b : State) → Some a ≡ Some b → a ≡ b
+      some_same a b is = ap (λ o. or_it a o) is
+        where
+          or_it : State → Option State → State
+          or_it other None = other
+          or_it other (Some x) = x
+
+      by : (o : Option MadeContainer) → container_at made number ≡ o → get all number ≡ option_map as_told o
+          → AreContainers (with_stepped number (stepped (container_at made number) event) made) (come_to all number state (get all number))
+      by None there told = absurd (cc (sym (ap (option_map (λ (c : MadeContainer). c.state)) there) ∙ in_state))
+      by (Some container) there told =
+          let place = chosen_there made number container there in
+          let new : MadeContainer = record container { state = state } in
+          let same : container.state ≡ from = some_same container.state from (sym (ap (option_map (λ (c : MadeContainer). c.state)) there) ∙ in_state) in
+          let to : stepped (container_at made number) event ≡ Some new =
+          ap (λ o. stepped o event) there ∙ ap (option_map (λ (s : State). record container { state = s })) (ap (λ s. next s event) same ∙ leads) in
+          subst (λ (o : Option MadeContainer). AreContainers (with_stepped number o made) (come_to all number state (get all number))) (sym to)
+          (subst (λ (o : Option Container). AreContainers (with_container number new made) (come_to all number state o)) (sym told)
+          (inserted made all are number new (as_told new) refl place.0 place.1))
 
 last_there : (first : MadeContainer) (made : List MadeContainer) → IsSome (option_map as_told (slice_get (first ∷ made) (length made)))
 last_there first [] = refl

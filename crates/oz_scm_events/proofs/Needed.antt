@@ -30,11 +30,11 @@ use Rattle.oz_turn.specs.Told.{BeginsWith}
 
 -- ---- events of a seat that gave none
 
-to_all : {X : Type 0} (P : X → Type 0) (xs : List X) → AllByRecursion P xs → All P xs
+pub to_all : {X : Type 0} (P : X → Type 0) (xs : List X) → AllByRecursion P xs → All P xs
 to_all P [] all = All-from_all_within P [] (AllWithin-none P [] 0)
 to_all P (x ∷ xs) all = All-cons P x xs all.0 (to_all P xs all.1)
 
-others : (more : List Event) → known more ≡ [] → AllByRecursion (λ (event : Event). (event.seat == scm_seat) ≡ false) more
+pub others : (more : List Event) → known more ≡ [] → AllByRecursion (λ (event : Event). (event.seat == scm_seat) ≡ false) more
 others [] none = tt
 others (event ∷ more) none = by (event.seat == scm_seat) refl (others more)
   where
@@ -47,7 +47,7 @@ no_length : (xs : List Event) → length xs ≡ 0 → xs ≡ []
 no_length [] none = refl
 no_length (x ∷ xs) none = absurd (omega (arith, none))
 
-none_more : (seen more : List Event) → known (seen ++ more) ≡ known seen → known more ≡ []
+pub none_more : (seen more : List Event) → known (seen ++ more) ≡ known seen → known more ≡ []
 none_more seen more same =
     let parts = ap length (sym (filter-append (λ (event : Event). event.seat == scm_seat) seen more) ∙ same) in
     let sum = length-append (known seen) (known more) in

@@ -1,3 +1,6 @@
 pub mod Kept
 pub mod Granted
 pub mod Tracked
+pub mod Stepped
+pub mod Left
+pub mod Telling

@@ -7,6 +7,7 @@ mod granting;
 mod laws;
 mod noting;
 mod readying;
+mod stepping;
 mod tracking;
 
 pub use cell::ScmCell;
@@ -15,3 +16,4 @@ pub use laws::{
     the_scm_alone_tells,
 };
 pub use oz_scm::{Grant, GrantFault, Scm};
+pub use stepping::StepFault;

@@ -5,6 +5,7 @@ ghost use Rattle.oz_buffer.specs.Buffer.{AllFollow, Follows, IsNote};
 ghost use Rattle.oz_core.specs.declared.event.Event.{Event as AnyEvent};
 ghost use Rattle.oz_core.specs.Seats.{scm_seat};
 ghost use Rattle.oz_scm_events.specs.Granted.{by_scm, with_told};
+ghost use Rattle.oz_scm_events.specs.Telling.{StandsLast};
 ghost use Rattle.oz_turn.specs.Seat.{IsReady, mine_of, number_of, room_of, seen_of};
 ghost use Rattle.oz_turn.specs.Told.{own_entries, BeginsWith};
 ghost use Rattle.oz_turn.specs.Turn.{turn_id};
@@ -86,6 +87,8 @@ fn note<O: Opened, W: Wait>(
     ensures other_begins { BeginsWith (seen_of other.new) (seen_of other.old) }
     ensures other_mine { mine_of other.new ≡ mine_of other.old }
     ensures other_room { room_of other.new ≡ room_of other.old }
+    ensures told { StandsLast (Follows O.coherent O.opening O.bytes O.script) (number_of other.old) (seen_of other.old)
+        (mine_of other.old) (mine_of seat.old) (seen_of seat.new) kind }
 {
     let (mut ledger, held) = turn.take(rt, seat);
     turn.show(seat, other);
@@ -124,6 +127,8 @@ pub(crate) fn tell<O: Opened, W: Wait>(
     ensures other_begins { BeginsWith (seen_of other.new) (seen_of other.old) }
     ensures other_mine { mine_of other.new ≡ mine_of other.old }
     ensures other_room { room_of other.new ≡ room_of other.old }
+    ensures told { IfSome told (StandsLast (Follows O.coherent O.opening O.bytes O.script) (number_of other.old)
+        (seen_of other.old) (mine_of other.old) (mine_of seat.old) (seen_of seat.new)) }
 {
     match told {
         Some(kind) => note(rt, turn, seat, other, kind),

@@ -1,8 +1,9 @@
 //! The opening of a store, read from the bytes of its disks.
 
 use crate::places::Bytes;
-use oz_core::{Container, NodeOpening, Opening, Replica};
+use oz_core::{Container, NodeOpening, Opening, Replica, Unretired};
 use oz_datanode::{Datanode, NodeDisks};
+use oz_dellog::{Logged, Txn};
 use oz_fields::{List, OutOfMemory};
 use oz_loaded::{Unseated, load};
 use oz_model::{Namespace, NumberMap};
@@ -74,6 +75,34 @@ fn put_containers(
     Ok(())
 }
 
+/// The datanodes that acknowledged a transaction, rising.
+fn acknowledgers_of(alloc: Global, logged: &Logged) -> Result<List<u8>, OutOfMemory> {
+    let mut dns = Vec::new(alloc);
+    for dn in 0..=u8::MAX {
+        if logged.acknowledged[usize::from(dn)] {
+            dns.push(dn)?;
+        }
+    }
+    Ok(List::of(dns))
+}
+
+/// Puts the log of deleted blocks into an opening.
+fn put_log(alloc: Global, opening: &mut Opening, scm: &Scm<MemoryDisk>) -> Result<(), OutOfMemory> {
+    let mut unretired = Vec::new(alloc);
+    for (number, logged) in scm.unretired() {
+        let txn = Txn {
+            number: *number,
+            container: logged.container,
+            locals: List::of(logged.locals.items().to_vec(alloc)?),
+        };
+        let acknowledgers = acknowledgers_of(alloc, logged)?;
+        unretired.push(Unretired { txn, acknowledgers })?;
+    }
+    opening.last_txn = scm.last_txn();
+    opening.unretired = List::of(unretired);
+    Ok(())
+}
+
 /// Puts what the disk of the storage container manager of so many datanodes, 3 to 16, stands for into an opening, and says whether it loads.
 fn open_scm(
     alloc: Global,
@@ -88,6 +117,7 @@ fn open_scm(
         Ok(scm) => {
             opening.next_id = scm.next_id();
             put_containers(alloc, &mut opening.containers, &scm)?;
+            put_log(alloc, opening, &scm)?;
             Ok(true)
         }
         Err(_refused) => Ok(false),

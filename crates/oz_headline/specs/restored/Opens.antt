@@ -11,7 +11,7 @@ use Rattle.oz_effects.specs.Build.{Builds}
 use Rattle.oz_journal.specs.Grammar.{IsJournal}
 use Rattle.oz_rows.specs.declared.entry.RowEntry.{RowEntry}
 use Rattle.oz_rows.specs.RowMaps.{Rows, row_of}
-use Rattle.oz_sound.specs.Sound.{IsSoundButRenames}
+use Rattle.oz_sound.specs.Sound.{IsSound}
 use Rattle.oz_headline.specs.restored.Together.{AllStood, LeadsOn}
 
 -- none of these events is a Swap
@@ -33,7 +33,7 @@ pub record IsSinceSwap (opening : Opening) (loaded : Rows) (story : List Event) 
 pub record StandUpTo (opening : Opening) (story : List Event) (bodies : List (List ℕ)) (most : ℕ) : Type 0 where
   pub all : List RowEntry
   pub builds : Builds bodies all most
-  pub stand : Stand IsSoundButRenames (row_of all) (kept_up_to opening most story)
+  pub stand : Stand IsSound (row_of all) (kept_up_to opening most story)
 
 -- Bytes that a stop at a moment leaves are such a journal. Its index isn't below that of the opening, nor below any
 -- that was stable by then; and it isn't above the last that was decided.

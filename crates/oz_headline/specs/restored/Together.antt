@@ -8,12 +8,12 @@ use Rattle.oz_core.specs.Manager.{namespace_of}
 use Rattle.oz_decision.specs.Meets.{Stand}
 use Rattle.oz_effects.specs.Batches.{IsBatchOf}
 use Rattle.oz_names.specs.declared.limits.TheConstants.{STRIPES}
+use Rattle.oz_owned.specs.Stood.{StandAt}
 use Rattle.oz_rows.specs.declared.operation.Change.{Change}
 use Rattle.oz_rows.specs.declared.operation.TheConstants.{END_OF_INDEXES}
 use Rattle.oz_rows.specs.RowMaps.{Rows, after_changes}
-use Rattle.oz_sound.specs.Sound.{IsSoundButRenames}
+use Rattle.oz_sound.specs.Sound.{IsSound}
 use Rattle.oz_sound.specs.stripes.Stripes.{only, stripe_of_key}
-use Rattle.oz_om.specs.Keeps.{StandAt}
 
 -- the rows of the sixteen stripes: each is that of its own stripe
 abbrev pub together : (ℕ → Rows) → Rows
@@ -22,7 +22,7 @@ together rows key = if nat_lt (stripe_of_key key) STRIPES then rows (stripe_of_k
 -- All rows are sound and stand for the namespace of the story up to a place, and of each stripe those among them stand
 -- there.
 pub record StandTogether (opening : Opening) (loaded : Rows) (seen : List Event) (all : Rows) : Type 0 where
-  pub whole : Stand IsSoundButRenames all (namespace_of opening seen)
+  pub whole : Stand IsSound all (namespace_of opening seen)
   pub parts : (stripe : ℕ) → stripe < STRIPES → StandAt opening loaded stripe seen (only stripe all)
 
 -- a batch leads from rows to rows

@@ -1,44 +1,9 @@
 -- What a line that had something done to a datanode may be told.
-use Rattle.std.proofs.Common.{
-  ◌≡◌,
-  ◌≢◌,
-  ◌⊎◌,
-  ⊎_elim,
-  inl,
-  inr,
-  ℕ,
-  ◌-◌,
-  ◌<◌,
-  ◌≤◌,
-  Bool,
-  true,
-  false,
-  ◌||◌,
-  ◌==◌,
-  cond,
-  List,
-  [],
-  ◌∷◌,
-  ◌++◌,
-  length,
-  Option,
-  None,
-  Some,
-  eq-eqb,
-  refl,
-  sym,
-  ap,
-  ◌∙◌,
-  subst,
-  append_assoc,
-  append-nil,
-  arith,
-}
+use Rattle.std.proofs.Common.{◌≡◌, ◌≢◌, ◌⊎◌, ⊎_elim, inl, inr, ℕ, ◌-◌, ◌<◌, ◌≤◌, Bool, true, false, ◌||◌, cond, List, [], ◌∷◌, ◌++◌, length, Option, None, Some, eq-eqb, refl, sym, ap, ◌∙◌, subst, append_assoc, append-nil, arith}
 use Rattle.std.proofs.lemmas.Bool.{cases_lt, false≢true}
 use Rattle.std.proofs.lemmas.List.{same_from_push}
 use Rattle.std.proofs.lemmas.List.Folds.{list_any-append}
 use Rattle.std.proofs.lemmas.List.Sums.{fold-append}
-use Rattle.std.specs.Prelude.{Result, Ok, Err}
 use Rattle.oz_command.specs.declared.command.Command.{Command}
 use Rattle.oz_command.specs.declared.command.Command.TheVariants.{Admin}
 use Rattle.oz_core.specs.declared.event.Event.{Event}
@@ -50,7 +15,7 @@ use Rattle.oz_core.specs.declared.opening.Opening.{Opening}
 use Rattle.oz_core.specs.Asks.{is_told}
 use Rattle.oz_core.specs.Contents.{OpeningBytes}
 use Rattle.oz_core.specs.Due.{AdminIsDone, IsDue, IsUnhalted, LineIsDone, NamesNode, WasWiped, wipes}
-use Rattle.oz_core.specs.Lines.{AfterIsTold, HasStarted, HeldSince, IsStart}
+use Rattle.oz_core.specs.Lines.{AfterIsTold, HasStarted, HeldSince}
 use Rattle.oz_core.specs.Manager.{halt_count, halt_of, is_node}
 use Rattle.oz_core.specs.Nodes.{is_running}
 use Rattle.oz_core.specs.Scm.{is_up}

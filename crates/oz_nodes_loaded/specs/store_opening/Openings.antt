@@ -1,16 +1,21 @@
 -- The opening of a store whose disks were all loaded, and the bytes of the blocks on them.
 use Rattle.std.specs.Prelude.{ℕ, ◌+◌, ◌-◌, Bool, true, ◌&&◌, List, [], ◌∷◌, map, filter_map, slice_get, bytes_eq}
-use Rattle.std.specs.Prelude.{Option, None, Some, option_map, option_and_then, if◌then◌else◌}
-use Rattle.std.specs.FinMap.{empty, insert}
+use Rattle.std.specs.Prelude.{Option, None, Some, option_map, option_and_then, if◌then◌else◌, filter, length}
+use Rattle.std.specs.FinMap.{FinMap, empty, entries, insert}
+use Rattle.std.specs.List.{range_with_len}
+use Rattle.std.specs.Ordering.{nat_cmp}
 use Rattle.oz_chunk.specs.declared.table.TheConstants.{SLOT_SIZE}
 use Rattle.oz_core.specs.declared.opening.Container.{Container}
 use Rattle.oz_core.specs.declared.opening.NodeOpening.{NodeOpening}
 use Rattle.oz_core.specs.declared.opening.Opening.{Opening}
 use Rattle.oz_core.specs.declared.opening.Replica.{Replica}
+use Rattle.oz_core.specs.declared.opening.Unretired.{Unretired}
 use Rattle.oz_core.specs.Contents.{OpeningBytes}
 use Rattle.oz_core.specs.Scm.{Containers}
 use Rattle.oz_datanode.specs.Datanode.{State as Datanode, node_in, slots_of}
 use Rattle.oz_datanode.specs.Pairs.{bytes_of, part_of}
+use Rattle.oz_dellog.specs.Logged.{is_acknowledged_by, txn_of}
+use Rattle.oz_dellog.specs.declared.logged.Logged.{Logged}
 use Rattle.oz_entries.specs.Held.{HeldView, node_of}
 use Rattle.oz_entries.specs.Node.{Node}
 use Rattle.oz_entries.specs.declared.replica.Replica.{Replica as KeptReplica}
@@ -51,8 +56,19 @@ opened_node held = record {
   replicas = replicas_of (node_of held) (map (λ (entry : ℕ × KeptReplica). entry.0) held.replicas);
 }
 
+-- the datanodes that acknowledged a transaction, rising
+abbrev pub acknowledged_by : Logged → List ℕ
+acknowledged_by logged = filter (is_acknowledged_by logged) (range_with_len 0 (length logged.acknowledged))
+
+-- what stands under a number of the log of deleted blocks, as an opening has it
+abbrev pub opened_txn : ℕ × Logged → Unretired
+opened_txn entry = record { txn = txn_of entry.0 entry.1; acknowledgers = acknowledged_by entry.1 }
+
+-- the log, in the order of its numbers
+abbrev pub opened_log : FinMap nat_cmp Logged → List Unretired
+opened_log log = map opened_txn (entries log)
+
 -- What was loaded: of the manager, which stands for the namespace, of the storage container manager, and of all datanodes.
--- Nothing is unretired, since what the storage container manager made has no log of deleted blocks.
 abbrev pub opening_of : {D : Type 0} → UnseatedView → Namespace → Made → List (Datanode D) → Opening
 opening_of {D} unseated namespace made nodes = record {
   namespace = namespace;
@@ -61,7 +77,7 @@ opening_of {D} unseated namespace made nodes = record {
   next_id = made.next_id;
   last_txn = made.last_txn;
   containers = containers_from 1 made.containers;
-  unretired = [];
+  unretired = opened_log made.unretired;
   nodes = map (λ (node : Datanode D). opened_node node.blocks.held) nodes;
 }
 

@@ -5,6 +5,7 @@ pub mod Same
 pub mod One
 pub mod Lengths
 pub mod Containers
+pub mod Logs
 pub mod Digests
 pub mod Empty
 pub mod Stores

@@ -13,7 +13,8 @@ ghost use Rattle.oz_rows.specs.RowMaps.{Rows as AnyRows};
 ghost use Rattle.oz_scm.specs.Scm.{State as AnyScm};
 ghost use Rattle.oz_scm_events.specs.Kept.{AreContainers};
 ghost use Rattle.oz_nodes_loaded.specs.store_opening.Agreeing.{BlocksAgree};
-ghost use Rattle.oz_nodes_loaded.specs.store_opening.Openings.{opening_bytes, opening_of};
+ghost use Rattle.oz_nodes_loaded.specs.store_opening.Openings.{opened_log, opening_bytes, opening_of};
+ghost use Rattle.oz_owned.specs.Ordered.{LogIsOrdered};
 ghost use Rattle.oz_world.specs.Disk.{seen};
 
 use crate::{
@@ -24,8 +25,8 @@ use oz_block::a_disk_stands_for_one_node;
 use oz_node_events::a_journal_keeps_slots_apart;
 use oz_world::Disk;
 
-/// The storage container manager that was loaded for so many datanodes runs, takes each of them for up, and has the next id
-/// and the containers of the opening.
+/// The storage container manager that was loaded for so many datanodes runs, takes each of them for up, and has the next id,
+/// the containers and the last transaction of the opening, whose log of deleted blocks is its log, in order.
 pub fn a_loaded_scm_stands_for_the_opening<D: Disk>()
     ensures running { (given : ℕ) (disk : D) (scm : AnyScm D) →
         let see = (λ (d : D). seen (D.told d) (D.clock d) (D.image d) (D.faults d)) in
@@ -45,13 +46,23 @@ pub fn a_loaded_scm_stands_for_the_opening<D: Disk>()
         let see = (λ (d : D). seen (D.told d) (D.clock d) (D.image d) (D.faults d)) in
         IsScmFrom see (length disks) disk scm → AreNodesFrom see 0 disks nodes →
         scm.up ≡ replicate (length (opening_of unseated namespace scm.made nodes).nodes) true }
+    ensures last { (scm : AnyScm D) (nodes : List (AnyDatanode D)) (unseated : UnseatedView) (namespace : AnyNamespace) →
+        scm.made.last_txn ≡ (opening_of unseated namespace scm.made nodes).last_txn }
+    ensures log { (scm : AnyScm D) (nodes : List (AnyDatanode D)) (unseated : UnseatedView) (namespace : AnyNamespace) →
+        (opening_of unseated namespace scm.made nodes).unretired ≡ opened_log scm.made.unretired }
+    ensures ordered { (disk : D) (scm : AnyScm D) (disks : List (NodeDisks D)) (nodes : List (AnyDatanode D))
+        (unseated : UnseatedView) (namespace : AnyNamespace) →
+        let see = (λ (d : D). seen (D.told d) (D.clock d) (D.image d) (D.faults d)) in
+        IsScmFrom see (length disks) disk scm → AreNodesFrom see 0 disks nodes →
+        LogIsOrdered (opening_of unseated namespace scm.made nodes) }
 {
     an_opening_has_what_was_loaded::<D>();
 }
 
 /// Each datanode that was loaded has the number of its place, which the opening has too, and runs. Where the journals told
 /// their bytes its own stands for what it holds; where the disks of slots did too, and the blocks agree, that is what the opening
-/// says, and the bytes of its blocks stand beside the opening. No transaction of the opening's log has a number above the last.
+/// says, and the bytes of its blocks stand beside the opening. No transaction of the opening's log has a number above the last
+/// where the storage container manager was loaded too.
 pub fn loaded_datanodes_stand_for_the_opening<D: Disk>()
     ensures number { (disks : List (NodeDisks D)) (nodes : List (AnyDatanode D)) (dn : ℕ) (node : AnyDatanode D) →
         let see = (λ (d : D). seen (D.told d) (D.clock d) (D.image d) (D.faults d)) in
@@ -62,8 +73,11 @@ pub fn loaded_datanodes_stand_for_the_opening<D: Disk>()
     ensures there { (unseated : UnseatedView) (namespace : AnyNamespace) (made : Made) (nodes : List (AnyDatanode D)) (dn : ℕ)
         (node : AnyDatanode D) → slice_get nodes dn ≡ Some node →
         dn < length (opening_of unseated namespace made nodes).nodes }
-    ensures numbered { (unseated : UnseatedView) (namespace : AnyNamespace) (made : Made) (nodes : List (AnyDatanode D)) →
-        NumbersAreOld (opening_of unseated namespace made nodes) }
+    ensures numbered { (disk : D) (scm : AnyScm D) (disks : List (NodeDisks D)) (nodes : List (AnyDatanode D))
+        (unseated : UnseatedView) (namespace : AnyNamespace) →
+        let see = (λ (d : D). seen (D.told d) (D.clock d) (D.image d) (D.faults d)) in
+        IsScmFrom see (length disks) disk scm → AreNodesFrom see 0 disks nodes →
+        NumbersAreOld (opening_of unseated namespace scm.made nodes) }
     ensures journal { (disks : List (NodeDisks D)) (nodes : List (AnyDatanode D)) (dn : ℕ) (node : AnyDatanode D) →
         let see = (λ (d : D). seen (D.told d) (D.clock d) (D.image d) (D.faults d)) in
         All (λ (own : NodeDisks D). IsSome (D.told own.meta)) disks → AreNodesFrom see 0 disks nodes →
@@ -77,6 +91,7 @@ pub fn loaded_datanodes_stand_for_the_opening<D: Disk>()
         slice_get nodes dn ≡ Some node → IsAsOpened D.told D.clock D.image D.faults
         (opening_of unseated namespace made nodes) (opening_bytes see nodes) node }
 {
+    a_loaded_scm_stands_for_the_opening::<D>();
     an_opening_has_what_was_loaded::<D>();
     each_row_has_the_length_of_its_block::<D>();
     bytes_that_are_intact_have_their_digests();

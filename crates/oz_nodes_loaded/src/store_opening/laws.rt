@@ -1,8 +1,8 @@
 //! Laws of what loaded disks stand for together.
 
 ghost use Rattle.std.specs.Prelude.{◌≡◌, ◌↔◌, ◌<◌, ◌≤◌, ℕ, List, [], None, Some, IsSome, All, Contains, length, not, map, option_map, slice_get};
-ghost use Rattle.std.specs.FinMap.{get};
-ghost use Rattle.oz_core.specs.Coherent.{IdsAreFresh, LogIsCoherent};
+ghost use Rattle.std.specs.FinMap.{empty, get};
+ghost use Rattle.oz_core.specs.Coherent.{IdsAreFresh};
 ghost use Rattle.oz_core.specs.Contents.{OpeningBytes};
 ghost use Rattle.oz_core.specs.Nodes.{is_open, length_in, length_of, was_closed, was_held};
 ghost use Rattle.oz_core.specs.declared.opening.Opening.{Opening as AnyOpening};
@@ -40,8 +40,7 @@ use oz_node_events::blocks_have_slots_of_their_own;
 use oz_scm::a_disk_stands_for_one_thing;
 use oz_world::Disk;
 
-/// Where the ids that were loaded are below the next one, no id that a row, its key or a datanode has is granted again,
-/// and nothing is still being deleted.
+/// Where the ids that were loaded are below the next one, no id that a row, its key or a datanode has is granted again.
 pub fn no_id_is_granted_again<D: Disk>()
     ensures rows { (bodies : List (List ℕ)) (unseated : UnseatedView) (this : IsLoaded bodies unseated) (made : Made)
         (nodes : List (AnyDatanode D)) (block : AnyBlock) → AreBelow unseated.greatest_id (map node_in nodes) made.next_id →
@@ -54,8 +53,6 @@ pub fn no_id_is_granted_again<D: Disk>()
         (nodes : List (AnyDatanode D)) (namespace : AnyNamespace) → StandsFor (row_of this.all) namespace →
         AreBelow unseated.greatest_id (map node_in nodes) made.next_id →
         IdsAreFresh (opening_of unseated namespace made nodes) }
-    ensures log { (unseated : UnseatedView) (made : Made) (nodes : List (AnyDatanode D)) (namespace : AnyNamespace) →
-        LogIsCoherent (opening_of unseated namespace made nodes) }
 {
     oz_loaded::what_is_left_stands_in_deleted_rows();
     oz_store::what_is_reached_stands_in_a_row();
@@ -78,11 +75,11 @@ pub fn all_disks_are_a_store<D: Disk>()
     oz_store::what_is_reached_stands_in_a_row();
 }
 
-/// Where neither a row nor a datanode has a block the blocks agree, and their ids are below the first that is granted. So
-/// it is where nothing was written to the journals of datanodes yet.
+/// Where neither a row nor a datanode has a block and no deletion is logged the blocks agree, and where no datanode has one
+/// their ids are below the first that is granted. So it is where nothing was written to the journals of datanodes yet.
 pub fn an_empty_store_agrees<D: Disk>()
     ensures agree { (unseated : UnseatedView) (namespace : AnyNamespace) (made : Made) (nodes : List (AnyDatanode D))
-        (bytes : OpeningBytes) → All HoldsNothing nodes →
+        (bytes : OpeningBytes) → All HoldsNothing nodes → made.unretired ≡ empty →
         BlocksAgree (row_of []) (opening_of unseated namespace made nodes) bytes }
     ensures below { (count : ℕ) (nodes : List (AnyDatanode D)) → All HoldsNothing nodes →
         AreBelow 0 (map node_in nodes) (begun count).next_id }

@@ -1,6 +1,7 @@
 -- A batch whose changes are of a stripe has operations of that stripe alone.
 use Rattle.std.proofs.Common.{◌≡◌, ℕ, List, [], ◌∷◌, ◌++◌, Option, None, Some, refl, sym, ◌∙◌, subst}
-use Rattle.oz_om.specs.decider.Records.{DropsFirst, IsBatchOfStripe, operations_of_snapshots}
+use Rattle.oz_om.specs.decider.Records.{operations_of_snapshots}
+use Rattle.oz_owned.specs.Stood.{DropsFirst, IsBatchOfStripe}
 use Rattle.std.specs.List.{AllByRecursion}
 use Rattle.oz_decision.specs.Drafts.{operation_for, row_by_row}
 use Rattle.oz_effects.specs.Batches.{IsBatchOf}

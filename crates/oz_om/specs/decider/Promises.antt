@@ -1,7 +1,7 @@
 -- What the decision on a request promises of the rows that it was made on.
 use Rattle.std.specs.Prelude.{◌≡◌, ◌↔◌, ℕ, ◌≤◌, [], length, Option}
 use Rattle.oz_om.specs.decider.Premises.{GrantsNew, IsInGrammarFor}
-use Rattle.oz_om.specs.decider.Records.{AreRecorded, IsBatchOfStripe, operations_for}
+use Rattle.oz_om.specs.decider.Records.{AreRecorded, operations_for}
 use Rattle.oz_om.specs.decider.Sizes.{most_bytes}
 use Rattle.oz_decision.specs.declared.decision.Decision.{Decision}
 use Rattle.oz_decision.specs.Meets.{AreInGrammar, IsSafe, Stand, Meets, granted_in}
@@ -9,6 +9,7 @@ use Rattle.oz_fields.specs.declared.block.Block.{Block}
 use Rattle.oz_model.specs.Grants.{IsPicked}
 use Rattle.oz_names.specs.Names.{stripe_of}
 use Rattle.oz_namespace.specs.declared.namespace.Namespace.{Namespace}
+use Rattle.oz_owned.specs.Stood.{IsBatchOfStripe}
 use Rattle.oz_reclaim.specs.Origins.{RowsComeFrom, SnapshotKeysStay}
 use Rattle.oz_requests.specs.declared.request.Family.TheVariants.{Allocation}
 use Rattle.oz_requests.specs.declared.request.Request.{Request}

@@ -1,11 +1,10 @@
 -- Which rows a decision changes, those among them that no namespace shows, and by which operations.
-use Rattle.std.specs.Prelude.{◌≡◌, ℕ, List, [], ◌∷◌, ◌++◌}
+use Rattle.std.specs.Prelude.{◌≡◌, ℕ, List, [], ◌∷◌}
 use Rattle.oz_om.specs.declared.decider.decider.Decider.{Decider}
 use Rattle.oz_om.specs.declared.decider.decider.Decider.TheVariants.{Buckets, Reading, Changing, Opening, Granting}
 use Rattle.oz_om.specs.declared.decider.decider.Decider.TheVariants.{Committing, Snapshots, Reclaiming, Nobody}
 use Rattle.oz_om.specs.decider.Deciders.{decider_of}
 use Rattle.oz_decision.specs.Drafts.{operation_for, row_by_row}
-use Rattle.oz_effects.specs.Batches.{IsBatchOf}
 use Rattle.oz_om_bucket.specs.Records.{recorded_changes}
 use Rattle.oz_om_key.specs.om_change.Records.{AreRecorded as AreChanged}
 use Rattle.oz_om_session.specs.om_open.Records.{AreRecorded as AreOpened, operations_for as operations_of_opening}
@@ -17,10 +16,9 @@ use Rattle.oz_requests.specs.declared.request.Request.{Request}
 use Rattle.oz_requests.specs.declared.request.Request.TheVariants.{CreateSnapshot}
 use Rattle.oz_rows.specs.declared.operation.Change.{Change}
 use Rattle.oz_rows.specs.declared.operation.Operation.{Operation}
-use Rattle.oz_rows.specs.declared.operation.Operation.TheVariants.{CopyKeys, DropOpen, MoveDeleted}
+use Rattle.oz_rows.specs.declared.operation.Operation.TheVariants.{CopyKeys, MoveDeleted}
 use Rattle.oz_rows.specs.RowMaps.{Rows}
 use Rattle.oz_sound.specs.StandsFor.{drawn_in}
-use Rattle.oz_sound.specs.stripes.Stripes.{AreOf, ChangeOnly}
 
 -- those that the crate that decides it records
 abbrev pub AreRecordedBy : Decider → Rows → Request → Reply → List ℕ → List Change → Type 0
@@ -58,17 +56,3 @@ operations_by Nobody request changes = []
 
 abbrev pub operations_for : Request → List Change → List Operation
 operations_for request changes = operations_by (decider_of request) request changes
-
--- where operations drop a bucket's sessions, none stands before that
-abbrev pub DropsFirst : List Operation → Type 0
-DropsFirst items =
-    (earlier later : List Operation) (volume bucket : List ℕ)
-    → items ≡ earlier ++ DropOpen volume bucket ∷ later → earlier ≡ []
-
--- The bytes are a batch of the changes, and none of its operations and none of the changes is of another stripe. Sessions
--- are dropped first, if at all.
-pub record IsBatchOfStripe (stripe : ℕ) (rows : Rows) (bytes : List ℕ) (changes : List Change) : Type 0 where
-  pub batch : IsBatchOf rows bytes changes
-  pub operations_own : AreOf stripe batch.items
-  pub changes_own : ChangeOnly stripe changes
-  pub drops_first : DropsFirst batch.items

@@ -30,19 +30,19 @@ use Rattle.oz_sound.specs.StandsFor.{NumbersRise, is_among}
 abbrev cmp : List ℕ → List ℕ → Ordering
 cmp a b = slice_cmp nat_cmp a b
 
-tied : (a : List ℕ) → cmp a a ≡ Equal
+pub tied : (a : List ℕ) → cmp a a ≡ Equal
 tied a = tied_itself nat_list_cmp_total a
 
-not_less : {P : Type 0} {o : Ordering} → is_lt o ≡ false → o ≡ Less → P
+pub not_less : {P : Type 0} {o : Ordering} → is_lt o ≡ false → o ≡ Less → P
 not_less e f = absurd (false≢true (sym e ∙ ap is_lt f))
 
 -- a name that stands between two equal ones is the same
-record Squeezed (x y : List ℕ) (p q : Ordering) : Type 0 where
-  same : x ≡ y
-  low : p ≡ Less
-  high : q ≡ Less
+pub record Squeezed (x y : List ℕ) (p q : Ordering) : Type 0 where
+  pub same : x ≡ y
+  pub low : p ≡ Less
+  pub high : q ≡ Less
 
-squeeze : (x y : List ℕ) (p q : Ordering) → ordering_then (cmp x y) p ≡ Less → ordering_then (cmp y x) q ≡ Less → Squeezed x y p q
+pub squeeze : (x y : List ℕ) (p q : Ordering) → ordering_then (cmp x y) p ≡ Less → ordering_then (cmp y x) q ≡ Less → Squeezed x y p q
 squeeze x y p q low high = by (cmp x y) refl low (sym (ap (λ o. ordering_then o q) (nat_list_cmp_total.antisymm y x)) ∙ high)
   where
     by : (o : Ordering) → cmp x y ≡ o → ordering_then o p ≡ Less → ordering_then (ordering_reverse (cmp x y)) q ≡ Less → Squeezed x y p q
@@ -50,10 +50,10 @@ squeeze x y p q low high = by (cmp x y) refl low (sym (ap (λ o. ordering_then o
     by Equal e low high = record { same = slice_cmp-IsAntisymmetric nat_cmp-IsAntisymmetric x y e; low = low; high = sym (ap (λ o. ordering_then (ordering_reverse o) q) e) ∙ high }
     by Greater e low high = not_less {o = Greater} refl low
 
-both_tied : (v b : List ℕ) (o : Ordering) → ordering_then (cmp v v) (ordering_then (cmp b b) o) ≡ o
+pub both_tied : (v b : List ℕ) (o : Ordering) → ordering_then (cmp v v) (ordering_then (cmp b b) o) ≡ o
 both_tied v b o = ap (λ p. ordering_then p (ordering_then (cmp b b) o)) (tied v) ∙ ap (λ p. ordering_then p o) (tied b)
 
-numbers_below : (n m : ℕ) → ordering_then (ordering_then (nat_cmp n m) Equal) Equal ≡ Less → n < m
+pub numbers_below : (n m : ℕ) → ordering_then (ordering_then (nat_cmp n m) Equal) Equal ≡ Less → n < m
 numbers_below n m e = by (nat_cmp n m) refl e
   where
     by : (o : Ordering) → nat_cmp n m ≡ o → ordering_then (ordering_then o Equal) Equal ≡ Less → n < m
@@ -61,7 +61,7 @@ numbers_below n m e = by (nat_cmp n m) refl e
     by Equal f e = not_less {o = Equal} refl e
     by Greater f e = not_less {o = Greater} refl e
 
-below_numbers : (n m : ℕ) → n < m → ordering_then (ordering_then (nat_cmp n m) Equal) Equal ≡ Less
+pub below_numbers : (n m : ℕ) → n < m → ordering_then (ordering_then (nat_cmp n m) Equal) Equal ≡ Less
 below_numbers n m lt = ap (λ o. ordering_then (ordering_then o Equal) Equal) (less n m lt)
   where
     less : (n m : ℕ) → n < m → nat_cmp n m ≡ Less
@@ -80,7 +80,7 @@ is_of v b w c = is_same_name w v && is_same_name c b
 same_name : (a b : List ℕ) → is_same_name a b ≡ true → a ≡ b
 same_name a b e = same_text a b (sym e)
 
-itself : (a : List ℕ) → is_same_name a a ≡ true
+pub itself : (a : List ℕ) → is_same_name a a ≡ true
 itself a = by_test (is_same_name a a) refl
   where
     by_test : (t : Bool) → is_same_name a a ≡ t → is_same_name a a ≡ true

@@ -1,6 +1,7 @@
 //! The name that a key had is noted for the snapshots that have its blocks.
 
 ghost use Rattle.std.specs.Prelude.{◌≡◌, ◌++◌, ◌∷◌, ◌&&◌, [], None, IfOk, option_copied};
+ghost use Rattle.std.specs.Bool.{OnTrue};
 ghost use Rattle.std.specs.List.{AllByRecursion, list_any};
 ghost use Rattle.oz_decision.specs.Drafts.{row_by_row};
 ghost use Rattle.oz_decision.specs.Versions.{version_at};
@@ -8,12 +9,14 @@ ghost use Rattle.oz_decision.specs.Walking.{is_live as live};
 ghost use Rattle.oz_model.specs.Reach.{blocks_of};
 ghost use Rattle.oz_om_key.specs.om_change.Noting.{is_wanted as wanted, noted};
 ghost use Rattle.oz_om_key.specs.om_change.Numbers.{MayBeNoted};
+ghost use Rattle.oz_om_key.specs.om_change.Passing.{IsLiveIn};
 ghost use Rattle.oz_reclaim.specs.Held.{has_there, is_held as held, name_or as named_or};
 ghost use Rattle.oz_rows.specs.Operations.{batch_bytes};
 ghost use Rattle.oz_rows.specs.RowMaps.{is_block};
 ghost use Rattle.oz_sound.specs.Sound.{blocks_of as all_blocks_of};
 ghost use Rattle.oz_sound.specs.frames.Sessions.{blocks_in};
 
+use crate::om_change::passing::numbers_in_question;
 use crate::om_change::path::KeyPath;
 use oz_decision::{Draft, has_row};
 use oz_fields::{Block, Name, OutOfMemory, Piece, TryClone};
@@ -41,10 +44,61 @@ pub(crate) fn note_names<M: RowMap>(
     }
     match row {
         Some(Row::Key { pieces, .. }) => {
-            note_pieces(alloc, rows, draft, of, numbers, pieces.items())
+            note_key(alloc, rows, draft, of, numbers, pieces.items())
         }
         _ => Ok(draft),
     }
+}
+
+/// The same of these pieces. Where the newest snapshot has them all no other is looked at; else the snapshots that may have one
+/// are found first.
+fn note_key<M: RowMap>(
+    alloc: Global,
+    rows: &M,
+    before: Draft,
+    of: &KeyPath,
+    numbers: &[u64],
+    pieces: &[Piece],
+) -> Result<Draft, OutOfMemory>
+    requires { AllByRecursion (MayBeNoted of.now.volume.now of.now.bucket.now of.now.key.now) (blocks_of pieces.now) }
+    ensures bytes { IfOk result (λ more. more.bytes ≡ before.bytes ++ batch_bytes (row_by_row
+        (noted (M.rows rows.now) of.now.volume.now of.now.bucket.now of.now.key.now numbers.now (blocks_of pieces.now)))) }
+    ensures changes { IfOk result (λ more. more.changes ≡ before.changes
+        ++ noted (M.rows rows.now) of.now.volume.now of.now.bucket.now of.now.key.now numbers.now (blocks_of pieces.now)) }
+{
+    let count = numbers.len();
+    if count > 0 {
+        let last = numbers[count - 1];
+        if has_all(alloc, rows, of, last, pieces)? {
+            return note_pieces(alloc, rows, before, of, &[last], pieces);
+        }
+    }
+    let kept = numbers_in_question(alloc, rows, of, numbers, pieces)?;
+    note_pieces(alloc, rows, before, of, &kept, pieces)
+}
+
+/// Whether the snapshot of this number is live, and has the blocks of all these pieces under the key's name.
+fn has_all<M: RowMap>(
+    alloc: Global,
+    rows: &M,
+    of: &KeyPath,
+    number: u64,
+    pieces: &[Piece],
+) -> Result<bool, OutOfMemory>
+    ensures { IfOk result (λ it. OnTrue it (AllByRecursion
+        (IsLiveIn (M.rows rows.now) of.now.volume.now of.now.bucket.now of.now.key.now number) (blocks_of pieces.now))) }
+{
+    let of_snapshot = RowKey::of_snapshot(alloc, of.volume, of.bucket, number)?;
+    if !is_live(rows, &of_snapshot) {
+        return Ok(false);
+    }
+    let of_key = RowKey::of_snapshot_key(alloc, of.volume, of.bucket, number, of.key)?;
+    for piece in pieces {
+        if !is_there(rows, &of_key, piece.block) {
+            return Ok(false);
+        }
+    }
+    Ok(true)
 }
 
 fn note_pieces<M: RowMap>(

@@ -28,7 +28,8 @@ use Rattle.oz_sound.specs.stripes.Stripes.{is_own, only, stripe_of_key}
 itself : (block : Block) → is_block block block ≡ true
 itself block = ap (λ (b : Bool). b && block.local == block.local) (eq-eqb block.container block.container refl) ∙ eq-eqb block.local block.local refl
 
-among : (block : Block) (blocks : List Block) → Contains blocks block → list_any (is_block block) blocks ≡ true
+-- and a block that it names is in its list
+pub among : (block : Block) (blocks : List Block) → Contains blocks block → list_any (is_block block) blocks ≡ true
 among block blocks there = list_any-from_Any (is_block block) blocks (there.0, block, there.1, there.2, itself block)
 
 -- the row that has pieces has their blocks

@@ -30,7 +30,7 @@ use Rattle.oz_owned.specs.Own.{IsLeftOver, IsOwn}
 use Rattle.oz_owned.specs.laws.Found.{stands_in_all}
 
 -- a block that a row's list has
-listed : (block : Block) (blocks : List Block) → list_any (is_block block) blocks ≡ true → Contains blocks block
+pub listed : (block : Block) (blocks : List Block) → list_any (is_block block) blocks ≡ true → Contains blocks block
 listed block blocks has =
     let found = passing (is_block block) blocks has in
     subst (Contains blocks) (sym (one_block block found.item found.so)) found.there

@@ -24,7 +24,7 @@ use Rattle.oz_owned.specs.Stood.{AreBased, AreWritten, HaveStood, HaveStoodFrom,
 use Rattle.oz_owned.specs.laws.Front.{front_of, over_at}
 use Rattle.oz_owned.specs.laws.Longer.{front_grows, front_stays}
 use Rattle.oz_owned.specs.laws.Written.{Parted, none_written, steps_based, stood_based, stood_first, stood_last}
-use Rattle.oz_owned.specs.laws.Written.{stood_more, stood_one, stood_parted, written_one}
+use Rattle.oz_owned.specs.laws.Written.{stood_more, stood_one, stood_parted, written_by, written_one}
 
 -- ---- as the story goes on
 
@@ -128,9 +128,10 @@ module _ (counts : ℕ → Bool) (stripe : ℕ) where
         subst (λ (r : Rows). AreWritten r others next) (written_one rows (byte ∷ bytes) based written.0 made written.1 is) written.2
     wrote (byte ∷ bytes) false e is written = absurd cc
 
-    kind_wrote : (kind : EventKind) → ((index : ℕ) → decided_index kind ≡ Some index → counts index ≡ true) → IsMadeBy rows kind made
+    kind_wrote : (kind : EventKind) → ((index : ℕ) → decided_index kind ≡ Some index → counts index ≡ true) → IsMadeBy stripe rows kind made
         → AreWritten rows (cons_option (batch_of counts kind) others) next → AreWritten made others next
-    kind_wrote (Decide id index reply batch) all is written = wrote batch (counts index) (all index refl) is written
+    kind_wrote (Decide id index reply batch) all is written =
+        wrote batch (counts index) (all index refl) (written_by stripe rows index batch made is) written
     kind_wrote kind all is written = subst (λ (r : Rows). AreWritten r others next) (sym is) written
 
   module _ (At : List Event → Rows → Type 0) where

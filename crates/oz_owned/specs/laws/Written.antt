@@ -4,6 +4,7 @@ use Rattle.std.proofs.lemmas.Bool.{eq-eqb, eqb-true}
 use Rattle.oz_rows.specs.declared.entry.RowEntry.{RowEntry}
 use Rattle.oz_rows.specs.declared.key.RowKey.{RowKey}
 use Rattle.oz_rows.specs.declared.operation.Operation.{Operation}
+use Rattle.oz_rows.specs.declared.operation.Operation.TheVariants.{DropOpen}
 use Rattle.oz_rows.specs.RowMaps.{Rows, after_changes, row_after, row_of}
 use Rattle.oz_rows.specs.laws.Batches.{same_batch}
 use Rattle.oz_effects.specs.Batches.{ComesTo}
@@ -15,7 +16,7 @@ use Rattle.oz_core.specs.declared.event.EventKind.{EventKind}
 use Rattle.oz_core.specs.declared.event.EventKind.TheVariants.{Decide}
 use Rattle.oz_core.specs.Seats.{stripe_seat}
 use Rattle.oz_kept.specs.laws.Places.{moved_over}
-use Rattle.oz_owned.specs.Stood.{AreBased, HaveStoodFrom, IsMadeBy, IsWritten, StepsTo}
+use Rattle.oz_owned.specs.Stood.{AreBased, HaveStoodFrom, IsBatchOfStripe, IsMadeBy, IsWritten, IsWrittenBy, StepsTo}
 
 -- ---- a batch
 
@@ -66,15 +67,45 @@ nothing_written rows = record { changes = []; is_batch = nothing_is_batch rows; 
 pub none_written : (rows next : Rows) → AreBased rows → IsWritten rows [] next → next ≡ rows
 none_written rows next based it = written_one rows [] based next rows it (nothing_written rows)
 
+-- nor does one of a stripe's Decide
+no_drop : (earlier later : List Operation) (volume bucket : List ℕ) → [] ≡ earlier ++ DropOpen volume bucket ∷ later → earlier ≡ []
+no_drop [] later volume bucket same = refl
+no_drop (first ∷ earlier) later volume bucket same = absurd cc
+
+nothing_of_stripe : (stripe : ℕ) (rows : Rows) → IsBatchOfStripe stripe rows [] []
+unfolding Leads
+nothing_of_stripe stripe rows = record {
+  batch = record {
+    items = [];
+    fit = tt;
+    bytes_are = refl;
+    comes = λ all are based. record { after = all; leads = refl; based = based; rows_are = λ q. refl };
+  };
+  operations_own = tt;
+  changes_own = tt;
+  drops_first = no_drop;
+}
+
+pub decided_nothing : (stripe : ℕ) (rows : Rows) (index : ℕ) → IsWrittenBy stripe rows index [] rows
+decided_nothing stripe rows index =
+    record { changes = []; of_stripe = nothing_of_stripe stripe rows; limit = λ some. absurd (some refl); leads = refl }
+
 -- ---- an event
 
-made_one : (rows next other : Rows) (kind : EventKind) → AreBased rows → IsMadeBy rows kind next → IsMadeBy rows kind other → next ≡ other
-made_one rows next other (Decide id index reply batch) based one two = written_one rows batch based next other one two
-made_one rows next other kind based one two = one ∙ sym two
+-- what a stripe's Decide wrote, its batch makes
+pub written_by : (stripe : ℕ) (rows : Rows) (index : ℕ) (batch : List ℕ) (next : Rows) → IsWrittenBy stripe rows index batch next
+    → IsWritten rows batch next
+written_by stripe rows index batch next it = record { changes = it.changes; is_batch = it.of_stripe.batch; leads = it.leads }
 
-made_based : (rows next : Rows) (kind : EventKind) → AreBased rows → IsMadeBy rows kind next → AreBased next
-made_based rows next (Decide id index reply batch) based one = written_based rows batch based next one
-made_based rows next kind based one = subst AreBased (sym one) based
+made_one : (stripe : ℕ) (rows next other : Rows) (kind : EventKind) → AreBased rows → IsMadeBy stripe rows kind next → IsMadeBy stripe rows kind other
+    → next ≡ other
+made_one stripe rows next other (Decide id index reply batch) based one two =
+    written_one rows batch based next other (written_by stripe rows index batch next one) (written_by stripe rows index batch other two)
+made_one stripe rows next other kind based one two = one ∙ sym two
+
+made_based : (stripe : ℕ) (rows next : Rows) (kind : EventKind) → AreBased rows → IsMadeBy stripe rows kind next → AreBased next
+made_based stripe rows next (Decide id index reply batch) based one = written_based rows batch based next (written_by stripe rows index batch next one)
+made_based stripe rows next kind based one = subst AreBased (sym one) based
 
 apart : (a b : ℕ) → (a == b) ≡ false → a ≢ b
 apart a b e same = absurd (cc (sym e ∙ eq-eqb a b same))
@@ -86,7 +117,7 @@ module _ (stripe : ℕ) (rows : Rows) (event : Event) (based : AreBased rows) wh
       by : (t : Bool) → (event.seat == stripe_seat stripe) ≡ t → next ≡ other
       by true e =
           let own = eqb-true event.seat (stripe_seat stripe) e in
-          made_one rows next other event.kind based (one.own own) (two.own own)
+          made_one stripe rows next other event.kind based (one.own own) (two.own own)
       by false e =
           let others = apart event.seat (stripe_seat stripe) e in
           one.others others ∙ sym (two.others others)
@@ -95,7 +126,7 @@ module _ (stripe : ℕ) (rows : Rows) (event : Event) (based : AreBased rows) wh
   steps_based next one = by (event.seat == stripe_seat stripe) refl
     where
       by : (t : Bool) → (event.seat == stripe_seat stripe) ≡ t → AreBased next
-      by true e = made_based rows next event.kind based (one.own (eqb-true event.seat (stripe_seat stripe) e))
+      by true e = made_based stripe rows next event.kind based (one.own (eqb-true event.seat (stripe_seat stripe) e))
       by false e = subst AreBased (sym (one.others (apart event.seat (stripe_seat stripe) e))) based
 
 -- ---- rows that stood

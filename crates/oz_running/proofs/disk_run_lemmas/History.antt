@@ -35,7 +35,7 @@ use Rattle.oz_headline.specs.restored.Opens.{StandUpTo}
 use Rattle.oz_headline.specs.restored.Together.{AllStood, together}
 use Rattle.oz_rows.specs.RowMaps.{Rows, row_of}
 use Rattle.oz_running.specs.declared.ran.Ran.{Ran}
-use Rattle.oz_sound.specs.Sound.{IsSoundButRenames}
+use Rattle.oz_sound.specs.Sound.{IsSound}
 use Rattle.oz_sound.specs.StandsFor.{StandsFor}
 use Rattle.oz_loaded.specs.standing.Shown.{namespace_shown}
 use Rattle.oz_headline.specs.Store.{IsStore}
@@ -102,7 +102,7 @@ module _ {D : Type 0} (see : D → Seen) (script : Script) (others : OtherDisks 
       → IsCoherentStore see others.datanodes (row_of this.all) (opening_of unseated namespace nodes.scm.made nodes.datanodes) contents → Agree
   shows namespace shown are coherent = record {
     stands = subst (λ (rows : Rows). StandsFor rows (namespace_shown unseated.parts)) (sym rows_are) (subst (StandsFor (row_of this.all)) (sym shown) coherent.stands);
-    sound = subst IsSoundButRenames (sym rows_are) coherent.sound;
+    sound = subst IsSound (sym rows_are) coherent.sound;
     agree = subst (λ (rows : Rows). BlocksAgree rows (opening_shown unseated nodes.scm.made nodes.datanodes) contents) (sym rows_are)
         (subst (λ (n : Namespace). BlocksAgree (row_of this.all) (opening_of unseated n nodes.scm.made nodes.datanodes) contents) (sym shown) coherent.agree);
     told = told_still see 0 others.datanodes nodes.datanodes are coherent.told;

@@ -6,6 +6,7 @@ use Rattle.oz_datanode.specs.Datanode.{State as Datanode}
 use Rattle.oz_core.specs.declared.opening.Opening.{Opening}
 use Rattle.oz_core.specs.Contents.{OpeningBytes}
 use Rattle.oz_decision.specs.Meets.{AreInGrammar}
+use Rattle.oz_running.specs.disk_run.laws.Sounds.{but_renames}
 use Rattle.oz_running.specs.disk_run.Shown.{ShowStore, bodies_shown, opening_shown, rows_shown}
 use Rattle.oz_running.proofs.disk_run_lemmas.Bodies.{told_shows}
 use Rattle.oz_scm.specs.grants.Made.{Made}
@@ -43,8 +44,9 @@ module _ {D : Type 0} (see : D → Seen) (bodies : List (List ℕ)) (unseated : 
     last = refl;
     fit = subst AreInGrammar (sym rows_are) fit;
     store = λ agree. subst (λ (rows : Rows). IsStore rows opening contents) (sym rows_are)
-        (store (namespace_shown unseated.parts) (subst (λ (rows : Rows). StandsFor rows (namespace_shown unseated.parts)) rows_are agree.stands) (subst IsSoundButRenames rows_are agree.sound)
+        (store (namespace_shown unseated.parts) (subst (λ (rows : Rows). StandsFor rows (namespace_shown unseated.parts)) rows_are agree.stands) (subst IsSoundButRenames rows_are (but_renames (rows_shown unseated.parts) agree.sound))
         (subst (λ (rows : Rows). BlocksAgree rows opening contents) rows_are agree.agree));
+    renames = λ agree. agree.sound.renames;
     agrees = (λ agree. agree, λ agree. agree);
     keeps = λ stripe mine seen now. (λ kept. kept, λ kept. kept);
   }

@@ -4,7 +4,7 @@ use Rattle.oz_core.specs.declared.opening.Opening.{Opening}
 use Rattle.oz_core.specs.Contents.{OpeningBytes}
 use Rattle.oz_datanode.specs.declared.disks.NodeDisks.{NodeDisks}
 use Rattle.oz_rows.specs.RowMaps.{Rows}
-use Rattle.oz_sound.specs.Sound.{IsSoundButRenames}
+use Rattle.oz_sound.specs.Sound.{IsSound}
 use Rattle.oz_sound.specs.StandsFor.{StandsFor}
 use Rattle.oz_headline.specs.store_opening.Agreeing.{BlocksAgree}
 use Rattle.oz_world.specs.Disk.{Seen}
@@ -20,10 +20,11 @@ module _ {D : Type 0} (see : D → Seen) where
       : Type 0 where
     -- The rows stand for the opening's namespace.
     pub stands : StandsFor all opening.namespace
-    -- They are sound, but for what renamed rows say, which no request writes yet.
-    pub sound : IsSoundButRenames all
+    -- They are sound, in what renamed rows say of the names of snapshots' blocks too.
+    pub sound : IsSound all
     -- Each block lies in a container that was made, and on members of that alone. All who hold it have the same bytes,
-    -- which have the digests that were kept, and are as many as a key or a snapshot says.
+    -- which have the digests that were kept, and are as many as a key or a snapshot says. A block that is still being
+    -- deleted was granted, and nothing reaches it.
     pub agree : BlocksAgree all opening bytes
     -- Each datanode's journal and slots tell their bytes.
     pub told : All BothTell disks

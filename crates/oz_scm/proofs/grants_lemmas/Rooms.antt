@@ -15,7 +15,8 @@ use Rattle.oz_scm.specs.declared.grants.container.Container.{Container}
 use Rattle.oz_scm.specs.declared.grants.entry.Grant.{Grant}
 use Rattle.oz_scm.specs.grants.Due.{HasRoom, MayTake}
 use Rattle.oz_scm.specs.grants.Made.{Made, container_at, with_container, with_stepped, granted_in, stepped, after_grant, after_step, MayGrant, is_on}
-use Rattle.oz_scm.specs.grants.Steps.{IsAmong, IsListed, IsLowestOf, IsLowered, IsSound}
+use Rattle.oz_scm.specs.grants.Steps.{IsAmong, IsListed, IsLowestOf, IsLowered, IsSound, made_of}
+use Rattle.oz_dellog.specs.Log.{Log}
 
 -- ---- numbers in a list
 
@@ -208,7 +209,7 @@ moved : (l other : List Container) (n : ℕ) → container_at other n ≡ contai
 moved l other n same room = record { container = room.container; there = same ∙ room.there; opened = room.opened; few = room.few }
 
 -- only one container differs
-abbrev DifferAt : ℕ → List Container → List Container → Type 0
+abbrev pub DifferAt : ℕ → List Container → List Container → Type 0
 DifferAt number l other = (n : ℕ) → ¬ (n ≡ number) → container_at other n ≡ container_at l n
 
 pub differ_set : (l : List Container) (number : ℕ) (c : Container) → 1 ≤ number → DifferAt number l (slice_set l (number - 1) c)
@@ -228,7 +229,7 @@ at_push l number c is = at_place (l ++ c ∷ []) number (length l) (omega (arith
 abbrev Room : Container → Type 0
 Room c = (c.state ≡ Open) × (c.granted ≤ 960)
 
-same_or_not : (a b : ℕ) → (a ≡ b) ⊎ (¬ (a ≡ b))
+pub same_or_not : (a b : ℕ) → (a ≡ b) ⊎ (¬ (a ≡ b))
 same_or_not zero zero = inl refl
 same_or_not zero (suc b) = inr (λ e. absurd (omega (arith, e)))
 same_or_not (suc a) zero = inr (λ e. absurd (omega (arith, e)))
@@ -292,7 +293,7 @@ raised : (before after : ℕ) (l : List Container) → before ≤ after → All 
 raised before after l le all k d lt = omega (arith, all k d lt, le)
 
 pub sound_set : (made : Made) (first count place : ℕ) (c : Container) → first ≡ made.next_id → count ≡ 64 → first + 64 ≤ 4611686018427387904 → c.pipeline < pipelines_of made.nodes → c.granted < first + count → IsSound made
-    → IsSound (record { nodes = made.nodes; containers = slice_set made.containers place c; next_id = first + count; last_txn = made.last_txn })
+    → IsSound (record { nodes = made.nodes; containers = slice_set made.containers place c; next_id = first + count; last_txn = made.last_txn; unretired = made.unretired })
 sound_set made first count place c next whole fits on some sound = record {
   least = sound.least;
   most = sound.most;
@@ -300,6 +301,7 @@ sound_set made first count place c next whole fits on some sound = record {
   granted = All-set (λ (c : Container). c.granted < first + count) made.containers place c some (raised made.next_id (first + count) made.containers (omega (arith, next)) sound.granted);
   few = let size = length-set made.containers place c in omega (arith, size, sound.few, next);
   within = omega (arith, fits, whole);
+  below = sound.below;
 }
 
 length-push : (l : List Container) (c : Container) → length (l ++ c ∷ []) ≡ length l + 1
@@ -307,7 +309,7 @@ length-push [] c = refl
 length-push (x ∷ l) c = let rest = length-push l c in omega (arith, rest)
 
 pub sound_push : (made : Made) (first count : ℕ) (c : Container) → first ≡ made.next_id → count ≡ 64 → first + 64 ≤ 4611686018427387904 → c.pipeline < pipelines_of made.nodes → c.granted < first + count → IsSound made
-    → IsSound (record { nodes = made.nodes; containers = made.containers ++ c ∷ []; next_id = first + count; last_txn = made.last_txn })
+    → IsSound (record { nodes = made.nodes; containers = made.containers ++ c ∷ []; next_id = first + count; last_txn = made.last_txn; unretired = made.unretired })
 sound_push made first count c next whole fits on some sound = record {
   least = sound.least;
   most = sound.most;
@@ -316,31 +318,26 @@ sound_push made first count c next whole fits on some sound = record {
       (All-cons (λ (c : Container). c.granted < first + count) c [] some (All-nil (λ (c : Container). c.granted < first + count)));
   few = let size = length-push made.containers c in omega (arith, size, sound.few, next, whole);
   within = omega (arith, fits, whole);
+  below = sound.below;
 }
 
 -- ---- what a grant makes
 
 pub granted_is : (made : Made) (grant : Grant) (o : Option Container) (c : Container) (l : List Container) → c ≡ granted_in o grant.pipeline grant.count → o ≡ container_at made.containers grant.container → l ≡ with_container grant.container c made.containers
-    → ◌≡◌ {A = Made} (record { nodes = made.nodes; containers = l; next_id = grant.first + grant.count; last_txn = made.last_txn }) (after_grant grant made)
+    → ◌≡◌ {A = Made} (record { nodes = made.nodes; containers = l; next_id = grant.first + grant.count; last_txn = made.last_txn; unretired = made.unretired }) (after_grant grant made)
 granted_is made grant o c l c_is o_is l_is =
-    ap (λ (l : List Container). record { nodes = made.nodes; containers = l; next_id = grant.first + grant.count; last_txn = made.last_txn })
+    ap (λ (l : List Container). record { nodes = made.nodes; containers = l; next_id = grant.first + grant.count; last_txn = made.last_txn; unretired = made.unretired })
     (l_is ∙ ap (λ (c : Container). with_container grant.container c made.containers) (c_is ∙ ap (λ (o : Option Container). granted_in o grant.pipeline grant.count) o_is))
-
--- the same in memory, with more room
-pub same_kept : (nodes next : ℕ) (l other : List Container) (roomy listed : List ℕ) → other ≡ l → listed ≡ roomy
-    → (IsSound (record { nodes = nodes; containers = l; next_id = next; last_txn = 0 }) × IsListed l roomy)
-    → IsSound (record { nodes = nodes; containers = other; next_id = next; last_txn = 0 }) × IsListed other listed
-same_kept nodes next l other roomy listed one two kept =
-    subst (λ (o : List Container). IsSound (record { nodes = nodes; containers = o; next_id = next; last_txn = 0 }) × IsListed o listed) (sym one)
-    (subst (λ (r : List ℕ). IsSound (record { nodes = nodes; containers = l; next_id = next; last_txn = 0 }) × IsListed l r) (sym two) kept)
 
 -- ---- what containers in memory keep
 
-abbrev pub made_of : ℕ → ℕ → List Container → Made
-made_of nodes next l = record { nodes = nodes; containers = l; next_id = next; last_txn = 0 }
+abbrev Kept : Log → ℕ → ℕ → List Container → List ℕ → Type 0
+Kept log nodes next l roomy = IsSound (made_of log nodes next l) × IsListed l roomy
 
-abbrev Kept : ℕ → ℕ → List Container → List ℕ → Type 0
-Kept nodes next l roomy = IsSound (made_of nodes next l) × IsListed l roomy
+-- the same in memory, with more room
+pub same_kept : (log : Log) (nodes next : ℕ) (l other : List Container) (roomy listed : List ℕ) → other ≡ l → listed ≡ roomy → Kept log nodes next l roomy → Kept log nodes next other listed
+same_kept log nodes next l other roomy listed one two kept =
+    subst (λ (o : List Container). Kept log nodes next o listed) (sym one) (subst (λ (r : List ℕ). Kept log nodes next l r) (sym two) kept)
 
 all_at : (P : Container → Type 0) (l : List Container) (i : ℕ) (c : Container) → All P l → slice_get l i ≡ Some c → P c
 all_at P [] i c all is = absurd (cc is)
@@ -351,7 +348,7 @@ all_number : (P : Container → Type 0) (l : List Container) (number : ℕ) (c :
 all_number P l zero c all is = absurd (cc is)
 all_number P l (suc i) c all is = all_at P l i c all is
 
-module _ (nodes next : ℕ) (l : List Container) (roomy : List ℕ) (grant : Grant) (may : MayGrant (made_of nodes next l) grant) (kept : Kept nodes next l roomy) where
+module _ (log : Log) (nodes next : ℕ) (l : List Container) (roomy : List ℕ) (grant : Grant) (may : MayGrant (made_of log nodes next l) grant) (kept : Kept log nodes next l roomy) where
   first_is : grant.first ≡ next
   first_is = eqb-true _ _ (and_parts _ _ may.first_is).0
 
@@ -368,19 +365,19 @@ module _ (nodes next : ℕ) (l : List Container) (roomy : List ℕ) (grant : Gra
   number_most = leb-true _ _ (and_parts _ _ may.container_is).1
 
   module _ (old c : Container) (there : container_at l grant.container ≡ Some old) (is : c ≡ granted_in (Some old) grant.pipeline grant.count) where
-    pub sound_old : IsSound (made_of nodes (grant.first + grant.count) (slice_set l (grant.container - 1) c))
+    pub sound_old : IsSound (made_of log nodes (grant.first + grant.count) (slice_set l (grant.container - 1) c))
     sound_old =
         let on : c.pipeline < pipelines_of nodes = subst (λ (x : Container). x.pipeline < pipelines_of nodes) (sym is) (all_number (OnPipeline nodes) l grant.container old kept.0.pipelines there) in
         let had : old.granted < next = all_number (λ (x : Container). x.granted < next) l grant.container old kept.0.granted there in
         let some : c.granted < grant.first + grant.count = subst (λ (x : Container). x.granted < grant.first + grant.count) (sym is) (omega (arith, had, first_is)) in
-        sound_set (made_of nodes next l) grant.first grant.count (grant.container - 1) c first_is count_is fits on some kept.0
+        sound_set (made_of log nodes next l) grant.first grant.count (grant.container - 1) c first_is count_is fits on some kept.0
 
-    pub kept_full : (left : List ℕ) → ¬ Room c → left ≡ filter (λ n. not (nat_eq n grant.container)) roomy → Kept nodes (grant.first + grant.count) (slice_set l (grant.container - 1) c) left
+    pub kept_full : (left : List ℕ) → ¬ Room c → left ≡ filter (λ n. not (nat_eq n grant.container)) roomy → Kept log nodes (grant.first + grant.count) (slice_set l (grant.container - 1) c) left
     kept_full left full left_is =
         let within = at_number l grant.container old there in
         (sound_old, listed_gone l (slice_set l (grant.container - 1) c) roomy left grant.container c (differ_set l grant.container c within.0) (at_set l grant.container c within.0 within.1) full left_is kept.1)
 
-    pub kept_roomy : Room c → Kept nodes (grant.first + grant.count) (slice_set l (grant.container - 1) c) roomy
+    pub kept_roomy : Room c → Kept log nodes (grant.first + grant.count) (slice_set l (grant.container - 1) c) roomy
     kept_roomy room =
         let within = at_number l grant.container old there in
         let had : Room old = (ap (λ (x : Container). x.state) (sym is) ∙ room.0, omega (arith, room.1, ap (λ (x : Container). x.granted) is)) in (
@@ -389,27 +386,27 @@ module _ (nodes next : ℕ) (l : List Container) (roomy : List ℕ) (grant : Gra
               (record { container = old; there = there; opened = had.0; few = had.1 }) kept.1,
         )
 
-    pub made_old : ◌≡◌ {A = Made} (made_of nodes (grant.first + grant.count) (slice_set l (grant.container - 1) c)) (after_grant grant (made_of nodes next l))
-    made_old = granted_is (made_of nodes next l) grant (Some old) c (slice_set l (grant.container - 1) c) is (sym there) (set_is l grant.container c old there)
+    pub made_old : ◌≡◌ {A = Made} (made_of log nodes (grant.first + grant.count) (slice_set l (grant.container - 1) c)) (after_grant grant (made_of log nodes next l))
+    made_old = granted_is (made_of log nodes next l) grant (Some old) c (slice_set l (grant.container - 1) c) is (sym there) (set_is l grant.container c old there)
 
   module _ (c : Container) (none : container_at l grant.container ≡ None) (is : c ≡ granted_in None grant.pipeline grant.count) where
     new_number : grant.container ≡ length l + 1
     new_number = next_at l grant.container none number_least number_most
 
-    pub kept_new : (other : List Container) (listed : List ℕ) → other ≡ l ++ c ∷ [] → listed ≡ roomy ++ grant.container ∷ [] → Kept nodes (grant.first + grant.count) other listed
+    pub kept_new : (other : List Container) (listed : List ℕ) → other ≡ l ++ c ∷ [] → listed ≡ roomy ++ grant.container ∷ [] → Kept log nodes (grant.first + grant.count) other listed
     kept_new other listed one two =
         let on_is : is_on nodes None grant.pipeline ≡ true = subst (λ (o : Option Container). is_on nodes o grant.pipeline ≡ true) none may.pipeline_is in
         let on : c.pipeline < pipelines_of nodes = subst (λ (x : Container). x.pipeline < pipelines_of nodes) (sym is) (ltb-true _ _ on_is) in
         let some : c.granted < grant.first + grant.count = subst (λ (x : Container). x.granted < grant.first + grant.count) (sym is) (omega (arith, first_is, kept.0.few)) in
         let room : Room c = (ap (λ (x : Container). x.state) is, omega (arith, count_is, ap (λ (x : Container). x.granted) is)) in
-        let both : Kept nodes (grant.first + grant.count) (l ++ c ∷ []) (roomy ++ grant.container ∷ []) = (
-          sound_push (made_of nodes next l) grant.first grant.count c first_is count_is fits on some kept.0,
+        let both : Kept log nodes (grant.first + grant.count) (l ++ c ∷ []) (roomy ++ grant.container ∷ []) = (
+          sound_push (made_of log nodes next l) grant.first grant.count c first_is count_is fits on some kept.0,
           listed_more l (l ++ c ∷ []) roomy grant.container c (differ_push l grant.container c new_number) (at_push l grant.container c new_number) room none kept.1,
         ) in
-        same_kept nodes (grant.first + grant.count) (l ++ c ∷ []) other (roomy ++ grant.container ∷ []) listed one two both
+        same_kept log nodes (grant.first + grant.count) (l ++ c ∷ []) other (roomy ++ grant.container ∷ []) listed one two both
 
-    pub made_new : (other : List Container) → other ≡ l ++ c ∷ [] → ◌≡◌ {A = Made} (made_of nodes (grant.first + grant.count) other) (after_grant grant (made_of nodes next l))
-    made_new other one = granted_is (made_of nodes next l) grant None c other is (sym none) (one ∙ push_is l grant.container c none number_least number_most)
+    pub made_new : (other : List Container) → other ≡ l ++ c ∷ [] → ◌≡◌ {A = Made} (made_of log nodes (grant.first + grant.count) other) (after_grant grant (made_of log nodes next l))
+    made_new other one = granted_is (made_of log nodes next l) grant None c other is (sym none) (one ∙ push_is l grant.container c none number_least number_most)
 
 -- ---- what a step makes
 
@@ -453,14 +450,14 @@ never_open states.Deleted events.Delete is = absurd (cc is)
 never_open states.Deleted events.Cleanup is = absurd (cc is)
 
 -- a container after an event, and what it was
-record Led (o : Option Container) (event : Event) (c : Container) : Type 0 where
-  old : Container
-  there : o ≡ Some old
-  pipeline : c.pipeline ≡ old.pipeline
-  granted : c.granted ≡ old.granted
-  left : next_state old.state event ≡ Some c.state
+pub record Led (o : Option Container) (event : Event) (c : Container) : Type 0 where
+  pub old : Container
+  pub there : o ≡ Some old
+  pub pipeline : c.pipeline ≡ old.pipeline
+  pub granted : c.granted ≡ old.granted
+  pub left : next_state old.state event ≡ Some c.state
 
-led_of : (o : Option Container) (event : Event) (c : Container) → stepped o event ≡ Some c → Led o event c
+pub led_of : (o : Option Container) (event : Event) (c : Container) → stepped o event ≡ Some c → Led o event c
 led_of None event c is = absurd (cc is)
 led_of (Some old) event c is = of (next_state old.state event) refl is
   where
@@ -476,11 +473,11 @@ led_of (Some old) event c is = of (next_state old.state event) refl is
           left = to ∙ ap (λ (x : Container). Some x.state) same;
         }
 
-module _ (nodes next : ℕ) (l : List Container) (roomy : List ℕ) (number : ℕ) (event : Event) (c : Container) (is : stepped (container_at l number) event ≡ Some c) (kept : Kept nodes next l roomy) where
+module _ (log : Log) (nodes next : ℕ) (l : List Container) (roomy : List ℕ) (number : ℕ) (event : Event) (c : Container) (is : stepped (container_at l number) event ≡ Some c) (kept : Kept log nodes next l roomy) where
   led : Led (container_at l number) event c
   led = led_of (container_at l number) event c is
 
-  sound_step : IsSound (made_of nodes next (slice_set l (number - 1) c))
+  sound_step : IsSound (made_of log nodes next (slice_set l (number - 1) c))
   sound_step =
       let on : c.pipeline < pipelines_of nodes = subst (λ (n : ℕ). n < pipelines_of nodes) (sym led.pipeline) (all_number (OnPipeline nodes) l number led.old kept.0.pipelines led.there) in
       let had : led.old.granted < next = all_number (λ (x : Container). x.granted < next) l number led.old kept.0.granted led.there in
@@ -492,9 +489,10 @@ module _ (nodes next : ℕ) (l : List Container) (roomy : List ℕ) (number : �
         granted = All-set (λ (c : Container). c.granted < next) l (number - 1) c some kept.0.granted;
         few = let size = length-set l (number - 1) c in omega (arith, size, kept.0.few);
         within = kept.0.within;
+        below = kept.0.below;
       }
 
-  pub kept_step : (left : List ℕ) → left ≡ filter (λ n. not (nat_eq n number)) roomy → Kept nodes next (slice_set l (number - 1) c) left
+  pub kept_step : (left : List ℕ) → left ≡ filter (λ n. not (nat_eq n number)) roomy → Kept log nodes next (slice_set l (number - 1) c) left
   kept_step left left_is =
       let within = at_number l number led.old led.there in (
         sound_step,
@@ -502,9 +500,9 @@ module _ (nodes next : ℕ) (l : List Container) (roomy : List ℕ) (number : �
             (λ room. never_open led.old.state event (led.left ∙ ap (λ (s : State). Some s) room.0)) left_is kept.1,
       )
 
-  pub made_step : ◌≡◌ {A = Made} (made_of nodes next (slice_set l (number - 1) c)) (after_step number event (made_of nodes next l))
+  pub made_step : ◌≡◌ {A = Made} (made_of log nodes next (slice_set l (number - 1) c)) (after_step number event (made_of log nodes next l))
   made_step =
-      ap (made_of nodes next) (set_is l number c led.old led.there ∙ sym (ap (λ (o : Option Container). with_stepped number o l) is))
+      ap (made_of log nodes next) (set_is l number c led.old led.there ∙ sym (ap (λ (o : Option Container). with_stepped number o l) is))
 
 -- ---- whether a container may take a grant
 

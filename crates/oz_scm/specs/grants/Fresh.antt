@@ -1,7 +1,7 @@
 -- The grants that the bodies of a journal say, and that no id stands in two of them.
 use Rattle.std.specs.Prelude.{ℕ, ◌+◌, ◌≤◌, List, [], ◌∷◌, Option, None, Result, Ok, Err}
 use Rattle.oz_scm.specs.declared.grants.entry.Entry.{Entry}
-use Rattle.oz_scm.specs.declared.grants.entry.Entry.TheVariants.{Nodes, Granted, Stepped}
+use Rattle.oz_scm.specs.declared.grants.entry.Entry.TheVariants.{Nodes, Granted, Stepped, Logged, Acked, Retired}
 use Rattle.oz_scm.specs.declared.grants.entry.Grant.{Grant}
 use Rattle.oz_scm.specs.grants.Build.{body_at}
 use Rattle.oz_scm.specs.grants.Made.{Made, after_entry}
@@ -11,6 +11,9 @@ said_by (Err at) next = []
 said_by (Ok (Nodes count)) next = next (Nodes count)
 said_by (Ok (Granted stripe grant)) next = grant ∷ next (Granted stripe grant)
 said_by (Ok (Stepped container event)) next = next (Stepped container event)
+said_by (Ok (Logged txn)) next = next (Logged txn)
+said_by (Ok (Acked number dn)) next = next (Acked number dn)
+said_by (Ok (Retired number)) next = next (Retired number)
 
 unfoldable pub said_from : Option Made → List (List ℕ) → List Grant
 said_from found [] = []

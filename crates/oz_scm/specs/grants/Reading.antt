@@ -1,16 +1,18 @@
 -- Reading an entry from left to right, over what those before it made. What is read has a value and the bytes behind it.
 -- What isn't says how many bytes are left from the first field on that passes their end or breaks its rule.
-use Rattle.std.specs.Prelude.{ℕ, suc, Bool, ◌==◌, ◌&&◌, nat_le, List, [], ◌∷◌, length, Option, None, Some, Result, Ok, Err}
+use Rattle.std.specs.Prelude.{ℕ, zero, suc, Bool, true, ◌==◌, ◌&&◌, nat_le, List, [], ◌∷◌, ◌++◌, length, Option, None, Some, Result, Ok, Err}
 use Rattle.std.specs.Prelude.{if◌then◌else◌}
 use Rattle.std.specs.Option.{is_some}
 use Rattle.oz_container.specs.declared.state.Event.{Event}
 use Rattle.oz_container.specs.declared.state.Event.TheVariants as events
-use Rattle.oz_fields.specs.Number.{u8_at, u32_at, u64_at}
+use Rattle.oz_dellog.specs.Log.{is_done}
+use Rattle.oz_dellog.specs.declared.txn.Txn.{Txn}
+use Rattle.oz_fields.specs.Number.{u8_at, u16_at, u32_at, u64_at}
 use Rattle.oz_scm.specs.declared.grants.entry.Entry.{Entry}
-use Rattle.oz_scm.specs.declared.grants.entry.Entry.TheVariants.{Nodes, Granted, Stepped}
+use Rattle.oz_scm.specs.declared.grants.entry.Entry.TheVariants.{Nodes, Granted, Stepped, Logged, Acked, Retired}
 use Rattle.oz_scm.specs.declared.grants.entry.Grant.{Grant}
 use Rattle.oz_scm.specs.declared.grants.container.Container.{Container}
-use Rattle.oz_scm.specs.grants.Made.{is_made, stepped}
+use Rattle.oz_scm.specs.grants.Made.{is_made, stepped, is_next_txn, is_local_count, is_unretired, may_ack, log_of}
 use Rattle.oz_scm.specs.grants.Made.{Made, container_at, is_node_count, is_stripe, is_old_or_next, is_on, is_next_id, is_whole}
 
 abbrev pub goes_on : {A B : Type 0} → Result (A × List ℕ) ℕ → (A → List ℕ → Result (B × List ℕ) ℕ)
@@ -86,20 +88,54 @@ stepped_at (Some made) left = do
   event ← event_at (container_at made.containers container)
   done (Stepped container event)
 
--- what isn't served yet is damaged at its tag
-abbrev pub unserved : ℕ → List ℕ → Result (Entry × List ℕ) ℕ
-unserved left bytes = Err left
+-- so many ids behind those that were read before
+unfoldable pub numbers_at : List ℕ → ℕ → List ℕ → Result (List ℕ × List ℕ) ℕ
+numbers_at front zero = done front
+numbers_at front (suc count) = do
+  next ← field u64_at (λ number. true)
+  numbers_at (front ++ next ∷ []) count
 
--- Behind tag 3 stands a step of a container, behind 4 a deletion that is logged, behind 5 an acknowledgement, and behind
--- 6 a transaction that is retired.
+-- from 1 to as many as a transaction may have
+unfoldable pub locals_at : List ℕ → Result (List ℕ × List ℕ) ℕ
+locals_at = do
+  count ← field u16_at is_local_count
+  numbers_at [] count
+
+unfoldable pub txn_at : Made → List ℕ → Result (Txn × List ℕ) ℕ
+txn_at made = do
+  number ← field u64_at (is_next_txn made.last_txn)
+  container ← field u64_at (is_made made.containers)
+  locals ← locals_at
+  done (record { number = number; container = container; locals = locals })
+
+-- a deletion that is logged, an acknowledgement, and a transaction that is retired, in no first body
+unfoldable pub logged_at : Option Made → ℕ → List ℕ → Result (Entry × List ℕ) ℕ
+logged_at None left = λ bytes. Err left
+logged_at (Some made) left = do
+  txn ← txn_at made
+  done (Logged txn)
+
+unfoldable pub acked_at : Option Made → ℕ → List ℕ → Result (Entry × List ℕ) ℕ
+acked_at None left = λ bytes. Err left
+acked_at (Some made) left = do
+  number ← field u64_at (is_unretired made)
+  dn ← field u8_at (may_ack made number)
+  done (Acked number dn)
+
+unfoldable pub retired_at : Option Made → ℕ → List ℕ → Result (Entry × List ℕ) ℕ
+retired_at None left = λ bytes. Err left
+retired_at (Some made) left = do
+  number ← field u64_at (is_done (log_of made))
+  done (Retired number)
+
 abbrev pub entry_of_tag_at : Option Made → ℕ → ℕ → List ℕ → Result (Entry × List ℕ) ℕ
 entry_of_tag_at found left tag =
     if tag == 1 then nodes_at found left
     else (if tag == 2 then granted_at found left
     else (if tag == 3 then stepped_at found left
-    else (if tag == 4 then unserved left
-    else (if tag == 5 then unserved left
-    else (if tag == 6 then unserved left else (λ bytes. Err left))))))
+    else (if tag == 4 then logged_at found left
+    else (if tag == 5 then acked_at found left
+    else (if tag == 6 then retired_at found left else (λ bytes. Err left))))))
 
 unfoldable pub entry_at : Option Made → List ℕ → Result (Entry × List ℕ) ℕ
 entry_at found [] = Err 0

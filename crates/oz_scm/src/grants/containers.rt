@@ -1,6 +1,6 @@
 //! The containers that were made, in memory, and the next ids.
 
-ghost use Rattle.std.specs.Prelude.{◌≡◌, ◌⊎◌, ◌↔◌, ◌<◌, ◌≤◌, ◌+◌, ◌^◌, ℕ, [], length, IsTrue, OnOk, IfOk, IfSome, IfNone};
+ghost use Rattle.std.specs.Prelude.{◌≡◌, ◌⊎◌, ◌↔◌, ◌<◌, ◌≤◌, ◌+◌, ◌^◌, ℕ, [], length, IsTrue, OnOk, OnErr, IfOk, IfSome, IfNone};
 ghost use Rattle.std.specs.Prelude.{filter, nat_eq, nat_lt, not, map, suc, ◌==◌, if◌then◌else◌};
 ghost use Rattle.std.specs.List.{range_with_len};
 ghost use Rattle.oz_container.specs.declared.state.State.TheVariants.{Open};
@@ -11,7 +11,13 @@ ghost use Rattle.oz_scm.specs.grants.Counts.{AreCounts, count_in, place_of as pl
 ghost use Rattle.oz_scm.specs.grants.Due.{MayTake, IsChosen, HasRoom};
 ghost use Rattle.oz_scm.specs.grants.Made.{begun, container_at, next_number, after_grant, with_container, granted_in};
 ghost use Rattle.oz_scm.specs.grants.Made.{MayGrant, MayStep, is_old_or_next, after_step};
-ghost use Rattle.oz_scm.specs.grants.Made.{stepped as after_event};
+ghost use Rattle.oz_scm.specs.grants.Made.{stepped as after_event, is_unretired, may_ack, is_member, log_of};
+ghost use Rattle.oz_scm.specs.grants.Made.{MayLog, MayAck, MayRetire, after_log, after_ack, after_retirement};
+ghost use Rattle.oz_dellog.specs.Log.{IsLogged, is_done, pending};
+ghost use Rattle.oz_dellog.specs.declared.logged.Logged.{Logged as AnyLogged};
+ghost use Rattle.std.specs.FinMap.{entries};
+ghost use Rattle.std.specs.Map.Iter.{ShowsInOrder, deref_pair};
+ghost use Rattle.oz_dellog.specs.Logged.{acknowledgement_count};
 ghost use Rattle.oz_scm.specs.grants.Steps.{IsLowestOf, IsLowered, IsSound};
 ghost use Rattle.oz_nodes.specs.declared.nodes.TheConstants.{FEWEST_NODES as fewest, MOST_NODES as most_nodes};
 
@@ -19,9 +25,11 @@ use crate::grants::container::Container;
 use crate::grants::entry::Grant;
 use crate::grants::limits::{FIRST_ID, GRANTED_IDS, MOST_GRANTED};
 use oz_container::{Event, State};
-use oz_fields::{GREATEST_BLOCK_NUMBER, OutOfMemory};
-use oz_nodes::FEWEST_NODES;
-use std::alloc::Global;
+use oz_dellog::{DelLog, Logged, Txn};
+use oz_fields::{Block, GREATEST_BLOCK_NUMBER, OutOfMemory};
+use oz_nodes::{FEWEST_NODES, Nodes};
+use std::alloc::{AllocError, Global};
+use std::collections::btree_map::Iter;
 use std::marker::Model;
 
 /// What grants and steps made. Beside the containers it lists those that are open with room for a grant, so that choosing one
@@ -32,21 +40,26 @@ pub struct Containers {
     list: Vec<Container>,
     next: u64,
     roomy: Vec<u64>,
+    last_txn: u64,
+    log: DelLog,
 }
 
 impl Model for Containers {
     ghost use Rattle.std.specs.Prelude.{◌-◌, min, vec_len, vec_capacity};
-    ghost use Rattle.oz_scm.specs.grants.Steps.{View, IsSound, IsListed};
+    ghost use Rattle.oz_scm.specs.grants.Codes.{coded_view};
+    ghost use Rattle.oz_scm.specs.grants.Steps.{View, IsSound, IsListed, made_of};
 
     ghost Value = { View };
 
+    ghost coded = { coded_view };
+
     ghost view = { λ c. record {
-      made = record { nodes = c.node_count; containers = c.list.items; next_id = c.next; last_txn = 0 };
+      made = made_of (record { last = c.last_txn; unretired = c.log.unretired }) c.node_count c.next c.list.items;
       spare = min (vec_capacity c.list - vec_len c.list) (vec_capacity c.roomy - vec_len c.roomy);
     } };
 
     ghost invariant = { λ c. IsSound
-        (record { nodes = c.node_count; containers = c.list.items; next_id = c.next; last_txn = 0 })
+        (made_of (record { last = c.last_txn; unretired = c.log.unretired }) c.node_count c.next c.list.items)
         × IsListed c.list.items c.roomy.items };
 }
 
@@ -62,6 +75,8 @@ impl Containers {
             list: Vec::new(alloc),
             next: FIRST_ID,
             roomy: Vec::new(alloc),
+            last_txn: 0,
+            log: DelLog::new(alloc),
         }
     }
 
@@ -251,6 +266,125 @@ impl Containers {
         self.list[number as usize - 1] = container;
         forget(&mut self.roomy, number);
     }
+
+    /// The number of the last transaction that was logged, 0 for none.
+    pub fn last_txn(&self) -> u64
+        ensures { result ≡ self.now.made.last_txn }
+    {
+        self.last_txn
+    }
+
+    /// What was logged and isn't retired, in the order of the numbers.
+    pub fn unretired(&self) -> Iter<'_, u64, Logged>
+        ensures rest { result ≡ entries self.now.made.unretired }
+        ensures runs { ShowsInOrder (deref_pair {K = ℕ} {X = AnyLogged}) }
+    {
+        self.log.unretired()
+    }
+
+    /// The transactions of a container that a datanode hasn't acknowledged, in the order of their numbers.
+    pub fn pending(&self, alloc: Global, container: u64, dn: u8) -> Result<Vec<Txn>, OutOfMemory>
+        ensures { IfOk result (λ txns. txns.items ≡ pending (log_of self.now.made) container dn) }
+    {
+        self.log.pending(alloc, container, dn)
+    }
+
+    /// Whether a transaction that isn't retired names the block.
+    pub fn logged(&self, block: Block) -> bool
+        ensures { IsTrue result ↔ IsLogged (log_of self.now.made) block }
+    {
+        self.log.logged(block)
+    }
+
+    /// Whether a transaction is there.
+    pub fn is_unretired(&self, number: u64) -> bool
+        ensures { result ≡ is_unretired self.now.made number }
+    {
+        self.log.get(number).is_some()
+    }
+
+    /// Whether a datanode owes a transaction's acknowledgement: it has the container's replicas, and hasn't given one.
+    pub fn may_ack(&self, number: u64, dn: u8) -> bool
+        ensures { result ≡ may_ack self.now.made number dn }
+    {
+        match self.log.get(number) {
+            Some(logged) => {
+                self.is_member(logged.container, dn) && !logged.acknowledged[dn as usize]
+            }
+            None => false,
+        }
+    }
+
+    /// Whether a datanode has a container's replicas.
+    fn is_member(&self, number: u64, dn: u8) -> bool
+        ensures { result ≡ is_member self.now.made.nodes (container_at self.now.made.containers number) dn }
+    {
+        match self.get(number) {
+            Some(container) => {
+                let [one, two, three] = Nodes::new(self.nodes()).members(container.pipeline);
+                one == dn || two == dn || three == dn
+            }
+            None => false,
+        }
+    }
+
+    /// Whether a transaction is there that three datanodes acknowledged.
+    pub fn may_retire(&self, number: u64) -> bool
+        ensures { result ≡ is_done (log_of self.now.made) number }
+    {
+        match self.log.get(number) {
+            Some(logged) => acknowledgements(logged) >= 3,
+            None => false,
+        }
+    }
+
+    /// Logs a transaction. Want of memory leaves what there was.
+    pub fn log_txn(&mut self, alloc: Global, txn: Txn) -> Result<(), OutOfMemory>
+        requires { MayLog self.old.made txn }
+        ensures logged { OnOk result (self.new.made ≡ after_log txn self.old.made) }
+        ensures same { OnErr result (self.new.made ≡ self.old.made) }
+    {
+        if !has_drawn(&self.log, self.last_txn) {
+            return Err(AllocError);
+        }
+        match self.log.add(alloc, txn.container, txn.locals) {
+            Ok(number) => {
+                self.last_txn = number;
+                Ok(())
+            }
+            Err((_, fault)) => Err(fault),
+        }
+    }
+
+    /// Notes an acknowledgement, without taking memory.
+    pub fn ack(&mut self, number: u64, dn: u8)
+        requires { MayAck self.old.made number dn }
+        ensures { self.new.made ≡ after_ack number dn self.old.made }
+    {
+        self.log.ack(number, dn);
+    }
+
+    /// Forgets a transaction that was acknowledged, without taking memory.
+    pub fn retire(&mut self, number: u64)
+        requires { MayRetire self.old.made number }
+        ensures { self.new.made ≡ after_retirement number self.old.made }
+    {
+        self.log.retire(number);
+    }
+}
+
+/// Whether this is the last number that the log has drawn.
+fn has_drawn(log: &DelLog, last: u64) -> bool
+    ensures { IsTrue result ↔ (log.now.last ≡ last) }
+{
+    log.last() == last
+}
+
+/// How many datanodes acknowledged a transaction.
+fn acknowledgements(logged: &Logged) -> usize
+    ensures { result ≡ acknowledgement_count logged.now }
+{
+    logged.acknowledged.iter().filter(|flag| **flag).count()
 }
 
 /// A container after an event, None where it isn't there, and where its state doesn't allow the event.

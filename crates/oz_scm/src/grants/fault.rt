@@ -1,5 +1,10 @@
 //! Why bodies make nothing.
 
+ghost use Rattle.std.specs.Prelude.{◌≡◌};
+ghost use Rattle.oz_scm.specs.declared.grants.fault.ReadFault.TheVariants as faults;
+
+use std::alloc::{AllocError, AllocFailed};
+
 /// Why the bodies of a journal are no entries of a storage container manager.
 #[derive(Clone, Copy, Debug, PartialEq, Eq)]
 pub enum BuildFault {
@@ -8,9 +13,26 @@ pub enum BuildFault {
     OutOfMemory,
 }
 
-/// A field that passes the end of its body or breaks a rule.
+/// Why reading stopped. `Left` has how many bytes were left from the first field on that passes the end of its body or
+/// breaks a rule.
 #[derive(Clone, Copy, Debug, PartialEq, Eq)]
-pub(crate) struct BadField {
-    /// How many bytes are left from it on.
-    pub(crate) left: usize,
+pub(crate) enum ReadFault {
+    Left(usize),
+    OutOfMemory,
+}
+
+impl From<AllocError> for ReadFault {
+    ghost from_gives = { λ _ fault. fault ≡ faults.OutOfMemory };
+
+    fn from(_error: AllocError) -> ReadFault {
+        ReadFault::OutOfMemory
+    }
+}
+
+impl<T: Drop> From<AllocFailed<T>> for ReadFault {
+    ghost from_gives = { λ _ fault. fault ≡ faults.OutOfMemory };
+
+    fn from(_error: AllocFailed<T>) -> ReadFault {
+        ReadFault::OutOfMemory
+    }
 }

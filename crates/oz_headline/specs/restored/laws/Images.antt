@@ -28,7 +28,7 @@ use Rattle.oz_rows.specs.declared.entry.RowEntry.{RowEntry}
 use Rattle.oz_rows.specs.declared.operation.Operation.{Operation}
 use Rattle.oz_rows.specs.RowMaps.{AreRows, Rows, row_after, row_of}
 use Rattle.oz_rows.specs.laws.Batches.{same_batch}
-use Rattle.oz_sound.specs.Sound.{IsSoundButRenames}
+use Rattle.oz_sound.specs.Sound.{IsSound}
 use Rattle.oz_store.specs.striped.laws.Indexes.{swapped_within}
 use Rattle.oz_headline.specs.restored.Opens.{OpensUpTo, StandUpTo}
 use Rattle.oz_headline.specs.restored.Together.{AllStood, AllStoodFrom, LeadsOn, Makes}
@@ -119,8 +119,8 @@ module _ (opening : Opening) (loaded : Rows) where
         record {
           all = built.all;
           builds = built.builds;
-          stand = subst (λ (n : Namespace). Stand IsSoundButRenames (row_of built.all) n) (sym namespace)
-              (subst (λ (r : Rows). Stand IsSoundButRenames r (namespace_of opening (place ++ take kept.size rest)))
+          stand = subst (λ (n : Namespace). Stand IsSound (row_of built.all) n) (sym namespace)
+              (subst (λ (r : Rows). Stand IsSound r (namespace_of opening (place ++ take kept.size rest)))
               (still ∙ sym (same_rows built.all halves.0 are)) stands.whole);
         }
 

@@ -1,5 +1,5 @@
 -- Rows are sound where those of each stripe are, and no two stripes name blocks of one local id.
-use Rattle.std.proofs.Common.{◌≡◌, ℕ, ◌<◌, ◌≤◌, Bool, true, false, List, [], ◌∷◌, Option, None, Some, IsSome, cond, refl, sym, ◌∙◌, ap, subst}
+use Rattle.std.proofs.Common.{◌≡◌, ⊎_elim, inl, inr, ℕ, ◌<◌, ◌≤◌, Bool, true, false, List, [], ◌∷◌, Option, None, Some, IsSome, cond, refl, sym, ◌∙◌, ap, subst}
 use mathlib.Core.Bool.{false≢true}
 use Rattle.std.proofs.lemmas.Bool.{eq-eqb, eqb-true}
 use Rattle.std.specs.List.{AllByRecursion}
@@ -9,6 +9,7 @@ use Rattle.oz_names.specs.declared.limits.TheConstants.{STRIPES}
 use Rattle.oz_rows.specs.declared.key.RowKey.{RowKey}
 use Rattle.oz_rows.specs.declared.key.RowKey.TheVariants as keys
 use Rattle.oz_rows.specs.declared.row.Row.{Row}
+use Rattle.oz_rows.specs.declared.row.Row.TheVariants as rows
 use Rattle.oz_rows.specs.RowMaps.{Rows}
 use Rattle.oz_sound.specs.Sound.{
   AreTogether,
@@ -16,10 +17,13 @@ use Rattle.oz_sound.specs.Sound.{
   BlocksAreSound,
   CountsAreSound,
   IsKeeper,
-  IsSoundButRenames,
+  IsNamedAnew,
+  IsRename,
+  IsSound,
   IsUsing,
   NamesAreSound,
   NumbersAreSound,
+  RenamesAreSound,
   SnapshotHas,
   StandsIn,
 }
@@ -68,11 +72,11 @@ module _ (all : Rows) (stripe : ℕ) where
 -- ---- all rows
 
 module _ (all : Rows) (few : (key : RowKey) → IsSome (all key) → stripe_of_key key < STRIPES)
-    (parts : (stripe : ℕ) → stripe < STRIPES → IsSoundButRenames (only stripe all))
+    (parts : (stripe : ℕ) → stripe < STRIPES → IsSound (only stripe all))
     (apart : (block twin : Block) (key other : RowKey) → StandsIn all block key → StandsIn all twin other → block.local ≡ twin.local
     → stripe_of_key key ≡ stripe_of_key other) where
   -- the part of a row that names a block
-  part_there : (block : Block) (key : RowKey) → StandsIn all block key → IsSoundButRenames (only (stripe_of_key key) all)
+  part_there : (block : Block) (key : RowKey) → StandsIn all block key → IsSound (only (stripe_of_key key) all)
   part_there block key it = parts (stripe_of_key key) (few key (subst IsSome (sym it.there) refl))
 
   -- two rows that name one block are of one part
@@ -86,7 +90,7 @@ module _ (all : Rows) (few : (key : RowKey) → IsSome (all key) → stripe_of_k
     abbrev own : Rows
     own = only (stripe_of volume) all
 
-    sound : IsSoundButRenames own
+    sound : IsSound own
     sound = parts (stripe_of volume) (one_of_sixteen volume)
 
     module _ (bucket : List ℕ) where
@@ -129,6 +133,35 @@ module _ (all : Rows) (few : (key : RowKey) → IsSome (all key) → stripe_of_k
       row_own : (key : RowKey) (row : Row) → stripe_of_key key ≡ stripe_of volume → all key ≡ Some row → own key ≡ Some row
       row_own key row its is = own_row all (stripe_of volume) key its ∙ is
 
+      rename_of : (number local owner : ℕ) (name : List ℕ) → IsRename all volume bucket number local owner name
+          → IsRename own volume bucket number local owner name
+      rename_of number local owner name it = record {
+        row = row_own (keys.Renamed volume bucket owner local) (rows.Renamed name) refl it.row;
+        behind = it.behind;
+        first = λ other behind some apart. it.first other behind (from_some (keys.Renamed volume bucket other local) some) apart;
+      }
+
+      rename_from : (number local owner : ℕ) (name : List ℕ) → IsRename own volume bucket number local owner name
+          → IsRename all volume bucket number local owner name
+      rename_from number local owner name it = record {
+        row = from_own all (stripe_of volume) (keys.Renamed volume bucket owner local) (rows.Renamed name) it.row;
+        behind = it.behind;
+        first = λ other behind some apart. it.first other behind (some_own (keys.Renamed volume bucket other local) refl some) apart;
+      }
+
+      anew_of : (number : ℕ) (block : Block) (name : List ℕ) → IsNamedAnew all volume bucket number block name
+          → IsNamedAnew own volume bucket number block name
+      anew_of number block name it = ⊎_elim
+          (λ later. inl (later.0, later.1, later.2, has_of later.0 block later.1 later.3, later.4))
+          (λ key. inr (key.0, in_own block (keys.Key volume bucket key.0) refl key.1, key.2)) it
+
+      noted_of : (name : List ℕ) (number : ℕ) (block : Block) → SnapshotHas all volume bucket number block name
+          → IsNamedAnew all volume bucket number block name
+          → (owner : ℕ) × (another : List ℕ) × IsRename all volume bucket number block.local owner another
+      noted_of name number block has anew =
+          let found = sound.renames.noted volume bucket name number block (has_of number block name has) (anew_of number block name anew) in
+          (found.0, found.1, rename_from number block.local found.0 found.1 found.2)
+
       using : (use_of : List ℕ × Option ℕ) → IsUsing all volume bucket use_of → IsUsing own volume bucket use_of
       using (key, None) has = some_own (keys.Key volume bucket key) refl has
       using (key, Some number) has = some_own (keys.Open volume bucket key number) refl has
@@ -163,6 +196,13 @@ module _ (all : Rows) (few : (key : RowKey) → IsSome (all key) → stripe_of_k
         (in_own volume bucket block (keys.Open volume bucket key session) refl stands) (has_of volume bucket number block name has);
   }
 
+  renames : RenamesAreSound all
+  renames = record {
+    renamed = λ volume bucket name another number owner block has rename. (sound volume).renames.renamed volume bucket name another number owner block
+        (has_of volume bucket number block name has) (rename_of volume bucket number block.local owner another rename);
+    noted = λ volume bucket name number block has anew. noted_of volume bucket name number block has anew;
+  }
+
   numbers : NumbersAreSound all
   numbers = record {
     sessions = λ volume bucket key number has. subst (λ (drawn : ℕ). number ≤ drawn) (drawn_own volume)
@@ -189,5 +229,5 @@ module _ (all : Rows) (few : (key : RowKey) → IsSome (all key) → stripe_of_k
         ((sound volume).counts.snapshot_keys volume bucket number (live_of volume bucket number live));
   }
 
-  pub parts_are_sound : IsSoundButRenames all
-  parts_are_sound = record { blocks = blocks; names = names; numbers = numbers; counts = counts }
+  pub parts_are_sound : IsSound all
+  parts_are_sound = record { blocks = blocks; names = names; renames = renames; numbers = numbers; counts = counts }

@@ -9,13 +9,13 @@ use Rattle.oz_core.specs.declared.opening.Opening.{Opening}
 use Rattle.oz_core.specs.Contents.{OpeningBytes}
 use Rattle.oz_core.specs.Law.{IsLegal}
 use Rattle.oz_core.specs.Manager.{namespace_of}
-use Rattle.oz_om.specs.decider.Records.{DropsFirst, IsBatchOfStripe}
 use Rattle.oz_decision.specs.Meets.{AreInGrammar}
 use Rattle.oz_effects.specs.Batches.{IsBatchOf}
 use Rattle.oz_effects.specs.Effects.{Leads, has_block}
 use Rattle.oz_fields.specs.declared.block.Block.{Block}
 use Rattle.oz_fields.specs.declared.block.Piece.{Piece}
 use Rattle.oz_names.specs.declared.limits.TheConstants.{STRIPES}
+use Rattle.oz_owned.specs.Stood.{DropsFirst, IsBatchOfStripe, StandAt}
 use Rattle.oz_rows.specs.declared.entry.RowEntry.{RowEntry}
 use Rattle.oz_rows.specs.declared.key.RowKey.{RowKey}
 use Rattle.oz_rows.specs.declared.key.RowKey.TheVariants as keys
@@ -24,7 +24,7 @@ use Rattle.oz_rows.specs.declared.row.Row.TheVariants as values
 use Rattle.oz_rows.specs.declared.operation.Change.{Change}
 use Rattle.oz_rows.specs.declared.operation.Operation.{Operation}
 use Rattle.oz_rows.specs.RowMaps.{AreRows, Rows, is_block, row_of}
-use Rattle.oz_sound.specs.Sound.{IsSoundButRenames, StandsIn, blocks_of}
+use Rattle.oz_sound.specs.Sound.{IsSound, StandsIn, blocks_of}
 use Rattle.oz_sound.specs.StandsFor.{StandsFor}
 use Rattle.oz_store.specs.Store.{IsStore}
 use Rattle.oz_sound.specs.stripes.Parts.{IsApart}
@@ -33,7 +33,6 @@ use Rattle.oz_sound.specs.stripes.laws.Leading.{batch_of_all}
 use Rattle.oz_store.specs.striped.Shares.{share_of}
 use Rattle.oz_store.specs.striped.laws.Rows.{standing_has_all}
 use Rattle.oz_store.specs.striped.laws.Stories.{story_has_all}
-use Rattle.oz_om.specs.Keeps.{StandAt}
 use Rattle.oz_headline.specs.restored.Together.{StandTogether, together}
 use Rattle.oz_headline.specs.restored.laws.Apart.{stripes_apart}
 use Rattle.oz_headline.specs.restored.laws.Sound.{its_own, parts_are_sound, stands_from}
@@ -110,8 +109,8 @@ module _ (rows : ℕ → Rows) (own : (stripe : ℕ) → stripe < STRIPES → (k
         let few = is_of_few rows key (subst IsSome (sym is) refl) in
         (stand (stripe_of_key key) few).stand.fit key row (sym (one_of_few rows key few) ∙ is)
 
-    sound_part : (stripe : ℕ) → stripe < STRIPES → IsSoundButRenames (only stripe all)
-    sound_part stripe few = subst IsSoundButRenames (sym (only_is stripe few)) (stand stripe few).stand.sound
+    sound_part : (stripe : ℕ) → stripe < STRIPES → IsSound (only stripe all)
+    sound_part stripe few = subst IsSound (sym (only_is stripe few)) (stand stripe few).stand.sound
 
     stand_part : (stripe : ℕ) → stripe < STRIPES → StandsFor (only stripe all) (share_of stripe (namespace_of opening story))
     stand_part stripe few =

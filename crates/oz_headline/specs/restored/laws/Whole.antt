@@ -51,9 +51,11 @@ use Rattle.oz_rows.specs.laws.Same.{same_is_one}
 use Rattle.oz_store.specs.Store.{IsStore}
 use Rattle.oz_sound.specs.stripes.Stripes.{ChangeOnly, is_own, only, stripe_of_key}
 use Rattle.oz_store.specs.striped.laws.Shares.{one_of_sixteen}
-use Rattle.oz_om.specs.Keeps.{HasRun, HasStoodFrom, IsMadeBy, IsWrittenBy, StandAt, StepsTo}
+use Rattle.oz_om.specs.Keeps.{HasRun}
+use Rattle.oz_owned.specs.Stood.{HaveStoodFrom, IsMadeBy, IsWrittenBy, StandAt, StepsTo}
+use Rattle.oz_owned.specs.laws.Written.{stood_first}
 use Rattle.oz_headline.specs.restored.Together.{AllStood, AllStoodFrom, LeadsOn, Makes, StandTogether, together}
-use Rattle.oz_headline.specs.restored.laws.Longer.{stood_all, stood_first}
+use Rattle.oz_headline.specs.restored.laws.Longer.{stood_all}
 use Rattle.oz_headline.specs.restored.laws.Sound.{own_row}
 use Rattle.oz_headline.specs.restored.laws.Union.{none_of_more, one_of_few, same_together, union_batch, union_stands}
 
@@ -173,33 +175,33 @@ module _ (opening : Opening) (bytes : OpeningBytes) (loaded : Rows) (store : IsS
   record Onward (stripe : ℕ) (now : Rows) (before : List Event) (event : Event) (story : List Event) (last : Rows) : Type 0 where
     next : Rows
     steps : stripe < STRIPES → StepsTo stripe now event next
-    stood : stripe < STRIPES → HasStoodFrom opening loaded stripe (before ++ event ∷ []) next story last
+    stood : stripe < STRIPES → HaveStoodFrom (StandAt opening loaded stripe) stripe (before ++ event ∷ []) next story last
 
   onward : (stripe : ℕ) (now : Rows) (before : List Event) (event : Event) (story : List Event) (last : Rows)
-      → (stripe < STRIPES → HasStoodFrom opening loaded stripe before now (event ∷ story) last) → Onward stripe now before event story last
-  unfolding HasStoodFrom
+      → (stripe < STRIPES → HaveStoodFrom (StandAt opening loaded stripe) stripe before now (event ∷ story) last) → Onward stripe now before event story last
+  unfolding HaveStoodFrom
   onward stripe now before event story last stood = ⊎_elim
       (λ few. record { next = (stood few).1.0; steps = λ again. (stood few).1.1; stood = λ again. (stood few).1.2 })
       (λ more. record { next = now; steps = λ few. absurd (omega (arith, more, few)); stood = λ few. absurd (omega (arith, more, few)) })
       (cases_lt stripe STRIPES)
 
-  ended : (stripe : ℕ) (before : List Event) (rows last : Rows) → HasStoodFrom opening loaded stripe before rows [] last → last ≡ rows
-  unfolding HasStoodFrom
+  ended : (stripe : ℕ) (before : List Event) (rows last : Rows) → HaveStoodFrom (StandAt opening loaded stripe) stripe before rows [] last → last ≡ rows
+  unfolding HaveStoodFrom
   ended stripe before rows last stood = stood.1
 
   all_from : (story before : List Event) (rows last : ℕ → Rows) → AreOwn rows → IsLegal opening (before ++ story)
-      → ((stripe : ℕ) → stripe < STRIPES → HasStoodFrom opening loaded stripe before (rows stripe) story (last stripe))
+      → ((stripe : ℕ) → stripe < STRIPES → HaveStoodFrom (StandAt opening loaded stripe) stripe before (rows stripe) story (last stripe))
       → AllStoodFrom opening loaded before (together rows) story (together last)
   unfolding AllStoodFrom
   all_from [] before rows last own legal stood = (
     union_stands rows own opening bytes loaded store fit before (legal_to opening [] before [] legal)
-        (λ stripe few. stood_first opening loaded stripe before (rows stripe) [] (last stripe) (stood stripe few)),
+        (λ stripe few. stood_first (StandAt opening loaded stripe) stripe before (rows stripe) [] (last stripe) (stood stripe few)),
     same_together rows last (λ stripe few. ended stripe before (rows stripe) (last stripe) (stood stripe few)),
   )
   all_from (event ∷ story) before rows last own legal stood =
       let legal_before = legal_to opening [] before (event ∷ story) legal in
       let enabled = legal_first opening before event story (legal_behind opening [] before (event ∷ story) legal) in
-      let stand = λ (stripe : ℕ) (few : stripe < STRIPES). stood_first opening loaded stripe before (rows stripe) (event ∷ story) (last stripe)
+      let stand = λ (stripe : ℕ) (few : stripe < STRIPES). stood_first (StandAt opening loaded stripe) stripe before (rows stripe) (event ∷ story) (last stripe)
       (stood stripe few) in
       let on = λ (stripe : ℕ). onward stripe (rows stripe) before event story (last stripe) (stood stripe) in
       let next : ℕ → Rows = λ stripe. (on stripe).next in (

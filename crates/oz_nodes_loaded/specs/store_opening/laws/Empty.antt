@@ -27,6 +27,7 @@ use Rattle.std.proofs.Common.{
   ◌↔◌,
 }
 use Rattle.std.proofs.lemmas.Bool.{false≢true}
+use Rattle.std.specs.FinMap.{empty}
 use Rattle.std.specs.List.{slice_get, slice_index_or}
 use Rattle.std.specs.Option.{option_map_or}
 use Rattle.oz_core.specs.Contents.{OpeningBytes}
@@ -52,6 +53,7 @@ use Rattle.oz_sound.specs.StandsFor.{StandsFor}
 use Rattle.oz_store.specs.Store.{IsInADeletedRow, IsInARow, IsStore, empty_store}
 use Rattle.oz_nodes_loaded.specs.store_opening.Agreeing.{BlocksAgree, HoldsNothing}
 use Rattle.oz_nodes_loaded.specs.store_opening.Openings.{opening_bytes, opening_of}
+use Rattle.oz_nodes_loaded.specs.store_opening.laws.Logs.{empty_log, no_log_is_coherent}
 use Rattle.oz_nodes_loaded.specs.store_opening.laws.Stores.{coherent, rows_agree}
 use Rattle.oz_nodes_loaded.specs.store_opening.laws.Held.{was_held_as}
 
@@ -81,14 +83,15 @@ nothing_below {D} count nodes none id seen =
         absurd (false≢true (sym none_of ∙ (ap (λ (n : Node). is_held n any.4.0) any.3 ∙ any.4.1)))
 
 module _ {D : Type 0} (nodes : List (Datanode D)) (none : All HoldsNothing nodes) where
-  pub nothing_agrees : (unseated : UnseatedView) (namespace : Namespace) (made : Made) (bytes : OpeningBytes)
+  pub nothing_agrees : (unseated : UnseatedView) (namespace : Namespace) (made : Made) (bytes : OpeningBytes) → made.unretired ≡ empty
       → BlocksAgree (row_of []) (opening_of unseated namespace made nodes) bytes
-  nothing_agrees unseated namespace made bytes = record {
+  nothing_agrees unseated namespace made bytes no_log = record {
     made = λ block is. no_row block is;
     placed = λ block dn held. never block dn held;
     digests_match = λ block dn held. never block dn held;
     alike = λ block dn other held also. never block dn held;
     whole = λ piece dn content is held its. never piece.block dn held;
+    logged = no_log_is_coherent (opening_of unseated namespace made nodes) (empty_log made.unretired no_log);
   }
     where
       never : {X : Type 0} (block : Block) (dn : ℕ) → was_held (opening_of unseated namespace made nodes) dn block ≡ true → X
@@ -128,7 +131,7 @@ module _ {D : Type 0} (see : D → Seen) (empty_store_is : (bytes : OpeningBytes
       let old = empty_store_is bytes in
       let agree : BlocksAgree (row_of this.all) (opening_of unseated nothing (begun count) nodes) bytes =
       subst (λ (all : List RowEntry). BlocksAgree (row_of all) (opening_of unseated nothing (begun count) nodes) bytes) (sym no_rows)
-      (nothing_agrees nodes hold_nothing unseated nothing (begun count) bytes) in
+      (nothing_agrees nodes hold_nothing unseated nothing (begun count) bytes refl) in
       let stands : StandsFor (row_of this.all) nothing = subst (λ (all : List RowEntry). StandsFor (row_of all) nothing) (sym no_rows) old.stands in
       let reached : (block : Block) → IsReached nothing block
       → IsInARow (row_of this.all) block = λ block is. reached_in (row_of this.all) nothing block stands is in

@@ -33,7 +33,7 @@ use Rattle.std.specs.List.{slice_get}
 use Rattle.std.specs.Option.{option_map_or}
 use Rattle.oz_core.specs.declared.opening.Container.{Container}
 use Rattle.oz_core.specs.declared.opening.Opening.{Opening}
-use Rattle.oz_core.specs.Coherent.{IdsAreFresh, IsCoherent, IsOnDisk, LogIsCoherent}
+use Rattle.oz_core.specs.Coherent.{IdsAreFresh, IsCoherent, IsOnDisk}
 use Rattle.oz_core.specs.Contents.{OpeningBytes}
 use Rattle.oz_core.specs.Nodes.{was_held}
 use Rattle.oz_core.specs.Scm.{members}
@@ -116,7 +116,7 @@ module _ {D : Type 0} (all : Rows) (unseated : UnseatedView) (greatest : IsGreat
 
     pub coherent : IsCoherent opening bytes
     coherent = record {
-      log = record { unreached = λ block logged is. false≢true logged; granted = λ block logged. absurd (false≢true logged) };
+      log = agree.logged;
       blocks = record {
         made = λ block is. on_disk block is (agree.made block) (λ dn held. has_members block dn (agree.placed block dn held));
         placed = agree.placed;
@@ -133,7 +133,3 @@ module _ {D : Type 0} (all : Rows) (unseated : UnseatedView) (greatest : IsGreat
       fresh = rows_fresh all unseated greatest (map node_in nodes) made.next_id below;
       fresh_in_keys = keys_fresh all unseated greatest (map node_in nodes) made.next_id below;
     }
-
-pub log_coherent : {D : Type 0} (unseated : UnseatedView) (namespace : Namespace) (made : Made) (nodes : List (Datanode D))
-    → LogIsCoherent (opening_of unseated namespace made nodes)
-log_coherent unseated namespace made nodes = record { unreached = λ block logged is. false≢true logged; granted = λ block logged. absurd (false≢true logged) }

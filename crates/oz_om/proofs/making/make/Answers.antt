@@ -11,6 +11,7 @@ use Rattle.oz_store.specs.granted.Empty.{IsPoolEmpty}
 use Rattle.oz_om.specs.Held.{IsOpenAsk}
 use Rattle.oz_om.proofs.Empty.{no_block}
 use Rattle.oz_om.proofs.Picking.{held_pooled, pooled}
+use Rattle.oz_om.proofs.Tellable.{but_renames}
 use Rattle.oz_om.proofs.making.make.Goals as goal
 
 pub returns-in-Some-grant_of-clause-made : goal.returns-in-Some-grant_of-clause-made
@@ -37,7 +38,7 @@ returns-in-Ok-NoBlock-clause-refused g c =
     let ask = subst (λ (n : ℕ). IsOpenAsk c.args.ledger.now.story c.args.place c.args.id n c.in-Some.request.now) (c.number.ensures ∙ λ i. (sym c.in-Ok.ensures.same i).number) c.in-Some.ensures in (
       ask.in_time,
       λ coherent.
-          let stand = (held.keeps.stands coherent).stand in
+          let stand = but_renames (newest s.cache) (share_of s.number (namespace_of g.O.Opened.opening c.args.ledger.now.story)) (held.keeps.stands coherent).stand in
           let wants = (c.in-Ok-NoBlock.ensures.no_block (share_of s.number (namespace_of g.O.Opened.opening c.args.ledger.now.story))
           (subst (λ (cache : CacheView). Stand IsSoundButRenames (newest cache) (share_of s.number (namespace_of g.O.Opened.opening c.args.ledger.now.story))) (sym c.cached.ensures) stand)).0 c.in-Ok-NoBlock.field-0-is in
           subst (λ (n : ℕ). IsPoolEmpty g.O.Opened.opening c.args.ledger.now.story c.args.id n) (sym c.number-in-Ok-NoBlock.ensures)

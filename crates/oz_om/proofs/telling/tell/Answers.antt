@@ -38,6 +38,9 @@ enter-length-requires-clause-rooms g c =
     rooms_kept (λ (l : Book) n. slice_index l.rooms n) (stripe_seat c.args.stripe.now.number) c.args.stripe.now.taken c.args.ledger c.decide.new.ledger c.requires.rooms
     (λ n other. c.decide.ensures.others n (λ same. other (omega (arith, same, c.number.ensures, c.from-seat.ensures))))
 
+pub enter-length-requires-clause-asked : goal.enter-length-requires-clause-asked
+enter-length-requires-clause-asked g c = λ agreed. (c.requires.draft.tellable.asked (c.requires.opens.agrees.1 agreed)).whole
+
 pub returns-clause-told : goal.returns-clause-told
 returns-clause-told g c =
     let old = c.args.stripe.now in

@@ -40,16 +40,18 @@ use Rattle.std.proofs.Common.{
 }
 use Rattle.std.proofs.lemmas.Bool.{and_parts, eqb-true, le-leb, leb-true, ltb-true}
 use Rattle.std.proofs.Common.{◌&&◌, eqb, leb}
+use Rattle.oz_dellog.specs.Log.{is_done}
+use Rattle.oz_dellog.specs.declared.txn.Txn.{Txn}
 use Rattle.oz_fields.specs.Field.{IsField}
-use Rattle.oz_fields.specs.Number.{u8_bytes, u32_bytes, u64_bytes, u8_at, u32_at, u64_at}
-use Rattle.oz_fields.specs.laws.Numbers.{u8_field, u32_field, u64_field}
+use Rattle.oz_fields.specs.Number.{u8_bytes, u16_bytes, u32_bytes, u64_bytes, u8_at, u16_at, u32_at, u64_at}
+use Rattle.oz_fields.specs.laws.Numbers.{u8_field, u16_field, u32_field, u64_field}
 use Rattle.oz_journal.specs.declared.body.Body.{Body}
 use Rattle.oz_journal.specs.Body.{bodies_in}
 use Rattle.oz_scm.specs.declared.grants.entry.Entry.{Entry}
-use Rattle.oz_scm.specs.declared.grants.entry.Entry.TheVariants.{Nodes, Granted, Stepped}
+use Rattle.oz_scm.specs.declared.grants.entry.Entry.TheVariants.{Nodes, Granted, Stepped, Logged, Acked, Retired}
 use Rattle.oz_scm.specs.declared.grants.entry.Grant.{Grant}
 use Rattle.oz_scm.specs.grants.Build.{Fault, whole, body_at, behind_one, followed_by, made_from, Makes, FailsAt}
-use Rattle.oz_scm.specs.grants.Entries.{entry_bytes, grant_bytes, event_number}
+use Rattle.oz_scm.specs.grants.Entries.{entry_bytes, grant_bytes, event_number, txn_bytes, locals_bytes}
 use Rattle.oz_scm.specs.grants.Fresh.{AreFresh, said_by, said_from, grants_in}
 use Rattle.oz_scm.specs.grants.Made.{
   Made,
@@ -65,7 +67,19 @@ use Rattle.oz_scm.specs.grants.Made.{
   stepped,
   MayGrant,
   MayStep,
+  MayLog,
+  MayAck,
+  MayRetire,
   MayFollow,
+  is_next_txn,
+  is_local_count,
+  is_unretired,
+  may_ack,
+  is_owed_by,
+  log_of,
+  after_log,
+  after_ack,
+  after_retirement,
   after_grant,
   after_step,
   after_entry,
@@ -73,7 +87,10 @@ use Rattle.oz_scm.specs.grants.Made.{
 use Rattle.oz_container.specs.declared.state.Event.{Event}
 use Rattle.oz_container.specs.declared.state.Event.TheVariants as events
 use Rattle.oz_scm.specs.declared.grants.container.Container.{Container}
-use Rattle.std.specs.Option.{is_some}
+use Rattle.std.specs.FinMap.{get}
+use Rattle.std.specs.List.{AllByRecursion, flat_map}
+use Rattle.std.specs.Option.{is_some, option_map_or}
+use Rattle.oz_dellog.specs.declared.logged.Logged.{Logged as LoggedTxn}
 use Rattle.oz_scm.specs.grants.Reading.{
   goes_on,
   done,
@@ -86,7 +103,12 @@ use Rattle.oz_scm.specs.grants.Reading.{
   is_event_for,
   event_at,
   stepped_at,
-  unserved,
+  numbers_at,
+  locals_at,
+  txn_at,
+  logged_at,
+  acked_at,
+  retired_at,
   entry_at,
 }
 
@@ -158,46 +180,84 @@ stepped_follow (Some made) left bytes rest entry e =
     subst (MayFollow (Some made)) (first_of (Stepped a.0.0 b.0.0) entry b.0.1 rest b.2)
     (event_follows (container_at made.containers a.0.0) a.0.1 b.0.1 b.0.0 b.1)
 
-either : (b : Bool) (one other : List ℕ → Result (Entry × List ℕ) ℕ) (bytes : List ℕ) (x : Entry × List ℕ) → cond b one other bytes ≡ Ok x
-    → (one bytes ≡ Ok x) ⊎ (other bytes ≡ Ok x)
-either true one other bytes x e = inl e
-either false one other bytes x e = inr e
+-- so many were read behind those before
+numbers_size : (count : ℕ) (front bytes rest numbers : List ℕ) → numbers_at front count bytes ≡ Ok (numbers, rest)
+    → length numbers ≡ length front + count
+unfolding numbers_at
+numbers_size zero front bytes rest numbers e =
+    let same : front ≡ numbers = first_of front numbers bytes rest e in
+    let size = ap length same in
+    omega (arith, size)
+numbers_size (suc count) front bytes rest numbers e =
+    let a = went_on (field u64_at (λ number. true) bytes) _ (numbers, rest) e in
+    let behind = numbers_size count (front ++ a.0.0 ∷ []) a.0.1 rest numbers a.2 in
+    let one = length-more front a.0.0 in
+    omega (arith, behind, one)
+  where
+    length-more : (front : List ℕ) (x : ℕ) → length (front ++ x ∷ []) ≡ length front + 1
+    length-more [] x = refl
+    length-more (y ∷ front) x = let rest = length-more front x in omega (arith, rest)
 
-no_entry : (left : ℕ) (bytes : List ℕ) (x : Entry × List ℕ) → unserved left bytes ≡ Ok x → ⊥
-no_entry left bytes x e = absurd (cc e)
+next_follow : (made : Made) (bytes rest : List ℕ) (txn : Txn) → txn_at made bytes ≡ Ok (txn, rest) → MayLog made txn
+unfolding txn_at locals_at
+next_follow made bytes rest txn e =
+    let a = went_on (field u64_at (is_next_txn made.last_txn) bytes) _ (txn, rest) e in
+    let b = went_on (field u64_at (is_made made.containers) a.0.1) _ (txn, rest) a.2 in
+    let c = went_on (locals_at b.0.1) _ (txn, rest) b.2 in
+    let d = went_on (field u16_at is_local_count b.0.1) _ c.0 c.1 in
+    let all : length c.0.0 ≡ 0 + d.0.0 = numbers_size d.0.0 [] d.0.1 c.0.1 c.0.0 d.2 in
+    let size : length c.0.0 ≡ d.0.0 = omega (arith, all) in
+    subst (MayLog made) (first_of (record { number = a.0.0; container = b.0.0; locals = c.0.0 }) txn c.0.1 rest c.2) (record {
+      number_is = kept_ok (is_next_txn made.last_txn) (length bytes) (u64_at bytes) a.0 a.1;
+      container_is = kept_ok (is_made made.containers) (length a.0.1) (u64_at a.0.1) b.0 b.1;
+      count_is = ap is_local_count size ∙ kept_ok is_local_count (length b.0.1) (u16_at b.0.1) d.0 d.1;
+    })
 
-rest_unserved : (b4 b5 b6 : Bool) (left : ℕ) (bytes : List ℕ) (x : Entry × List ℕ)
-    → cond b4 (unserved left) (cond b5 (unserved left) (cond b6 (unserved left) (λ (bytes : List ℕ). Err left))) bytes ≡ Ok x → ⊥
-rest_unserved true b5 b6 left bytes x e = no_entry left bytes x e
-rest_unserved false true b6 left bytes x e = no_entry left bytes x e
-rest_unserved false false true left bytes x e = no_entry left bytes x e
-rest_unserved false false false left bytes x e = no_entry left bytes x e
+logged_follow : (found : Option Made) (left : ℕ) (bytes rest : List ℕ) (entry : Entry) → logged_at found left bytes ≡ Ok (entry, rest)
+    → MayFollow found entry
+unfolding logged_at
+logged_follow None left bytes rest entry e = absurd (cc e)
+logged_follow (Some made) left bytes rest entry e =
+    let a = went_on (txn_at made bytes) _ (entry, rest) e in
+    subst (MayFollow (Some made)) (first_of (Logged a.0.0) entry a.0.1 rest a.2) (next_follow made bytes a.0.1 a.0.0 a.1)
 
-abbrev rest_at : ℕ → ℕ → List ℕ → Result (Entry × List ℕ) ℕ
-rest_at left tag = cond (eqb tag 4) (unserved left)
-    (cond (eqb tag 5) (unserved left) (cond (eqb tag 6) (unserved left) (λ (bytes : List ℕ). Err left)))
+acked_follow : (found : Option Made) (left : ℕ) (bytes rest : List ℕ) (entry : Entry) → acked_at found left bytes ≡ Ok (entry, rest)
+    → MayFollow found entry
+unfolding acked_at
+acked_follow None left bytes rest entry e = absurd (cc e)
+acked_follow (Some made) left bytes rest entry e =
+    let a = went_on (field u64_at (is_unretired made) bytes) _ (entry, rest) e in
+    let b = went_on (field u8_at (may_ack made a.0.0) a.0.1) _ (entry, rest) a.2 in
+    subst (MayFollow (Some made)) (first_of (Acked a.0.0 b.0.0) entry b.0.1 rest b.2)
+    (kept_ok (may_ack made a.0.0) (length a.0.1) (u8_at a.0.1) b.0 b.1)
 
-tag_follows : (found : Option Made) (left tag : ℕ) (bytes rest : List ℕ) (entry : Entry)
-    → cond (eqb tag 1) (nodes_at found left) (cond (eqb tag 2) (granted_at found left) (cond (eqb tag 3) (stepped_at found left) (rest_at left tag))) bytes
+retired_follow : (found : Option Made) (left : ℕ) (bytes rest : List ℕ) (entry : Entry) → retired_at found left bytes ≡ Ok (entry, rest)
+    → MayFollow found entry
+unfolding retired_at
+retired_follow None left bytes rest entry e = absurd (cc e)
+retired_follow (Some made) left bytes rest entry e =
+    let a = went_on (field u64_at (is_done (log_of made)) bytes) _ (entry, rest) e in
+    subst (MayFollow (Some made)) (first_of (Retired a.0.0) entry a.0.1 rest a.2)
+    (kept_ok (is_done (log_of made)) (length bytes) (u64_at bytes) a.0 a.1)
+
+-- the entry of a tag, which is one of six readings or none
+of_tag : (b1 b2 b3 b4 b5 b6 : Bool) (found : Option Made) (left : ℕ) (bytes rest : List ℕ) (entry : Entry)
+    → cond b1 (nodes_at found left) (cond b2 (granted_at found left) (cond b3 (stepped_at found left)
+    (cond b4 (logged_at found left) (cond b5 (acked_at found left) (cond b6 (retired_at found left) (λ (bytes : List ℕ). Err left)))))) bytes
     ≡ Ok (entry, rest) → MayFollow found entry
-tag_follows found left tag bytes rest entry e =
-    elim (either (eqb tag 1) (nodes_at found left)
-    (cond (eqb tag 2) (granted_at found left) (cond (eqb tag 3) (stepped_at found left) (rest_at left tag))) bytes (entry, rest) e) [
-      | inl nodes ↦ nodes_follow found left bytes rest entry nodes
-      | inr behind ↦ elim (either (eqb tag 2) (granted_at found left)
-          (cond (eqb tag 3) (stepped_at found left) (rest_at left tag)) bytes (entry, rest) behind) [
-            | inl granted ↦ granted_follow found left bytes rest entry granted
-            | inr others ↦ elim (either (eqb tag 3) (stepped_at found left) (rest_at left tag) bytes (entry, rest) others) [
-              | inl stepped ↦ stepped_follow found left bytes rest entry stepped
-              | inr none ↦ absurd (rest_unserved (eqb tag 4) (eqb tag 5) (eqb tag 6) left bytes (entry, rest) none)
-            ]
-          ]
-    ]
+of_tag true b2 b3 b4 b5 b6 found left bytes rest entry e = nodes_follow found left bytes rest entry e
+of_tag false true b3 b4 b5 b6 found left bytes rest entry e = granted_follow found left bytes rest entry e
+of_tag false false true b4 b5 b6 found left bytes rest entry e = stepped_follow found left bytes rest entry e
+of_tag false false false true b5 b6 found left bytes rest entry e = logged_follow found left bytes rest entry e
+of_tag false false false false true b6 found left bytes rest entry e = acked_follow found left bytes rest entry e
+of_tag false false false false false true found left bytes rest entry e = retired_follow found left bytes rest entry e
+of_tag false false false false false false found left bytes rest entry e = absurd (cc e)
 
 entry_follows : (found : Option Made) (bytes rest : List ℕ) (entry : Entry) → entry_at found bytes ≡ Ok (entry, rest) → MayFollow found entry
 unfolding entry_at
 entry_follows found [] rest entry e = absurd (cc e)
-entry_follows found (tag ∷ bytes) rest entry e = tag_follows found (suc (length bytes)) tag bytes rest entry e
+entry_follows found (tag ∷ bytes) rest entry e =
+    of_tag (eqb tag 1) (eqb tag 2) (eqb tag 3) (eqb tag 4) (eqb tag 5) (eqb tag 6) found (suc (length bytes)) bytes rest entry e
 
 whole_ok : (size : ℕ) (read : Result (Entry × List ℕ) ℕ) (entry : Entry) → whole size read ≡ Ok entry → read ≡ Ok (entry, [])
 whole_ok size (Err left) entry e = absurd (cc e)
@@ -320,6 +380,84 @@ may_made made (suc place) event may =
     of None is = absurd (cc is)
     of (Some container) is = refl
 
+-- so are the entries of the log
+append_none : (front : List ℕ) → front ++ [] ≡ front
+append_none [] = refl
+append_none (x ∷ front) = ap (λ (l : List ℕ). x ∷ l) (append_none front)
+
+append_one : (front : List ℕ) (n : ℕ) (numbers : List ℕ) → (front ++ n ∷ []) ++ numbers ≡ front ++ n ∷ numbers
+append_one [] n numbers = refl
+append_one (x ∷ front) n numbers = ap (λ (l : List ℕ). x ∷ l) (append_one front n numbers)
+
+numbers_back : (numbers front : List ℕ) → AllByRecursion (λ n. n < 2 ^ 64) numbers
+    → numbers_at front (length numbers) (flat_map u64_bytes numbers) ≡ Ok (front ++ numbers, [])
+unfolding numbers_at
+numbers_back [] front fit = ap (λ (l : List ℕ). Ok (l, [])) (sym (append_none front))
+numbers_back (n ∷ numbers) front fit =
+    ap (λ (read : Result (ℕ × List ℕ) ℕ). goes_on read (λ (next : ℕ). numbers_at (front ++ next ∷ []) (length numbers)))
+    (field_back (2 ^ 64) u64_bytes u64_at (λ number. true) n (flat_map u64_bytes numbers) u64_field fit.0 refl)
+    ∙ (numbers_back numbers (front ++ n ∷ []) fit.1 ∙ ap (λ (l : List ℕ). Ok (l, [])) (append_one front n numbers))
+
+locals_back : (locals : List ℕ) → is_local_count (length locals) ≡ true → AllByRecursion (λ n. n < 2 ^ 64) locals
+    → locals_at (locals_bytes locals) ≡ Ok (locals, [])
+unfolding locals_at
+locals_back locals some fit =
+    let few : length locals ≤ 1024 = leb-true _ _ (and_parts _ _ some).1 in
+    ap (λ (read : Result (ℕ × List ℕ) ℕ). goes_on read (λ (count : ℕ). numbers_at [] count))
+    (field_back (2 ^ 16) u16_bytes u16_at is_local_count (length locals) (flat_map u64_bytes locals) u16_field (omega (arith, few)) some)
+    ∙ numbers_back locals [] fit
+
+txn_rest : (txn : Txn) → txn_bytes txn ≡ u64_bytes txn.number ++ (u64_bytes txn.container ++ locals_bytes txn.locals)
+unfolding u64_bytes
+txn_rest txn = refl
+
+txn_back : (made : Made) (txn : Txn) → txn.number < 2 ^ 64 → txn.container < 2 ^ 64 → AllByRecursion (λ n. n < 2 ^ 64) txn.locals → MayLog made txn
+    → txn_at made (u64_bytes txn.number ++ (u64_bytes txn.container ++ locals_bytes txn.locals)) ≡ Ok (txn, [])
+unfolding txn_at
+txn_back made txn one two fit may =
+    ap (λ (read : Result (ℕ × List ℕ) ℕ). goes_on read
+    (λ (number : ℕ) (bytes : List ℕ). goes_on (field u64_at (is_made made.containers) bytes)
+    (λ (container : ℕ) (bytes : List ℕ). goes_on (locals_at bytes)
+    (λ (locals : List ℕ). done (record { number = number; container = container; locals = locals })))))
+    (field_back (2 ^ 64) u64_bytes u64_at (is_next_txn made.last_txn) txn.number (u64_bytes txn.container ++ locals_bytes txn.locals) u64_field one may.number_is)
+    ∙ (ap (λ (read : Result (ℕ × List ℕ) ℕ). goes_on read
+    (λ (container : ℕ) (bytes : List ℕ). goes_on (locals_at bytes)
+    (λ (locals : List ℕ). done (record { number = txn.number; container = container; locals = locals }))))
+    (field_back (2 ^ 64) u64_bytes u64_at (is_made made.containers) txn.container (locals_bytes txn.locals) u64_field two may.container_is)
+    ∙ ap (λ (read : Result (List ℕ × List ℕ) ℕ). goes_on read
+    (λ (locals : List ℕ). done (record { number = txn.number; container = txn.container; locals = locals })))
+    (locals_back txn.locals may.count_is fit))
+
+pub logged_back : (made : Made) (txn : Txn) → txn.number < 2 ^ 64 → txn.container < 2 ^ 64 → AllByRecursion (λ n. n < 2 ^ 64) txn.locals → MayLog made txn
+    → body_at (Some made) (entry_bytes (Logged txn)) ≡ Ok (Logged txn)
+unfolding entry_at logged_at
+logged_back made txn one two fit may =
+    ap (λ (read : Result (Txn × List ℕ) ℕ). whole (length (entry_bytes (Logged txn))) (goes_on read (λ (txn : Txn). done (Logged txn))))
+    (ap (txn_at made) (txn_rest txn) ∙ txn_back made txn one two fit may)
+
+pub acked_back : (made : Made) (number dn : ℕ) → number < 2 ^ 64 → dn < 2 ^ 8 → MayAck made number dn
+    → body_at (Some made) (entry_bytes (Acked number dn)) ≡ Ok (Acked number dn)
+unfolding entry_at acked_at
+acked_back made number dn one two may =
+    ap (whole (length (entry_bytes (Acked number dn)))) (
+    ap (λ (read : Result (ℕ × List ℕ) ℕ). goes_on read
+    (λ (number : ℕ) (bytes : List ℕ). goes_on (field u8_at (may_ack made number) bytes) (λ (dn : ℕ). done (Acked number dn))))
+    (field_back (2 ^ 64) u64_bytes u64_at (is_unretired made) number (u8_bytes dn) u64_field one (owed_there (get made.unretired number) made dn may))
+    ∙ ap (λ (read : Result (ℕ × List ℕ) ℕ). goes_on read (λ (dn : ℕ). done (Acked number dn)))
+    (field_back (2 ^ 8) u8_bytes u8_at (may_ack made number) dn [] u8_field two may))
+  where
+    owed_there : (o : Option LoggedTxn) (made : Made) (dn : ℕ) → option_map_or (is_owed_by made dn) o false ≡ true → is_some o ≡ true
+    owed_there None made dn is = absurd (cc is)
+    owed_there (Some logged) made dn is = refl
+
+pub retired_back : (made : Made) (number : ℕ) → number < 2 ^ 64 → MayRetire made number
+    → body_at (Some made) (entry_bytes (Retired number)) ≡ Ok (Retired number)
+unfolding entry_at retired_at u64_bytes
+retired_back made number fits may =
+    ap (whole (length (entry_bytes (Retired number)))) (
+    ap (λ (read : Result (ℕ × List ℕ) ℕ). goes_on read (λ (number : ℕ). done (Retired number)))
+    (field_back (2 ^ 64) u64_bytes u64_at (is_done (log_of made)) number [] u64_field fits may))
+
 -- so is a step
 pub step_back : (made : Made) (container : ℕ) (event : Event) → container < 2 ^ 64 → MayStep made container event
     → body_at (Some made) (entry_bytes (Stepped container event)) ≡ Ok (Stepped container event)
@@ -336,7 +474,7 @@ step_back made container event fits may =
 
 -- ---- bodies one after another
 
-followed_ok : (read : Result Entry ℕ) (next : Entry → Result (Option Made) Fault) (x : Option Made) → followed_by read next ≡ Ok x → (entry : Entry)
+pub followed_ok : (read : Result Entry ℕ) (next : Entry → Result (Option Made) Fault) (x : Option Made) → followed_by read next ≡ Ok x → (entry : Entry)
     × (read ≡ Ok entry) × (next entry ≡ Ok x)
 followed_ok (Err at) next x e = absurd (cc e)
 followed_ok (Ok entry) next x e = (entry, refl, unbehind (next entry) x e)
@@ -463,6 +601,9 @@ entry_fresh (Granted stripe grant) bodies made later follows rest =
     let first : grant.first ≡ made.next_id = eqb-true _ _ (and_parts _ _ follows.1.first_is).0 in
     (omega (arith, first), rest (after_grant grant made) refl)
 entry_fresh (Stepped container event) bodies made later follows rest = rest (after_step container event made) refl
+entry_fresh (Logged txn) bodies made later follows rest = rest (after_log txn made) refl
+entry_fresh (Acked number dn) bodies made later follows rest = rest (after_ack number dn made) refl
+entry_fresh (Retired number) bodies made later follows rest = rest (after_retirement number made) refl
 
 fresh_from : (bodies : List (List ℕ)) (made later : Made) → made_from (Some made) bodies ≡ Ok (Some later)
     → AreFresh made.next_id (said_from (Some made) bodies) later.next_id
@@ -481,6 +622,9 @@ first_fresh : (entry : Entry) (bodies : List (List ℕ)) (made : Made) → MayFo
 first_fresh (Nodes count) bodies made follows rest = rest (begun count) refl
 first_fresh (Granted stripe grant) bodies made follows rest = absurd follows
 first_fresh (Stepped container event) bodies made follows rest = absurd follows
+first_fresh (Logged txn) bodies made follows rest = absurd follows
+first_fresh (Acked number dn) bodies made follows rest = absurd follows
+first_fresh (Retired number) bodies made follows rest = absurd follows
 
 pub fresh : (bodies : List (List ℕ)) (made : Made) → Makes bodies (Some made) → AreFresh 1 (grants_in bodies) made.next_id
 unfolding made_from said_from
@@ -528,6 +672,21 @@ step_made bodies made container event makes may fits =
     makes_push None bodies (Some made) (entry_bytes (Stepped container event)) (Stepped container event) makes
     (step_back made container event fits may)
 
+pub log_made : (bodies : List (List ℕ)) (made : Made) (txn : Txn) → Makes bodies (Some made) → MayLog made txn → txn.number < 2 ^ 64
+    → txn.container < 2 ^ 64 → AllByRecursion (λ n. n < 2 ^ 64) txn.locals → Makes (bodies ++ entry_bytes (Logged txn) ∷ []) (Some (after_log txn made))
+log_made bodies made txn makes may one two fit =
+    makes_push None bodies (Some made) (entry_bytes (Logged txn)) (Logged txn) makes (logged_back made txn one two fit may)
+
+pub ack_made : (bodies : List (List ℕ)) (made : Made) (number dn : ℕ) → Makes bodies (Some made) → MayAck made number dn → number < 2 ^ 64
+    → dn < 2 ^ 8 → Makes (bodies ++ entry_bytes (Acked number dn) ∷ []) (Some (after_ack number dn made))
+ack_made bodies made number dn makes may one two =
+    makes_push None bodies (Some made) (entry_bytes (Acked number dn)) (Acked number dn) makes (acked_back made number dn one two may)
+
+pub retirement_made : (bodies : List (List ℕ)) (made : Made) (number : ℕ) → Makes bodies (Some made) → MayRetire made number → number < 2 ^ 64
+    → Makes (bodies ++ entry_bytes (Retired number) ∷ []) (Some (after_retirement number made))
+retirement_made bodies made number makes may fits =
+    makes_push None bodies (Some made) (entry_bytes (Retired number)) (Retired number) makes (retired_back made number fits may)
+
 -- ---- what was made stays
 
 still_made : (bodies : List (List ℕ)) (made : Made) → made_from (Some made) bodies ≡ Ok None → ⊥
@@ -542,6 +701,9 @@ still_made (bytes ∷ bodies) made e =
     of_entry (Nodes count) rest follows = follows
     of_entry (Granted stripe grant) rest follows = rest (after_grant grant made) refl
     of_entry (Stepped container event) rest follows = rest (after_step container event made) refl
+    of_entry (Logged txn) rest follows = rest (after_log txn made) refl
+    of_entry (Acked number dn) rest follows = rest (after_ack number dn made) refl
+    of_entry (Retired number) rest follows = rest (after_retirement number made) refl
 
 -- only no body makes nothing
 pub none_makes : (bodies : List (List ℕ)) → Makes bodies None → bodies ≡ []
@@ -556,3 +718,6 @@ none_makes (bytes ∷ bodies) e =
     of_entry (Nodes count) rest follows = rest (begun count) refl
     of_entry (Granted stripe grant) rest follows = follows
     of_entry (Stepped container event) rest follows = follows
+    of_entry (Logged txn) rest follows = follows
+    of_entry (Acked number dn) rest follows = follows
+    of_entry (Retired number) rest follows = follows

@@ -20,7 +20,9 @@ use Rattle.oz_running.specs.status.Status.TheVariants as status
 use Rattle.oz_running.specs.NamedHalts.{StatusNamesHalts}
 use Rattle.oz_running.specs.store_opening.Openings.{opening_bytes, opening_of}
 use Rattle.oz_running.specs.declared.disk_run.disks.Disks.{Disks}
+use Rattle.oz_rows.specs.RowMaps.{row_of}
 use Rattle.oz_running.specs.disk_run.StoreRun.{IsStoreRun}
+use Rattle.oz_running.specs.disk_run.laws.Sounds.{but_renames}
 use Rattle.oz_script.specs.declared.lines.script.Script.{Script}
 use Rattle.oz_world.specs.Disk.{Seen, seen}
 use Rattle.oz_world.specs.Faults.{Rose}
@@ -124,7 +126,7 @@ returns-clause-one_transfer g c =
         headline = λ namespace coherent.
             let history = (over.coherent namespace coherent).headline in
             let opening = opening_of over.unseated namespace store.nodes.scm.made store.nodes.datanodes in
-            let whole = c.all_disks_are_a_store.ensures.store over.bodies over.unseated over.loaded namespace store.nodes.scm.made store.nodes.datanodes coherent.stands coherent.sound store.fresh coherent.agree in (
+            let whole = c.all_disks_are_a_store.ensures.store over.bodies over.unseated over.loaded namespace store.nodes.scm.made store.nodes.datanodes coherent.stands (but_renames (row_of over.loaded.all) coherent.sound) store.fresh coherent.agree in (
               history,
               told_means opening (opening_bytes see store.nodes.datanodes) path given story whole.disks.fresh
                   (λ before it legal fits done.

@@ -9,7 +9,7 @@ use Rattle.oz_locks.proofs.stripe.Stripe.grant.Goals as goal
 pub invariant_of-self-2 : goal.invariant_of-self-2
 invariant_of-self-2 g c =
     let s = c.self.inside in
-    (whole_known _ _ _ _ _ _ _ _ _ _ _ _ _ _ _ _ c.self.view_is c.self.invariant c.requires.story c.requires.fit c.requires.fresh
+    (whole_known _ _ _ _ _ _ _ _ _ _ _ _ _ _ _ _ _ c.self.view_is c.self.invariant c.requires.story c.requires.fit c.requires.fresh
     (take_rest c.args.story.now s.known)
     (λ fit. c.add_granted.ensures fit
     ∙ ap (λ (l : List FreeBlock). l ++ blocks_granted s.number (take (length c.args.story.now - s.known) (drop s.known c.args.story.now))) c.in_ok-reserve.ensures.items)).1
@@ -23,7 +23,7 @@ returns-clause-ok g c =
 pub returns-clause-pool : goal.returns-clause-pool
 returns-clause-pool g c =
     let s = c.self.inside in
-    (whole_known _ _ _ _ _ _ _ _ _ _ _ _ _ _ _ _ c.self.view_is c.self.invariant c.requires.story c.requires.fit c.requires.fresh
+    (whole_known _ _ _ _ _ _ _ _ _ _ _ _ _ _ _ _ _ c.self.view_is c.self.invariant c.requires.story c.requires.fit c.requires.fresh
     (take_rest c.args.story.now s.known)
     (λ fit. c.add_granted.ensures fit
     ∙ ap (λ (l : List FreeBlock). l ++ blocks_granted s.number (take (length c.args.story.now - s.known) (drop s.known c.args.story.now))) c.in_ok-reserve.ensures.items)).0

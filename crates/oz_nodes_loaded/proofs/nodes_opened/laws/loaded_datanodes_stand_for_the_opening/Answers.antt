@@ -26,7 +26,8 @@ pub returns-clause-there : goal.returns-clause-there
 returns-clause-there g c = λ unseated namespace made nodes dn node at. there_at (λ (n : Datanode g.row.D.Denot). opened_node n.blocks.held) nodes dn node at
 
 pub returns-clause-numbered : goal.returns-clause-numbered
-returns-clause-numbered g c = λ unseated namespace made nodes unretired among. absurd (omega (arith, among.1))
+returns-clause-numbered g c = λ disk scm disks nodes unseated namespace from are.
+    (c.a_loaded_scm_stands_for_the_opening.ensures.ordered disk scm disks nodes unseated namespace from are).old
 
 pub returns-clause-journal : goal.returns-clause-journal
 returns-clause-journal g c = λ disks nodes dn node tell are at.

@@ -27,4 +27,5 @@ returns-clause-only g c = λ all opening bytes store. record {
   digests_match = store.disks.blocks.digests_match;
   alike = store.disks.blocks.alike;
   whole = store.disks.blocks.whole;
+  logged = store.disks.log;
 }

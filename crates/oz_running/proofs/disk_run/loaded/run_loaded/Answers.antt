@@ -69,8 +69,9 @@ run_told-requires-clause-counted g c lives within = record {
 
 pub run_told-requires-clause-old : goal.run_told-requires-clause-old
 run_told-requires-clause-old g c lives within agree =
+    let from = c.requires.others in
     let unseated = c.args.unseated in
-    c.loaded_datanodes_stand_for_the_opening.ensures.numbered unseated (namespace_shown unseated.parts) c.args.scm.made c.args.nodes.items
+    c.loaded_datanodes_stand_for_the_opening.ensures.numbered from.disk c.args.scm from.disks c.args.nodes.items unseated (namespace_shown unseated.parts) from.scm_from from.nodes_from
 
 pub run_told-requires-clause-parts : goal.run_told-requires-clause-parts
 run_told-requires-clause-parts g c lives within =

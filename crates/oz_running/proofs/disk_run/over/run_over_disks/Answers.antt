@@ -7,6 +7,7 @@ use Rattle.oz_running.specs.declared.disk_run.disks.Disks.{Disks}
 use Rattle.oz_running.specs.disk_run.Refused.{AreAtMostLoaded, IsRefusedFor}
 use Rattle.oz_running.specs.disk_run.Reopens.{ScmReopens}
 use Rattle.oz_running.specs.disk_run.Coherent.{IsCoherentStore}
+use Rattle.oz_running.specs.disk_run.laws.Sounds.{but_renames}
 use Rattle.oz_running.specs.disk_run.Disks.{counts_loaded, others_of}
 use Rattle.oz_running.specs.disk_run.Shown.{ShowStore}
 use Rattle.oz_running.specs.disk_run.StoreRun.{IsStoreRun}
@@ -178,7 +179,7 @@ returns-in-Ok-run_loaded-clause-ran g c =
         coherent = λ namespace coherent.
             let shown = c.parts_show_their_namespace.ensures (row_of this.all) unseated.parts namespace stripes coherent.stands in
             one_history see script others nodes before mounted ran bodies unseated this rows journal load.telling _
-            namespace shown loaded.ensures.nodes coherent (c.all_disks_are_a_store.ensures.store bodies unseated this namespace scm.made datanodes coherent.stands coherent.sound fresh coherent.agree) fit
+            namespace shown loaded.ensures.nodes coherent (c.all_disks_are_a_store.ensures.store bodies unseated this namespace scm.made datanodes coherent.stands (but_renames (row_of this.all) coherent.sound) fresh coherent.agree) fit
             (told_of see script others nodes before mounted ran bodies unseated this rows journal load.telling _ namespace shown told);
         scm = λ namespace. scm_over D.faults unseated (namespace_shown unseated.parts) namespace nodes (counts_loaded see (D.faults mounted) nodes) ran.story.items ran.scm told.run.scm;
         datanodes = λ namespace.

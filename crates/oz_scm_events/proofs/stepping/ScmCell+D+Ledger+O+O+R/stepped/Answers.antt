@@ -1,0 +1,87 @@
+use Rattle.std.proofs.Common.{sym, ap, ◌∙◌, subst}
+use Rattle.oz_core.specs.declared.event.Node.TheVariants.{Scm as ScmNode}
+use Rattle.oz_core.specs.Seats.{scm_seat}
+use Rattle.oz_scm_events.specs.Kept.{IsKept}
+use Rattle.oz_scm.specs.Applying.{Applies}
+use Rattle.oz_scm_events.specs.Granted.{with_told}
+use Rattle.oz_scm_events.specs.Stepped.{MayStep}
+use Rattle.oz_scm_events.proofs.Enabled.{halted_stepped, step_follows}
+use Rattle.oz_scm_events.proofs.Kept.{begins_as, begins_then, kept_seen, kept_stepped, same_answer, says_stepped}
+use Rattle.oz_scm_events.proofs.Left.{left_same}
+use Rattle.oz_world.specs.Disk.{seen}
+use Rattle.oz_turn.specs.Seat.{mine_of, number_of, seen_of, IsReady}
+use Rattle.oz_scm_events.proofs.stepping.ScmCell+D+Ledger+O+O+R.stepped.Goals as goal
+
+pub tell-requires-clause-follows : goal.tell-requires-clause-follows
+tell-requires-clause-follows g c =
+    let O = g.O.Opened in
+    let own = c.reserve.ensures in
+    let before = c.reserve.new.seat in
+    let given = own.mine ∙ ap (λ v. v.mine) c.self.view_is in
+    let kept = kept_seen O.opening c.self.inside.scm _ _ _ (seen_of before) (mine_of before) c.self.invariant.1 own.mine own.known in
+    step_follows O.coherent O.opening O.bytes O.script c.self.inside.scm _ (seen_of before) (mine_of before) kept c.apply-applied.new.self c.args.container c.args.event _ _
+    (number_of c.args.seat.now) (seen_of c.args.seat.now) (mine_of c.args.seat.now) c.apply-applied.result c.seat_answer-answer.result c.told_of_step-told.result
+    c.told_of_step-told.ensures c.seat_answer-answer.ensures (sym c.stopped.ensures.stopped ∙ c.if-stopped.false) c.apply-applied.ensures
+    (λ coherent. subst (λ l. MayStep O.opening O.script (seen_of c.args.seat.now) l c.args.container c.args.event) (sym given) (c.requires.may coherent))
+
+pub invariant_of-self : goal.invariant_of-self
+invariant_of-self g c =
+    let O = g.O.Opened in
+    let old = c.self.inside.scm in
+    let new = c.apply-halted.new.self in
+    let seat = c.self.inside.seat in
+    let same = c.apply-halted.ensures.still (sym c.stopped.ensures.stopped ∙ c.if-stopped.true) in (
+      c.self.invariant.0,
+      subst (λ s. IsKept O.opening (O.faults ScmNode) s (g.D.Disk.faults s.disk) (seen_of seat) (mine_of seat)) (sym same) c.self.invariant.1,
+      λ coherent.
+          left_same (λ d. seen (g.D.Disk.told d) (g.D.Disk.clock d) (g.D.Disk.image d) (g.D.Disk.faults d)) O.opening old new (seen_of seat) same (c.self.invariant.2 coherent),
+    )
+
+pub invariant_of-self-2 : goal.invariant_of-self-2
+invariant_of-self-2 g c =
+    let O = g.O.Opened in
+    let own = c.reserve.ensures in
+    let before = c.reserve.new.seat in
+    let given = own.mine ∙ ap (λ v. v.mine) c.self.view_is in
+    let seat = c.tell.new.seat in
+    let kept = kept_seen O.opening c.self.inside.scm _ _ _ (seen_of before) (mine_of before) c.self.invariant.1 own.mine own.known in (
+      subst (λ t. IsReady t scm_seat seat) c.requires.turn c.tell.ensures.ready,
+      kept_stepped O.opening c.self.inside.scm c.apply-applied.new.self c.args.container c.args.event _ _ (seen_of before) (mine_of before) (seen_of seat) (mine_of seat) kept
+          (sym c.stopped.ensures.stopped ∙ c.if-stopped.false) c.apply-applied.result c.seat_answer-answer.result c.seat_answer-answer.ensures c.apply-applied.ensures
+          (c.tell.ensures.mine ∙ ap (λ o. with_told o (mine_of before)) c.told_of_step-told.ensures) c.tell.ensures.known,
+      halted_stepped O.coherent O.opening O.bytes O.script c.self.inside.scm _ (seen_of before) (mine_of before) kept c.apply-applied.new.self c.args.container c.args.event _ _
+          (number_of c.args.seat.now) (seen_of c.args.seat.now) (mine_of c.args.seat.now) (seen_of seat) c.apply-applied.result c.seat_answer-answer.result c.told_of_step-told.result
+          c.told_of_step-told.ensures c.seat_answer-answer.ensures (sym c.stopped.ensures.stopped ∙ c.if-stopped.false) c.apply-applied.ensures
+          (λ coherent. subst (λ l. MayStep O.opening O.script (seen_of c.args.seat.now) l c.args.container c.args.event) (sym given) (c.requires.may coherent))
+          c.tell.ensures.told,
+    )
+
+pub returns-clause-refused : goal.returns-clause-refused
+returns-clause-refused g c =
+    let O = g.O.Opened in
+    let own = c.reserve.ensures in
+    let before = c.reserve.new.seat in
+    let seat = c.tell.new.seat in
+    let kept = kept_seen O.opening c.self.inside.scm _ _ _ (seen_of before) (mine_of before) c.self.invariant.1 own.mine own.known in
+    let after =
+    kept_stepped O.opening c.self.inside.scm c.apply-applied.new.self c.args.container c.args.event _ _ (seen_of before) (mine_of before) (seen_of seat) (mine_of seat) kept
+    (sym c.stopped.ensures.stopped ∙ c.if-stopped.false) c.apply-applied.result c.seat_answer-answer.result c.seat_answer-answer.ensures c.apply-applied.ensures
+    (c.tell.ensures.mine ∙ ap (λ o. with_told o (mine_of before)) c.told_of_step-told.ensures) c.tell.ensures.known in
+    says_stepped O.opening c.self.inside.scm c.apply-applied.new.self c.args.container c.args.event _ _ (seen_of seat) (mine_of seat) after c.apply-applied.result c.seat_answer-answer.result
+    c.seat_answer-answer.ensures c.apply-applied.ensures
+
+pub returns-clause-steps : goal.returns-clause-steps
+returns-clause-steps g c answer is =
+    let new = c.apply-applied.new.self in
+    let after = seen (g.D.Disk.told new.disk) (g.D.Disk.clock new.disk) (g.D.Disk.image new.disk) (g.D.Disk.faults new.disk) in
+    let same = same_answer c.apply-applied.result answer c.seat_answer-answer.result c.seat_answer-answer.ensures is in
+    subst (λ v. Applies c.args.container c.args.event v.scm new (seen (g.D.Disk.told v.scm.disk) (g.D.Disk.clock v.scm.disk) (g.D.Disk.image v.scm.disk) (g.D.Disk.faults v.scm.disk)) after answer)
+    c.self.view_is
+    (subst (λ answer. Applies c.args.container c.args.event c.self.inside.scm new
+    (seen (g.D.Disk.told c.self.inside.scm.disk) (g.D.Disk.clock c.self.inside.scm.disk) (g.D.Disk.image c.self.inside.scm.disk) (g.D.Disk.faults c.self.inside.scm.disk)) after answer) same
+    c.apply-applied.ensures)
+
+pub returns-clause-goes_on : goal.returns-clause-goes_on
+returns-clause-goes_on g c =
+    begins_as _ _ _ (ap (λ v. v.seen) c.self.view_is)
+    (begins_then (seen_of c.reserve.new.seat) (seen_of c.tell.new.seat) (seen_of c.self.inside.seat) c.tell.ensures.goes_on c.reserve.ensures.goes_on)

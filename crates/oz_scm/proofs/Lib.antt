@@ -9,4 +9,5 @@ pub mod Numbered
 pub mod Ordered
 pub mod Places
 pub mod Sizes
+pub mod Unlogged
 pub mod grants_lemmas

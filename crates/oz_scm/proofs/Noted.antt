@@ -100,6 +100,13 @@ module _ {D : Type 0} (told : D → Option (List ℕ)) (clock : D → ℕ) (imag
         never_falls = appends.settled.cause.never_falls;
       }
 
+      -- the disk failed, and what was made in memory before is as it was
+      pub halted_as : {T U E : Type 0} (reached : Made) → reached ≡ made → (x : E) (count : ℕ) → stops ≡ true → count ≡ faults after → Appends {T = U} {E = E} body (at before) (at after) (Err x)
+          → Notes {D = D} {T = T} entry (now before stopped made up) (now after stops reached up) (at before) (at after) (Err count)
+      halted_as {T} {U} {E} reached back x count stopping is appends =
+          subst (λ (m : Made). Notes {D = D} {T = T} entry (now before stopped made up) (now after stops m up) (at before) (at after) (Err count)) (sym back)
+          (halted {T = T} {U = U} {E = E} x count stopping is appends)
+
       -- it is added
       pub went : {T U E : Type 0} (reached : Made) (x : U) (answer : T) → reached ≡ later → stops ≡ false → Appends {T = U} {E = E} body (at before) (at after) (Ok x)
           → Notes {D = D} {T = T} entry (now before stopped made up) (now after stops reached up) (at before) (at after) (Ok answer)

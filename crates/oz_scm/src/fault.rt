@@ -1,7 +1,8 @@
-//! Why nothing is loaded, why nothing is granted, and why no container goes on.
+//! Why nothing is loaded, why nothing is granted, why no container goes on, and why no deletion is logged.
 
 ghost use Rattle.std.specs.Prelude.{◌≡◌};
 ghost use Rattle.oz_scm.specs.declared.fault.GrantFault.TheVariants.{OutOfMemory as NoMemory};
+ghost use Rattle.oz_scm.specs.declared.fault.ScmStop.TheVariants.{OutOfMemory as WantsMemory};
 
 use oz_container::{Event, State};
 use oz_fields::OutOfMemory;
@@ -45,10 +46,26 @@ pub enum ApplyFault {
     WrongState { state: State, event: Event },
 }
 
+/// Why no further deletion was logged.
+#[derive(Clone, Copy, Debug, PartialEq, Eq)]
+pub enum ScmStop {
+    /// The disk failed, in this call or an earlier one: how often it has failed so far.
+    Stopped { count: u64 },
+    OutOfMemory,
+}
+
 impl From<OutOfMemory> for GrantFault {
     ghost from_gives = { λ _ fault. fault ≡ NoMemory };
 
     fn from(_: OutOfMemory) -> GrantFault {
         GrantFault::OutOfMemory
+    }
+}
+
+impl From<OutOfMemory> for ScmStop {
+    ghost from_gives = { λ _ stop. stop ≡ WantsMemory };
+
+    fn from(_: OutOfMemory) -> ScmStop {
+        ScmStop::OutOfMemory
     }
 }

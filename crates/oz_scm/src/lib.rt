@@ -13,7 +13,7 @@ mod planning;
 mod scm;
 mod stepping;
 
-pub use fault::{ApplyFault, GrantFault, ScmFault};
+pub use fault::{ApplyFault, GrantFault, ScmFault, ScmStop};
 pub use grants::{
     BuildFault, Container, Containers, Entry, FIRST_ID, GRANTED_IDS, Grant, MOST_GRANTED,
     an_entry_is_one_body_more, are_ids_spent, bodies_make_one_thing, build, encode_acked,

@@ -10,11 +10,12 @@ ghost use Rattle.oz_scm.specs.grants.Counts.{AreCounts};
 ghost use Rattle.oz_dellog.specs.Log.{IsLogged, is_done, pending};
 ghost use Rattle.oz_dellog.specs.declared.logged.Logged.{Logged as AnyLogged};
 ghost use Rattle.oz_scm.specs.declared.grants.entry.Entry.TheVariants.{Acked as Acks, Retired as Retires};
+ghost use Rattle.oz_scm.specs.Logging.{Logs};
 ghost use Rattle.oz_scm.specs.Noting.{Notes};
 ghost use Rattle.std.specs.FinMap.{entries};
 ghost use Rattle.std.specs.Map.Iter.{ShowsInOrder, deref_pair};
 ghost use Rattle.oz_scm.specs.grants.Log.{IsOrdered};
-ghost use Rattle.oz_scm.specs.grants.Made.{container_at, state_at, MayAck, MayRetire, may_ack, log_of};
+ghost use Rattle.oz_scm.specs.grants.Made.{container_at, state_at, MayLog, MayAck, MayRetire, may_ack, log_of};
 ghost use Rattle.oz_journal.specs.Grammar.{IsJournal, TellsBodies};
 ghost use Rattle.oz_journal.specs.Load.{IsLoadable};
 ghost use Rattle.oz_names.specs.declared.limits.TheConstants.{STRIPES};
@@ -29,10 +30,10 @@ ghost use Rattle.oz_world.specs.Moments.{Elapses, Spans};
 use crate::adding::{add, check};
 use crate::beginning::found_or_first;
 use crate::choosing::due;
-use crate::fault::{ApplyFault, GrantFault, ScmFault};
+use crate::fault::{ApplyFault, GrantFault, ScmFault, ScmStop};
 use crate::grants::{Container, Containers, Grant, encode_acked, encode_retired, encode_stepped};
 use crate::loading::containers_of;
-use crate::planning::plan_grant;
+use crate::planning::{has_numbers, plan_grant, plan_log};
 use crate::stepping::led_to;
 use oz_container::{Event, State};
 use oz_dellog::{Logged, Txn};
@@ -226,6 +227,29 @@ impl<D: Disk> Scm<D> {
             return Err(count);
         };
         self.containers.retire(number);
+        Ok(())
+    }
+
+    /// Logs the deletion of blocks: a transaction of one container that was made, with the next number (`last_txn`) and at most
+    /// 1,024 ids. It takes memory before it writes, and is stable when it is answered.
+    pub fn log_txn(&mut self, alloc: Global, txn: &Txn) -> Result<(), ScmStop>
+        requires { MayLog self.old.made txn.now }
+        ensures { Logs txn.now self.old self.new
+            (seen (D.told self.old.disk) (D.clock self.old.disk) (D.image self.old.disk) (D.faults self.old.disk))
+            (seen (D.told self.new.disk) (D.clock self.new.disk) (D.image self.new.disk) (D.faults self.new.disk))
+            result }
+    {
+        let Ok(()) = check(&self.journal) else {
+            let count = self.journal.faults();
+            return Err(ScmStop::Stopped { count });
+        };
+        has_numbers(txn);
+        let mut frame = plan_log(alloc, &mut self.containers, txn)?;
+        let Ok(()) = add(&mut self.journal, &mut frame) else {
+            self.containers.unlog();
+            let count = self.journal.faults();
+            return Err(ScmStop::Stopped { count });
+        };
         Ok(())
     }
 

@@ -1,9 +1,11 @@
 -- For private calls: what reading gives, and what containers in memory keep.
-use Rattle.std.specs.Prelude.{◌≡◌, ◌⊎◌, ℕ, ◌*◌, ◌<◌, ◌≤◌, ◌↔◌, min, List, [], ◌∷◌, Option, Some, None, Result, Ok, Err}
+use Rattle.std.specs.Prelude.{◌≡◌, ◌⊎◌, ℕ, ◌*◌, ◌-◌, ◌<◌, ◌≤◌, ◌↔◌, min, List, [], ◌∷◌, Option, Some, None, Result, Ok, Err}
 use Rattle.std.specs.Prelude.{length, All}
-use Rattle.std.specs.FinMap.{get}
+use Rattle.std.specs.FinMap.{get, remove}
 use Rattle.std.specs.Option.{option_map}
 use Rattle.oz_dellog.specs.Log.{Log}
+use Rattle.oz_dellog.specs.Logged.{nobody}
+use Rattle.oz_dellog.specs.declared.logged.Logged.{Logged}
 use Rattle.oz_fields.specs.declared.block.TheConstants.{GREATEST_BLOCK_NUMBER}
 use Rattle.oz_nodes.specs.declared.nodes.TheConstants.{FEWEST_NODES, MOST_NODES}
 use Rattle.oz_nodes.specs.Pipelines.{pipelines_of}
@@ -63,6 +65,17 @@ pub record IsSound (made : Made) : Type 0 where
   pub few : 64 * length made.containers < made.next_id
   pub within : made.next_id ≤ GREATEST_BLOCK_NUMBER
   pub below : AreBelow made
+
+-- The transaction that was logged last is there, and nobody acknowledged it.
+pub record IsLastNew (made : Made) : Type 0 where
+  pub drawn : 1 ≤ made.last_txn
+  pub logged : Logged
+  pub there : get made.unretired made.last_txn ≡ Some logged
+  pub fresh : logged.acknowledged ≡ nobody
+
+-- what there was before that
+abbrev pub without_last : Made → Made
+without_last made = record made { last_txn = made.last_txn - 1; unretired = remove made.unretired made.last_txn }
 
 -- an entry that is a whole body, and what it makes
 pub record IsStep (before : Option Made) (bytes : List ℕ) (after : Option Made) : Type 0 where

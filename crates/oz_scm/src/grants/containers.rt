@@ -1,6 +1,6 @@
 //! The containers that were made, in memory, and the next ids.
 
-ghost use Rattle.std.specs.Prelude.{◌≡◌, ◌⊎◌, ◌↔◌, ◌<◌, ◌≤◌, ◌+◌, ◌^◌, ℕ, [], length, IsTrue, OnOk, OnErr, IfOk, IfSome, IfNone};
+ghost use Rattle.std.specs.Prelude.{◌≡◌, ◌⊎◌, ◌↔◌, ◌<◌, ◌≤◌, ◌+◌, ◌^◌, ℕ, [], length, IsTrue, OnOk, OnErr, IfOk, IfSome, IfNone, IsSomeAnd};
 ghost use Rattle.std.specs.Prelude.{filter, nat_eq, nat_lt, not, map, suc, ◌==◌, if◌then◌else◌};
 ghost use Rattle.std.specs.List.{range_with_len};
 ghost use Rattle.oz_container.specs.declared.state.State.TheVariants.{Open};
@@ -15,10 +15,10 @@ ghost use Rattle.oz_scm.specs.grants.Made.{stepped as after_event, is_unretired,
 ghost use Rattle.oz_scm.specs.grants.Made.{MayLog, MayAck, MayRetire, after_log, after_ack, after_retirement};
 ghost use Rattle.oz_dellog.specs.Log.{IsLogged, is_done, pending};
 ghost use Rattle.oz_dellog.specs.declared.logged.Logged.{Logged as AnyLogged};
-ghost use Rattle.std.specs.FinMap.{entries};
+ghost use Rattle.std.specs.FinMap.{entries, get, remove};
 ghost use Rattle.std.specs.Map.Iter.{ShowsInOrder, deref_pair};
-ghost use Rattle.oz_dellog.specs.Logged.{acknowledgement_count};
-ghost use Rattle.oz_scm.specs.grants.Steps.{IsLowestOf, IsLowered, IsSound};
+ghost use Rattle.oz_dellog.specs.Logged.{acknowledgement_count, nobody};
+ghost use Rattle.oz_scm.specs.grants.Steps.{IsLowestOf, IsLowered, IsSound, IsLastNew, without_last};
 ghost use Rattle.oz_nodes.specs.declared.nodes.TheConstants.{FEWEST_NODES as fewest, MOST_NODES as most_nodes};
 
 use crate::grants::container::Container;
@@ -342,6 +342,8 @@ impl Containers {
     pub fn log_txn(&mut self, alloc: Global, txn: Txn) -> Result<(), OutOfMemory>
         requires { MayLog self.old.made txn }
         ensures logged { OnOk result (self.new.made ≡ after_log txn self.old.made) }
+        ensures last { OnOk result (IsLastNew self.new.made) }
+        ensures back { OnOk result (without_last self.new.made ≡ self.old.made) }
         ensures same { OnErr result (self.new.made ≡ self.old.made) }
     {
         if !has_drawn(&self.log, self.last_txn) {
@@ -354,6 +356,17 @@ impl Containers {
             }
             Err((_, fault)) => Err(fault),
         }
+    }
+
+    /// Takes away again what was logged last, which nobody acknowledged, without taking memory. No further transaction finds
+    /// memory, since the log draws no number twice.
+    pub fn unlog(&mut self)
+        requires { IsLastNew self.old.made }
+        ensures { self.new.made ≡ without_last self.old.made }
+    {
+        let number = self.last_txn;
+        unlog_last(&mut self.log, number);
+        self.last_txn = number - 1;
     }
 
     /// Notes an acknowledgement, without taking memory.
@@ -371,6 +384,17 @@ impl Containers {
     {
         self.log.retire(number);
     }
+}
+
+/// Takes away a transaction that nobody acknowledged, as the log lets one go: once three datanodes did.
+fn unlog_last(log: &mut DelLog, number: u64)
+    requires { IsSomeAnd (get log.old.unretired number) (λ (logged : AnyLogged). logged.acknowledged ≡ nobody) }
+    ensures { log.new.unretired ≡ remove log.old.unretired number }
+{
+    log.ack(number, 0);
+    log.ack(number, 1);
+    log.ack(number, 2);
+    log.retire(number);
 }
 
 /// Whether this is the last number that the log has drawn.

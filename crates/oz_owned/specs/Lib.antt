@@ -4,5 +4,4 @@ pub mod Stood
 pub mod Left
 pub mod Ordered
 pub mod Swept
-pub mod Settled
 pub mod laws

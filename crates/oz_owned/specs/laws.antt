@@ -14,5 +14,4 @@ pub mod Swept
 pub mod Numbered
 pub mod Purged
 pub mod Gone
-pub mod Drained
 pub mod Standing

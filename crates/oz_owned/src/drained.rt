@@ -1,26 +1,19 @@
-//! When a stripe is swept and a drain is done.
+//! What a swept stripe has logged, and how the transactions of an ordered log are numbered and acknowledged.
 
-ghost use Rattle.std.specs.Prelude.{◌≡◌, ◌≢◌, ◌<◌, ℕ, true, List, ◌++◌, length, AllPairs, Contains};
+ghost use Rattle.std.specs.Prelude.{◌≡◌, ◌≢◌, ℕ, true, List, ◌++◌, AllPairs, Contains};
 ghost use Rattle.oz_dellog.specs.declared.txn.Txn.{Txn as AnyTxn};
 ghost use Rattle.oz_fields.specs.declared.block.Block.{Block as AnyBlock};
-ghost use Rattle.oz_names.specs.declared.limits.TheConstants.{STRIPES};
 ghost use Rattle.oz_rows.specs.RowMaps.{Rows as AnyRows};
-ghost use Rattle.oz_script.specs.declared.lines.script.Line.{Line as AnyLine};
 ghost use Rattle.oz_core.specs.declared.event.Event.{Event as AnyEvent};
 ghost use Rattle.oz_core.specs.declared.opening.Opening.{Opening as AnyOpening};
-ghost use Rattle.oz_core.specs.Contents.{OpeningBytes};
-ghost use Rattle.oz_core.specs.Drained.{IsDrained};
 ghost use Rattle.oz_core.specs.Law.{IsLegal};
-ghost use Rattle.oz_core.specs.Lines.{IsStart};
 ghost use Rattle.oz_core.specs.Manager.{IsGarbage, namespace_of, pinned};
 ghost use Rattle.oz_core.specs.Scm.{acknowledgers, is_logged, logs, members};
 ghost use Rattle.oz_kept.specs.reopened.Left.{NumbersAreApart};
-ghost use Rattle.oz_repl.specs.views.Away.{NumbersAreOld, StaysAway};
-ghost use Rattle.oz_store.specs.Store.{IsStore};
+ghost use Rattle.oz_repl.specs.views.Away.{NumbersAreOld};
 ghost use Rattle.oz_store.specs.striped.Shares.{share_of};
 ghost use Rattle.oz_owned.specs.Own.{IsOwn};
 ghost use Rattle.oz_owned.specs.Ordered.{LogIsOrdered};
-ghost use Rattle.oz_owned.specs.Settled.{IsSettled, IsSweptBehind};
 ghost use Rattle.oz_owned.specs.Swept.{HomesAreKept, NoneIsLeft};
 
 /// Where a look at a stripe's rows at a front, with the pins of a story that goes on from there, leaves no block that isn't
@@ -32,17 +25,6 @@ pub fn what_is_swept_is_logged()
         (λ block. is_logged opening ((front ++ more) ++ later) block ≡ true) →
         (block : AnyBlock) → IsOwn loaded stripe front block → IsGarbage opening front block →
         is_logged opening ((front ++ more) ++ later) block ≡ true }
-{}
-
-/// A drain is drained where each stripe was swept behind its start, no datanode puts behind a Delete what that took away, and
-/// the log is settled, over a log that was ordered as the run began.
-pub fn what_is_drained()
-    ensures { (opening : AnyOpening) (bytes : OpeningBytes) (loaded : AnyRows) (story start : List AnyEvent)
-        (line : AnyLine) → IsLegal opening story → IsStore loaded opening bytes → LogIsOrdered opening →
-        IsStart story line start →
-        ((stripe : ℕ) → stripe < STRIPES → IsSweptBehind opening loaded stripe start story) →
-        ((dn : ℕ) → dn < length opening.nodes → StaysAway opening dn story) →
-        IsSettled opening story → IsDrained opening story line }
 {}
 
 /// In an ordered log no two transactions have one number, and none has one above the last. Over it the acknowledgers of a

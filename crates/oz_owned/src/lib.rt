@@ -1,4 +1,4 @@
-//! Whose own a block is, that garbage stays garbage, what a stripe's tables are, and when a drain is done: laws alone.
+//! Whose own a block is, that garbage stays garbage, what a stripe's tables are, and what a swept stripe has logged: laws alone.
 #![tactic(auto)]
 
 mod drained;
@@ -7,7 +7,7 @@ mod garbage;
 mod owned;
 mod stood;
 
-pub use drained::{an_ordered_log_is_numbered, what_is_drained, what_is_swept_is_logged};
+pub use drained::{an_ordered_log_is_numbered, what_is_swept_is_logged};
 pub use front::each_index_has_a_front;
 pub use garbage::{
     a_block_leaves_reach_at_a_decide, garbage_stays_garbage, where_a_block_left_decides,

@@ -1,0 +1,5 @@
+pub mod Looks
+pub mod Settled
+pub mod Emptied
+pub mod Still
+pub mod laws

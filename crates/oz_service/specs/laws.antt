@@ -1,0 +1,8 @@
+-- Laws with their proofs, which proofs cite, those of other crates too. A reader has nothing to believe here.
+pub mod Looked
+pub mod Drained
+pub mod Granted
+pub mod Since
+pub mod Watched
+pub mod Emptied
+pub mod Still

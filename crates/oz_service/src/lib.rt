@@ -1,0 +1,11 @@
+//! What a drain's answer rests on: what a look at a stripe found, when a drain is done, and who holds it up. Laws alone.
+#![tactic(auto)]
+
+mod drains;
+mod looks;
+
+pub use drains::{
+    a_drains_end_stays, empty_containers_are_deleted, what_is_drained, what_is_held,
+    what_is_up_holds_old_blocks_alone, what_left_reach_was_garbage, who_holds,
+};
+pub use looks::{a_look_sweeps_its_stripe, a_stripes_pins_are_pinned, what_a_look_found_is_logged};

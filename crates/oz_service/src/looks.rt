@@ -39,13 +39,15 @@ pub fn a_stripes_pins_are_pinned()
 
 /// A stripe is swept behind a start where a look later on had the tables that it was brought to up to an index, which isn't
 /// below the last one at the start; found all deleted rows of them that may go beside pins of the story that it saw; and what
-/// it found is logged by now.
+/// it found is logged by now. It stays so.
 pub fn a_look_sweeps_its_stripe()
-    ensures { (opening : AnyOpening) (loaded tables : AnyRows) (stripe most : ℕ) (start rest later : List AnyEvent)
+    ensures now { (opening : AnyOpening) (loaded tables : AnyRows) (stripe most : ℕ) (start rest later : List AnyEvent)
         (pins : List AnyBlock) (found : AnyFound) → IsLegal opening ((start ++ rest) ++ later) →
         last_index opening start ≤ most → TablesStand opening loaded stripe (start ++ rest) most tables →
         ((one : AnyBlock) → Contains pins one → Contains (pinned (start ++ rest)) one) →
         HasFoundAll tables pins found →
         AreLetGo tables found (λ block. is_logged opening ((start ++ rest) ++ later) block ≡ true) →
         IsSweptBehind opening loaded stripe start ((start ++ rest) ++ later) }
+    ensures still { (opening : AnyOpening) (loaded : AnyRows) (stripe : ℕ) (start story more : List AnyEvent) →
+        IsSweptBehind opening loaded stripe start story → IsSweptBehind opening loaded stripe start (story ++ more) }
 {}

@@ -256,3 +256,13 @@ a_look_sweeps_its_stripe opening loaded tables stripe most start rest later pins
 
     split : start ++ rest ≡ (start ++ between) ++ more
     split = stood.is_front.parts ∙ ap (λ (l : List Event). l ++ more) longer.1
+
+-- A stripe that was swept behind a start stays so as the story goes on.
+pub swept_still : (opening : Opening) (loaded : Rows) (stripe : ℕ) (start story more : List Event) → IsSweptBehind opening loaded stripe start story
+    → IsSweptBehind opening loaded stripe start (story ++ more)
+swept_still opening loaded stripe start story more swept = record {
+  between = swept.between;
+  behind = swept.behind ++ more;
+  parts = ap (λ (l : List Event). l ++ more) swept.parts ∙ append_assoc (start ++ swept.between) swept.behind more;
+  logged = λ block own garbage. logged_still opening story more block (swept.logged block own garbage);
+}

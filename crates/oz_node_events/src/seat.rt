@@ -1,6 +1,6 @@
 //! The seat of a datanode, which is kept beside it.
 
-ghost use Rattle.std.specs.Prelude.{◌≡◌, ◌+◌, ◌<◌, ◌≤◌, ◌++◌, ◌∷◌, [], List, length, slice_index, slice_set, true, false, None, Ok, Err, OnOk, OnErr};
+ghost use Rattle.std.specs.Prelude.{◌≡◌, ◌+◌, ◌<◌, ◌≤◌, ◌++◌, ◌∷◌, [], List, length, slice_index, slice_set, true, false, None, IsSome, Ok, Err, OnOk, OnErr};
 ghost use Rattle.oz_buffer.specs.Buffer.{AllFollow, Follows, IsNote};
 ghost use Rattle.oz_core.specs.declared.event.Event.{Event as AnyEvent};
 ghost use Rattle.oz_core.specs.Asks.{is_told};
@@ -16,7 +16,7 @@ ghost use Rattle.oz_node_events.specs.NodeSeat.{IsAppended, IsKept, NumbersAreOl
 ghost use Rattle.oz_replicas.specs.Stays.{IsIdle};
 ghost use Rattle.oz_node_events.specs.Beside.{ShareAPlace};
 ghost use Rattle.oz_scm_events.specs.Tracked.{IsTracked};
-ghost use Rattle.oz_turn.specs.Seat.{IsNewSeat, IsReady, IsSameSeat, mine_of, room_of, seen_of, taken_of, turn_of};
+ghost use Rattle.oz_turn.specs.Seat.{IsNewSeat, IsReady, IsSameSeat, mine_of, room_of, seen_of, share_of, taken_of, turn_of};
 ghost use Rattle.oz_turn.specs.Told.{BeginsWith};
 ghost use Rattle.oz_turn.specs.Turn.{turn_id};
 
@@ -346,6 +346,28 @@ impl<O: Opened, R: Ring> NodeSeat<Ledger<O>, O, R> {
     {
         let number = FIRST_DATANODE_SEAT + u16::from(self.dn);
         show(rt, turn, &mut self.seat, other, number)
+    }
+
+    /// Sees all that happened until now, while another seat holds the turn. What that seat has seen then has the events of the
+    /// datanode's, all that it gave. It waits for nothing, and takes no memory.
+    pub fn be_shown(&mut self, turn: &Turn<Ledger<O>>, holder: &mut Seat<Ledger<O>>)
+        requires turn { turn_id turn.now ≡ R.turn }
+        requires holder { turn_of holder.old ≡ R.turn }
+        requires held { IsSome (taken_of holder.old) }
+        requires follow { AllFollow (Follows O.coherent O.opening O.bytes O.script) [] (seen_of holder.old) }
+
+        // Of all that it keeps nothing else changes.
+        ensures seen { self.new ≡ record self.old { seen = seen_of holder.new } }
+        ensures goes_on { BeginsWith self.new.seen self.old.seen }
+        ensures kept { IsKept O.coherent O.opening O.bytes O.script self.new }
+        ensures kept_before { IsKept O.coherent O.opening O.bytes O.script self.old }
+
+        // The holder is as it was.
+        ensures holder { IsSameSeat holder.old holder.new }
+        ensures share { share_of holder.new ≡ share_of holder.old }
+        ensures taken { taken_of holder.new ≡ taken_of holder.old }
+    {
+        turn.show(holder, &mut self.seat);
     }
 }
 

@@ -1,3 +1,4 @@
+pub mod AllLocked
 pub mod Looks
 pub mod Settled
 pub mod Emptied

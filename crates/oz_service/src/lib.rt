@@ -1,9 +1,12 @@
-//! What a drain's answer rests on: what a look at a stripe found, when a drain is done, and who holds it up. Laws alone.
+//! What the service job and a drain rest on: the locks of the storage container manager and of all datanodes, held at once; and laws
+//! of what a look at a stripe found, when a drain is done, and who holds it up.
 #![tactic(auto)]
 
+mod all_locked;
 mod drains;
 mod looks;
 
+pub use all_locked::{AllLocked, Shown, lock_all};
 pub use drains::{
     a_drains_end_stays, empty_containers_are_deleted, what_is_drained, what_is_held,
     what_is_up_holds_old_blocks_alone, what_left_reach_was_garbage, who_holds,

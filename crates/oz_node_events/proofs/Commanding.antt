@@ -18,6 +18,7 @@ use Rattle.oz_datanode.specs.Pairs.{Content, NodeHolds}
 use Rattle.oz_fields.specs.declared.block.Block.{Block}
 use Rattle.oz_script.specs.declared.lines.script.Script.{Script}
 use Rattle.oz_node_events.specs.Commands.{by_node, run_event}
+use Rattle.oz_turn.specs.Told.{BeginsWith}
 use Rattle.oz_world.specs.Disk.{Images}
 use Rattle.oz_node_events.specs.NodeSeat.{HasContents, IsAppended, IsKept, NumbersAreOld, SeatView, StandsFor, events_of, is_bad}
 use Rattle.oz_node_events.specs.laws.Contents.{content_push, contents_move}
@@ -85,7 +86,7 @@ module _ (Coherent : Type 0) (opening : Opening) (bytes : OpeningBytes) (script 
 
   pub event_stands : (kind : EventKind) (view later : SeatView) (old new : State D) (other : List Event) → IsKept Coherent opening bytes script view → IsKept Coherent opening bytes script later
       → Stands view old → later.dn ≡ view.dn → later.mine ≡ view.mine ++ by_node view.dn kind ∷ [] → IsAppended (by_node view.dn kind) view.seen other later.seen
-      → ((before : List Event) → AllFollow Follow [] before → Follow before (by_node view.dn kind) → Stands (record { dn = view.dn; seen = before; mine = view.mine; room = view.room; last = view.last }) old
+      → ((before : List Event) → BeginsWith before other → AllFollow Follow [] before → Follow before (by_node view.dn kind) → Stands (record { dn = view.dn; seen = before; mine = view.mine; room = view.room; last = view.last }) old
       → Stands (record { dn = view.dn; seen = before ++ by_node view.dn kind ∷ []; mine = view.mine ++ by_node view.dn kind ∷ []; room = view.room; last = view.last }) new)
       → Stands later new
   event_stands kind view later old new other kept kept_later stood number mine told_so step =
@@ -101,7 +102,7 @@ module _ (Coherent : Type 0) (opening : Opening) (bytes : OpeningBytes) (script 
       let own_then = own_behind view.dn event refl view.seen before more view.mine later.seen kept.own told_so.begins told_so.goes_on.1 given in
       let behind : SeatView = record { dn = view.dn; seen = before ++ event ∷ []; mine = view.mine ++ event ∷ []; room = view.room; last = view.last } in
       let stood_here = stands_on told clock image faults Coherent opening bytes script loaded old view kept stood before view.room told_so.begins all_before own in
-      let stood_behind : Stands behind new = step before all_before follows stood_here in
+      let stood_behind : Stands behind new = step before told_so.begins_other all_before follows stood_here in
       let kept_behind : IsKept Coherent opening bytes script behind = record { few = kept.few; there = kept.there; numbered = kept.numbered; own = own_then; follow = all_behind; no_bad = λ coherent. ap (has_event is_bad) (sym mine) ∙ kept_later.no_bad coherent } in
       same_view told clock image faults Coherent opening bytes script loaded new (record { dn = view.dn; seen = later.seen; mine = view.mine ++ event ∷ []; room = view.room; last = view.last }) later (sym number) refl (sym mine)
       (stands_on told clock image faults Coherent opening bytes script loaded new behind kept_behind stood_behind later.seen view.room told_so.goes_on kept_later.follow given)
@@ -158,4 +159,4 @@ module _ (Coherent : Type 0) (opening : Opening) (bytes : OpeningBytes) (script 
       → IsAppended (by_node view.dn (run_event view.dn runs)) view.seen other later.seen → Stands later (record node { stopped = not runs })
   run_stands view later node runs other kept kept_later stood number mine told_so =
       event_stands (run_event view.dn runs) view later node (record node { stopped = not runs }) other kept kept_later stood number mine told_so
-      (λ before all follows here. run_step kept.numbered view.dn view.room view.last before view.mine all runs follows node here)
+      (λ before others all follows here. run_step kept.numbered view.dn view.room view.last before view.mine all runs follows node here)

@@ -26,7 +26,7 @@ use Rattle.oz_node_events.proofs.Telling.{is_its, its_kept, its_left, held_away}
 
 -- ---- numbers
 
-abbrev LogsBelow : Opening → List Event → Type 0
+abbrev pub LogsBelow : Opening → List Event → Type 0
 LogsBelow opening front = (txn : Txn) → Contains (logs opening front) txn → txn.number ≤ last_txn opening front
 
 abbrev IsBelow : ℕ → EventKind → Type 0
@@ -49,7 +49,7 @@ all_below last later (first ∷ front) event le all one =
 txn_push : (opening : Opening) (front : List Event) (event : Event) → last_txn opening (front ++ event ∷ []) ≡ newer (logged_number event.kind) (last_txn opening front)
 txn_push opening front event = told-push logged_number opening.last_txn front event
 
-logs_push : (opening : Opening) (front : List Event) (event : Event) → logs opening (front ++ event ∷ []) ≡ logs opening front ++ cons_option (logged event.kind) []
+pub logs_push : (opening : Opening) (front : List Event) (event : Event) → logs opening (front ++ event ∷ []) ≡ logs opening front ++ cons_option (logged event.kind) []
 logs_push opening front event =
     let had = map (λ (unretired : Unretired). unretired.txn) opening.unretired in
     ap (λ (l : List Txn). had ++ l) (filter_map-append (λ (e : Event). logged e.kind) front (event ∷ []))
@@ -60,7 +60,7 @@ rises : (opening : Opening) (front : List Event) (seat : ℕ) (kind : EventKind)
 rises opening front seat (Log number container locals) may = omega (arith, may.next)
 rises opening front seat kind may = omega arith
 
-in_one : (x txn : Txn) → Contains (x ∷ []) txn → x ≡ txn
+pub in_one : (x txn : Txn) → Contains (x ∷ []) txn → x ≡ txn
 in_one x txn (zero, lt, is) = is
 in_one x txn (suc k, lt, is) = absurd (omega (arith, lt))
 
@@ -109,10 +109,10 @@ module _ (Coherent : Type 0) (opening : Opening) (bytes : OpeningBytes) (script 
   abbrev Follow : List Event → Event → Type 0
   Follow = Follows Coherent opening bytes script
 
-  abbrev AreBelow : List Event → Type 0
+  abbrev pub AreBelow : List Event → Type 0
   AreBelow front = LogsBelow opening front × DeletesBelow (last_txn opening front) front
 
-  below_step : (front : List Event) (event : Event) → AreBelow front → Follow front event → AreBelow (front ++ event ∷ [])
+  pub below_step : (front : List Event) (event : Event) → AreBelow front → Follow front event → AreBelow (front ++ event ∷ [])
   below_step front event was follows =
       let may = follows.enabled coherent in
       let later = newer (logged_number event.kind) (last_txn opening front) in
@@ -127,7 +127,7 @@ module _ (Coherent : Type 0) (opening : Opening) (bytes : OpeningBytes) (script 
             (all_below (last_txn opening front) later front event le was.1 (applied opening front event.seat event.kind may was.0)),
       )
 
-  below_none : AreBelow []
+  pub below_none : AreBelow []
   below_none = (
     λ txn among. of_opening opening.unretired txn numbered (subst (λ (l : List Txn). Contains l txn) (append-nil (map (λ (unretired : Unretired). unretired.txn) opening.unretired)) among),
     tt,

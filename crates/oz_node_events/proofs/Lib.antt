@@ -3,6 +3,7 @@ pub mod Answering
 pub mod Quorum
 pub mod Telling
 pub mod Holding
+pub mod Apart
 pub mod Moving
 pub mod Following
 pub mod Leading
@@ -13,6 +14,8 @@ pub mod Led
 pub mod ForLines
 pub mod Outcomes
 pub mod Wiping
+pub mod Changed
+pub mod Deleted
 pub mod Sound
 pub mod Seated
 pub mod Given

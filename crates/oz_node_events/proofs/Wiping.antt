@@ -127,11 +127,11 @@ module _ (Coherent : Type 0) (opening : Opening) (bytes : OpeningBytes) (script 
       → IsAppended (by_node view.dn (Wipe view.dn)) view.seen other later.seen → Stands later new
   wipe_stands view later old new other kept kept_later stood wiped number mine told_so =
       event_stands Coherent opening bytes script loaded told clock image faults (Wipe view.dn) view later old new other kept kept_later stood number mine told_so
-      (λ before all follows here. wipe_step kept.numbered view.dn view.room view.last before view.mine all old new here follows wiped)
+      (λ before others all follows here. wipe_step kept.numbered view.dn view.room view.last before view.mine all old new here follows wiped)
 
   pub halt_stands : (view later : SeatView) (old new : State D) (count : ℕ) (other : List Event) → IsKept Coherent opening bytes script view → IsKept Coherent opening bytes script later
       → Stands view old → HaltsSo told faults old new count → later.dn ≡ view.dn → later.mine ≡ view.mine ++ by_node view.dn (Halt (Datanode view.dn) count) ∷ []
       → IsAppended (by_node view.dn (Halt (Datanode view.dn) count)) view.seen other later.seen → Stands later new
   halt_stands view later old new count other kept kept_later stood halts number mine told_so =
       event_stands Coherent opening bytes script loaded told clock image faults (Halt (Datanode view.dn) count) view later old new other kept kept_later stood number mine told_so
-      (λ before all follows here. halt_step kept.numbered view.dn view.room view.last before view.mine all old new here count follows halts)
+      (λ before others all follows here. halt_step kept.numbered view.dn view.room view.last before view.mine all old new here count follows halts)

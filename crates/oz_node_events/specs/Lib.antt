@@ -5,6 +5,8 @@ pub mod Beside
 pub mod Commands
 pub mod Led
 pub mod Doing
+pub mod Changing
+pub mod Deleting
 pub mod laws
 pub mod full
 pub mod filled

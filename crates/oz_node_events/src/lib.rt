@@ -3,13 +3,16 @@
 #![tactic(auto)]
 
 mod appending;
+mod changing;
 mod command;
+mod deleting;
 mod doing;
 mod events;
 mod filled;
 mod full;
 mod laws;
 mod noting;
+mod refusal;
 mod seat;
 
 pub use command::{DoneRefusal, NodeCommand};
@@ -22,4 +25,5 @@ pub use laws::{
     what_may_be_noted_stays, what_was_granted_came_in_the_story,
 };
 pub use noting::Noting;
+pub use refusal::ChangeRefusal;
 pub use seat::NodeSeat;

@@ -101,6 +101,13 @@ impl<T: Told<Entry = Event>, O: Opened, R: Ring> NodeSeat<T, O, R> {
         }
     }
 
+    /// The number of the datanode.
+    pub(crate) fn dn(&self) -> u8
+        ensures { result ≡ self.now.dn }
+    {
+        self.dn
+    }
+
     /// What holds of every one. It does nothing when it runs.
     pub fn is_kept(&self)
         ensures { IsKept O.coherent O.opening O.bytes O.script self.now }

@@ -16,6 +16,7 @@ pub mod Outcomes
 pub mod Wiping
 pub mod Changed
 pub mod Deleted
+pub mod Replicas
 pub mod Sound
 pub mod Seated
 pub mod Given

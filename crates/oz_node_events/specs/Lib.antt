@@ -6,6 +6,7 @@ pub mod Commands
 pub mod Led
 pub mod Doing
 pub mod Changing
+pub mod Closing
 pub mod Deleting
 pub mod laws
 pub mod full

@@ -4,6 +4,7 @@
 
 mod appending;
 mod changing;
+mod closing;
 mod command;
 mod deleting;
 mod doing;

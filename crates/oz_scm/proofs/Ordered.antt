@@ -1,6 +1,7 @@
 -- What entries keep of the log: numbers up to the last one, and acknowledgements by members alone.
 use Rattle.std.proofs.Common.{◌≡◌, ◌⊎◌, inl, inr, ℕ, zero, suc, ◌+◌, ◌-◌, ◌<◌, ◌≤◌, ◌&&◌, Bool, true, false, not, cond, List, [], ◌∷◌, ◌++◌, length, replicate, slice_get, slice_set, Option, None, Some, Result, Ok, Err, refl, sym, ap, subst, ◌∙◌, arith, leb}
 use Rattle.std.proofs.lemmas.Bool.{false≢true, and_parts, leb-true, eqb-true}
+use Rattle.std.proofs.lemmas.List.{length-set}
 use Rattle.std.specs.Cmp.{ranked, nat_cmp_is, nat_cmp_total}
 use Rattle.std.specs.declared.cmp.Ordering.TheVariants.{Less, Equal, Greater}
 use Rattle.std.specs.FinMap.{FinMap, get, insert, remove, empty, get-empty, get-insert, get-remove}
@@ -169,6 +170,10 @@ owed_of made number dn may = of (get made.unretired number) refl may
 
 -- ---- each entry keeps it
 
+-- a flag for each number that a datanode may have
+abbrev HasFlags : LoggedTxn → Type 0
+HasFlags logged = length logged.acknowledged ≡ length nobody
+
 log_ordered : (made : Made) (txn : Txn) → MayLog made txn → IsOrdered made → IsOrdered (after_log txn made)
 log_ordered made txn may is =
     let there = container_there made.containers txn.container may.container_is in
@@ -178,6 +183,7 @@ log_ordered made txn may is =
       members = all_put (λ n w. IsOfMembers (after_log txn made) w) made.unretired (made.last_txn + 1) (new_logged txn.container txn.locals)
           (record { container = there.0; there = there.1; members = λ dn acked. absurd (nobody_acked txn.container dn txn.locals acked) })
           (λ n w at. members_stay made (after_log txn made) w refl (λ n c there. (c, there, refl)) (is.members n w at));
+      flags = all_put (λ n w. HasFlags w) made.unretired (made.last_txn + 1) (new_logged txn.container txn.locals) refl is.flags;
     }
 
 ack_ordered : (made : Made) (number dn : ℕ) → MayAck made number dn → IsOrdered made → IsOrdered (after_ack number dn made)
@@ -201,6 +207,8 @@ ack_ordered made number dn may is =
             ];
           })
           (λ n w at. members_stay made (to (Some owed.logged)) w refl (λ n c there. (c, there, refl)) (is.members n w at));
+      flags = all_put (λ n w. HasFlags w) made.unretired number (with_acknowledgement owed.logged dn)
+          (length-set owed.logged.acknowledged dn true ∙ is.flags number owed.logged owed.there) is.flags;
     })
 
 retirement_ordered : (made : Made) (number : ℕ) → IsOrdered made → IsOrdered (after_retirement number made)
@@ -208,18 +216,21 @@ retirement_ordered made number is = record {
   last = all_left (λ n w. n ≤ made.last_txn) made.unretired number is.last;
   members = all_left (λ n w. IsOfMembers (after_retirement number made) w) made.unretired number
       (λ n w at. members_stay made (after_retirement number made) w refl (λ n c there. (c, there, refl)) (is.members n w at));
+  flags = all_left (λ n w. HasFlags w) made.unretired number is.flags;
 }
 
 moved : (made later : Made) → later.nodes ≡ made.nodes → later.last_txn ≡ made.last_txn → later.unretired ≡ made.unretired → StayThere made.containers later.containers → IsOrdered made → IsOrdered later
 moved made later nodes last log stay is = record {
   last = λ n w at. subst (λ (k : ℕ). n ≤ k) (sym last) (is.last n w (sym (ap (λ (m : Entries). get m n) log) ∙ at));
   members = λ n w at. members_stay made later w nodes stay (is.members n w (sym (ap (λ (m : Entries). get m n) log) ∙ at));
+  flags = λ n w at. is.flags n w (sym (ap (λ (m : Entries). get m n) log) ∙ at);
 }
 
 begun_ordered : (nodes : ℕ) → IsOrdered (begun nodes)
 begun_ordered nodes = record {
   last = λ n w at. absurd (cc (sym (get-empty nat_cmp n) ∙ at));
   members = λ n w at. absurd (cc (sym (get-empty nat_cmp n) ∙ at));
+  flags = λ n w at. absurd (cc (sym (get-empty nat_cmp n) ∙ at));
 }
 
 abbrev OrderedIf : Option Made → Type 0

@@ -1,7 +1,7 @@
 -- What loading promises of the log of deleted blocks.
-use Rattle.std.specs.Prelude.{◌≡◌, ℕ, ◌≤◌, true, Some}
+use Rattle.std.specs.Prelude.{◌≡◌, ℕ, ◌≤◌, true, Some, length}
 use Rattle.std.specs.FinMap.{get}
-use Rattle.oz_dellog.specs.Logged.{is_acknowledged_by}
+use Rattle.oz_dellog.specs.Logged.{is_acknowledged_by, nobody}
 use Rattle.oz_dellog.specs.declared.logged.Logged.{Logged}
 use Rattle.oz_scm.specs.declared.grants.container.Container.{Container}
 use Rattle.oz_scm.specs.grants.Made.{Made, container_at, is_member}
@@ -12,8 +12,10 @@ pub record IsOfMembers (made : Made) (logged : Logged) : Type 0 where
   pub there : container_at made.containers logged.container ≡ Some container
   pub members : (dn : ℕ) → is_acknowledged_by logged dn ≡ true → is_member made.nodes (Some container) dn ≡ true
 
--- The numbers are at most the last, and each transaction is of members. That numbers are apart, and that nobody
--- acknowledges one twice, a map from numbers with a flag for each datanode says by itself.
+-- The numbers are at most the last, each transaction is of members, and has a flag for each number that a datanode may have.
+-- That numbers are apart, and that nobody acknowledges one twice, a map from numbers with such flags says by itself.
 pub record IsOrdered (made : Made) : Type 0 where
   pub last : (number : ℕ) (logged : Logged) → get made.unretired number ≡ Some logged → number ≤ made.last_txn
   pub members : (number : ℕ) (logged : Logged) → get made.unretired number ≡ Some logged → IsOfMembers made logged
+  pub flags : (number : ℕ) (logged : Logged) → get made.unretired number ≡ Some logged
+      → length logged.acknowledged ≡ length nobody

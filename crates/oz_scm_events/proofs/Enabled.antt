@@ -29,7 +29,7 @@ use Rattle.oz_scm.specs.declared.grants.container.Container.{Container as MadeCo
 use Rattle.oz_scm.specs.declared.grants.entry.Grant.{Grant}
 use Rattle.oz_scm.specs.grants.Due.{IsChosen}
 use Rattle.oz_scm.specs.grants.Made as scm_may
-use Rattle.oz_scm.specs.grants.Made.{after_grant, after_step, container_at, state_at, stepped}
+use Rattle.oz_scm.specs.grants.Made.{after_grant, after_step, container_at, log_of, state_at, stepped}
 use Rattle.oz_script.specs.declared.lines.script.Script.{Script}
 use Rattle.oz_nodes.specs.Pipelines.{IsUp, pipelines_of}
 use Rattle.oz_requests.specs.declared.request.Exclude.{Exclude}
@@ -50,9 +50,10 @@ use Rattle.oz_scm_events.specs.Telling.{StandsLast}
 use Rattle.oz_scm_events.specs.Tracked.{up_event}
 use Rattle.oz_scm_events.proofs.Kept.{begins_then, chosen_place, known, made_granted, made_stepped}
 use Rattle.oz_scm_events.proofs.Left.{halts_now}
+use Rattle.oz_scm_events.proofs.Log.{SaySame, log_of_same}
 use Rattle.oz_scm_events.proofs.Needed.{none_more, others, to_all}
 use Rattle.oz_scm_events.proofs.Made.{greatest_is, none_behind}
-use Rattle.oz_scm_events.proofs.Telling.{containers_own, halt_own, next_own, running_own, up_own, ups_own}
+use Rattle.oz_scm_events.proofs.Telling.{containers_own, halt_own, log_own, next_own, running_own, up_own, ups_own}
 use Rattle.oz_scm_events.proofs.Ups.{length_ups}
 use Rattle.oz_turn.specs.Told.{own_entries, BeginsWith}
 use Rattle.oz_world.specs.Disk.{Seen}
@@ -172,11 +173,11 @@ fits_by opening script story place number since step.Cleanup may at_work = tt
 
 -- ---- what is told
 
-least_count : (before now : ℕ) → Rose before now → 1 ≤ now
+pub least_count : (before now : ℕ) → Rose before now → 1 ≤ now
 least_count before now rose = omega (arith, rose)
 
 module _ {D : Type 0} {loaded : ℕ} (Coherent : Type 0) (opening : Opening) (bytes : OpeningBytes) (script : Script) (old : State D) (faults : ℕ) (seen mine : List Event) (kept : IsKept opening loaded old faults seen mine) where
-  abbrev Follow : List Event → Event → Type 0
+  abbrev pub Follow : List Event → Event → Type 0
   Follow = Follows Coherent opening bytes script
 
   module _ (coherent : Coherent) (story : List Event) (all : AllFollow Follow [] story) (own : known story ≡ mine) where
@@ -189,14 +190,20 @@ module _ {D : Type 0} {loaded : ℕ} (Coherent : Type 0) (opening : Opening) (by
     ups_are : ups opening story ≡ old.up
     ups_are = ups_own Coherent opening bytes script coherent story all ∙ ap (ups opening) own ∙ sym kept.up
 
-    unhalted : old.stopped ≡ false → halt_of Scm story ≡ None
+    pub unhalted : old.stopped ≡ false → halt_of Scm story ≡ None
     unhalted running = halt_own Coherent opening bytes script story all ∙ ap (halt_of Scm) own ∙ kept.halt ∙ ap (λ t. if t then Some faults else None) running
 
     are_there : AreContainers old.made.containers (containers opening story)
     are_there = subst (AreContainers old.made.containers) (sym containers_are) kept.made
 
-    pub made_is : IsMadeOf opening story old.made
-    made_is = record { nodes = kept.nodes; next = sym next_is; containers = are_there }
+    pub made_is : old.stopped ≡ false → IsMadeOf opening story old.made
+    made_is running = record {
+      nodes = kept.nodes;
+      next = sym next_is;
+      containers = are_there;
+      log = log_of_same opening mine story (log_of old.made)
+          (subst (λ (l : List Event). SaySame opening l story) own (log_own Coherent opening bytes script coherent story all)) (kept.log running);
+    }
 
     grant_enabled : (stripe : ℕ) (exclude : Exclude) (grant : Grant) → old.stopped ≡ false → IsDue old.made old.up stripe exclude grant
         → ((number : ℕ) → Contains exclude.containers number → IsSome (get (containers opening mine) number))
@@ -246,7 +253,7 @@ module _ {D : Type 0} {loaded : ℕ} (Coherent : Type 0) (opening : Opening) (by
       step_fits = subst (ClosedFits opening script story container) (sym (leads_to from event state leads))
           (fits_by opening script story may.place container (since_place seen_beside may.place begins may.begins may.since) event may.allowed may.for_a_line)
 
-    halt_enabled : (count : ℕ) → old.stopped ≡ false → 1 ≤ count → HaltIsEnabled opening story scm_seat Scm count
+    pub halt_enabled : (count : ℕ) → old.stopped ≡ false → 1 ≤ count → HaltIsEnabled opening story scm_seat Scm count
     halt_enabled count running counted = record { of_node = refl; unhalted = unhalted running; counted = counted }
 
   -- a grant that is told
@@ -307,12 +314,12 @@ module _ {D : Type 0} {loaded : ℕ} (Coherent : Type 0) (opening : Opening) (by
       (sym (is ∙ ap (told_of_step container) answered)) (step_told new container event before after beside seen_beside mine_beside answer running applies may)
 
   -- what a stop leaves once it is told that the disk failed
-  abbrev Last : ℕ → List Event → List Event → List Event → EventKind → Type 0
+  abbrev pub Last : ℕ → List Event → List Event → List Event → EventKind → Type 0
   Last beside seen_beside mine_beside seen_after = StandsLast Follow beside seen_beside mine_beside mine seen_after
 
-  still_made : Coherent → (story : List Event) → AllFollow Follow [] story → known story ≡ mine → (left : List ℕ) → StandsFor old.made.nodes left old.made → LoadsAsOrOneMore opening story left
-  still_made coherent story all own left stands =
-      inl (old.made, made_is coherent story all own, subst (λ (n : ℕ). StandsFor n left old.made) kept.nodes stands)
+  pub still_made : Coherent → old.stopped ≡ false → (story : List Event) → AllFollow Follow [] story → known story ≡ mine → (left : List ℕ) → StandsFor old.made.nodes left old.made → LoadsAsOrOneMore opening story left
+  still_made coherent running story all own left stands =
+      inl (old.made, made_is coherent story all own running, subst (λ (n : ℕ). StandsFor n left old.made) kept.nodes stands)
 
   halt_granted : Coherent → (new : State D) (stripe : ℕ) (exclude : Exclude) (before after : Seen) (beside : ℕ) (seen_beside mine_beside seen_after : List Event) (result : Result Grant GrantFault)
       → old.stopped ≡ false → Grants stripe exclude old new before after result
@@ -325,7 +332,7 @@ module _ {D : Type 0} {loaded : ℕ} (Coherent : Type 0) (opening : Opening) (by
       subst (ScmHalted after opening) (sym told.last)
       (halts_now opening told.story count before after (StandsOrGranted old.made old.up stripe exclude) grants.telling grants.time (grants.stands running)
       (λ left. ⊎_elim
-      (λ stands. still_made coherent told.story told.follow told.own left stands)
+      (λ stands. still_made coherent running told.story told.follow told.own left stands)
       (λ it.
       let grant = it.0 in
       let place = chosen_place old.made.containers grant.pipeline exclude.containers grant.container it.1.chosen in
@@ -334,7 +341,7 @@ module _ {D : Type 0} {loaded : ℕ} (Coherent : Type 0) (opening : Opening) (by
         grant_enabled coherent told.story told.follow told.own stripe exclude grant running it.1 (made coherent) (needed coherent told.story told.begins told.follow told.others told.own),
         (
           after_grant grant old.made,
-          made_granted opening told.story old.made (made_is coherent told.story told.follow told.own) stripe grant place.0 place.1,
+          made_granted opening told.story old.made (made_is coherent told.story told.follow told.own running) stripe grant place.0 place.1,
           subst (λ (n : ℕ). StandsFor n left (after_grant grant old.made)) kept.nodes it.2,
         ),
       ))))
@@ -373,7 +380,7 @@ module _ {D : Type 0} {loaded : ℕ} (Coherent : Type 0) (opening : Opening) (by
       subst (ScmHalted after opening) (sym told.last)
       (halts_now opening told.story count before after (StandsOrStepped old.made container event) applies.telling applies.time (applies.stands running)
       (λ left. ⊎_elim
-      (λ stands. still_made coherent told.story told.follow told.own left stands)
+      (λ stands. still_made coherent running told.story told.follow told.own left stands)
       (λ it.
       let to = may_reach container event it.0 in
       inr (
@@ -381,7 +388,7 @@ module _ {D : Type 0} {loaded : ℕ} (Coherent : Type 0) (opening : Opening) (by
         step_enabled coherent told.story told.follow told.own container event to.0 to.1 to.2 to.3 seen_beside told.begins (may coherent) running,
         (
           after_step container event old.made,
-          made_stepped opening told.story old.made (made_is coherent told.story told.follow told.own) container event to.0 to.1 to.2 to.3,
+          made_stepped opening told.story old.made (made_is coherent told.story told.follow told.own running) container event to.0 to.1 to.2 to.3,
           subst (λ (n : ℕ). StandsFor n left (after_step container event old.made)) kept.nodes it.1,
         ),
       ))))

@@ -17,12 +17,12 @@ use Rattle.oz_core.specs.declared.event.Node.TheVariants.{Scm}
 use Rattle.oz_core.specs.declared.opening.Container.{Container}
 use Rattle.oz_core.specs.declared.opening.Opening.{Opening}
 use Rattle.oz_core.specs.Manager.{halt_count, halt_of}
-use Rattle.oz_core.specs.Scm.{containers, containers_after, id_after, next_id, is_up, up_or_down, ups}
+use Rattle.oz_core.specs.Scm.{acknowledger, containers, containers_after, id_after, logged, logged_number, next_id, is_up, retires, up_or_down, ups}
 use Rattle.oz_core.specs.Seats.{scm_seat}
 use Rattle.oz_scm.specs.declared.grants.container.Container.{Container as MadeContainer}
 use Rattle.oz_scm.specs.declared.grants.entry.Grant.{Grant}
 use Rattle.oz_scm.specs.grants.Due.{IsChosen}
-use Rattle.oz_scm.specs.grants.Made.{Made, after_grant, after_step, container_at, state_at}
+use Rattle.oz_scm.specs.grants.Made.{Made, after_grant, after_step, container_at, log_of, state_at}
 use Rattle.oz_nodes.specs.Pipelines.{IsAnyUp, IsFree, is_node_up}
 use Rattle.oz_requests.specs.declared.request.Exclude.{Exclude}
 use Rattle.oz_scm.specs.declared.fault.GrantFault.{GrantFault}
@@ -33,12 +33,13 @@ use Rattle.oz_scm.specs.Applying.{Applies}
 use Rattle.oz_scm.specs.Granting.{Grants}
 use Rattle.oz_scm.specs.Scm.{State}
 use Rattle.oz_scm_events.specs.Granted.{by_scm, told_of, with_told, IsRefusal}
-use Rattle.oz_scm_events.specs.Kept.{as_told, AreContainers, IsKept}
+use Rattle.oz_scm_events.specs.Kept.{as_told, AreContainers, IsKept, IsLogOf}
 use Rattle.oz_scm_events.specs.declared.stepping.StepFault.{StepFault}
 use Rattle.oz_scm_events.specs.declared.stepping.StepFault.TheVariants as stepping
 use Rattle.oz_scm_events.specs.Left.{IsMadeOf}
 use Rattle.oz_scm_events.specs.Stepped.{IsStepRefusal, state_told, stepped_as, told_of_step}
 use Rattle.oz_scm_events.specs.Tracked.{up_event}
+use Rattle.oz_scm_events.proofs.Log.{log_of_same, quiet_log}
 use Rattle.oz_scm_events.proofs.Made.{chosen_there, granted_more, stepped_more}
 use Rattle.oz_scm_events.proofs.Ups.{all_up, length_ups, one_of_ups, set_again, ups_after}
 use Rattle.oz_turn.specs.Told.{own_entries, BeginsWith}
@@ -53,8 +54,8 @@ known story = own_entries (λ (event : Event). event.seat) scm_seat story
 
 module _ {D : Type 0} (opening : Opening) (loaded : ℕ) (scm : State D) (faults : ℕ) where
   pub kept_new : (seen mine : List Event) → seen ≡ [] → mine ≡ [] → scm.stopped ≡ false → scm.made.nodes ≡ length opening.nodes → scm.made.next_id ≡ opening.next_id
-      → AreContainers scm.made.containers opening.containers → scm.up ≡ replicate (length opening.nodes) true → loaded ≤ faults → IsKept opening loaded scm faults seen mine
-  kept_new seen mine unseen none running nodes next made up no_fewer =
+      → AreContainers scm.made.containers opening.containers → scm.up ≡ replicate (length opening.nodes) true → IsLogOf opening [] (log_of scm.made) → loaded ≤ faults → IsKept opening loaded scm faults seen mine
+  kept_new seen mine unseen none running nodes next made up log no_fewer =
       subst (λ (l : List Event). IsKept opening loaded scm faults seen l) (sym none) (subst (λ (l : List Event). IsKept opening loaded scm faults l []) (sym unseen) (record {
         own = refl;
         halt = sym (ap (λ t. if t then Some faults else None) running);
@@ -62,6 +63,7 @@ module _ {D : Type 0} (opening : Opening) (loaded : ℕ) (scm : State D) (faults
         next = next;
         made = made;
         up = up ∙ all_up opening;
+        log = λ still. log;
         no_fewer = no_fewer;
         rose = λ stopped. absurd (false≢true (sym running ∙ stopped));
       }))
@@ -98,6 +100,12 @@ chosen_place made pipeline excluded number chosen =
 
 -- ---- what entries make
 
+-- an event that isn't of the log
+log_still : (opening : Opening) (story : List Event) (kind : EventKind) (made : Made) → IsLogOf opening story (log_of made) → logged_number kind ≡ None → logged kind ≡ None
+    → ((number : ℕ) → acknowledger number kind ≡ None) → ((number : ℕ) → retires number kind ≡ false) → IsLogOf opening (story ++ by_scm kind ∷ []) (log_of made)
+log_still opening story kind made is no_number none no_acks no_ends =
+    log_of_same opening story (story ++ by_scm kind ∷ []) (log_of made) (quiet_log opening story kind no_number none no_acks no_ends) is
+
 module _ (opening : Opening) (story : List Event) (made : Made) (is : IsMadeOf opening story made) where
   pub made_granted : (stripe : ℕ) (grant : Grant) → 1 ≤ grant.container → grant.container ≤ length made.containers + 1 → IsMadeOf opening (story ++ granted stripe grant ∷ []) (after_grant grant made)
   made_granted stripe grant some within =
@@ -107,6 +115,7 @@ module _ (opening : Opening) (story : List Event) (made : Made) (is : IsMadeOf o
         next = sym (told-push id_after opening.next_id story (by_scm kind));
         containers = subst (AreContainers (after_grant grant made).containers) (sym (containers_more opening story kind))
             (granted_more made.containers (containers opening story) is.containers grant.container grant.pipeline grant.count some within);
+        log = log_still opening story kind made is.log refl refl (λ number. refl) (λ number. refl);
       }
 
   pub made_stepped : (number : ℕ) (event : Step) (from state : Reached) → state_at made.containers number ≡ Some from → next from event ≡ Some state
@@ -118,10 +127,12 @@ module _ (opening : Opening) (story : List Event) (made : Made) (is : IsMadeOf o
         next = is.next ∙ sym (quiet_next opening story kind refl);
         containers = subst (AreContainers (after_step number event made).containers) (sym (containers_more opening story kind))
             (stepped_more made.containers (containers opening story) is.containers number event from state in_state leads);
+        log = log_still opening story kind made is.log refl refl (λ number. refl) (λ number. refl);
       }
 
-pub kept_made : {D : Type 0} {loaded : ℕ} {opening : Opening} {scm : State D} {faults : ℕ} {seen mine : List Event} → IsKept opening loaded scm faults seen mine → IsMadeOf opening mine scm.made
-kept_made kept = record { nodes = kept.nodes; next = kept.next; containers = kept.made }
+pub kept_made : {D : Type 0} {loaded : ℕ} {opening : Opening} {scm : State D} {faults : ℕ} {seen mine : List Event} → IsKept opening loaded scm faults seen mine → scm.stopped ≡ false
+    → IsMadeOf opening mine scm.made
+kept_made kept running = record { nodes = kept.nodes; next = kept.next; containers = kept.made; log = kept.log running }
 
 -- ---- a call that may fail
 
@@ -142,6 +153,7 @@ module _ {D : Type 0} {loaded : ℕ} (opening : Opening) (old new : State D) (fa
     next = made.next;
     made = made.containers;
     up = up ∙ kept.up ∙ sym (quiet_ups opening mine kind no_up);
+    log = λ still. made.log;
     no_fewer = no_fewer_then loaded faults faults_after kept.no_fewer no_fall;
     rose = no_rise stops;
   }
@@ -158,6 +170,7 @@ module _ {D : Type 0} {loaded : ℕ} (opening : Opening) (old new : State D) (fa
         made = subst (λ (made : Made). AreContainers made.containers (containers opening (mine ++ by_scm kind ∷ []))) (sym made)
             (subst (AreContainers old.made.containers) (sym (containers_more opening mine kind)) kept.made);
         up = up ∙ kept.up ∙ sym (quiet_ups opening mine kind (λ dn. refl));
+        log = λ still. absurd (false≢true (sym still ∙ stops));
         no_fewer = no_fewer_then loaded faults faults_after kept.no_fewer no_fall;
         rose = λ stopped. rose_then loaded faults faults_after kept.no_fewer rose;
       }
@@ -170,6 +183,7 @@ module _ {D : Type 0} {loaded : ℕ} (opening : Opening) (old new : State D) (fa
     next = ap (λ (made : Made). made.next_id) made ∙ kept.next;
     made = subst (λ (made : Made). AreContainers made.containers (containers opening mine)) (sym made) kept.made;
     up = up ∙ kept.up;
+    log = λ still. subst (λ (made : Made). IsLogOf opening mine (log_of made)) (sym made) (kept.log running);
     no_fewer = no_fewer_then loaded faults faults_after kept.no_fewer no_fall;
     rose = no_rise still;
   }
@@ -179,7 +193,7 @@ module _ {D : Type 0} {loaded : ℕ} (opening : Opening) (old new : State D) (st
   kept_granted grant grants own =
       let place = chosen_place old.made.containers grant.pipeline exclude.containers grant.container grants.due.chosen in
       kept_more opening old new before.faults after.faults seen mine seen_after kept running (events.Grant stripe grant.container grant.pipeline grant.first grant.count)
-      (subst (IsMadeOf opening (mine ++ granted stripe grant ∷ [])) (sym grants.made) (made_granted opening mine old.made (kept_made kept) stripe grant place.0 place.1))
+      (subst (IsMadeOf opening (mine ++ granted stripe grant ∷ [])) (sym grants.made) (made_granted opening mine old.made (kept_made kept running) stripe grant place.0 place.1))
       refl (λ dn. refl) grants.ups grants.stops grants.never_falls own
 
   as_before : new.made ≡ old.made → new.up ≡ old.up → new.stopped ≡ false → before.faults ≤ after.faults → known seen_after ≡ mine → IsKept opening loaded new after.faults seen_after mine
@@ -219,7 +233,7 @@ module _ {D : Type 0} {loaded : ℕ} (opening : Opening) (old new : State D) (co
   kept_step (Ok state) applies own =
       kept_more opening old new before.faults after.faults seen mine seen_after kept running (events.Closed container state)
       (subst (IsMadeOf opening (mine ++ by_scm (events.Closed container state) ∷ [])) (sym applies.made)
-      (made_stepped opening mine old.made (kept_made kept) container event applies.reached.0 state applies.reached.1 applies.reached.2))
+      (made_stepped opening mine old.made (kept_made kept running) container event applies.reached.0 state applies.reached.1 applies.reached.2))
       refl (λ dn. refl) applies.ups applies.stops applies.never_falls own
   kept_step (Err (applying.Stopped count)) applies own =
       kept_halted opening old new before.faults after.faults seen mine seen_after kept running count (applies.count count refl) applies.same applies.ups applies.stops (applies.cause running applies.stops) applies.never_falls own
@@ -313,6 +327,7 @@ module _ {D : Type 0} {loaded : ℕ} (opening : Opening) (scm : State D) (faults
     next = kept.next ∙ sym (ap (next_id opening) same);
     made = subst (λ (l : List Event). AreContainers scm.made.containers (containers opening l)) (sym same) kept.made;
     up = kept.up ∙ sym (ap (ups opening) same);
+    log = λ running. subst (λ (l : List Event). IsLogOf opening l (log_of scm.made)) (sym same) (kept.log running);
     no_fewer = kept.no_fewer;
     rose = kept.rose;
   }
@@ -368,6 +383,10 @@ module _ {D : Type 0} {loaded : ℕ} (opening : Opening) (scm : State D) (faults
   no_halt true = refl
   no_halt false = refl
 
+  log_up : (up : Bool) → IsLogOf opening mine (log_of scm.made) → IsLogOf opening (mine ++ by_scm (up_event dn up) ∷ []) (log_of scm.made)
+  log_up true is = log_still opening mine (events.Up dn) scm.made is refl refl (λ number. refl) (λ number. refl)
+  log_up false is = log_still opening mine (events.Down dn) scm.made is refl refl (λ number. refl) (λ number. refl)
+
   kept_up : (up : Bool) (seen_after : List Event) → known seen_after ≡ mine ++ by_scm (up_event dn up) ∷ []
       → IsKept opening loaded (record scm { up = slice_set scm.up dn up }) faults seen_after (mine ++ by_scm (up_event dn up) ∷ [])
   kept_up up seen_after own = record {
@@ -377,6 +396,7 @@ module _ {D : Type 0} {loaded : ℕ} (opening : Opening) (scm : State D) (faults
     next = kept.next ∙ sym (quiet_next opening mine (up_event dn up) (no_id up));
     made = subst (AreContainers scm.made.containers) (sym (quiet_made up)) kept.made;
     up = ap (λ l. slice_set l dn up) kept.up ∙ ups_after opening mine dn up there;
+    log = λ running. log_up up (kept.log running);
     no_fewer = kept.no_fewer;
     rose = kept.rose;
   }

@@ -1,9 +1,11 @@
 mod Own
 mod Telling
 mod Made
+mod Log
 mod Ups
 mod Kept
 mod Needed
 mod Left
 mod Enabled
+mod Notes
 mod Members

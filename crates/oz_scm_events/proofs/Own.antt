@@ -1,10 +1,11 @@
 -- The events that a seat gave in a story, where events of some kinds are of that seat alone.
-use Rattle.std.specs.Prelude.{◌==◌, Bool, true, false, fold}
-use Rattle.std.specs.List.{AllByRecursion}
-use Rattle.std.proofs.Common.{◌≡◌, ℕ, List, [], ◌∷◌, refl, sym, ap, ◌∙◌, cond, eq-eqb}
+use Rattle.std.specs.Prelude.{◌==◌, ◌||◌, Bool, true, false, fold}
+use Rattle.std.specs.List.{AllByRecursion, cons_option}
+use Rattle.std.proofs.Common.{◌≡◌, ℕ, List, [], ◌∷◌, Option, None, refl, sym, ap, ◌∙◌, cond, eq-eqb}
 use Rattle.std.proofs.lemmas.Bool.{false≢true}
 use Rattle.oz_core.specs.declared.event.Event.{Event}
 use Rattle.oz_core.specs.declared.event.EventKind.{EventKind}
+use Rattle.oz_core.specs.Stories.{all_told, has_event}
 use Rattle.oz_turn.specs.Told.{own_entries}
 
 module _ (seat : ℕ) (is_its : EventKind → Bool) where
@@ -47,3 +48,22 @@ module _ (seat : ℕ) (is_its : EventKind → Bool) where
         by false not rest =
             ap (λ x. made x story) (only first event.kind (other event its.0 not))
             ∙ (rest first ∙ ap (made first) (sym (own_left event story not)))
+
+  -- and so is what they tell of it
+  pub told_by_own : {X : Type 0} (tells : EventKind → Option X) → ((kind : EventKind) → is_its kind ≡ false → tells kind ≡ None) → (story : List Event) → AreIts story → all_told tells story ≡ all_told tells (own story)
+  told_by_own tells only [] its = refl
+  told_by_own tells only (event ∷ story) its = by (is_own event) refl (told_by_own tells only story its.1)
+    where
+      by : (b : Bool) → is_own event ≡ b → all_told tells story ≡ all_told tells (own story) → all_told tells (event ∷ story) ≡ all_told tells (own (event ∷ story))
+      by true is rest = ap (cons_option (tells event.kind)) rest ∙ ap (all_told tells) (sym (own_kept event story is))
+      by false not rest =
+          ap (λ o. cons_option o (all_told tells story)) (only event.kind (other event its.0 not)) ∙ rest ∙ ap (all_told tells) (sym (own_left event story not))
+
+  pub had_by_own : (is : EventKind → Bool) → ((kind : EventKind) → is_its kind ≡ false → is kind ≡ false) → (story : List Event) → AreIts story → has_event is story ≡ has_event is (own story)
+  had_by_own is only [] its = refl
+  had_by_own is only (event ∷ story) its = by (is_own event) refl (had_by_own is only story its.1)
+    where
+      by : (b : Bool) → is_own event ≡ b → has_event is story ≡ has_event is (own story) → has_event is (event ∷ story) ≡ has_event is (own (event ∷ story))
+      by true own_it rest = ap (λ t. is event.kind || t) rest ∙ ap (has_event is) (sym (own_kept event story own_it))
+      by false not rest =
+          ap (λ t. t || has_event is story) (only event.kind (other event its.0 not)) ∙ rest ∙ ap (has_event is) (sym (own_left event story not))

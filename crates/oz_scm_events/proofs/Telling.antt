@@ -2,13 +2,13 @@
 -- events tell all of them.
 use Rattle.std.specs.Prelude.{true, false, Bool, ◌==◌, ◌&&◌, map, is_none}
 use Rattle.std.specs.List.{range_with_len}
-use Rattle.std.proofs.Common.{◌≡◌, ℕ, List, [], Option, None, Some, length, refl, sym, ap, ◌∙◌, cond}
+use Rattle.std.proofs.Common.{◌≡◌, ℕ, List, [], ◌++◌, Option, None, Some, length, refl, sym, ap, ◌∙◌, cond}
 use Rattle.std.proofs.lemmas.Bool.{false≢true, eqb-true}
 use Rattle.oz_buffer.specs.Buffer.{AllFollow, Follows, IsOfItsSeat}
 use Rattle.oz_buffer.specs.laws.Following.{follow-all}
 use Rattle.oz_core.specs.declared.event.Event.{Event}
 use Rattle.oz_core.specs.declared.event.EventKind.{EventKind}
-use Rattle.oz_core.specs.declared.event.EventKind.TheVariants.{Halt, Grant, Up, Down, Closed, Stop, Start}
+use Rattle.oz_core.specs.declared.event.EventKind.TheVariants.{Halt, Grant, Up, Down, Closed, Stop, Start, Log, AckDel, Retire}
 use Rattle.oz_core.specs.declared.event.Node.{Node}
 use Rattle.oz_core.specs.declared.event.Node.TheVariants.{Manager, Scm, Datanode}
 use Rattle.oz_core.specs.declared.opening.Opening.{Opening}
@@ -16,11 +16,13 @@ use Rattle.oz_core.specs.Contents.{OpeningBytes}
 use Rattle.oz_core.specs.Law.{KindIsEnabled}
 use Rattle.oz_core.specs.Manager.{halt_count, halt_of, is_node}
 use Rattle.oz_core.specs.Nodes.{is_running, stopped_or_started}
-use Rattle.oz_core.specs.Scm.{Containers, containers, containers_after, id_after, next_id, is_up, up_or_down, ups}
+use Rattle.oz_core.specs.Scm.{Containers, acknowledged_at_opening, acknowledger, containers, containers_after, id_after, logged, logged_number, next_id, is_up, retires, up_or_down, ups}
+use Rattle.oz_core.specs.declared.opening.Unretired.{Unretired}
 use Rattle.oz_core.specs.Seats.{datanode_seat, scm_seat, IsNodeSeat}
 use Rattle.oz_core.specs.Stories.{last_told, newer}
 use Rattle.oz_script.specs.declared.lines.script.Script.{Script}
-use Rattle.oz_scm_events.proofs.Own.{AreIts, IsIts, made_by_own, own}
+use Rattle.oz_scm_events.proofs.Log.{SaySame}
+use Rattle.oz_scm_events.proofs.Own.{AreIts, IsIts, had_by_own, made_by_own, own, told_by_own}
 
 -- ---- the storage container manager
 
@@ -30,6 +32,9 @@ of_scm (Closed container state) = true
 of_scm (Up dn) = true
 of_scm (Down dn) = true
 of_scm (Halt Scm count) = true
+of_scm (Log number container locals) = true
+of_scm (AckDel dn number) = true
+of_scm (Retire number) = true
 of_scm _ = false
 
 abbrev pub scm_gives_it : Event → Type 0
@@ -41,6 +46,9 @@ scm_gives opening story seat (Closed container state) may is = may.of_scm
 scm_gives opening story seat (Up dn) may is = may.of_scm
 scm_gives opening story seat (Down dn) may is = may.of_scm
 scm_gives opening story seat (Halt Scm count) may is = may.of_node
+scm_gives opening story seat (Log number container locals) may is = may.of_scm
+scm_gives opening story seat (AckDel dn number) may is = may.of_scm
+scm_gives opening story seat (Retire number) may is = may.of_scm
 scm_gives opening story seat (Halt Manager count) may is = absurd (false≢true is)
 scm_gives opening story seat (Halt (Datanode dn) count) may is = absurd (false≢true is)
 scm_gives opening story seat kind may is = absurd (false≢true is)
@@ -58,6 +66,22 @@ not_up : (dn : ℕ) (up : Bool) (kind : EventKind) → of_scm kind ≡ false →
 not_up dn up (Up other) not = absurd (false≢true (sym not))
 not_up dn up (Down other) not = absurd (false≢true (sym not))
 not_up dn up kind not = refl
+
+no_number : (last : ℕ) (kind : EventKind) → of_scm kind ≡ false → newer (logged_number kind) last ≡ last
+no_number last (Log number container locals) not = absurd (false≢true (sym not))
+no_number last kind not = refl
+
+no_txn : (kind : EventKind) → of_scm kind ≡ false → logged kind ≡ None
+no_txn (Log number container locals) not = absurd (false≢true (sym not))
+no_txn kind not = refl
+
+no_ack_of : (number : ℕ) (kind : EventKind) → of_scm kind ≡ false → acknowledger number kind ≡ None
+no_ack_of number (AckDel dn other) not = absurd (false≢true (sym not))
+no_ack_of number kind not = refl
+
+no_end_of : (number : ℕ) (kind : EventKind) → of_scm kind ≡ false → retires number kind ≡ false
+no_end_of number (Retire other) not = absurd (false≢true (sym not))
+no_end_of number kind not = refl
 
 -- ---- its halts, which are of its seat whatever the disks had
 
@@ -134,6 +158,15 @@ module _ (Coherent : Type 0) (opening : Opening) (bytes : OpeningBytes) (script 
 
   pub ups_own : ups opening story ≡ ups opening (own scm_seat of_scm story)
   ups_own i = map (λ dn. up_own dn i) (range_with_len 0 (length opening.nodes))
+
+  pub log_own : SaySame opening (own scm_seat of_scm story) story
+  log_own = record {
+    last = made_by_own scm_seat of_scm (λ last kind. newer (logged_number kind) last) no_number opening.last_txn story scm_all;
+    logs_are = ap (λ l. map (λ (unretired : Unretired). unretired.txn) opening.unretired ++ l) (told_by_own scm_seat of_scm logged no_txn story scm_all);
+    acknowledgers_are = λ number.
+        ap (λ l. acknowledged_at_opening opening number ++ l) (told_by_own scm_seat of_scm (acknowledger number) (no_ack_of number) story scm_all);
+    retired_is = λ number. had_by_own scm_seat of_scm (retires number) (no_end_of number) story scm_all;
+  }
 
   pub running_own : (dn : ℕ) → is_running dn story ≡ is_running dn (own (datanode_seat dn) (of_datanode dn) story)
   running_own dn =

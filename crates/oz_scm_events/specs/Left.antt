@@ -8,10 +8,10 @@ use Rattle.oz_core.specs.declared.opening.Opening.{Opening}
 use Rattle.oz_core.specs.Law.{KindIsEnabled}
 use Rattle.oz_core.specs.Scm.{containers, next_id}
 use Rattle.oz_core.specs.Seats.{scm_seat}
-use Rattle.oz_scm.specs.grants.Made.{Made}
+use Rattle.oz_scm.specs.grants.Made.{Made, log_of}
 use Rattle.oz_scm.specs.Scm.{State, StandsFor}
 use Rattle.oz_scm_events.specs.Granted.{by_scm}
-use Rattle.oz_scm_events.specs.Kept.{AreContainers}
+use Rattle.oz_scm_events.specs.Kept.{AreContainers, IsLogOf}
 use Rattle.oz_world.specs.Disk.{Seen}
 
 -- what entries make is what the events of a story make of what was opened
@@ -19,6 +19,7 @@ pub record IsMadeOf (opening : Opening) (story : List Event) (made : Made) : Typ
   pub nodes : made.nodes ≡ length opening.nodes
   pub next : made.next_id ≡ next_id opening story
   pub containers : AreContainers made.containers (containers opening story)
+  pub log : IsLogOf opening story (log_of made)
 
 -- bytes from which that is loaded
 abbrev pub LoadsAs : Opening → List Event → List ℕ → Type 0

@@ -2,5 +2,6 @@ pub mod Kept
 pub mod Granted
 pub mod Tracked
 pub mod Stepped
+pub mod Noted
 pub mod Left
 pub mod Telling

@@ -9,8 +9,8 @@ ghost use Rattle.oz_core.specs.Scm.{containers, members};
 ghost use Rattle.oz_core.specs.Seats.{scm_seat};
 ghost use Rattle.oz_scm.specs.declared.grants.container.Container.{Container as AnyContainer};
 ghost use Rattle.oz_scm.specs.grants.Counts.{AreCounts};
-ghost use Rattle.oz_scm.specs.grants.Made.{state_at};
-ghost use Rattle.oz_scm_events.specs.Kept.{AreContainers, IsKept};
+ghost use Rattle.oz_scm.specs.grants.Made.{log_of, state_at};
+ghost use Rattle.oz_scm_events.specs.Kept.{AreContainers, IsKept, IsLogOf};
 ghost use Rattle.oz_scm_events.specs.Left.{Leaves};
 ghost use Rattle.oz_scm_events.specs.Stepped.{state_told};
 ghost use Rattle.oz_turn.specs.Seat.{IsNewSeat, IsReady, IsSameSeat, mine_of, number_of, room_of, seen_of, share_of, taken_of, turn_of};
@@ -76,6 +76,7 @@ impl<D: Disk, T: Told<Entry = Event>, O: Opened, R: Ring> ScmCell<D, T, O, R> {
         requires next { scm.made.next_id ≡ O.opening.next_id }
         requires containers { AreContainers scm.made.containers O.opening.containers }
         requires up { scm.up ≡ replicate (length O.opening.nodes) true }
+        requires log { IsLogOf O.opening [] (log_of scm.made) }
         requires faults { O.faults ScmNode ≤ D.faults scm.disk }
         requires seat { IsNewSeat R.turn scm_seat seat }
         ensures { result ≡ record { scm = scm; seen = []; mine = []; room = 0 } }

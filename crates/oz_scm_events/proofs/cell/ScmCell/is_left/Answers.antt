@@ -12,6 +12,6 @@ returns g c =
     subst
     (λ v. Leaves O.coherent O.opening v.scm (seen (g.D.Disk.told v.scm.disk) (g.D.Disk.clock v.scm.disk) (g.D.Disk.image v.scm.disk) (g.D.Disk.faults v.scm.disk)) v.seen v.mine) c.self.view_is
     (record {
-      rests = λ running. at_rest O.opening (mine_of c.self.inside.seat) c.self.inside.scm _ _ (kept_made c.self.invariant.1) (c.stopped-stopped.ensures.at_rest running);
+      rests = λ running. at_rest O.opening (mine_of c.self.inside.seat) c.self.inside.scm _ _ (kept_made c.self.invariant.1 running) (c.stopped-stopped.ensures.at_rest running);
       halted = c.self.invariant.2;
     })

@@ -1,17 +1,17 @@
 //! Laws of nodes that were loaded, in the words in which their seats ask for them.
 
-ghost use Rattle.std.specs.Prelude.{◌≡◌, ◌<◌, ℕ, List, Some, IsSome, All, length, replicate, slice_get, false, true};
+ghost use Rattle.std.specs.Prelude.{◌≡◌, ◌<◌, ℕ, List, [], Some, IsSome, All, length, replicate, slice_get, false, true};
 ghost use Rattle.oz_datanode.specs.Datanode.{Runs, State as AnyDatanode};
 ghost use Rattle.oz_datanode.specs.declared.disks.NodeDisks.{NodeDisks};
 ghost use Rattle.oz_node_events.specs.full.Full.{JournalStands};
-ghost use Rattle.oz_scm.specs.grants.Made.{Made};
+ghost use Rattle.oz_scm.specs.grants.Made.{Made, log_of};
 ghost use Rattle.oz_loaded.specs.Unseated.{UnseatedView};
 ghost use Rattle.oz_namespace.specs.declared.namespace.Namespace.{Namespace as AnyNamespace};
 ghost use Rattle.oz_node_events.specs.NodeSeat.{IsAsOpened, NumbersAreOld};
 ghost use Rattle.oz_nodes_loaded.specs.Loads.{AreNodesFrom, IsScmFrom};
 ghost use Rattle.oz_rows.specs.RowMaps.{Rows as AnyRows};
 ghost use Rattle.oz_scm.specs.Scm.{State as AnyScm};
-ghost use Rattle.oz_scm_events.specs.Kept.{AreContainers};
+ghost use Rattle.oz_scm_events.specs.Kept.{AreContainers, IsLogOf};
 ghost use Rattle.oz_nodes_loaded.specs.store_opening.Agreeing.{BlocksAgree};
 ghost use Rattle.oz_nodes_loaded.specs.store_opening.Openings.{opened_log, opening_bytes, opening_of};
 ghost use Rattle.oz_owned.specs.Ordered.{LogIsOrdered};
@@ -26,7 +26,7 @@ use oz_node_events::a_journal_keeps_slots_apart;
 use oz_world::Disk;
 
 /// The storage container manager that was loaded for so many datanodes runs, takes each of them for up, and has the next id,
-/// the containers and the last transaction of the opening, whose log of deleted blocks is its log, in order.
+/// the containers and the last transaction of the opening, whose log of deleted blocks is its log, in order and as the law reads it.
 pub fn a_loaded_scm_stands_for_the_opening<D: Disk>()
     ensures running { (given : ℕ) (disk : D) (scm : AnyScm D) →
         let see = (λ (d : D). seen (D.told d) (D.clock d) (D.image d) (D.faults d)) in
@@ -55,6 +55,10 @@ pub fn a_loaded_scm_stands_for_the_opening<D: Disk>()
         let see = (λ (d : D). seen (D.told d) (D.clock d) (D.image d) (D.faults d)) in
         IsScmFrom see (length disks) disk scm → AreNodesFrom see 0 disks nodes →
         LogIsOrdered (opening_of unseated namespace scm.made nodes) }
+    ensures deletions { (given : ℕ) (disk : D) (scm : AnyScm D) (nodes : List (AnyDatanode D)) (unseated : UnseatedView)
+        (namespace : AnyNamespace) →
+        let see = (λ (d : D). seen (D.told d) (D.clock d) (D.image d) (D.faults d)) in
+        IsScmFrom see given disk scm → IsLogOf (opening_of unseated namespace scm.made nodes) [] (log_of scm.made) }
 {
     an_opening_has_what_was_loaded::<D>();
 }

@@ -1,6 +1,7 @@
 use Rattle.std.proofs.Common.{ℕ, refl, ◌∙◌, ap, true, replicate}
 use Rattle.oz_world.specs.Disk.{seen}
 use Rattle.oz_nodes_loaded.specs.store_opening.laws.Logs.{loaded_log_is_ordered}
+use Rattle.oz_nodes_loaded.proofs.nodes_opened_lemmas.Deletions.{loaded_log_is}
 use Rattle.oz_nodes_loaded.proofs.nodes_opened_lemmas.Nodes.{so_many}
 use Rattle.oz_nodes_loaded.proofs.nodes_opened.laws.a_loaded_scm_stands_for_the_opening.Goals as goal
 
@@ -31,3 +32,6 @@ pub returns-clause-ordered : goal.returns-clause-ordered
 returns-clause-ordered g c = λ disk scm disks nodes unseated namespace from are.
     loaded_log_is_ordered unseated namespace scm.made nodes
     (from.nodes ∙ so_many (λ (d : g.row.D.Denot). seen (g.D.Disk.told d) (g.D.Disk.clock d) (g.D.Disk.image d) (g.D.Disk.faults d)) 0 disks nodes are) from.ordered
+
+pub returns-clause-deletions : goal.returns-clause-deletions
+returns-clause-deletions g c = λ given disk scm nodes unseated namespace from. loaded_log_is unseated namespace scm.made nodes from.ordered

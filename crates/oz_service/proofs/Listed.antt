@@ -59,3 +59,8 @@ module _ {A : Type 0} where
     whole_front [] (suc n) past = refl
     whole_front (x ∷ xs) zero past = absurd (omega (arith, past))
     whole_front (x ∷ xs) (suc n) past = ap (λ (l : List A). f x ∷ l) (whole_front xs n (omega (arith, past)))
+
+-- one function behind another
+pub map_both : {A B C : Type 0} (f : A → B) (h : B → C) (xs : List A) → map (λ x. h (f x)) xs ≡ map h (map f xs)
+map_both f h [] = refl
+map_both f h (x ∷ xs) = ap (λ l. h (f x) ∷ l) (map_both f h xs)

@@ -1,8 +1,10 @@
 -- The storage container manager and all datanodes of a run, all of whose locks are held.
-use Rattle.std.specs.Prelude.{◌≡◌, ℕ, List, Some, length, map, slice_get}
+use Rattle.std.specs.Prelude.{◌≡◌, ℕ, List, [], ◌∷◌, ◌++◌, Option, Some, None, length, map, slice_get}
+use Rattle.oz_asker.specs.declared.telling.still.Still.{Still}
+use Rattle.oz_asker.specs.declared.telling.still.Still.TheVariants.{Seat}
 use Rattle.oz_buffer.specs.declared.opened.Opened.{Ghosts as Run}
 use Rattle.oz_core.specs.declared.event.Event.{Event}
-use Rattle.oz_core.specs.Seats.{scm_seat}
+use Rattle.oz_core.specs.Seats.{datanode_seat, flusher_seat, scm_seat}
 use Rattle.oz_node_events.specs.NodeSeat.{IsKept, SeatView, StandsFor}
 use Rattle.oz_replicas.specs.Cells.{CellView}
 use Rattle.oz_scm_events.specs.Kept.{ScmView}
@@ -37,3 +39,15 @@ module _ {D O : Type 0} (disk : Disk D) (run : Run O) (story : List Event) where
     pub of_the_scm : own_entries (λ (event : Event). event.seat) scm_seat story ≡ all.scm.mine
     pub count : length all.nodes ≡ length run.opening.nodes
     pub nodes : (dn : ℕ) (cell : CellView D SeatView) → slice_get all.nodes dn ≡ Some cell → IsShown dn cell
+
+-- No seat that this speaks of gives an event behind so many: the flusher's, if it is named, behind a place of its own; that of the
+-- storage container manager; and that of each datanode.
+abbrev pub flusher_still : Option ℕ → List Still
+flusher_still None = []
+flusher_still (Some place) = Seat flusher_seat place ∷ []
+
+abbrev pub node_still : {D : Type 0} → ℕ → CellView D SeatView → Still
+node_still place cell = Seat (datanode_seat cell.node.id) place
+
+abbrev pub all_still : {D : Type 0} → Option ℕ → ℕ → AllView D → List Still
+all_still flusher place all = flusher_still flusher ++ Seat scm_seat place ∷ map (node_still place) all.nodes

@@ -4,13 +4,16 @@ ghost use Rattle.std.specs.Prelude.{◌≡◌, [], length, not, IfOk};
 ghost use Rattle.oz_buffer.specs.Buffer.{AllFollow, Follows};
 ghost use Rattle.oz_core.specs.Asks.{is_told};
 ghost use Rattle.oz_node_admin.specs.Seats.{MayTake, OnlyLooked};
-ghost use Rattle.oz_service.specs.AllLocked.{KnowOneStory, all_shown};
+ghost use Rattle.oz_service.specs.AllLocked.{KnowOneStory, all_shown, all_still};
 ghost use Rattle.oz_turn.specs.Seat.{seen_of};
 ghost use Rattle.oz_turn.specs.Turn.{turn_id};
 
 mod showing;
+mod standing;
 
 use crate::all_locked::showing::show_nodes;
+use crate::all_locked::standing::{add_nodes, of_flusher};
+use oz_asker::Still;
 use oz_buffer::{Ledger, Opened};
 use oz_core::Event;
 use oz_fields::OutOfMemory;
@@ -54,6 +57,8 @@ where
     ghost invariant = { λ all. (length all.nodes.items ≡ length O.opening.nodes)
         × AreInOrder (map mutex_guard_value all.nodes.items) };
 }
+
+const SCM_SEAT: u16 = 3;
 
 /// What was seen as all seats were shown one story.
 #[derive(Clone, Copy, Debug, PartialEq, Eq)]
@@ -119,5 +124,25 @@ impl<'a, D: Disk, O: Opened, R: Ring> AllLocked<'a, D, O, R> {
         show_nodes(turn, &mut self.nodes, seat);
         turn.give_back(seat, ledger, held);
         shown
+    }
+
+    /// What has to stay as it is, for a line to be told what was seen at a place: behind it neither the storage container manager
+    /// nor a datanode gives an event, which holds as long as this isn't let go. Where a place is named for the flusher, that it
+    /// gives none behind that.
+    pub fn stills(
+        &self,
+        alloc: Global,
+        flusher: Option<u64>,
+        place: u64,
+    ) -> Result<Vec<Still>, OutOfMemory>
+        ensures { IfOk result (λ stills. stills.items ≡ all_still flusher place self.now) }
+    {
+        let mut stills = of_flusher(alloc, flusher)?;
+        stills.push(Still::Seat {
+            seat: SCM_SEAT,
+            place,
+        })?;
+        add_nodes(&mut stills, &self.nodes, place)?;
+        Ok(stills)
     }
 }

@@ -4,6 +4,7 @@ ghost use Rattle.std.specs.Prelude.{◌≡◌, [], length, not, IfOk};
 ghost use Rattle.oz_buffer.specs.Buffer.{AllFollow, Follows};
 ghost use Rattle.oz_core.specs.Asks.{is_told};
 ghost use Rattle.oz_node_admin.specs.Seats.{MayTake, OnlyLooked};
+ghost use Rattle.oz_replicas.specs.Cells.{AreInOrder};
 ghost use Rattle.oz_service.specs.AllLocked.{KnowOneStory, all_shown, all_still};
 ghost use Rattle.oz_turn.specs.Seat.{seen_of};
 ghost use Rattle.oz_turn.specs.Turn.{turn_id};
@@ -33,8 +34,8 @@ pub struct AllLocked<'a, D: Disk, O: Opened, R: Ring>
 where
     Ledger<O>: Told<Entry = Event>,
 {
-    scm: MutexGuard<'a, ScmCell<D, Ledger<O>, O, R>>,
-    nodes: Vec<NodeGuard<'a, D, NodeSeat<Ledger<O>, O, R>>>,
+    pub(crate) scm: MutexGuard<'a, ScmCell<D, Ledger<O>, O, R>>,
+    pub(crate) nodes: Vec<NodeGuard<'a, D, NodeSeat<Ledger<O>, O, R>>>,
 }
 
 impl<'a, D: Disk, O: Opened, R: Ring> Model for AllLocked<'a, D, O, R>
@@ -96,6 +97,14 @@ pub fn lock_all<'a, D: Disk, O: Opened, R: Ring, W: Wait>(
 }
 
 impl<'a, D: Disk, O: Opened, R: Ring> AllLocked<'a, D, O, R> {
+    /// What holds of them at every moment. It does nothing when it runs.
+    pub fn is_kept(&self)
+        ensures count { length self.now.nodes ≡ length O.opening.nodes }
+        ensures order { AreInOrder self.now.nodes }
+    {
+        let _count = self.nodes.len();
+    }
+
     /// In one hold of the turn by another seat, all seats see all that happened until now: so all know one story. Tells how many
     /// events it has, and whether a line is told its answer there. Nothing else is different then. It takes no memory.
     pub fn show<W: Wait>(

@@ -1,4 +1,4 @@
-use Rattle.std.proofs.Common.{◌≡◌, List, [], ◌∷◌, ◌++◌, map, ap, ◌∙◌, append_assoc}
+use Rattle.std.proofs.Common.{List, [], ◌∷◌, ◌++◌, map, ap, ◌∙◌, append_assoc}
 use Rattle.std.specs.Sync.Mutex.{mutex_guard_value}
 use Rattle.oz_asker.specs.declared.telling.still.Still.{Still}
 use Rattle.oz_asker.specs.declared.telling.still.Still.TheVariants.{Seat}

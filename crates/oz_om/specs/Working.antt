@@ -7,12 +7,12 @@ use Rattle.oz_reclaim.specs.Work.{IsChainWork}
 use Rattle.oz_requests.specs.declared.request.Request.{Request}
 use Rattle.oz_rows.specs.RowMaps.{Rows}
 use Rattle.oz_turn.specs.Told.{BeginsWith}
-use Rattle.oz_owned.specs.Stood.{StandAt}
+use Rattle.oz_owned.specs.Stood.{HasStood}
 
--- As this story ended, rows of the stripe stood of whose deleted snapshots the request works off the first, or that had none.
+-- As this story ended, of the deleted snapshots of the stripe's rows the request worked off the first, or they had none.
 pub record HadWork (opening : Opening) (loaded : Rows) (stripe : ℕ) (story : List Event) (request : Option Request) : Type 0 where
   pub rows : Rows
-  pub stand : StandAt opening loaded stripe story rows
+  pub stood : HasStood opening loaded stripe story rows
   pub work : IsChainWork rows request
 
 -- the stripe had none as some story ended, behind what was seen before

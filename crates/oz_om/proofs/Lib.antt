@@ -3,7 +3,13 @@ pub mod Recorded
 pub mod Old
 pub mod Homes
 pub mod Asked
-pub mod Purged
+pub mod Whole
+pub mod Pinned
+pub mod Reclaimed
+pub mod PurgeAsks
+pub mod Sought
+pub mod Purges
+pub mod Gone
 pub mod Tables
 pub mod Granting
 pub mod Tellable

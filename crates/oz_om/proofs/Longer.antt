@@ -19,10 +19,11 @@ use Rattle.oz_locks.specs.Flushes.{flushed_in}
 use Rattle.oz_locks.specs.Stripe.{StripeView}
 use Rattle.oz_rows.specs.RowMaps.{Rows}
 use Rattle.oz_om.specs.Held.{IsDrafting, IsHeld}
-use Rattle.oz_om.specs.Keeps.{AreAsked, KeepsRows}
+use Rattle.oz_om.specs.Keeps.{AreAsked, KeepsRows, StayWhole}
 use Rattle.oz_om.specs.laws.Runs.{none_given}
 use Rattle.oz_om.proofs.Legal.{legal_of}
 use Rattle.oz_om.proofs.Roomier.{newest_same}
+use Rattle.oz_om.proofs.Whole.{whole_longer}
 
 -- what was asked stays the stripe's own
 pub asked_longer : (loaded : Rows) (stripe : ℕ) (given seen more : List Event) (rows : Rows) → AreAsked loaded stripe given seen rows
@@ -46,6 +47,8 @@ module _ (Coherent : Type 0) (opening : Opening) (bytes : OpeningBytes) (script 
         (has_stood_without opening loaded stripe seen more rows (legal coherent) none (keeps.stood coherent));
     asked = λ coherent. subst (λ (l : List Event). AreAsked loaded stripe given l rows) (sym parts)
         (asked_longer loaded stripe given seen more rows (keeps.asked coherent));
+    whole = λ coherent. subst (λ (l : List Event). StayWhole opening loaded stripe l rows) (sym parts)
+        (whole_longer opening loaded stripe seen rows keeps.listed more (legal coherent) none (keeps.stood coherent) (keeps.whole coherent));
   }
     where
       legal : Coherent → IsLegal opening (seen ++ more)

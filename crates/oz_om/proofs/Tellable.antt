@@ -62,7 +62,8 @@ use Rattle.oz_om.proofs.Asked.{asked_after}
 use Rattle.oz_om.proofs.Homes.{granted_home, homes_after, kept_after, locals_after}
 use Rattle.oz_om.proofs.Legal.{legal_of}
 use Rattle.oz_om.proofs.Old.{contains_at, handed_with, old_after, old_whole}
-use Rattle.oz_om.proofs.Purged.{gone_logged}
+use Rattle.oz_om.proofs.Gone.{gone_logged}
+use Rattle.oz_om.proofs.Whole.{whole_decided}
 use Rattle.oz_sound.specs.stripes.Stripes.{only}
 use Rattle.oz_om.proofs.Recorded.{recorded_spares, spares_opened}
 use Rattle.oz_om.proofs.decider_lemmas.Choice.{is_on_snapshots}
@@ -269,4 +270,6 @@ module _ {T : Type 0} (Coherent Agrees : Type 0) (opening : Opening) (bytes : Op
               (made.made.own_batch (part coherent) (loosely coherent));
           stands = stands;
           asked = asks;
+          whole = λ coherent. whole_decided opening loaded s.number story rows (after_changes decision.changes rows) (granted_in decision.reply)
+              (at coherent) (meets coherent).leads.fit (come coherent);
         }

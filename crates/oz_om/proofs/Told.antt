@@ -13,7 +13,7 @@ use Rattle.oz_script.specs.declared.lines.script.Script.{Script}
 use Rattle.oz_locks.specs.Purges.{asked_by, asked_in}
 use Rattle.oz_locks.specs.Stripe.{StripeView}
 use Rattle.oz_fields.specs.declared.block.Block.{Block}
-use Rattle.oz_owned.specs.Stood.{StandAt}
+use Rattle.oz_owned.specs.Stood.{HasStood, StandAt}
 use Rattle.oz_owned.specs.laws.Owned.{own_still}
 use Rattle.oz_owned.specs.laws.Written.{stood_more}
 use Rattle.oz_requests.specs.declared.reply.Reply.{Reply}
@@ -25,6 +25,8 @@ use Rattle.oz_sound.specs.stripes.Stripes.{only}
 use Rattle.oz_turn.specs.Told.{KeepsOtherRooms}
 use Rattle.oz_om.specs.Held.{IsHeld, IsTellable, IsTold}
 use Rattle.oz_om.specs.Keeps.{AreAsked, KeepsRows}
+use Rattle.oz_om.proofs.Legal.{legal_of}
+use Rattle.oz_om.proofs.Whole.{whole_further}
 
 -- a value that keeps the rooms of another for all other seats keeps those that were taken
 pub rooms_kept : {T : Type 0} (room : T → ℕ → ℕ) (number : ℕ) (taken : Option T) (before after : T) → KeepsOtherRooms room number taken before
@@ -71,10 +73,16 @@ module _ {T : Type 0} (Coherent : Type 0) (opening : Opening) (bytes : OpeningBy
           fit = tellable.fit;
           listed = held.keeps.listed;
           stands = tellable.stands;
-          stood = λ coherent. stood_more (StandAt opening loaded old.number) old.number [] (only old.number loaded) story (newest old.cache)
-              (after_changes changes (newest old.cache)) decide (held.keeps.stood coherent)
-              (record { own = λ is. record { changes = changes; of_stripe = tellable.of_stripe coherent; limit = limit; leads = refl }; others = λ not. absurd (not refl) })
-              (tellable.stands coherent);
+          stood = stood_now;
           asked = λ coherent. asked_told (tellable.asked coherent);
+          whole = λ coherent. whole_further opening loaded old.number story (newest old.cache) held.keeps.listed decide
+              (after_changes changes (newest old.cache)) (legal_of Coherent opening bytes script coherent (story ++ decide ∷ []) follow) (stood_now coherent)
+              (tellable.whole coherent) (held.keeps.whole coherent);
         }))));
   }
+    where
+      stood_now : Coherent → HasStood opening loaded old.number (story ++ decide ∷ []) (after_changes changes (newest old.cache))
+      stood_now coherent = stood_more (StandAt opening loaded old.number) old.number [] (only old.number loaded) story (newest old.cache)
+          (after_changes changes (newest old.cache)) decide (held.keeps.stood coherent)
+          (record { own = λ is. record { changes = changes; of_stripe = tellable.of_stripe coherent; limit = limit; leads = refl }; others = λ not. absurd (not refl) })
+          (tellable.stands coherent)

@@ -1,5 +1,5 @@
 -- The rows of a stripe that has decided nothing: those that were loaded of it.
-use Rattle.std.proofs.Common.{◌≡◌, ⊎_elim, inl, ℕ, List, [], refl, sym, ap, ◌∙◌, subst}
+use Rattle.std.proofs.Common.{◌≡◌, ⊎_elim, inl, ℕ, List, [], ◌∷◌, ◌++◌, refl, sym, ap, ◌∙◌, subst}
 use Rattle.oz_cache.specs.Cache.{CacheView, batched_changes, newest}
 use Rattle.oz_cache.specs.declared.batch.Batch.{Batch}
 use Rattle.oz_core.specs.declared.event.Event.{Event}
@@ -9,6 +9,7 @@ use Rattle.oz_core.specs.Manager.{namespace_from, namespace_of}
 use Rattle.oz_decision.specs.Meets.{AreInGrammar, Stand}
 use Rattle.oz_namespace.specs.declared.namespace.Namespace.{Namespace}
 use Rattle.oz_kept.specs.laws.Reached.{in_none}
+use Rattle.oz_locks.specs.Purges.{HaveWholeRows}
 use Rattle.oz_owned.specs.Stood.{HasStood, HaveStoodFrom, StandAt}
 use Rattle.oz_rows.specs.declared.key.RowKey.{RowKey}
 use Rattle.oz_rows.specs.RowMaps.{KeysRise, Rows, row_after, row_of}
@@ -19,6 +20,7 @@ use Rattle.oz_store.specs.striped.laws.Shares.{share_is_there}
 use Rattle.oz_sound.specs.stripes.Stripes.{only}
 use Rattle.oz_tables.specs.Tables.{TableView}
 use Rattle.oz_om.proofs.Old.{only_of}
+use Rattle.oz_om.specs.Keeps.{StayWhole}
 use Rattle.oz_om.specs.Opens.{Opens}
 use Rattle.oz_om.specs.Seated.{ArePartsOf, IsPartOf, ArePlaced}
 
@@ -67,6 +69,17 @@ module _ (Coherent Agrees : Type 0) (opening : Opening) (bytes : OpeningBytes) (
   unfolding HaveStoodFrom
   stood_loaded stripe rows same coherent = (stand_only stripe coherent, same)
 
+  none_left : (before more : List Event) → [] ≡ before ++ more → before ≡ []
+  none_left [] more e = refl
+  none_left (event ∷ before) more e = absurd cc
+
+  stays_loaded : (stripe : ℕ) (rows : Rows) → rows ≡ only stripe loaded → StayWhole opening loaded stripe [] rows
+  unfolding HaveStoodFrom
+  stays_loaded stripe rows same before was blocks begins was_stood out whole =
+      let first : HasStood opening loaded stripe [] was =
+      subst (λ (l : List Event). HasStood opening loaded stripe l was) (none_left before begins.0 begins.1) was_stood in
+      subst (λ (r : Rows). HaveWholeRows r blocks) (first.1 ∙ sym same) whole
+
   pub keeps_part : (stripe : ℕ) (cache : CacheView) (tables : TableView) → IsPartOf loaded last stripe cache → tables ≡ cache.durable → KeysRise tables.rows
       → Keeps stripe [] [] (newest cache)
   keeps_part stripe cache tables part its rise = (opens.keeps stripe [] [] (newest cache)).1 (record {
@@ -76,6 +89,7 @@ module _ (Coherent Agrees : Type 0) (opening : Opening) (bytes : OpeningBytes) (
     stands = λ coherent. subst (StandAt opening loaded stripe []) (sym same) (stand_only stripe coherent);
     stood = λ coherent. stood_loaded stripe (newest cache) same coherent;
     asked = λ coherent. record { own = λ blocks there. absurd (in_none blocks there); whole = λ blocks there. absurd (in_none blocks there) };
+    whole = λ coherent. stays_loaded stripe (newest cache) same;
   })
     where
       newest_is : (key : RowKey) → newest cache key ≡ row_of cache.durable.rows key

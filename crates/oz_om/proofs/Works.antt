@@ -17,10 +17,10 @@ pub begins_further : (first before after : List Event) → BeginsWith after befo
 begins_further first before after later earlier =
     (earlier.0 ++ later.0, later.1 ∙ (ap (λ (l : List Event). l ++ later.0) earlier.1 ∙ append_assoc first earlier.0 later.0))
 
-below : (a b : ℕ) → nat_lt a b ≡ true → a < b
+pub below : (a b : ℕ) → nat_lt a b ≡ true → a < b
 below a b e = grind (arith, nat_tests, e)
 
-not_below : (a b : ℕ) → nat_lt a b ≡ false → b ≤ a
+pub not_below : (a b : ℕ) → nat_lt a b ≡ false → b ≤ a
 not_below a b e = grind (arith, nat_tests, e)
 
 pub none_of : (request : Option Request) → is_some request ≡ false → (P : Option Request → Type 0) → P request → P None

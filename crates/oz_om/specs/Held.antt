@@ -21,6 +21,7 @@ use Rattle.oz_fields.specs.declared.block.Block.{Block}
 use Rattle.oz_script.specs.declared.lines.script.Script.{Script}
 use Rattle.oz_locks.specs.Pins.{pins_for}
 use Rattle.oz_locks.specs.Pool.{IsFirstAllowed, pool_of}
+use Rattle.oz_locks.specs.Purges.{HaveWholeRows}
 use Rattle.oz_locks.specs.Reclaims.{AreReady}
 use Rattle.oz_locks.specs.Stripe.{StripeView}
 use Rattle.oz_locks.specs.declared.pool.FreeBlock.{FreeBlock}
@@ -38,7 +39,7 @@ use Rattle.oz_rows.specs.declared.operation.TheConstants.{END_OF_INDEXES}
 use Rattle.oz_rows.specs.RowMaps.{Rows, after_changes}
 use Rattle.oz_turn.specs.Told.{own_entries}
 use Rattle.oz_om.specs.declared.draft.Draft.{Draft}
-use Rattle.oz_om.specs.Keeps.{AreAsked, KeepsRows}
+use Rattle.oz_om.specs.Keeps.{AreAsked, AreOutOfReach, KeepsRows}
 
 -- the request of an Ask that is undecided, and that the manager hadn't halted before, is the stripe's
 pub record IsOpenAsk (story : List Event) (place : ℕ) (id : AskId) (stripe : ℕ) (request : Request) : Type 0 where
@@ -64,7 +65,7 @@ pub record IsGrantOf (pool : List FreeBlock) (reply : Reply) (granted : Option B
   pub pooled : IfSome granted (λ block. Any (λ (free : FreeBlock). free.block ≡ block) pool)
 
 -- A decision of a stripe over its rows may be told under an index, and the stripe's rows stand then. What it asked to be
--- deleted, by these events, stays in whole rows.
+-- deleted, by these events, stays in whole rows, and so does what is out of reach.
 pub record IsTellable (Coherent : Type 0) (opening : Opening) (loaded : Rows) (stripe : ℕ) (rows : Rows)
     (given story : List Event) (id : AskId) (reply : Reply) (batch : List ℕ) (changes : List Change) (index : ℕ)
     : Type 0 where
@@ -77,6 +78,8 @@ pub record IsTellable (Coherent : Type 0) (opening : Opening) (loaded : Rows) (s
       (story ++ record { seat = stripe_seat stripe; kind = Decide id index reply batch } ∷ [])
       (after_changes changes rows)
   pub asked : Coherent → AreAsked loaded stripe given story (after_changes changes rows)
+  pub whole : Coherent → (blocks : List Block) → AreOutOfReach opening story blocks → HaveWholeRows rows blocks
+      → HaveWholeRows (after_changes changes rows) blocks
 
 module _ {T : Type 0} where
   -- The stripe's seat has just seen the whole story, and its rows stand.

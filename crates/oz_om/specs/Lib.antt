@@ -6,6 +6,7 @@ pub mod Refusals
 pub mod Seated
 pub mod Shown
 pub mod Working
+pub mod Purging
 pub mod decider
 pub mod laws
 pub use Rattle.oz_asker.specs.laws.Asks

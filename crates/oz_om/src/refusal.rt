@@ -27,10 +27,11 @@ pub enum Refusal {
 
 impl From<OutOfMemory> for Refusal {
     ghost use Rattle.std.specs.Prelude.{◌≡◌};
+    ghost use Rattle.oz_om.specs.declared.refusal.Refusal.TheVariants.{OutOfMemory};
 
-    fn from(_error: OutOfMemory) -> Refusal
-        ensures { result ≡ Refusal.OutOfMemory }
-    {
+    ghost from_gives = { λ _ refusal. refusal ≡ OutOfMemory };
+
+    fn from(_error: OutOfMemory) -> Refusal {
         Refusal::OutOfMemory
     }
 }

@@ -8,7 +8,8 @@ use Rattle.oz_nodes.specs.declared.nodes.TheConstants.{FEWEST_NODES, MOST_NODES}
 use Rattle.oz_om.specs.Seated.{ArePlaced}
 use Rattle.oz_replicas.specs.Cells.{CellView, IsAtRest}
 use Rattle.oz_scm.specs.Scm.{State as Scm}
-use Rattle.oz_scm_events.specs.Kept.{AreContainers}
+use Rattle.oz_scm.specs.grants.Made.{log_of}
+use Rattle.oz_scm_events.specs.Kept.{AreContainers, IsLogOf}
 
 -- The storage container manager runs, takes each datanode for up, and has what the opening says; its disk had failed so often
 -- once it was loaded, and has failed so often now.
@@ -18,6 +19,7 @@ pub record ScmStands {D : Type 0} (opening : Opening) (loaded : ℕ) (scm : Scm 
   pub next : scm.made.next_id ≡ opening.next_id
   pub containers : AreContainers scm.made.containers opening.containers
   pub up : scm.up ≡ replicate (length opening.nodes) true
+  pub log : IsLogOf opening [] (log_of scm.made)
   pub no_fewer : loaded ≤ faults
 
 -- what is seen of the seat of a datanode that has seen and given nothing

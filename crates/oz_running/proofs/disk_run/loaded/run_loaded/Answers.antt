@@ -38,6 +38,7 @@ run_told-requires-clause-scm g c lives within =
       next = law.next scm nodes unseated namespace;
       containers = law.containers scm nodes unseated namespace;
       up = law.up from.disk scm from.disks nodes unseated namespace from.scm_from from.nodes_from;
+      log = law.deletions (length from.disks) from.disk scm nodes unseated namespace from.scm_from;
       no_fewer = omega arith;
     }
 

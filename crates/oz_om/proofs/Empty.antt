@@ -6,7 +6,6 @@ use Rattle.std.proofs.lemmas.List.Folds.{Any-from_list_any, list_any_at}
 use Rattle.std.specs.Prelude.{All, Contains}
 use Rattle.oz_core.specs.declared.event.Event.{Event}
 use Rattle.oz_core.specs.declared.opening.Opening.{Opening}
-use Rattle.oz_core.specs.Asks.{is_script}
 use Rattle.oz_core.specs.Contents.{OpeningBytes}
 use Rattle.oz_core.specs.Grants.{IsExcluded}
 use Rattle.oz_core.specs.Manager.{namespace_of}
@@ -39,7 +38,7 @@ use Rattle.oz_store.specs.striped.laws.Requests.{share_answers}
 use Rattle.oz_store.specs.granted.Empty.{IsPoolEmpty}
 use Rattle.oz_om.specs.Held.{IsHeld, IsOpenAsk, IsPickFor, IsPicked}
 use Rattle.oz_om.specs.Opens.{Opens}
-use Rattle.oz_om.proofs.Tellable.{PoolLaw, of, part, pends}
+use Rattle.oz_om.proofs.Tellable.{PoolLaw, of, part}
 
 -- a block is one of some where a test says so
 itself : (block : Block) → is_block block block ≡ true
@@ -65,12 +64,12 @@ all_of P l all x among = subst P among.2 (all among.0 x among.1)
 module _ {T : Type 0} (Coherent Agrees : Type 0) (opening : Opening) (bytes : OpeningBytes) (script : Script) (loaded : Rows) (last : ℕ)
     (Keeps : ℕ → List Event → List Event → Rows → Type 0) (opens : Opens Coherent opening bytes loaded last Agrees Keeps)
     (pool : PoolLaw) (s : StripeView T) (story : List Event) (held : IsHeld Coherent opening bytes script loaded s story)
-    (id : AskId) (scripted : is_script id ≡ true) (coherent : Coherent) where
+    (id : AskId) (coherent : Coherent) where
   abbrev share : Namespace
-  share = part Coherent Agrees opening bytes script loaded last Keeps opens pool s story held id scripted coherent
+  share = part Coherent Agrees opening bytes script loaded last Keeps opens pool s story held id coherent
 
   share_is : IsOfStripe s.number (namespace_of opening story) share
-  share_is = of Coherent Agrees opening bytes script loaded last Keeps opens pool s story held id scripted coherent
+  share_is = of Coherent Agrees opening bytes script loaded last Keeps opens pool s story held id coherent
 
   -- what isn't handed out is in the pool
   none_free : (exclude : Exclude) → IsPicked Agrees s exclude None → NoneIsFree story s.number exclude
@@ -105,7 +104,7 @@ module _ {T : Type 0} (Coherent Agrees : Type 0) (opening : Opening) (bytes : Op
         key = key;
         session = session;
         exclude = exclude;
-        asked = pends Coherent Agrees opening bytes script loaded last Keeps opens pool s story held id scripted coherent place request ask;
+        asked = ask.undecided;
         its_stripe = sym ask.of_stripe;
         no_code = λ block pipeline. (share_answers s.number (namespace_of opening story) share request (Granted block pipeline) ask.of_stripe share_is).1
             (answers_any request block pipeline refl wants.1);

@@ -55,7 +55,7 @@ there_later : (story : List Event) (place : ℕ) (event : Event) → Contains (t
 there_later story place event there = subst (λ (l : List Event). Contains l event) (take-append-drop place story)
     (Contains-append_left (take place story) (drop place story) event there)
 
-go_later : (story : List Event) (place stripe local : ℕ) → MayGo (take place story) stripe local → MayGo story stripe local
+pub go_later : (story : List Event) (place stripe local : ℕ) → MayGo (take place story) stripe local → MayGo story stripe local
 go_later story place stripe local go = record {
   blocks = go.blocks;
   purged = there_later story place (record { seat = stripe_seat stripe; kind = PurgeAsk go.blocks }) go.purged;

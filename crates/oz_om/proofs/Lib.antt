@@ -24,4 +24,7 @@ pub mod Works
 pub mod Answered
 pub mod Placed
 pub mod Undecided
+pub mod LastAsk
+pub mod Service
 pub mod decider_lemmas
+pub mod Pooled

@@ -1,12 +1,11 @@
 -- What is made over the rows of a stripe may be told.
-use Rattle.std.proofs.Common.{◌≡◌, ◌≢◌, ◌↔◌, ◌⊎◌, inl, inr, ◌+◌, ℕ, true, List, [], ◌∷◌, ◌++◌, Option, None, Some, is_some, refl, sym, ap, ◌∙◌, subst, arith}
-use mathlib.Core.Bool.{false≢true}
+use Rattle.std.proofs.Common.{◌≡◌, ◌≢◌, ◌↔◌, ◌⊎◌, inl, inr, ◌+◌, ℕ, true, List, [], ◌∷◌, ◌++◌, Option, None, Some, refl, sym, ap, ◌∙◌, subst, arith}
 use Rattle.std.specs.Prelude.{Contains}
 use Rattle.oz_cache.specs.Cache.{newest}
 use Rattle.oz_core.specs.declared.event.Event.{Event}
 use Rattle.oz_core.specs.declared.event.EventKind.TheVariants.{Decide}
 use Rattle.oz_core.specs.declared.opening.Opening.{Opening}
-use Rattle.oz_core.specs.Asks.{is_script, pending}
+use Rattle.oz_core.specs.Asks.{pending}
 use Rattle.oz_core.specs.Contents.{OpeningBytes}
 use Rattle.oz_core.specs.Law.{DecideIsEnabled, GrantIsAllowed, IndexGoesOn, IsLegal, MayBeGranted}
 use Rattle.oz_core.specs.Scm.{IsOfGrant}
@@ -50,7 +49,6 @@ use Rattle.oz_sound.specs.Sound.{IsSound, IsSoundButRenames}
 use Rattle.oz_sound.specs.StandsFor.{StandsFor}
 use Rattle.oz_store.specs.Store.{IsStore}
 use Rattle.oz_store.specs.striped.Shares.{HasAllStripes, IsOfStripe, share_of}
-use Rattle.oz_store.specs.striped.laws.Asked.{pending_is_asked}
 use Rattle.oz_store.specs.striped.laws.Requests.{share_answers, share_stays}
 use Rattle.oz_store.specs.striped.laws.Rows.{left_as_it_was, standing_has_all}
 use Rattle.oz_store.specs.striped.laws.Shares.{one_share, share_is_there}
@@ -103,7 +101,7 @@ but_renames all namespace stand =
 module _ {T : Type 0} (Coherent Agrees : Type 0) (opening : Opening) (bytes : OpeningBytes) (script : Script) (loaded : Rows) (last : ℕ)
     (Keeps : ℕ → List Event → List Event → Rows → Type 0) (opens : Opens Coherent opening bytes loaded last Agrees Keeps)
     (pool : PoolLaw) (s : StripeView T) (story : List Event) (held : IsHeld Coherent opening bytes script loaded s story)
-    (id : AskId) (scripted : is_script id ≡ true) where
+    (id : AskId) where
   module _ (coherent : Coherent) where
     pub legal : IsLegal opening story
     legal = legal_of Coherent opening bytes script coherent story held.follow
@@ -125,14 +123,6 @@ module _ {T : Type 0} (Coherent Agrees : Type 0) (opening : Opening) (bytes : Op
 
     all_now : HasAllStripes (namespace_of opening story)
     all_now = story_has_all opening story all
-
-    -- the pending request is the one that was asked
-    pub pends : (place : ℕ) (request : Request) → IsOpenAsk story place id s.number request → pending id story ≡ Some request
-    pends place request ask = by_case (pending id story) refl
-      where
-        by_case : (o : Option Request) → pending id story ≡ o → pending id story ≡ Some request
-        by_case None e = absurd (false≢true (sym (ap is_some e) ∙ ask.undecided))
-        by_case (Some other) e = e ∙ ap (λ (r : Request). Some r) (pending_is_asked opening id scripted story legal place ask.there.0 request ask.there.1 other e)
 
     among_pool : (exclude : Exclude) (free : FreeBlock) → IsFirstAllowed exclude s.pool free → Contains s.pool free
     among_pool exclude free first = subst (λ (l : List FreeBlock). Contains l free) (sym first.parts) (contains_at first.before first.behind free)
@@ -172,7 +162,7 @@ module _ {T : Type 0} (Coherent Agrees : Type 0) (opening : Opening) (bytes : Op
 
     module _ (coherent : Coherent) where
       is : pending id story ≡ Some made.request
-      is = pends coherent place made.request made.ask
+      is = made.ask.undecided
 
       its : stripe_of (volume_in made.request) ≡ s.number
       its = made.ask.of_stripe

@@ -1,11 +1,11 @@
 -- For private calls: a stripe whose seat holds the turn, and what is made over its rows then.
 use Rattle.std.specs.Prelude.{◌≡◌, ◌≢◌, ◌↔◌, ℕ, Bool, ◌+◌, ◌<◌, ◌≤◌, true, false, List, [], ◌∷◌, ◌++◌, length, Option}
-use Rattle.std.specs.Prelude.{None, Some, All, Any, IfSome, is_some}
+use Rattle.std.specs.Prelude.{None, Some, All, Any, IfSome, slice_get}
 use Rattle.oz_asker.specs.Asked.{IsAskAt}
 use Rattle.oz_buffer.specs.Buffer.{AllFollow, Follows}
 use Rattle.oz_cache.specs.Cache.{CacheView, last_epoch, newest}
 use Rattle.oz_core.specs.declared.event.Event.{Event}
-use Rattle.oz_core.specs.declared.event.EventKind.TheVariants.{Decide}
+use Rattle.oz_core.specs.declared.event.EventKind.TheVariants.{Ask, Decide}
 use Rattle.oz_core.specs.declared.opening.Opening.{Opening}
 use Rattle.oz_core.specs.Asks.{pending}
 use Rattle.oz_core.specs.Contents.{OpeningBytes}
@@ -41,10 +41,17 @@ use Rattle.oz_turn.specs.Told.{own_entries}
 use Rattle.oz_om.specs.declared.draft.Draft.{Draft}
 use Rattle.oz_om.specs.Keeps.{AreAsked, AreOutOfReach, KeepsRows}
 
--- the request of an Ask that is undecided, and that the manager hadn't halted before, is the stripe's
+-- The id asked something at a place, and nothing behind it.
+pub record IsLastAsk (story : List Event) (id : AskId) (place : ℕ) : Type 0 where
+  pub request : Request
+  pub there : IsAskAt story place id request
+  pub last : (later seat : ℕ) (other : Request) → place < later
+      → slice_get story later ≡ Some (record { seat = seat; kind = Ask id other }) → ⊥
+
+-- the request of the last Ask of an id, which is undecided, and which the manager hadn't halted before, is the stripe's
 pub record IsOpenAsk (story : List Event) (place : ℕ) (id : AskId) (stripe : ℕ) (request : Request) : Type 0 where
   pub there : IsAskAt story place id request
-  pub undecided : is_some (pending id story) ≡ true
+  pub undecided : pending id story ≡ Some request
   pub in_time : asked_late id story ≡ false
   pub of_stripe : stripe_of (volume_in request) ≡ stripe
 

@@ -4,6 +4,7 @@ pub mod Decided
 pub mod Held
 pub mod Refusals
 pub mod Seated
+pub mod Served
 pub mod Shown
 pub mod Working
 pub mod Purging

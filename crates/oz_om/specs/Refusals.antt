@@ -34,6 +34,15 @@ RefusalHolds Coherent opening story id (Later held asked) =
     (asked_late id story ≡ false) × IsTooMuch Coherent opening story id held asked
 RefusalHolds Coherent opening story id OutOfMemory = Unit {0}
 
+-- from asking for the service job
+abbrev pub IsOfAsking : Refusal → Type 0
+IsOfAsking OtherBlocks = ⊥
+IsOfAsking Early = ⊥
+IsOfAsking (Stopped count) = Unit {0}
+IsOfAsking (PoolEmpty stripe) = ⊥
+IsOfAsking (Later held asked) = ⊥
+IsOfAsking OutOfMemory = Unit {0}
+
 -- how an asker's seat is refused
 abbrev pub refusal_of : AskFault → Refusal
 refusal_of faults.OtherBlocks = OtherBlocks

@@ -1,7 +1,6 @@
 //! Deciding under the lock of one stripe.
 
 ghost use Rattle.std.specs.Prelude.{◌≡◌, ◌≢◌, ℕ, ◌<◌, true, slice_index, IfOk, IfErr, IfSome, OnOk, OnErr, None};
-ghost use Rattle.oz_core.specs.Asks.{is_script};
 ghost use Rattle.oz_locks.specs.Stripe.{IsAtRest};
 ghost use Rattle.oz_names.specs.declared.limits.TheConstants.{STRIPES};
 ghost use Rattle.oz_core.specs.Seats.{stripe_seat};
@@ -42,7 +41,6 @@ pub(crate) fn decide_locked<O: Opened, L: Loaded, R: Ring, W: Wait>(
     requires opens { Opens O.coherent O.opening O.bytes L.rows L.last_index L.coherent L.keeps }
     requires stripe { stripe < STRIPES }
     requires ready { IsReady R.turn by seat.old }
-    requires script { is_script id ≡ true }
     ensures same { OnOk result (seat.new ≡ seat.old) }
     ensures shown { OnErr result (HasSeen R.turn O.coherent O.opening O.bytes O.script by seat.old seat.new) }
     ensures refused { IfErr result (RefusalHolds O.coherent O.opening (seen_of seat.new) id) }
@@ -72,7 +70,6 @@ fn decide<O: Opened, L: Loaded, R: Ring, W: Wait>(
     requires opens { Opens O.coherent O.opening O.bytes L.rows L.last_index L.coherent L.keeps }
     requires rests { IsAtRest L.last_index L.coherent L.keeps stripe.old }
     requires ready { IsReady R.turn by seat.old }
-    requires script { is_script id ≡ true }
     ensures rests { IsAtRest L.last_index L.coherent L.keeps stripe.new }
     ensures same { OnOk result (seat.new ≡ seat.old) }
     ensures shown { OnErr result (HasSeen R.turn O.coherent O.opening O.bytes O.script by seat.old seat.new) }
@@ -101,7 +98,6 @@ fn decide_once<O: Opened, L: Loaded, R: Ring, W: Wait>(
     requires opens { Opens O.coherent O.opening O.bytes L.rows L.last_index L.coherent L.keeps }
     requires rests { IsAtRest L.last_index L.coherent L.keeps stripe.old }
     requires ready { IsReady R.turn by seat.old }
-    requires script { is_script id ≡ true }
     ensures rests { IsAtRest L.last_index L.coherent L.keeps stripe.new }
     ensures waits { result ≡ None → seat.new ≡ seat.old }
     ensures same { IfSome result (λ decided. OnOk decided (seat.new ≡ seat.old)) }
@@ -140,7 +136,6 @@ fn draft_at<O: Opened, L: Loaded, R: Ring>(
 ) -> Result<Option<Draft>, Refusal>
     requires opens { Opens O.coherent O.opening O.bytes L.rows L.last_index L.coherent L.keeps }
     requires held { IsHeld O.coherent O.opening O.bytes O.script L.rows stripe.old ledger.old.story }
-    requires script { is_script id ≡ true }
     ensures same { IsDrafting stripe.old stripe.new }
     ensures story { ledger.new.story ≡ ledger.old.story }
     ensures others { (n : ℕ) → n ≢ stripe_seat stripe.old.number →

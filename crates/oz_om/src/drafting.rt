@@ -4,7 +4,6 @@ ghost use Rattle.std.specs.Prelude.{◌≡◌, ◌≢◌, true, ◌≤◌, ◌<�
 ghost use Rattle.std.specs.Prelude.{IfOk, IfErr, IfSome, OnOk, slice_index};
 ghost use Rattle.oz_journal.specs.declared.batches.batches.TheConstants.{LARGEST_BUFFER, LONGEST_BATCH};
 ghost use Rattle.oz_buffer.specs.Buffer.{buffer_of};
-ghost use Rattle.oz_core.specs.Asks.{is_script};
 ghost use Rattle.oz_core.specs.Manager.{last_index};
 ghost use Rattle.oz_core.specs.Seats.{stripe_seat};
 ghost use Rattle.oz_names.specs.declared.limits.TheConstants.{STRIPES};
@@ -38,7 +37,6 @@ pub(crate) fn draft<O: Opened, L: Loaded, R: Ring>(
 ) -> Result<Draft, Refusal>
     requires opens { Opens O.coherent O.opening O.bytes L.rows L.last_index L.coherent L.keeps }
     requires held { IsHeld O.coherent O.opening O.bytes O.script L.rows stripe.old ledger.old.story }
-    requires script { is_script id ≡ true }
     requires made { (place : ℕ) × IsMade L.coherent stripe.old ledger.old.story place id made.decision }
     requires quiet { made.decision.bytes ≡ [] → made.granted ≡ None }
     requires granted { IsGrantOf stripe.old.pool made.decision.reply made.granted }

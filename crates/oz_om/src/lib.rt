@@ -13,6 +13,7 @@ mod manager;
 mod purging;
 mod refusal;
 mod seating;
+mod serving;
 mod standing;
 mod telling;
 mod working;

@@ -1,7 +1,6 @@
 //! What is decided while the turn is held, over the rows of one stripe.
 
 ghost use Rattle.std.specs.Prelude.{◌≡◌, ◌↔◌, [], None, IfOk, IfErr, IfSome, IsTrue, true};
-ghost use Rattle.oz_core.specs.Asks.{is_script};
 ghost use Rattle.oz_om.specs.Held.{IsGrantOf, IsHeld, IsMade, IsPickFor, IsPickedGrant};
 ghost use Rattle.oz_om.specs.Opens.{Opens};
 ghost use Rattle.oz_om.specs.Refusals.{RefusalHolds};
@@ -32,7 +31,6 @@ pub(crate) fn make<O: Opened, L: Loaded, R: Ring>(
 ) -> Result<Option<Made>, Refusal>
     requires opens { Opens O.coherent O.opening O.bytes L.rows L.last_index L.coherent L.keeps }
     requires held { IsHeld O.coherent O.opening O.bytes O.script L.rows stripe.old ledger.now.story }
-    requires script { is_script id ≡ true }
     ensures same { stripe.new ≡ record stripe.old { pool = stripe.new.pool; known = stripe.new.known } }
     ensures made { IfOk result (λ found. IfSome found (λ made.
         IsMade L.coherent stripe.new ledger.now.story place id made.decision)) }

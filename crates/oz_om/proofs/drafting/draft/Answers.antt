@@ -34,7 +34,7 @@ returns-in-Ok-reserve-clause-draft g c =
     let stays : c.args.made.decision.bytes ≡ [] → c.in-Some.index ≡ last_index g.O.Opened.opening c.args.ledger.now.story = λ none. c.in-Some.ensures.stays (c.is_empty.ensures.1 none) in
     let above : c.args.made.decision.bytes ≢ [] → (c.in-Some.index ≡ last_index g.O.Opened.opening c.args.ledger.now.story + 1) × IsAbove old c.in-Some.index = λ some. c.in-Some.ensures.rises (not_empty c.args.made.decision.bytes c.is_empty.result c.is_empty.ensures some) in
     let base = tellable g.O.Opened.coherent g.L.Loaded.coherent g.O.Opened.opening g.O.Opened.bytes g.O.Opened.script g.L.Loaded.rows g.L.Loaded.last_index g.L.Loaded.keeps
-    c.requires.opens c.a_pool_has_what_is_free.ensures old c.args.ledger.now.story c.requires.held c.args.id c.requires.script
+    c.requires.opens c.a_pool_has_what_is_free.ensures old c.args.ledger.now.story c.requires.held c.args.id
     made.0 c.args.made.decision made.1 c.in-Some.index stays (λ some. (above some).0) in
     record {
       told_is = c.in-Ok-Ok.ensures;
@@ -68,7 +68,7 @@ returns-in-Err-clause-refused g c =
     let stays : c.args.made.decision.bytes ≡ [] → c.in-Some.index ≡ last_index g.O.Opened.opening c.args.ledger.now.story = λ none. c.in-Some.ensures.stays (c.is_empty.ensures.1 none) in
     let above : c.args.made.decision.bytes ≢ [] → (c.in-Some.index ≡ last_index g.O.Opened.opening c.args.ledger.now.story + 1) × IsAbove old c.in-Some.index = λ some. c.in-Some.ensures.rises (not_empty c.args.made.decision.bytes c.is_empty.result c.is_empty.ensures some) in
     let base = tellable g.O.Opened.coherent g.L.Loaded.coherent g.O.Opened.opening g.O.Opened.bytes g.O.Opened.script g.L.Loaded.rows g.L.Loaded.last_index g.L.Loaded.keeps
-    c.requires.opens c.a_pool_has_what_is_free.ensures old c.args.ledger.now.story c.requires.held c.args.id c.requires.script
+    c.requires.opens c.a_pool_has_what_is_free.ensures old c.args.ledger.now.story c.requires.held c.args.id
     made.0 c.args.made.decision made.1 c.in-Some.index stays (λ some. (above some).0) in
     full_refused g.O.Opened.coherent g.O.Opened.opening c.args.ledger.now.story c.args.id (stripe_seat old.number) c.in-Some.index c.args.made.decision.reply c.args.made.decision.bytes
     made.1.ask.in_time base.enabled _ (c.len-2.ensures) c.in-Err.refusal c.in-Err.ensures.refused (λ held asked is. c.reserve.ensures.later held asked (c.in-Err.is ∙ ap (λ (refusal : Refusal). Err refusal) is))

@@ -43,6 +43,6 @@ returns-in-Ok-NoBlock-clause-refused g c =
           (subst (λ (cache : CacheView). Stand IsSoundButRenames (newest cache) (share_of s.number (namespace_of g.O.Opened.opening c.args.ledger.now.story))) (sym c.cached.ensures) stand)).0 c.in-Ok-NoBlock.field-0-is in
           subst (λ (n : ℕ). IsPoolEmpty g.O.Opened.opening c.args.ledger.now.story c.args.id n) (sym c.number-in-Ok-NoBlock.ensures)
           (no_block g.O.Opened.coherent g.L.Loaded.coherent g.O.Opened.opening g.O.Opened.bytes g.O.Opened.script g.L.Loaded.rows g.L.Loaded.last_index g.L.Loaded.keeps
-          c.requires.opens c.a_pool_has_what_is_free.ensures s c.args.ledger.now.story held c.args.id c.requires.script coherent
+          c.requires.opens c.a_pool_has_what_is_free.ensures s c.args.ledger.now.story held c.args.id coherent
           c.args.place c.in-Some.request.now c.in-Ok.pick ask c.in-Ok.ensures.picked wants),
     )

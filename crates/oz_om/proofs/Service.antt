@@ -35,7 +35,7 @@ use Rattle.oz_buffer.specs.laws.Courses.{pending-push}
 use Rattle.oz_turn.specs.Told.{BeginsWith, own_entries}
 use Rattle.oz_om.specs.Served.{IsDecidedBehind, IsServed, WaitsForNoOther, service_ask, service_id}
 use Rattle.oz_om.proofs.LastAsk.{neither, none_stays, pending_behind, pending_on, unasked_stays}
-use Rattle.oz_om.proofs.Purged.{go_later}
+use Rattle.oz_om.proofs.Gone.{go_later}
 
 -- ---- who asks by the service job's id
 

@@ -1,5 +1,5 @@
 -- The log of deleted blocks beside that of a story, and an event more.
-use Rattle.std.specs.Prelude.{◌==◌, ◌||◌, ◌↔◌, Bool, true, false, not, Contains, filter, slice_set, map, nat_le}
+use Rattle.std.specs.Prelude.{◌==◌, ◌||◌, ◌↔◌, Bool, true, false, not, Contains, filter, slice_set, map, nat_le, replicate}
 use Rattle.std.specs.List.{filter_map, list_any, slice_index_or, cons_option}
 use Rattle.std.proofs.Common.{◌≡◌, ◌⊎◌, inl, inr, ⊎_elim, ℕ, zero, suc, ◌+◌, ◌<◌, ◌≤◌, List, [], ◌∷◌, ◌++◌, length, Option, None, Some, refl, sym, ap, ◌∙◌, cond, subst, append_assoc, arith, eq-eqb}
 use Rattle.std.proofs.lemmas.Bool.{false≢true, eqb-true, eqb-false, leb-true, ne_eqb}
@@ -161,6 +161,15 @@ still_there opening story later number logged goes retired acks it = record {
   acknowledged = λ dn. subst (λ (l : List ℕ). is_acknowledged_by logged dn ≡ true ↔ Contains l dn) (sym acks) (it.acknowledged dn);
 }
 
+none_of : (n k : ℕ) → slice_index_or (replicate n false) k false ≡ false
+none_of zero k = refl
+none_of (suc n) zero = refl
+none_of (suc n) (suc k) = none_of n k
+
+nobody_flagged : (container dn : ℕ) (locals : List ℕ) → is_acknowledged_by (new_logged container locals) dn ≡ true → ⊥
+unfolding nobody
+nobody_flagged container dn locals is = absurd (false≢true (sym (none_of 256 dn) ∙ is))
+
 -- ---- an acknowledgement
 
 flag_same : (flags : List Bool) (i j : ℕ) → i < length flags → j ≡ i → slice_index_or (slice_set flags i true) j false ≡ true
@@ -315,6 +324,95 @@ module _ (opening : Opening) (story : List Event) (log : Log) (is : IsLogOf open
       logged_old = λ txn among. is.logged_old txn (subst (λ (l : List Txn). Contains l txn) logs_kept among);
       acknowledged_old = λ q dn among. is.acknowledged_old q dn (subst (λ (l : List ℕ). Contains l dn) (acks_kept q) among);
       retired_old = retired_before;
+    }
+
+  -- ---- a transaction more
+
+  module _ (container : ℕ) (locals : List ℕ) where
+    abbrev next : ℕ
+    next = log.last + 1
+
+    abbrev new : Txn
+    new = record { number = next; container = container; locals = locals }
+
+    abbrev logs_it : EventKind
+    logs_it = events.Log next container locals
+
+    abbrev after_log : List Event
+    after_log = story ++ by_scm logs_it ∷ []
+
+    logs_now : logs opening after_log ≡ logs opening story ++ new ∷ []
+    logs_now = logs_more opening story logs_it
+
+    acks_as_before : (q : ℕ) → acknowledgers opening after_log q ≡ acknowledgers opening story q
+    acks_as_before q = no_ack opening story logs_it q refl
+
+    retired_as_before : (q : ℕ) → is_retired q after_log ≡ is_retired q story
+    retired_as_before q = no_retirement opening story logs_it q refl
+
+    not_retired : is_retired next story ≡ false
+    not_retired = elim (test_of (is_retired next story)) [
+      | inl gone ↦ let le = is.retired_old next gone in absurd (omega (arith, le))
+      | inr not ↦ not
+    ]
+
+    fresh : IsUnretired opening after_log next (new_logged container locals)
+    fresh = record {
+      there = subst (λ (l : List Txn). Contains l new) (sym logs_now) (Contains-append_right (logs opening story) (new ∷ []) new (among_one new));
+      unretired = retired_as_before next ∙ not_retired;
+      flags = refl;
+      acknowledged = λ dn. (
+        λ flag. absurd (nobody_flagged container dn locals flag),
+        λ among. let le = is.acknowledged_old next dn (subst (λ (l : List ℕ). Contains l dn) (acks_as_before next) among) in absurd (omega (arith, le)),
+      );
+    }
+
+    in_logs : (txn : Txn) → Contains (logs opening story) txn → Contains (logs opening after_log) txn
+    in_logs txn among = subst (λ (l : List Txn). Contains l txn) (sym logs_now) (Contains-append_left (logs opening story) (new ∷ []) txn among)
+
+    old_or_new : (txn : Txn) → Contains (logs opening after_log) txn → Contains (logs opening story) txn ⊎ (new ≡ txn)
+    old_or_new txn among = ⊎_elim
+        (λ old. inl old)
+        (λ it. inr (one_txn_at new txn it.0 it.1 it.2))
+        (Contains-append_cases (logs opening story) (new ∷ []) txn (subst (λ (l : List Txn). Contains l txn) logs_now among))
+
+    each_logged : (q : ℕ) (w : Logged) → get (insert log.unretired next (new_logged container locals)) q ≡ Some w → IsUnretired opening after_log q w
+    each_logged q w at = elim (test_of (eq_by_cmp nat_cmp q next)) [
+      | inl same ↦
+          let it = same_logged (new_logged container locals) w (sym (put_here log.unretired next q (new_logged container locals) same) ∙ at) in
+          subst (λ (n : ℕ). IsUnretired opening after_log n w) (sym (same_number q next same)) (subst (IsUnretired opening after_log next) it fresh)
+      | inr other ↦
+          still_there opening story after_log q w (in_logs (txn_of q w)) (retired_as_before q) (acks_as_before q)
+          (is.each q w (sym (put_there log.unretired next q (new_logged container locals) other) ∙ at))
+    ]
+
+    all_logged : (txn : Txn) → Contains (logs opening after_log) txn → is_retired txn.number after_log ≡ false
+        → option_map (txn_of txn.number) (get (insert log.unretired next (new_logged container locals)) txn.number) ≡ Some txn
+    all_logged txn among unretired = ⊎_elim
+        (λ old.
+        let le = is.logged_old txn old in
+        elim (test_of (eq_by_cmp nat_cmp txn.number next)) [
+          | inl same ↦ let at = same_number txn.number next same in absurd (omega (arith, le, at))
+          | inr other ↦
+              ap (option_map (txn_of txn.number)) (put_there log.unretired next txn.number (new_logged container locals) other)
+              ∙ is.all txn old (sym (retired_as_before txn.number) ∙ unretired)
+        ])
+        (λ it.
+        subst (λ (t : Txn). option_map (txn_of t.number) (get (insert log.unretired next (new_logged container locals)) t.number) ≡ Some t) it
+        (ap (option_map (txn_of next)) (put_here log.unretired next next (new_logged container locals) (sym (unsigned_ties next next) ∙ eq-eqb next next refl))))
+        (old_or_new txn among)
+
+    pub log_logged : IsLogOf opening after_log (with_txn log container locals)
+    log_logged = record {
+      last = sym (told-push logged_number opening.last_txn story (by_scm logs_it));
+      each = each_logged;
+      all = all_logged;
+      logged_old = λ txn among. ⊎_elim
+          (λ old. let le = is.logged_old txn old in omega (arith, le))
+          (λ it. let at = ap (λ (t : Txn). t.number) it in omega (arith, at)) (old_or_new txn among);
+      acknowledged_old = λ q dn among.
+          let le = is.acknowledged_old q dn (subst (λ (l : List ℕ). Contains l dn) (acks_as_before q) among) in omega (arith, le);
+      retired_old = λ q gone. let le = is.retired_old q (sym (retired_as_before q) ∙ gone) in omega (arith, le);
     }
 
 -- ---- three flags are three acknowledgements

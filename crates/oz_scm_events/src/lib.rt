@@ -7,6 +7,7 @@ mod cell;
 mod granting;
 mod laws;
 mod noting;
+mod reading;
 mod readying;
 mod retiring;
 mod stepping;

@@ -3,6 +3,7 @@ pub mod Looked
 pub mod Drained
 pub mod Granted
 pub mod Since
+pub mod Dated
 pub mod Watched
 pub mod Emptied
 pub mod Still

@@ -1,9 +1,10 @@
 //! When a drain is done, which datanode holds it up, and that both stays.
 
-ghost use Rattle.std.specs.Prelude.{◌≡◌, ◌↔◌, ◌<◌, ℕ, true, List, [], ◌++◌, length, None, Contains};
+ghost use Rattle.std.specs.Prelude.{◌≡◌, ◌↔◌, ◌<◌, ◌≤◌, ℕ, true, List, [], ◌++◌, length, None, Contains};
 ghost use Rattle.oz_command.specs.declared.command.AdminCommand.TheVariants.{Drain};
 ghost use Rattle.oz_command.specs.declared.command.Command.TheVariants.{Admin};
 ghost use Rattle.oz_fields.specs.declared.block.Block.{Block as AnyBlock};
+ghost use Rattle.oz_reclaim.specs.sweep.History.{History, LeftAt as LeftInRows};
 ghost use Rattle.oz_requests.specs.declared.answer.Values.{Values as AnyValues};
 ghost use Rattle.oz_rows.specs.RowMaps.{Rows as AnyRows};
 ghost use Rattle.oz_script.specs.declared.lines.script.Line.{Line as AnyLine};
@@ -16,9 +17,11 @@ ghost use Rattle.oz_core.specs.Drained.{IsDrained};
 ghost use Rattle.oz_core.specs.Due.{AdminIsDone, EmptyAreDeleted, IsHeld, IsHolding};
 ghost use Rattle.oz_core.specs.Law.{IsLegal};
 ghost use Rattle.oz_core.specs.Lines.{IsStart};
-ghost use Rattle.oz_core.specs.Manager.{IsGarbage, IsUsed, halt_of};
+ghost use Rattle.oz_core.specs.Manager.{IsGarbage, IsUsed, halt_of, last_index};
 ghost use Rattle.oz_core.specs.Scm.{is_logged_at_opening, is_up, logs};
 ghost use Rattle.oz_owned.specs.Left.{LeftAt};
+ghost use Rattle.oz_owned.specs.Own.{IsOwn};
+ghost use Rattle.oz_owned.specs.Stood.{TablesStand};
 ghost use Rattle.oz_owned.specs.Ordered.{LogIsOrdered};
 ghost use Rattle.oz_repl.specs.views.Away.{StaysAway};
 ghost use Rattle.oz_store.specs.Store.{IsStore};
@@ -86,6 +89,18 @@ pub fn what_left_reach_was_garbage()
     ensures since { (opening : AnyOpening) (story : List AnyEvent) (block : AnyBlock) →
         LogIsCoherent opening → IsLegal opening story → is_logged_at_opening opening block ≡ true →
         LeftAt opening story block 0 }
+{}
+
+/// Where a stripe's tables stood at each index of a story, a block of the stripe's own left reach in the story at the index at
+/// which it did by these tables; at 0 one that was there as the run began.
+pub fn when_a_block_left_is_told_by_tables()
+    ensures { (opening : AnyOpening) (bytes : OpeningBytes) (loaded : AnyRows) (story : List AnyEvent) (stripe since : ℕ)
+        (block : AnyBlock) (rows : History) → IsStore loaded opening bytes → IsLegal opening story →
+        IsOwn loaded stripe story block →
+        ((index : ℕ) → opening.last_index ≤ index → index ≤ last_index opening story →
+        TablesStand opening loaded stripe story index (rows index)) →
+        LeftInRows rows opening.last_index block since → since ≤ last_index opening story →
+        (since ≡ 0 → IsUsed opening [] block) → LeftAt opening story block since }
 {}
 
 /// Where by a view of each container that was closed at a drain's start no event of it comes next, the empty ones of them are

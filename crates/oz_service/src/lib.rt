@@ -9,6 +9,7 @@ mod looks;
 pub use all_locked::{AllLocked, Shown, lock_all};
 pub use drains::{
     a_drains_end_stays, empty_containers_are_deleted, what_is_drained, what_is_held,
-    what_is_up_holds_old_blocks_alone, what_left_reach_was_garbage, who_holds,
+    what_is_up_holds_old_blocks_alone, what_left_reach_was_garbage,
+    when_a_block_left_is_told_by_tables, who_holds,
 };
 pub use looks::{a_look_sweeps_its_stripe, a_stripes_pins_are_pinned, what_a_look_found_is_logged};

@@ -71,7 +71,7 @@ is_service Snapshots = inr (λ e. absurd cc)
 is_service Service = inl refl
 
 -- an index rises by one at most
-one_at_most : (opening : Opening) (before : List Event) (seat : ℕ) (id : AskId) (index : ℕ) (reply : Reply) (batch : List ℕ)
+pub one_at_most : (opening : Opening) (before : List Event) (seat : ℕ) (id : AskId) (index : ℕ) (reply : Reply) (batch : List ℕ)
     → DecideIsEnabled opening before seat id index reply batch → index ≤ last_index opening before + 1
 one_at_most opening before seat id index reply batch enabled = ⊎_elim (λ above. absurd (none above)) (λ le. le) (cases_lt (last_index opening before + 1) index)
   where

@@ -31,7 +31,7 @@ use Rattle.oz_owned.specs.laws.Staying.{garbage_still}
 use Rattle.oz_service.specs.Settled.{StillHolds, WasLeft}
 use Rattle.oz_service.specs.laws.Granted.{was_there}
 
-reached_used : (opening : Opening) (story : List Event) (block : Block) → IsLegal opening story → IsReached (namespace_of opening story) block
+pub reached_used : (opening : Opening) (story : List Event) (block : Block) → IsLegal opening story → IsReached (namespace_of opening story) block
     → IsUsed opening story block
 reached_used opening story block legal reached = ⊎_elim
     (λ loaded. inl loaded)

@@ -64,7 +64,7 @@ pub fn stop_at<D: Disk, S: Disk, O: Opened, R: Ring, W: Wait>(
 /// Starts the datanode of a cell for a line, with what it held. As `stop_at`, with a Start and an Up: the worker's seat has seen
 /// then that it runs and is up.
 ///
-/// No container is closed yet, so a datanode that starts has none to learn of that isn't open.
+/// It isn't told here which containers aren't open: what it holds of them stays open for it.
 pub fn start_at<D: Disk, S: Disk, O: Opened, R: Ring, W: Wait>(
     rt: &W,
     alloc: Global,

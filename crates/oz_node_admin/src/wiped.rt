@@ -34,8 +34,8 @@ use std::sync::Wait;
 /// up exactly if it runs; where it was so before that isn't told again. The worker's seat has seen both then. Room for both
 /// events is made before anything is done.
 ///
-/// The line is one of the script, with this command, and has started. No container is closed yet, so a datanode that was
-/// wiped has none to learn of that isn't open.
+/// The line is one of the script, with this command, and has started. A datanode that was wiped isn't told here which
+/// containers aren't open.
 ///
 /// Errors: `Halted` exactly where a disk of the datanode had failed, and then nothing happens, or fails now: then its
 /// seat tells the Halt, it is taken for down, and nothing is said of what it holds. `Repeated` where this line, or a later

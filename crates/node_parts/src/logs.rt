@@ -8,7 +8,7 @@ use crate::calls::{calls_of, judge_call};
 use crate::told::{Stuck, Told};
 use crate::words::{number, numbers, small};
 use case_files::{Judged, Statement};
-use oz_dellog::{DelLog, MOST_LOCALS};
+use oz_dellog::{DelLog, MOST_LOCALS, Txn};
 use oz_fields::{Block, List};
 use std::alloc::{AllocError, Global};
 
@@ -30,7 +30,12 @@ fn add(alloc: Global, log: &mut DelLog, call: &Statement, came: &mut String) -> 
 fn pending(alloc: Global, log: &DelLog, call: &Statement, came: &mut String) -> Result<(), Stuck> {
     let container = number(call.word(1))?;
     let dn = small(call.word(2))?;
-    for txn in &log.pending(alloc, container, dn)? {
+    write_txns(&log.pending(alloc, container, dn)?, came)
+}
+
+/// Writes transactions.
+pub(crate) fn write_txns(txns: &[Txn], came: &mut String) -> Result<(), Stuck> {
+    for txn in txns {
         if !came.is_empty() {
             came.push(' ')?;
         }

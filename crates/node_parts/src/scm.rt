@@ -3,17 +3,21 @@
 //! `disk BYTES` begins with a disk that has them, and its calls fail that stand in `fails LIST`. `load COUNT` loads it for so
 //! many datanodes, `load COUNT cut SIZE` only so many bytes of it, and `load COUNT change PLACE` with one added to a byte. Then
 //! `grant STRIPE CONTAINERS PIPELINES` grants ids where these are excluded, `apply CONTAINER EVENT` leads a container that was made
-//! on, `up DN` and `down DN` are noted, and `next-id`, `members CONTAINER`, `state CONTAINER`, `containers`, `counts`, `stopped` and
+//! on, `log CONTAINER LOCALS` logs that blocks are deleted, `ack NUMBER DN` notes an acknowledgement and `retire NUMBER` a
+//! retirement, `up DN` and `down DN` are noted, and `may-ack NUMBER DN`, `may-retire NUMBER`, `last-txn`, `logged CONTAINER LOCAL`,
+//! `pending CONTAINER DN`, `next-id`, `members CONTAINER`, `state CONTAINER`, `containers`, `counts`, `stopped` and
 //! `faults` are asked. Once it ends by `stop`, or wasn't loaded, `bytes BYTES`,
 //! `length` and `disk-faults` ask the disk, and `image CHOICE` begins with what a stop leaves of it. `spent NEXT` asks whether
 //! no ids are left.
 
 use crate::calls::{calls_of, judge_call};
+use crate::logs::write_txns;
 use crate::told::{Stuck, Told};
 use crate::words::{bytes, number, numbers, small, smalls};
 use case_files::{Judged, Statement};
 use oz_container::Event;
-use oz_fields::List;
+use oz_dellog::{MOST_LOCALS, Txn};
+use oz_fields::{Block, List};
 use oz_requests::Exclude;
 use oz_scm::{Scm, are_ids_spent};
 use oz_world::{Disk, MemoryDisk};
@@ -121,6 +125,83 @@ fn apply(scm: &mut Scm<MemoryDisk>, call: &Statement, came: &mut String) -> Resu
     Ok(())
 }
 
+/// Logs that blocks of a container are deleted, under the next number.
+fn log(
+    alloc: Global,
+    scm: &mut Scm<MemoryDisk>,
+    call: &Statement,
+    came: &mut String,
+) -> Result<(), Stuck> {
+    let container = number(call.word(1))?;
+    let locals = numbers(alloc, call.word(2))?;
+    if locals.is_empty() || locals.len() > MOST_LOCALS || scm.state(container).is_none() {
+        return Err(Stuck::Unread);
+    }
+    let Some(number) = scm.last_txn().checked_add(1) else {
+        return Err(Stuck::Unread);
+    };
+    let txn = Txn {
+        number,
+        container,
+        locals: List::of(locals),
+    };
+    let logged = scm.log_txn(alloc, &txn);
+    write!(came, "{logged:?}")?;
+    Ok(())
+}
+
+fn ack(scm: &mut Scm<MemoryDisk>, call: &Statement, came: &mut String) -> Result<(), Stuck> {
+    let txn = number(call.word(1))?;
+    let dn = small(call.word(2))?;
+    if !scm.may_ack(txn, dn) {
+        return Err(Stuck::Unread);
+    }
+    let noted = scm.ack(txn, dn);
+    write!(came, "{noted:?}")?;
+    Ok(())
+}
+
+fn retire(scm: &mut Scm<MemoryDisk>, call: &Statement, came: &mut String) -> Result<(), Stuck> {
+    let txn = number(call.word(1))?;
+    if !scm.may_retire(txn) {
+        return Err(Stuck::Unread);
+    }
+    let noted = scm.retire(txn);
+    write!(came, "{noted:?}")?;
+    Ok(())
+}
+
+/// Writes what a call gives that asks for the log of deletions, or changes it.
+fn ask_log(
+    alloc: Global,
+    scm: &mut Scm<MemoryDisk>,
+    call: &Statement,
+    came: &mut String,
+) -> Result<(), Stuck> {
+    match call.word(0) {
+        "log" => log(alloc, scm, call, came)?,
+        "ack" => ack(scm, call, came)?,
+        "retire" => retire(scm, call, came)?,
+        "last-txn" => write!(came, "{}", scm.last_txn())?,
+        "may-retire" => write!(came, "{}", scm.may_retire(number(call.word(1))?))?,
+        "may-ack" => {
+            let dn = small(call.word(2))?;
+            write!(came, "{}", scm.may_ack(number(call.word(1))?, dn))?;
+        }
+        "logged" => {
+            let container = number(call.word(1))?;
+            let local = number(call.word(2))?;
+            write!(came, "{}", scm.logged(Block { container, local }))?;
+        }
+        "pending" => {
+            let dn = small(call.word(2))?;
+            write_txns(&scm.pending_in(alloc, number(call.word(1))?, dn)?, came)?;
+        }
+        _ => return Err(Stuck::Unread),
+    }
+    Ok(())
+}
+
 fn set_up(scm: &mut Scm<MemoryDisk>, call: &Statement) -> Result<(), Stuck> {
     let dn = small(call.word(1))?;
     if dn >= scm.nodes() {
@@ -148,7 +229,7 @@ fn ask(
         "containers" => write!(came, "{:?}", scm.containers(alloc)?)?,
         "stopped" => write!(came, "{}", scm.stopped())?,
         "faults" => write!(came, "{}", scm.faults())?,
-        _ => return Err(Stuck::Unread),
+        _ => ask_log(alloc, scm, call, came)?,
     }
     Ok(())
 }

@@ -3,4 +3,5 @@ pub mod Looks
 pub mod Settled
 pub mod Emptied
 pub mod Still
+pub mod Deleting
 pub mod laws

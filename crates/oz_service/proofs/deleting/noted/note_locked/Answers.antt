@@ -1,0 +1,26 @@
+use Rattle.oz_core.specs.declared.event.EventKind.TheVariants.{AckDel, Retire}
+use Rattle.oz_core.specs.declared.event.Node.TheVariants.{Scm}
+use Rattle.oz_dellog.specs.Log.{is_done}
+use Rattle.oz_scm.specs.grants.Made.{log_of, may_ack}
+use Rattle.oz_service.proofs.Sent.{noted_so}
+use Rattle.oz_service.proofs.deleting.noted.note_locked.Goals as goal
+
+pub returns-clause-noted : goal.returns-clause-noted
+returns-clause-noted g c =
+    let O = g.O.Opened in
+    let D = g.D.Disk in
+    let first = c.args.scm.now in
+    let second = c.ack-acknowledged.new.self in
+    let third = c.retire-retired.new.self in
+    let acked = c.ack-acknowledged.ensures in
+    let retired = c.retire-retired.ensures in
+    record {
+      before = first.mine;
+      between = second.mine;
+      behind = third.mine;
+      acknowledged = noted_so O.opening (O.faults Scm) first.scm (D.faults first.scm.disk) first.seen first.mine second.mine (AckDel c.args.dn c.args.txn)
+          (λ made. may_ack made c.args.txn c.args.dn) c.ack-acknowledged.result c.is_kept.ensures acked.own acked.due acked.refused;
+      retired = noted_so O.opening (O.faults Scm) second.scm (D.faults second.scm.disk) second.seen second.mine third.mine (Retire c.args.txn)
+          (λ made. is_done (log_of made) c.args.txn) c.retire-retired.result c.is_kept-2.ensures retired.own retired.due retired.refused;
+      own = retired.shown;
+    }

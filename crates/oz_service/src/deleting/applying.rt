@@ -20,7 +20,7 @@ use oz_world::Disk;
 use std::alloc::Global;
 use std::sync::Wait;
 
-/// Has the datanode of this number apply a transaction. The answer is how many of its blocks it held.
+/// Has the datanode of this number apply a transaction.
 pub(crate) fn apply_at<D: Disk, O: Opened, R: Ring, W: Wait>(
     rt: &W,
     alloc: Global,

@@ -1,3 +1,5 @@
 pub mod InOrder
 pub mod Listed
 pub mod Sent
+pub mod Zipped
+pub mod Downs

@@ -1,4 +1,5 @@
 pub mod AllLocked
+pub mod TakenDown
 pub mod Looks
 pub mod Settled
 pub mod Emptied

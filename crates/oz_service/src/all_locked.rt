@@ -1,19 +1,22 @@
 //! The lock of the storage container manager and those of all datanodes, held at once.
 
-ghost use Rattle.std.specs.Prelude.{◌≡◌, [], length, not, IfOk};
+ghost use Rattle.std.specs.Prelude.{◌≡◌, [], length, not, IfOk, OnOk};
 ghost use Rattle.oz_buffer.specs.Buffer.{AllFollow, Follows};
 ghost use Rattle.oz_core.specs.Asks.{is_told};
 ghost use Rattle.oz_node_admin.specs.Seats.{MayTake, OnlyLooked};
 ghost use Rattle.oz_replicas.specs.Cells.{AreInOrder};
 ghost use Rattle.oz_service.specs.AllLocked.{KnowOneStory, all_shown, all_still};
+ghost use Rattle.oz_service.specs.TakenDown.{HaltedAreDown, OnlyTookDown};
 ghost use Rattle.oz_turn.specs.Seat.{seen_of};
 ghost use Rattle.oz_turn.specs.Turn.{turn_id};
 
 mod showing;
 mod standing;
+mod taking_down;
 
 use crate::all_locked::showing::show_nodes;
 use crate::all_locked::standing::{add_nodes, of_flusher};
+use crate::all_locked::taking_down::take_down_nodes;
 use oz_asker::Still;
 use oz_buffer::{Ledger, Opened};
 use oz_core::Event;
@@ -133,6 +136,25 @@ impl<'a, D: Disk, O: Opened, R: Ring> AllLocked<'a, D, O, R> {
         show_nodes(turn, &mut self.nodes, seat);
         turn.give_back(seat, ledger, held);
         shown
+    }
+
+    /// Takes each datanode for down that has halted and is up, in the order of their numbers, by a Down of the storage container
+    /// manager's seat. The seats see more, and another one too.
+    ///
+    /// Errors: where there is no memory some of them are still up.
+    pub fn take_down<W: Wait>(
+        &mut self,
+        rt: &W,
+        alloc: Global,
+        turn: &Turn<Ledger<O>>,
+        seat: &mut Seat<Ledger<O>>,
+    ) -> Result<(), OutOfMemory>
+        requires { MayTake R.turn (turn_id turn.now) seat.old }
+        ensures down { OnOk result (HaltedAreDown self.new) }
+        ensures only { OnlyTookDown self.old self.new }
+        ensures looked { OnlyLooked R.turn seat.old seat.new }
+    {
+        take_down_nodes(rt, alloc, turn, &mut self.scm, &mut self.nodes, seat)
     }
 
     /// What has to stay as it is, for a line to be told what was seen at a place: behind it neither the storage container manager

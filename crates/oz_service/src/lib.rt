@@ -1,5 +1,5 @@
-//! What the service job and a drain rest on: the locks of the storage container manager and of all datanodes, held at once; and laws
-//! of what a look at a stripe found, when a drain is done, and who holds it up.
+//! What the service job and a drain rest on: the locks of the storage container manager and of all datanodes, held at once; a
+//! transaction that is sent to a datanode; and laws of what a look at a stripe found, when a drain is done, and who holds it up.
 #![tactic(auto)]
 
 mod all_locked;

@@ -43,6 +43,7 @@ scm_over opening loaded scm faults seen given story known kept =
       next = kept.next;
       made = kept.made;
       up = kept.up;
+      log = kept.log;
       no_fewer = kept.no_fewer;
       rose = kept.rose;
     })

@@ -37,6 +37,19 @@ scm_over faults unseated some namespace nodes counts story scm is = record {
   next = is.next;
   made = is.made;
   up = is.up;
+  log = λ runs. let log = is.log runs in record {
+    last = log.last;
+    each = λ number logged found. let each = log.each number logged found in record {
+      there = each.there;
+      unretired = each.unretired;
+      flags = each.flags;
+      acknowledged = each.acknowledged;
+    };
+    all = log.all;
+    logged_old = log.logged_old;
+    acknowledged_old = log.acknowledged_old;
+    retired_old = log.retired_old;
+  };
   no_fewer = is.no_fewer;
   rose = is.rose;
 }

@@ -1,5 +1,5 @@
 -- What came of sending a transaction of the log of deleted blocks to a datanode, as who sent it has seen it.
-use Rattle.std.specs.Prelude.{◌≡◌, ℕ, Bool, true, List, ◌∷◌, ◌++◌, None, Some, Result, Ok, Err, IfErr, OnOk, is_some}
+use Rattle.std.specs.Prelude.{◌≡◌, ℕ, Bool, true, false, List, ◌∷◌, ◌++◌, None, Some, Result, Ok, Err, IfErr, OnOk, is_some}
 use Rattle.oz_core.specs.declared.event.Event.{Event}
 use Rattle.oz_core.specs.declared.event.EventKind.{EventKind}
 use Rattle.oz_core.specs.declared.event.EventKind.TheVariants.{AckDel, Halt, Retire}
@@ -20,7 +20,7 @@ use Rattle.oz_scm_events.specs.declared.acking.AckFault.{AckFault}
 use Rattle.oz_scm_events.specs.Left.{IsMadeOf}
 use Rattle.oz_scm_events.specs.Noted.{IsNoteRefusal, own_noted}
 use Rattle.oz_service.specs.declared.deleting.noted.Noted.{Noted}
-use Rattle.oz_turn.specs.Told.{own_entries}
+use Rattle.oz_turn.specs.Told.{BeginsWith, own_entries}
 
 -- the event was told since this was seen, and stands in the story
 pub record WasTold (event : Event) (seen story : List Event) : Type 0 where

@@ -1,5 +1,5 @@
 -- The numbers of a container's transactions, through each change of the log.
-use Rattle.std.proofs.Common.{◌≡◌, ℕ, ◌+◌, ◌<◌, ◌≤◌, ◌==◌, Bool, true, false, cond, not, List, [], ◌∷◌, ◌++◌, filter, filter_map, map, Option, None, Some, refl, sym, ap, ◌∙◌, arith}
+use Rattle.std.proofs.Common.{◌≡◌, ℕ, ◌+◌, ◌<◌, ◌≤◌, ◌==◌, Bool, true, false, cond, not, List, [], ◌∷◌, ◌++◌, filter, filter_map, map, Option, None, Some, refl, sym, ap, subst, ◌∙◌, arith}
 use Rattle.std.proofs.Math.Bool.{◌&&◌}
 use Rattle.std.specs.declared.cmp.Ordering.TheVariants.{Less, Equal, Greater}
 use Rattle.std.specs.List.{AllByRecursion, cons_option}
@@ -104,6 +104,23 @@ pub below_remove : (P : ℕ → Type 0) (test : ℕ → Bool) (es : List (ℕ ×
 below_remove P test [] all = tt
 below_remove P test (e ∷ es) all =
     elim (test e.0) as (λ b. AllByRecursion (λ e. P e.0) (cond b es (e ∷ remove_entry test es))) [ true ↦ all.1 | false ↦ (all.0, below_remove P test es all.1) ]
+
+none_above : (last before : ℕ) (es : List (ℕ × Logged)) → AllByRecursion (λ x. last < x.0) es → AllByRecursion (λ x. x.0 ≤ last) es
+    → AllByRecursion (λ x. x.0 ≤ before) es
+none_above last before [] above all = tt
+none_above last before (e ∷ es) above all = absurd (omega (arith, above.0, all.0))
+
+-- where the last number is taken away all others are below it
+pub below_taken : (last before : ℕ) (es : List (ℕ × Logged)) → before + 1 ≡ last → Rises es → AllByRecursion (λ e. e.0 ≤ last) es
+    → AllByRecursion (λ e. e.0 ≤ before) (remove_entry (λ k. is_eq (nat_cmp last k)) es)
+below_taken last before [] next rise all = tt
+below_taken last before (e ∷ es) next rise all =
+    elim (nat_cmp last e.0) as (λ r. nat_cmp last e.0 ≡ r
+    → AllByRecursion (λ e. e.0 ≤ before) (cond (is_eq r) es (e ∷ remove_entry (λ k. is_eq (nat_cmp last k)) es))) [
+      | Less ↦ λ is. let over : last < e.0 = ranked last e.0 Less (sym is) in absurd (omega (arith, over, all.0))
+      | Equal ↦ λ is. none_above last before es (subst (λ n. AllByRecursion (λ x. n < x.0) es) (sym (ranked last e.0 Equal (sym is))) rise.0) all.1
+      | Greater ↦ λ is. let under : e.0 < last = ranked last e.0 Greater (sym is) in (omega (arith, under, next), below_taken last before es next rise.1 all.1)
+    ] refl
 
 tells : (b a : Bool) (h : ℕ → Option Txn) (e : ℕ × Logged) (ns : List ℕ) (rest : List (ℕ × Logged)) → h e.0 ≡ cond a None (Some (txn_of e.0 e.1)) → filter_map h ns ≡ map (λ x. txn_of x.0 x.1) rest
     → filter_map h (cond b (e.0 ∷ ns) ns) ≡ map (λ x. txn_of x.0 x.1) (cond (b && not a) (e ∷ rest) rest)

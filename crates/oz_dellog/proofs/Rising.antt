@@ -8,7 +8,7 @@ use Rattle.std.specs.Ordering.{nat_cmp, is_eq, is_lt, match_ordering}
 use Rattle.std.specs.Cmp.{ranked, nat_cmp_is, nat_cmp_total, eq_by_cmp_equiv}
 use Rattle.std.specs.BTreeMap.{insert_entry}
 use Rattle.std.specs.Map.{lookup, keys_of, set_value}
-use Rattle.std.specs.FinMap.{nat_cmp-IsAntisymmetric, entries, get, insert, remove, from_entries, from_sorted, find, is_sorted, same_map, get-from_entries, get-insert, get-remove, get-from_sorted, entries-from_sorted}
+use Rattle.std.specs.FinMap.{FinMap, nat_cmp-IsAntisymmetric, entries, get, insert, remove, from_entries, from_sorted, find, is_sorted, same_map, get-from_entries, get-insert, get-remove, get-from_sorted, entries-from_sorted}
 use Rattle.std.specs.FinMap.Entries.{below_all}
 
 both : (a b : Bool) → T a → T b → T (a && b)
@@ -96,3 +96,20 @@ module _ {X : Type 0} where
   pub is_taken : (before after : List (ℕ × X)) (k : ℕ) → ((q : ℕ) → lookup (λ x. is_eq (nat_cmp q x)) after ≡ cond (is_eq (nat_cmp k q)) None (lookup (λ x. is_eq (nat_cmp q x)) before)) → from_entries {R = nat_cmp} after ≡ remove (from_entries before) k
   is_taken before after k is = same_map nat_cmp_total nat_cmp-IsAntisymmetric _ _ (λ q.
       sym (looks q after) ∙ is q ∙ ap (cond (is_eq (nat_cmp k q)) None) (looks q before) ∙ turned k q _ _ ∙ sym (get-remove nat_cmp_total (from_entries before) k q))
+
+  -- a value that was put is there
+  pub put_there : (m : FinMap nat_cmp X) (k : ℕ) (v : X) → get (insert m k v) k ≡ Some v
+  put_there m k v = get-insert nat_cmp_total m k v k ∙ ap (λ r. cond (is_eq r) (Some v) (get m k)) (sym (nat_cmp_is k k Equal refl))
+
+  untaken : (q k : ℕ) (v : X) (o : Option X) → (q ≡ k → o ≡ None) → cond (is_eq (nat_cmp q k)) None (cond (is_eq (nat_cmp q k)) (Some v) o) ≡ o
+  untaken q k v o free = elim (nat_cmp q k) as (λ r. nat_cmp q k ≡ r → cond (is_eq r) None (cond (is_eq r) (Some v) o) ≡ o) [
+    | Less ↦ λ is. refl
+    | Equal ↦ λ is. sym (free (ranked q k Equal (sym is)))
+    | Greater ↦ λ is. refl
+  ] refl
+
+  -- and taken away again leaves the map as it was
+  pub unput : (m : FinMap nat_cmp X) (k : ℕ) (v : X) → get m k ≡ None → remove (insert m k v) k ≡ m
+  unput m k v free = same_map nat_cmp_total nat_cmp-IsAntisymmetric _ _ (λ q.
+      get-remove nat_cmp_total (insert m k v) k q ∙ ap (λ o. cond (is_eq (nat_cmp q k)) None o) (get-insert nat_cmp_total m k v q)
+      ∙ untaken q k v (get m q) (λ same. ap (get m) same ∙ free))

@@ -17,8 +17,8 @@ use Rattle.oz_dellog.specs.declared.logged.Logged.{Logged}
 use Rattle.oz_dellog.specs.Logged.{pending_txn, txn_of, new_logged, with_acknowledgement}
 use Rattle.oz_dellog.specs.Log.{Log, pending, is_pending, IsLogged, with_txn, acknowledged, without_txn}
 use Rattle.oz_dellog.specs.Index.{IsIndexed, Lists, Unlists, Names, listed, numbers_in, without, pending_at}
-use Rattle.oz_dellog.proofs.Rising.{rises, found_all, put_at_end, all_set, looks, has_entries, is_put, is_taken}
-use Rattle.oz_dellog.proofs.Numbers.{numbers_all, numbers_push, below_push, below_next, undone, numbers_set, numbers_remove, below_remove, tells_all}
+use Rattle.oz_dellog.proofs.Rising.{rises, found_all, put_at_end, all_set, looks, has_entries, is_put, is_taken, put_there, unput}
+use Rattle.oz_dellog.proofs.Numbers.{numbers_all, numbers_push, below_push, below_next, undone, numbers_set, numbers_remove, below_remove, below_taken, tells_all}
 
 pub is_added : (last number : ℕ) (m n : BTreeMap ℕ Logged) (i j : BTreeMap ℕ (Vec ℕ)) (v : Logged) → IsIndexed last m i → number ≡ last + 1
     → n.entries ≡ insert_entry nat_cmp m.entries number v → IsOrdered nat_cmp n → Lists i j v.container number → IsIndexed number n j
@@ -177,3 +177,35 @@ retires log last number m n view updates =
 pub asked : (f : Logged → Bool) (log : Log) (last number : ℕ) (m : BTreeMap ℕ Logged) (o : Option Logged) → seen last m ≡ log → o ≡ get nat_cmp m number
     → option_map_or f o false ≡ option_map_or f (map.get log.unretired number) false
 asked f log last number m o view there = ap (λ o. option_map_or f o false) (there ∙ looks number m.entries) ∙ ap (λ l. option_map_or f (map.get l.unretired number) false) view
+
+-- the last transaction is taken away again
+pub is_shorter : (last before : ℕ) (m n : BTreeMap ℕ Logged) (i j : BTreeMap ℕ (Vec ℕ)) (v : Logged) → IsIndexed last m i → before + 1 ≡ last → get nat_cmp m last ≡ Some v
+    → n.entries ≡ remove_entry (is_at (nat_cmp last)) m.entries → IsOrdered nat_cmp n → Unlists i j v.container last → IsIndexed before n j
+is_shorter last before m n i j v sound next there taken ordered unlists =
+    let it = is_removed last last m n i j v sound there taken ordered unlists in
+    record {
+      ordered = it.ordered;
+      below = subst (λ (es : List (ℕ × Logged)). AllByRecursion (λ e. e.0 ≤ before) es) (sym taken)
+          (below_taken last before m.entries next (rises m.entries sound.ordered) sound.below);
+      listed_well = it.listed_well;
+    }
+
+-- what was logged last is gone, as if it never had been
+pub takes_back : (log : Log) (last before container : ℕ) (locals : List ℕ) (m n : BTreeMap ℕ Logged) → seen last m ≡ with_txn log container locals → before + 1 ≡ last
+    → map.get log.unretired (log.last + 1) ≡ None → ((q : ℕ) → get nat_cmp n q ≡ cond (is_at (nat_cmp last) q) None (get nat_cmp m q)) → seen before n ≡ log
+takes_back log last before container locals m n view next free updates =
+    let is_last : last ≡ log.last + 1 = ap (λ (l : Log). l.last) view in
+    let was : before ≡ log.last = omega (arith, next, is_last) in
+    let added : map.from_entries {R = nat_cmp} m.entries ≡ map.insert log.unretired (log.last + 1) (new_logged container locals) = ap (λ (l : Log). l.unretired) view in
+    let gone : map.from_entries {R = nat_cmp} n.entries ≡ map.remove (map.from_entries m.entries) last = is_taken m.entries n.entries last updates in
+    let same : map.from_entries {R = nat_cmp} n.entries ≡ log.unretired =
+    gone ∙ (λ i. map.remove (added i) (is_last i)) ∙ unput log.unretired (log.last + 1) (new_logged container locals) free in
+    λ i. record { last = was i; unretired = same i }
+
+-- a transaction that was logged is there
+pub has_last : (log : Log) (last container : ℕ) (locals : List ℕ) (m : BTreeMap ℕ Logged) → seen last m ≡ with_txn log container locals
+    → get nat_cmp m last ≡ Some (new_logged container locals)
+has_last log last container locals m view =
+    looks last m.entries
+    ∙ (λ i. map.get (ap (λ (l : Log). l.unretired) view i) (ap (λ (l : Log). l.last) view i))
+    ∙ put_there log.unretired (log.last + 1) (new_logged container locals)

@@ -1,5 +1,5 @@
 //! The transactions that aren't retired, by their numbers.
-ghost use Rattle.std.specs.Prelude.{◌≡◌, ◌≤◌, ◌+◌, ◌↔◌, ℕ, length, IsTrue, IfOk, IfErr, OnOk, OnErr, Any, filter_map};
+ghost use Rattle.std.specs.Prelude.{◌≡◌, ◌≤◌, ◌+◌, ◌↔◌, ℕ, List, length, None, IsTrue, IfOk, IfErr, OnOk, OnErr, Any, filter_map};
 ghost use Rattle.std.specs.Prelude.{option_copied};
 ghost use Rattle.std.specs.Bool.{OnTrue, OnFalse};
 ghost use Rattle.oz_dellog.specs.declared.txn.TheConstants.{MOST_LOCALS};
@@ -42,7 +42,7 @@ impl Model for DelLog {
 
 impl DelLog {
     ghost use Rattle.oz_dellog.specs.declared.logged.Logged.{Logged as Entry};
-    ghost use Rattle.oz_dellog.specs.Log.{with_txn, pending, awaits, acknowledged, is_done, without_txn, IsLogged};
+    ghost use Rattle.oz_dellog.specs.Log.{Log, with_txn, pending, awaits, acknowledged, is_done, without_txn, IsLogged};
 
     /// A log in which no transaction was logged. It takes no memory.
     pub fn new(alloc: Global) -> DelLog
@@ -144,6 +144,23 @@ impl DelLog {
                 true
             }
             _ => false,
+        }
+    }
+
+    /// Takes away what was logged last, as if it never had been. Where that is retired nothing changes. It takes no memory.
+    pub fn take_back(&mut self)
+        ensures taken { (log : Log) (container : ℕ) (locals : List ℕ) → get log.unretired (log.last + 1) ≡ None →
+            self.old ≡ with_txn log container locals → self.new ≡ log }
+        ensures stays { get self.old.unretired self.old.last ≡ None → self.new ≡ self.old }
+    {
+        let number = self.last;
+        let Some(before) = number.checked_sub(1) else {
+            return;
+        };
+        if let Some(logged) = self.unretired.get(&number) {
+            unlist(&mut self.index, logged.container, number);
+            self.unretired.remove(&number);
+            self.last = before;
         }
     }
 

@@ -1,5 +1,5 @@
 -- Which lines are served today.
-use Rattle.std.specs.Prelude.{ℕ, Bool, true, false, not, is_none, List, Option}
+use Rattle.std.specs.Prelude.{ℕ, Bool, true, false, not, List, Option}
 use Rattle.std.specs.List.{position}
 use Rattle.oz_command.specs.declared.command.AdminCommand.{AdminCommand}
 use Rattle.oz_command.specs.declared.command.AdminCommand.TheVariants.{Stop, Start, Wipe, Close, Containers, Drain}
@@ -20,7 +20,7 @@ is_served_admin Close = false
 is_served_admin Containers = false
 is_served_admin Drain = false
 
--- The command is served: all but those that ask for a snapshot, and those of the admin on containers.
+-- The command is served: all but those of the admin on containers.
 abbrev pub is_served_command : Command → Bool
 is_served_command (VolumeCreate volume) = true
 is_served_command (VolumeDelete volume) = true
@@ -32,15 +32,15 @@ is_served_command (BucketList volume) = true
 is_served_command (KeyPut volume bucket key payload) = true
 is_served_command (KeyOpen label volume bucket key payload) = true
 is_served_command (KeyCommit label) = true
-is_served_command (KeyGet volume bucket snapshot key) = is_none snapshot
+is_served_command (KeyGet volume bucket snapshot key) = true
 is_served_command (KeyDelete volume bucket key) = true
 is_served_command (KeyRename volume bucket key to) = true
-is_served_command (KeyList volume bucket snapshot prefix start count) = is_none snapshot
+is_served_command (KeyList volume bucket snapshot prefix start count) = true
 is_served_command (KeyExpire volume bucket) = true
-is_served_command (SnapshotCreate volume bucket snapshot) = false
-is_served_command (SnapshotDelete volume bucket snapshot) = false
-is_served_command (SnapshotInfo volume bucket snapshot) = false
-is_served_command (SnapshotList volume bucket) = false
+is_served_command (SnapshotCreate volume bucket snapshot) = true
+is_served_command (SnapshotDelete volume bucket snapshot) = true
+is_served_command (SnapshotInfo volume bucket snapshot) = true
+is_served_command (SnapshotList volume bucket) = true
 is_served_command (Admin command) = is_served_admin command
 
 -- so is the line that has it

@@ -35,14 +35,15 @@ fn is_served_command(command: &Command) -> bool
         | Command::KeyPut { .. }
         | Command::KeyOpen { .. }
         | Command::KeyCommit { .. }
+        | Command::KeyGet { .. }
         | Command::KeyDelete { .. }
         | Command::KeyRename { .. }
-        | Command::KeyExpire { .. } => true,
-        Command::KeyGet { snapshot, .. } | Command::KeyList { snapshot, .. } => snapshot.is_none(),
-        Command::SnapshotCreate { .. }
+        | Command::KeyList { .. }
+        | Command::KeyExpire { .. }
+        | Command::SnapshotCreate { .. }
         | Command::SnapshotDelete { .. }
         | Command::SnapshotInfo { .. }
-        | Command::SnapshotList { .. } => false,
+        | Command::SnapshotList { .. } => true,
         Command::Admin(command) => is_served_admin(*command),
     }
 }

@@ -3,5 +3,6 @@ pub mod Reading
 pub mod Moments
 pub mod Counting
 pub mod Puts
+pub mod Deletes
 pub mod Story
 pub mod halts_lemmas

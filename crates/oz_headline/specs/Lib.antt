@@ -7,6 +7,7 @@ pub mod History
 pub mod Reads
 pub mod Counts
 pub mod Puts
+pub mod Deletes
 pub mod Headline
 pub mod halts
 pub mod restored

@@ -6,6 +6,7 @@ ghost use Rattle.oz_command.specs.declared.command.Data.{Data as AnyData};
 ghost use Rattle.oz_core.specs.declared.event.Event.{Event as AnyEvent};
 ghost use Rattle.oz_core.specs.declared.limits.TheConstants.{SERVICE_CLIENT};
 ghost use Rattle.oz_core.specs.declared.opening.Opening.{Opening as AnyOpening};
+ghost use Rattle.oz_core.specs.Coherent.{LogIsCoherent};
 ghost use Rattle.oz_core.specs.Contents.{OpeningBytes};
 ghost use Rattle.oz_core.specs.Due.{IsDone};
 ghost use Rattle.oz_core.specs.Fits.{AllAreTold, Fits, FitsFrom, line_numbers, told_lines};
@@ -13,6 +14,7 @@ ghost use Rattle.oz_core.specs.Law.{IsLegal};
 ghost use Rattle.oz_core.specs.Manager.{flushed_moment};
 ghost use Rattle.oz_core.specs.Steps.{target};
 ghost use Rattle.oz_headline.specs.Counts.{AreToldAsMany, IsClient};
+ghost use Rattle.oz_headline.specs.Deletes.{DeletesAreOutOfReach};
 ghost use Rattle.oz_headline.specs.History.{AllAreBy, AllAreInTurn, RepliesAreOneThreads, ToldIsStable};
 ghost use Rattle.oz_headline.specs.Puts.{HasNamed};
 ghost use Rattle.oz_headline.specs.Reads.{ReadsAreContents};
@@ -24,7 +26,7 @@ ghost use Rattle.oz_script.specs.lines.Numbered.{IsNumbered};
 
 /// A story that is one history says the rest of the headline: each reply is one thread's at its place, each line asks
 /// in its turn, what was acknowledged is stable, a line that reads is told the contents of the blocks that it looked
-/// up, and nothing is flushed later than the last that is.
+/// up, nothing reaches what is deleted, and nothing is flushed later than the last that is.
 pub fn one_history_says_the_rest()
     ensures replies { (opening : AnyOpening) (story : List AnyEvent) → IsLegal opening story →
         RepliesAreOneThreads opening story }
@@ -34,6 +36,8 @@ pub fn one_history_says_the_rest()
         IsLegal opening story → Fits opening bytes script story → ToldIsStable opening story }
     ensures reads { (opening : AnyOpening) (bytes : OpeningBytes) (script : AnyScript) (story : List AnyEvent) →
         Fits opening bytes script story → ReadsAreContents opening bytes script story }
+    ensures deletes { (opening : AnyOpening) (story : List AnyEvent) → LogIsCoherent opening → IsLegal opening story →
+        DeletesAreOutOfReach opening story }
     ensures moments { (opening : AnyOpening) (story : List AnyEvent) (clock : ℕ) → IsLegal opening story →
         IfSome (flushed_moment story) (λ moment. moment ≤ clock) → AllAreBy clock story }
 {}

@@ -27,6 +27,7 @@ module _ {D : Type 0} (see : D → Seen) (story : List Event) where
     after_all_seen = headline.after_all_seen;
     acknowledged = headline.acknowledged;
     flushed = (headline.flushed.0, (tt, none_flushed 0 before.datanodes loaded.datanodes after.datanodes));
+    deletes = headline.deletes;
     reads = headline.reads;
     no_bad = headline.no_bad;
   }

@@ -4,6 +4,7 @@ ghost use Rattle.std.specs.Prelude.{◌≢◌, Bool, ℕ, List, [], None, if◌t
 ghost use Rattle.oz_buffer.specs.Buffer.{AllFollow, Follows};
 ghost use Rattle.oz_core.specs.declared.event.Event.{Event as AnyEvent};
 ghost use Rattle.oz_core.specs.declared.event.Node.{Node as AnyNode};
+ghost use Rattle.oz_core.specs.Coherent.{LogIsCoherent};
 ghost use Rattle.oz_core.specs.Manager.{halt_of};
 ghost use Rattle.oz_flusher.specs.flushing.Kept.{IsKept};
 ghost use Rattle.oz_headline.specs.halts.Disks.{AreAsMany, OtherDisks, OtherNodes, all_disks, some_halted};
@@ -20,11 +21,11 @@ use oz_buffer::Opened;
 use oz_flusher::Mounted;
 use oz_world::Disk;
 
-/// Where the disks agree, the story that the turn told of a script keeps the headline over the disks of all nodes: by
+/// Where the disks agree, in what is still being deleted too, the story that the turn told of a script keeps the headline over the disks of all nodes: by
 /// what the flusher keeps of it and of the manager's disk, and by what the datanodes are. `begun` is the manager's disk
 /// as the run began.
 pub fn the_story_keeps_the_headline_of_all_disks<D: Disk, O: Opened, M: Mounted>()
-    ensures { O.coherent → IsNumbered O.script →
+    ensures { O.coherent → LogIsCoherent O.opening → IsNumbered O.script →
         (begun disk : D) (stopped : Bool) (before : OtherDisks D) (loaded after : OtherNodes D)
         (mine story : List AnyEvent) → AllFollow (Follows O.coherent O.opening O.bytes O.script) [] story →
         (let see = (λ (d : D). seen_disk (D.told d) (D.clock d) (D.image d) (D.faults d)) in

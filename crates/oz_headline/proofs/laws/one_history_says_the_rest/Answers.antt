@@ -1,3 +1,4 @@
+use Rattle.oz_headline.proofs.Deletes.{deletes}
 use Rattle.oz_headline.proofs.History.{answers, asks, replies}
 use Rattle.oz_headline.proofs.Moments.{all_are_by}
 use Rattle.oz_headline.proofs.Reading.{reads}
@@ -14,6 +15,9 @@ returns-clause-answers c opening bytes script story legal fits = answers opening
 
 pub returns-clause-reads : goal.returns-clause-reads
 returns-clause-reads c opening bytes script story fits = reads opening bytes script story fits
+
+pub returns-clause-deletes : goal.returns-clause-deletes
+returns-clause-deletes c opening story log legal = deletes opening story log legal
 
 pub returns-clause-moments : goal.returns-clause-moments
 returns-clause-moments c opening story clock legal by = all_are_by opening clock story legal by

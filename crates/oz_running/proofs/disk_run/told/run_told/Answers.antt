@@ -50,7 +50,7 @@ returns-clause-told g c =
     } in record {
       run = run;
       headline = λ coherent before others.
-          c.the_story_keeps_the_headline_of_all_disks.ensures coherent c.requires.numbered before disk stopped others nodes left own story run.follow run.kept run.datanodes;
+          c.the_story_keeps_the_headline_of_all_disks.ensures coherent (c.requires.opens.store coherent).disks.log c.requires.numbered before disk stopped others nodes left own story run.follow run.kept run.datanodes;
       halted = halted;
       status = law.status disk disk stopped others nodes left story many (halted disk others many);
       all_flushed = λ coherent running.

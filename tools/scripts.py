@@ -185,18 +185,6 @@ def compare(words, form, first, takes):
         raise Wrong(first + len(form), f"nothing stands there; {takes}")
 
 
-def is_later(words):
-    """Whether no run serves the command yet: snapshots, and three commands of the admin."""
-    name = " ".join(words[:2])
-    if words[0] == "snapshot" or name in SERVED_LATER:
-        return True
-    rest = (words[2].split("/", 3) + ["", "", "", ""])[3] if name in ("key get", "key list") else ""
-    if not rest.startswith(".snapshot/"):
-        return False
-    is_in_snapshot = "/" in rest.removeprefix(".snapshot/")
-    return is_in_snapshot == (name == "key get")
-
-
 # --- scripts --------------------------------------------------------------------------------------------------------
 
 
@@ -311,6 +299,6 @@ def read(script):
             reader.take(at, words_in(at, text))
     look_at_waits(reader.lines)
     for it in reader.lines:
-        if is_later(it.words):
-            raise ScriptFault(it.at, "later", f"no run serves {it.name()} yet" + (" in a snapshot" if it.words[0] == "key" else ""))
+        if it.name() in SERVED_LATER:
+            raise ScriptFault(it.at, "later", f"no run serves {it.name()} yet")
     return Script(reader.lines)

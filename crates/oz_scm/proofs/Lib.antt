@@ -9,5 +9,5 @@ pub mod Numbered
 pub mod Ordered
 pub mod Places
 pub mod Sizes
-pub mod Unlogged
+pub mod Fitting
 pub mod grants_lemmas

@@ -6,7 +6,7 @@ ghost use Rattle.oz_scm.specs.declared.grants.entry.Entry.TheVariants as entries
 ghost use Rattle.oz_journal.specs.Journal.{body_of};
 ghost use Rattle.oz_scm.specs.Frames.{IsFrameOf};
 ghost use Rattle.oz_scm.specs.grants.Made.{MayLog, after_log};
-ghost use Rattle.oz_scm.specs.grants.Steps.{IsLastNew, without_last};
+ghost use Rattle.oz_scm.specs.grants.Steps.{WasLogged};
 
 use crate::grants::{Containers, Grant, encode_granted, encode_logged, encode_nodes};
 use oz_dellog::Txn;
@@ -74,8 +74,7 @@ pub(crate) fn plan_log(
 ) -> Result<Vec<u8>, OutOfMemory>
     requires { MayLog containers.old.made txn.now }
     ensures logged { OnOk result (containers.new.made ≡ after_log txn.now containers.old.made) }
-    ensures last { OnOk result (IsLastNew containers.new.made) }
-    ensures back { OnOk result (without_last containers.new.made ≡ containers.old.made) }
+    ensures was { OnOk result (WasLogged containers.old.made containers.new.made) }
     ensures same { OnErr result (containers.new.made ≡ containers.old.made) }
     ensures frame { IfOk result (λ frame. IsFrameOf (entries.Logged txn.now) frame.items) }
 {

@@ -14,8 +14,8 @@ ghost use Rattle.oz_scm.specs.Logging.{Logs};
 ghost use Rattle.oz_scm.specs.Noting.{Notes};
 ghost use Rattle.std.specs.FinMap.{entries};
 ghost use Rattle.std.specs.Map.Iter.{ShowsInOrder, deref_pair};
-ghost use Rattle.oz_scm.specs.grants.Log.{IsOrdered};
-ghost use Rattle.oz_scm.specs.grants.Made.{container_at, state_at, MayLog, MayAck, MayRetire, may_ack, log_of};
+ghost use Rattle.oz_scm.specs.grants.Log.{AreCounted, IsOrdered};
+ghost use Rattle.oz_scm.specs.grants.Made.{container_at, state_at, MayLog, MayAck, MayRetire, may_ack, may_log, log_of};
 ghost use Rattle.oz_journal.specs.Grammar.{IsJournal, TellsBodies};
 ghost use Rattle.oz_journal.specs.Load.{IsLoadable};
 ghost use Rattle.oz_names.specs.declared.limits.TheConstants.{STRIPES};
@@ -253,6 +253,13 @@ impl<D: Disk> Scm<D> {
         Ok(())
     }
 
+    /// Whether a transaction may be logged next (`log_txn`).
+    pub fn may_log(&self, txn: &Txn) -> bool
+        ensures { result ≡ may_log self.now.made txn.now }
+    {
+        self.containers.may_log(txn)
+    }
+
     /// Whether a datanode owes a transaction's acknowledgement.
     pub fn may_ack(&self, number: u64, dn: u8) -> bool
         ensures { result ≡ may_ack self.now.made number dn }
@@ -286,6 +293,13 @@ impl<D: Disk> Scm<D> {
         ensures { IfOk result (λ txns. txns.items ≡ pending (log_of self.now.made) container dn) }
     {
         self.containers.pending(alloc, container, dn)
+    }
+
+    /// Each transaction has from one id to 1,024. It does nothing when it runs.
+    pub fn are_counted(&self)
+        ensures { AreCounted self.now.made }
+    {
+        self.containers.are_counted();
     }
 
     /// What was logged and isn't retired, in the order of the numbers.

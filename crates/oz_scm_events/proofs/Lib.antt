@@ -8,4 +8,5 @@ mod Needed
 mod Left
 mod Enabled
 mod Notes
+mod Pending
 mod Members

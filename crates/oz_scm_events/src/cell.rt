@@ -1,11 +1,11 @@
 //! The storage container manager with its seat.
 
-ghost use Rattle.std.specs.Prelude.{◌≡◌, ◌≤◌, [], length, map, replicate, true, false, IfOk, IfSome, IsSome, None, ℕ};
+ghost use Rattle.std.specs.Prelude.{◌≡◌, ◌<◌, ◌≤◌, [], length, map, replicate, true, false, IfOk, IfSome, IsSome, None, ℕ};
 ghost use Rattle.std.specs.FinMap.{get};
 ghost use Rattle.std.specs.List.{range_with_len};
 ghost use Rattle.oz_buffer.specs.Buffer.{AllFollow, Follows};
 ghost use Rattle.oz_core.specs.declared.event.Node.TheVariants.{Scm as ScmNode};
-ghost use Rattle.oz_core.specs.Scm.{containers, members};
+ghost use Rattle.oz_core.specs.Scm.{containers, is_up, members};
 ghost use Rattle.oz_core.specs.Seats.{scm_seat};
 ghost use Rattle.oz_scm.specs.declared.grants.container.Container.{Container as AnyContainer};
 ghost use Rattle.oz_scm.specs.grants.Counts.{AreCounts};
@@ -111,6 +111,22 @@ impl<D: Disk, T: Told<Entry = Event>, O: Opened, R: Ring> ScmCell<D, T, O, R> {
         ensures told { result ≡ state_told O.opening self.now.mine container }
     {
         self.scm.state(container)
+    }
+
+    /// Whether it takes a datanode for up.
+    pub fn is_up(&self, dn: u8) -> bool
+        requires { dn < length O.opening.nodes }
+        ensures { result ≡ is_up dn self.now.mine }
+    {
+        self.scm.is_up(dn)
+    }
+
+    /// The datanodes that have a container's replicas, None where it wasn't made, by what this seat has told.
+    pub fn members_told(&self, container: u64) -> Option<[u8; 3]>
+        ensures made { IfSome result (λ dns. members O.opening self.now.mine container ≡ dns) }
+        ensures none { result ≡ None → get (containers O.opening self.now.mine) container ≡ None }
+    {
+        self.scm.members(container)
     }
 
     /// How many containers there are in each state, in the order of the states; None where one of the counts passes a

@@ -6,7 +6,7 @@ ghost use Rattle.oz_core.specs.declared.event.Event.{Event as AnyEvent};
 ghost use Rattle.oz_core.specs.declared.event.Node.TheVariants.{Scm};
 ghost use Rattle.oz_core.specs.Manager.{halt_of};
 ghost use Rattle.oz_core.specs.Nodes.{is_running};
-ghost use Rattle.oz_core.specs.Scm.{containers, is_up, next_id, ups};
+ghost use Rattle.oz_core.specs.Scm.{acknowledgers, containers, is_retired, is_up, last_txn, logs, next_id, ups};
 ghost use Rattle.oz_core.specs.Seats.{datanode_seat, scm_seat};
 ghost use Rattle.oz_core.specs.Law.{IsNeeded};
 ghost use Rattle.oz_requests.specs.declared.request.Exclude.{Exclude as AnyExclude};
@@ -17,7 +17,8 @@ ghost use Rattle.oz_turn.specs.Told.{own_entries, BeginsWith};
 use oz_buffer::Opened;
 
 /// Where the disks agree, the events of the storage container manager's seat alone tell which id is granted next, which
-/// containers were made and who is up. Whatever the disks had, they alone tell whether it halted.
+/// containers were made, who is up, and what was logged, acknowledged and retired. Whatever the disks had, they alone tell
+/// whether it halted.
 pub fn the_scm_alone_tells<O: Opened>()
     ensures next { (story : List AnyEvent) → O.coherent →
         AllFollow (Follows O.coherent O.opening O.bytes O.script) [] story →
@@ -31,6 +32,19 @@ pub fn the_scm_alone_tells<O: Opened>()
     ensures ups { (story : List AnyEvent) → O.coherent →
         AllFollow (Follows O.coherent O.opening O.bytes O.script) [] story →
         ups O.opening story ≡ ups O.opening (own_entries (λ event. event.seat) scm_seat story) }
+    ensures last_txn { (story : List AnyEvent) → O.coherent →
+        AllFollow (Follows O.coherent O.opening O.bytes O.script) [] story →
+        last_txn O.opening story ≡ last_txn O.opening (own_entries (λ event. event.seat) scm_seat story) }
+    ensures logs { (story : List AnyEvent) → O.coherent →
+        AllFollow (Follows O.coherent O.opening O.bytes O.script) [] story →
+        logs O.opening story ≡ logs O.opening (own_entries (λ event. event.seat) scm_seat story) }
+    ensures acknowledgers { (story : List AnyEvent) (number : ℕ) → O.coherent →
+        AllFollow (Follows O.coherent O.opening O.bytes O.script) [] story →
+        acknowledgers O.opening story number
+            ≡ acknowledgers O.opening (own_entries (λ event. event.seat) scm_seat story) number }
+    ensures retired { (story : List AnyEvent) (number : ℕ) → O.coherent →
+        AllFollow (Follows O.coherent O.opening O.bytes O.script) [] story →
+        is_retired number story ≡ is_retired number (own_entries (λ event. event.seat) scm_seat story) }
     ensures halt { (story : List AnyEvent) →
         AllFollow (Follows O.coherent O.opening O.bytes O.script) [] story →
         halt_of Scm story ≡ halt_of Scm (own_entries (λ event. event.seat) scm_seat story) }

@@ -302,6 +302,7 @@ sound_set made first count place c next whole fits on some sound = record {
   few = let size = length-set made.containers place c in omega (arith, size, sound.few, next);
   within = omega (arith, fits, whole);
   below = sound.below;
+  counted = sound.counted;
 }
 
 length-push : (l : List Container) (c : Container) → length (l ++ c ∷ []) ≡ length l + 1
@@ -319,6 +320,7 @@ sound_push made first count c next whole fits on some sound = record {
   few = let size = length-push made.containers c in omega (arith, size, sound.few, next, whole);
   within = omega (arith, fits, whole);
   below = sound.below;
+  counted = sound.counted;
 }
 
 -- ---- what a grant makes
@@ -490,6 +492,7 @@ module _ (log : Log) (nodes next : ℕ) (l : List Container) (roomy : List ℕ) 
         few = let size = length-set l (number - 1) c in omega (arith, size, kept.0.few);
         within = kept.0.within;
         below = kept.0.below;
+        counted = kept.0.counted;
       }
 
   pub kept_step : (left : List ℕ) → left ≡ filter (λ n. not (nat_eq n number)) roomy → Kept log nodes next (slice_set l (number - 1) c) left

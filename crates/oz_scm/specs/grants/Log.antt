@@ -1,10 +1,20 @@
 -- What loading promises of the log of deleted blocks.
-use Rattle.std.specs.Prelude.{◌≡◌, ℕ, ◌≤◌, true, Some, length}
+use Rattle.std.specs.Prelude.{◌≡◌, ℕ, ◌≤◌, true, Some, List, length}
 use Rattle.std.specs.FinMap.{get}
 use Rattle.oz_dellog.specs.Logged.{is_acknowledged_by, nobody}
 use Rattle.oz_dellog.specs.declared.logged.Logged.{Logged}
+use Rattle.oz_dellog.specs.declared.txn.TheConstants.{MOST_LOCALS}
 use Rattle.oz_scm.specs.declared.grants.container.Container.{Container}
 use Rattle.oz_scm.specs.grants.Made.{Made, container_at, is_member}
+
+-- as many ids as a transaction may have
+pub record IsLocalCount (locals : List ℕ) : Type 0 where
+  pub some : 1 ≤ length locals
+  pub few : length locals ≤ MOST_LOCALS
+
+-- each transaction that isn't retired has so many
+abbrev pub AreCounted : Made → Type 0
+AreCounted made = (number : ℕ) (logged : Logged) → get made.unretired number ≡ Some logged → IsLocalCount logged.locals
 
 -- A transaction's container was made, and who acknowledged it is a member of that.
 pub record IsOfMembers (made : Made) (logged : Logged) : Type 0 where

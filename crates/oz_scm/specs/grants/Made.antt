@@ -163,6 +163,11 @@ pub record MayLog (made : Made) (txn : Txn) : Type 0 where
   pub container_is : is_made made.containers txn.container ≡ true
   pub count_is : is_local_count (length txn.locals) ≡ true
 
+abbrev pub may_log : Made → Txn → Bool
+may_log made txn =
+    is_next_txn made.last_txn txn.number && is_made made.containers txn.container
+    && is_local_count (length txn.locals)
+
 -- an acknowledgement that a member of the container owes
 abbrev pub MayAck : Made → ℕ → ℕ → Type 0
 MayAck made number dn = may_ack made number dn ≡ true

@@ -1,11 +1,10 @@
 -- For private calls: what reading gives, and what containers in memory keep.
 use Rattle.std.specs.Prelude.{◌≡◌, ◌⊎◌, ℕ, ◌*◌, ◌-◌, ◌<◌, ◌≤◌, ◌↔◌, min, List, [], ◌∷◌, Option, Some, None, Result, Ok, Err}
 use Rattle.std.specs.Prelude.{length, All}
-use Rattle.std.specs.FinMap.{get, remove}
+use Rattle.std.specs.FinMap.{get}
 use Rattle.std.specs.Option.{option_map}
 use Rattle.oz_dellog.specs.Log.{Log}
-use Rattle.oz_dellog.specs.Logged.{nobody}
-use Rattle.oz_dellog.specs.declared.logged.Logged.{Logged}
+use Rattle.oz_dellog.specs.declared.txn.Txn.{Txn}
 use Rattle.oz_fields.specs.declared.block.TheConstants.{GREATEST_BLOCK_NUMBER}
 use Rattle.oz_nodes.specs.declared.nodes.TheConstants.{FEWEST_NODES, MOST_NODES}
 use Rattle.oz_nodes.specs.Pipelines.{pipelines_of}
@@ -17,7 +16,8 @@ use Rattle.oz_scm.specs.declared.grants.fault.BuildFault.{BuildFault}
 use Rattle.oz_scm.specs.declared.grants.fault.BuildFault.TheVariants as faults
 use Rattle.oz_scm.specs.grants.Build.{body_at}
 use Rattle.oz_scm.specs.grants.Due.{HasRoom}
-use Rattle.oz_scm.specs.grants.Made.{Made, after_entry}
+use Rattle.oz_scm.specs.grants.Log.{AreCounted}
+use Rattle.oz_scm.specs.grants.Made.{Made, after_entry, after_log}
 
 -- what a call gave, seen by view, is what reading gives; where memory runs out it says nothing
 abbrev pub ReadFails : {Y : Type 0} → ReadFault → Result Y ℕ → Type 0
@@ -65,17 +65,13 @@ pub record IsSound (made : Made) : Type 0 where
   pub few : 64 * length made.containers < made.next_id
   pub within : made.next_id ≤ GREATEST_BLOCK_NUMBER
   pub below : AreBelow made
+  pub counted : AreCounted made
 
--- The transaction that was logged last is there, and nobody acknowledged it.
-pub record IsLastNew (made : Made) : Type 0 where
-  pub drawn : 1 ≤ made.last_txn
-  pub logged : Logged
-  pub there : get made.unretired made.last_txn ≡ Some logged
-  pub fresh : logged.acknowledged ≡ nobody
-
--- what there was before that
-abbrev pub without_last : Made → Made
-without_last made = record made { last_txn = made.last_txn - 1; unretired = remove made.unretired made.last_txn }
+-- a transaction was logged last, and before it there was this
+pub record WasLogged (before made : Made) : Type 0 where
+  pub txn : Txn
+  pub below : AreBelow before
+  pub is : made ≡ after_log txn before
 
 -- an entry that is a whole body, and what it makes
 pub record IsStep (before : Option Made) (bytes : List ℕ) (after : Option Made) : Type 0 where

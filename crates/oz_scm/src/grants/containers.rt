@@ -1,6 +1,6 @@
 //! The containers that were made, in memory, and the next ids.
 
-ghost use Rattle.std.specs.Prelude.{◌≡◌, ◌⊎◌, ◌↔◌, ◌<◌, ◌≤◌, ◌+◌, ◌^◌, ℕ, [], length, IsTrue, OnOk, OnErr, IfOk, IfSome, IfNone, IsSomeAnd};
+ghost use Rattle.std.specs.Prelude.{◌≡◌, ◌⊎◌, ◌↔◌, ◌<◌, ◌≤◌, ◌+◌, ◌^◌, ℕ, [], length, IsTrue, OnOk, OnErr, IfOk, IfSome, IfNone};
 ghost use Rattle.std.specs.Prelude.{filter, nat_eq, nat_lt, not, map, suc, ◌==◌, if◌then◌else◌};
 ghost use Rattle.std.specs.List.{range_with_len};
 ghost use Rattle.oz_container.specs.declared.state.State.TheVariants.{Open};
@@ -9,26 +9,28 @@ ghost use Rattle.oz_scm.specs.declared.grants.limits.TheConstants.{GRANTED_IDS a
 ghost use Rattle.oz_fields.specs.declared.block.TheConstants.{GREATEST_BLOCK_NUMBER as greatest};
 ghost use Rattle.oz_scm.specs.grants.Counts.{AreCounts, count_in, place_of as place_in_order};
 ghost use Rattle.oz_scm.specs.grants.Due.{MayTake, IsChosen, HasRoom};
-ghost use Rattle.oz_scm.specs.grants.Made.{begun, container_at, next_number, after_grant, with_container, granted_in};
-ghost use Rattle.oz_scm.specs.grants.Made.{MayGrant, MayStep, is_old_or_next, after_step};
+ghost use Rattle.oz_scm.specs.grants.Made.{Made, begun, container_at, next_number, after_grant, with_container, granted_in};
+ghost use Rattle.oz_scm.specs.grants.Made.{MayGrant, MayStep, is_old_or_next, after_step, may_log};
+ghost use Rattle.oz_scm.specs.grants.Made.{is_next_txn, is_made, is_local_count};
 ghost use Rattle.oz_scm.specs.grants.Made.{stepped as after_event, is_unretired, may_ack, is_member, log_of};
 ghost use Rattle.oz_scm.specs.grants.Made.{MayLog, MayAck, MayRetire, after_log, after_ack, after_retirement};
 ghost use Rattle.oz_dellog.specs.Log.{IsLogged, is_done, pending};
 ghost use Rattle.oz_dellog.specs.declared.logged.Logged.{Logged as AnyLogged};
-ghost use Rattle.std.specs.FinMap.{entries, get, remove};
+ghost use Rattle.std.specs.FinMap.{entries};
 ghost use Rattle.std.specs.Map.Iter.{ShowsInOrder, deref_pair};
-ghost use Rattle.oz_dellog.specs.Logged.{acknowledgement_count, nobody};
-ghost use Rattle.oz_scm.specs.grants.Steps.{IsLowestOf, IsLowered, IsSound, IsLastNew, without_last};
+ghost use Rattle.oz_dellog.specs.Logged.{acknowledgement_count};
+ghost use Rattle.oz_scm.specs.grants.Log.{AreCounted};
+ghost use Rattle.oz_scm.specs.grants.Steps.{IsLowestOf, IsLowered, IsSound, WasLogged};
 ghost use Rattle.oz_nodes.specs.declared.nodes.TheConstants.{FEWEST_NODES as fewest, MOST_NODES as most_nodes};
 
 use crate::grants::container::Container;
 use crate::grants::entry::Grant;
 use crate::grants::limits::{FIRST_ID, GRANTED_IDS, MOST_GRANTED};
 use oz_container::{Event, State};
-use oz_dellog::{DelLog, Logged, Txn};
+use oz_dellog::{DelLog, Logged, MOST_LOCALS, Txn};
 use oz_fields::{Block, GREATEST_BLOCK_NUMBER, OutOfMemory};
 use oz_nodes::{FEWEST_NODES, Nodes};
-use std::alloc::{AllocError, Global};
+use std::alloc::Global;
 use std::collections::btree_map::Iter;
 use std::marker::Model;
 
@@ -40,7 +42,6 @@ pub struct Containers {
     list: Vec<Container>,
     next: u64,
     roomy: Vec<u64>,
-    last_txn: u64,
     log: DelLog,
 }
 
@@ -54,12 +55,12 @@ impl Model for Containers {
     ghost coded = { coded_view };
 
     ghost view = { λ c. record {
-      made = made_of (record { last = c.last_txn; unretired = c.log.unretired }) c.node_count c.next c.list.items;
+      made = made_of c.log c.node_count c.next c.list.items;
       spare = min (vec_capacity c.list - vec_len c.list) (vec_capacity c.roomy - vec_len c.roomy);
     } };
 
     ghost invariant = { λ c. IsSound
-        (made_of (record { last = c.last_txn; unretired = c.log.unretired }) c.node_count c.next c.list.items)
+        (made_of c.log c.node_count c.next c.list.items)
         × IsListed c.list.items c.roomy.items };
 }
 
@@ -75,7 +76,6 @@ impl Containers {
             list: Vec::new(alloc),
             next: FIRST_ID,
             roomy: Vec::new(alloc),
-            last_txn: 0,
             log: DelLog::new(alloc),
         }
     }
@@ -271,7 +271,7 @@ impl Containers {
     pub fn last_txn(&self) -> u64
         ensures { result ≡ self.now.made.last_txn }
     {
-        self.last_txn
+        self.log.last()
     }
 
     /// What was logged and isn't retired, in the order of the numbers.
@@ -296,11 +296,40 @@ impl Containers {
         self.log.logged(block)
     }
 
+    /// Each transaction has as many ids as it may have. It does nothing when it runs.
+    pub fn are_counted(&self)
+        ensures { AreCounted self.now.made }
+    {
+        let _last = self.log.last();
+    }
+
     /// Whether a transaction is there.
     pub fn is_unretired(&self, number: u64) -> bool
         ensures { result ≡ is_unretired self.now.made number }
     {
         self.log.get(number).is_some()
+    }
+
+    /// Whether a transaction may be logged next: it has the next number, its container was made, and it has as many ids as it
+    /// may have.
+    pub fn may_log(&self, txn: &Txn) -> bool
+        ensures { result ≡ may_log self.now.made txn.now }
+    {
+        self.is_next_txn(txn.number)
+            && self.is_made(txn.container)
+            && is_local_count(txn.locals.items())
+    }
+
+    fn is_next_txn(&self, number: u64) -> bool
+        ensures { result ≡ is_next_txn self.now.made.last_txn number }
+    {
+        number >= 1 && number - 1 == self.log.last()
+    }
+
+    fn is_made(&self, number: u64) -> bool
+        ensures { result ≡ is_made self.now.made.containers number }
+    {
+        number >= 1 && number < self.next_number()
     }
 
     /// Whether a datanode owes a transaction's acknowledgement: it has the container's replicas, and hasn't given one.
@@ -342,31 +371,21 @@ impl Containers {
     pub fn log_txn(&mut self, alloc: Global, txn: Txn) -> Result<(), OutOfMemory>
         requires { MayLog self.old.made txn }
         ensures logged { OnOk result (self.new.made ≡ after_log txn self.old.made) }
-        ensures last { OnOk result (IsLastNew self.new.made) }
-        ensures back { OnOk result (without_last self.new.made ≡ self.old.made) }
+        ensures was { OnOk result (WasLogged self.old.made self.new.made) }
         ensures same { OnErr result (self.new.made ≡ self.old.made) }
     {
-        if !has_drawn(&self.log, self.last_txn) {
-            return Err(AllocError);
-        }
         match self.log.add(alloc, txn.container, txn.locals) {
-            Ok(number) => {
-                self.last_txn = number;
-                Ok(())
-            }
+            Ok(_number) => Ok(()),
             Err((_, fault)) => Err(fault),
         }
     }
 
-    /// Takes away again what was logged last, which nobody acknowledged, without taking memory. No further transaction finds
-    /// memory, since the log draws no number twice.
+    /// Takes back what was logged last, without taking memory.
     pub fn unlog(&mut self)
-        requires { IsLastNew self.old.made }
-        ensures { self.new.made ≡ without_last self.old.made }
+        requires { (before : Made) × WasLogged before self.old.made }
+        ensures { (before : Made) → WasLogged before self.old.made → self.new.made ≡ before }
     {
-        let number = self.last_txn;
-        unlog_last(&mut self.log, number);
-        self.last_txn = number - 1;
+        self.log.take_back();
     }
 
     /// Notes an acknowledgement, without taking memory.
@@ -386,22 +405,11 @@ impl Containers {
     }
 }
 
-/// Takes away a transaction that nobody acknowledged, as the log lets one go: once three datanodes did.
-fn unlog_last(log: &mut DelLog, number: u64)
-    requires { IsSomeAnd (get log.old.unretired number) (λ (logged : AnyLogged). logged.acknowledged ≡ nobody) }
-    ensures { log.new.unretired ≡ remove log.old.unretired number }
+fn is_local_count(locals: &[u64]) -> bool
+    ensures { result ≡ is_local_count (length locals.now) }
 {
-    log.ack(number, 0);
-    log.ack(number, 1);
-    log.ack(number, 2);
-    log.retire(number);
-}
-
-/// Whether this is the last number that the log has drawn.
-fn has_drawn(log: &DelLog, last: u64) -> bool
-    ensures { IsTrue result ↔ (log.now.last ≡ last) }
-{
-    log.last() == last
+    let count = locals.len();
+    count >= 1 && count <= MOST_LOCALS
 }
 
 /// How many datanodes acknowledged a transaction.

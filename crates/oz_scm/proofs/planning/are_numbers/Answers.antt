@@ -1,5 +1,5 @@
 use Rattle.std.proofs.Common.{◌^◌, arith}
-use Rattle.oz_scm.proofs.Unlogged.{all_below}
+use Rattle.oz_scm.proofs.Fitting.{all_below}
 use Rattle.oz_scm.proofs.planning.are_numbers.Goals as goal
 
 pub returns : goal.returns

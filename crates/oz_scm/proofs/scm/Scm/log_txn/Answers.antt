@@ -15,12 +15,15 @@ invariant_of-self-in-Ok-add g c =
           (ap body_of c.deref_mut.ensures.value ∙ c.in_ok-frame.ensures.frame.body) (c.self.invariant.1 c.in-Ok.ensures.running) adds c.in-Ok-add.ensures.appended,
     )
 
+pub unlog-requires : goal.unlog-requires
+unlog-requires g c = (c.self.inside.containers.made, c.in_ok-frame.ensures.was)
+
 pub returns-in_default-add : goal.returns-in_default-add
 returns-in_default-add g c =
     let made = c.self.inside.containers.made in
     let may : MayLog made c.args.txn.now = rw (← c.self.view_is) at c.requires in
     let adds = log_adds made c.args.txn.now may c.has_numbers.ensures.number c.has_numbers.ensures.container c.has_numbers.ensures.locals in
-    let back : c.unlog.new.self.made ≡ made = c.unlog.ensures ∙ c.in_ok-frame.ensures.back in
+    let back : c.unlog.new.self.made ≡ made = c.unlog.ensures made c.in_ok-frame.ensures.was in
     rw (← c.self.view_is) (record {
       notes = halted_as g.D.Disk.told g.D.Disk.clock g.D.Disk.image g.D.Disk.faults (Logged c.args.txn.now) made c.self.inside.nodes
           _ _ c.self.inside.journal.disk c.add.new.journal.disk c.self.inside.journal.stopped c.add.new.journal.stopped c.in-Ok.ensures.running

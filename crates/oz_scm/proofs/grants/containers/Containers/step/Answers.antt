@@ -9,11 +9,11 @@ invariant_of-self c =
     let inside = c.self.inside in
     let at = rw (← c.self.view_is) at c.get.ensures.found in
     let there = subst (λ (o : Option Container). stepped o c.args.event ≡ Some c.in-Some.container) at (sym c.stepped.ensures ∙ c.in-Some.is) in
-    kept_step (record { last = inside.last_txn; unretired = inside.log.unretired }) inside.node_count inside.next inside.list.items inside.roomy.items c.args.number c.args.event c.in-Some.container there c.self.invariant c.forget.new.numbers.items c.forget.ensures
+    kept_step inside.log inside.node_count inside.next inside.list.items inside.roomy.items c.args.number c.args.event c.in-Some.container there c.self.invariant c.forget.new.numbers.items c.forget.ensures
 
 pub returns : goal.returns
 returns c =
     let inside = c.self.inside in
     let at = rw (← c.self.view_is) at c.get.ensures.found in
     let there = subst (λ (o : Option Container). stepped o c.args.event ≡ Some c.in-Some.container) at (sym c.stepped.ensures ∙ c.in-Some.is) in
-    rw (← c.self.view_is) (made_step (record { last = inside.last_txn; unretired = inside.log.unretired }) inside.node_count inside.next inside.list.items inside.roomy.items c.args.number c.args.event c.in-Some.container there c.self.invariant)
+    rw (← c.self.view_is) (made_step inside.log inside.node_count inside.next inside.list.items inside.roomy.items c.args.number c.args.event c.in-Some.container there c.self.invariant)

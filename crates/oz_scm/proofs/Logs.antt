@@ -140,12 +140,12 @@ module _ (nodes next : ℕ) (log : Log) (l : List Container) (roomy : List ℕ) 
     was_there kept q w is = elim (cases_lt before.last_txn q) [
       | inl above ↦ absurd (cc (sym (was.below q above) ∙ is))
       | inr le ↦ elim (test_of (eq_by_cmp nat_cmp q (before.last_txn + 1))) [
-          | inl same ↦ absurd (omega (arith, le, same_key q (before.last_txn + 1) same))
-          | inr other ↦ kept.0.counted q w
-              (ap (λ (m : Made). get m.unretired q) was.is
-              ∙ (get-insert nat_cmp_total before.unretired (before.last_txn + 1) (new_logged was.txn.container was.txn.locals) q
-              ∙ ap (λ b. cond b (Some (new_logged was.txn.container was.txn.locals)) (get before.unretired q)) other) ∙ is)
-        ]
+        | inl same ↦ absurd (omega (arith, le, same_key q (before.last_txn + 1) same))
+        | inr other ↦ kept.0.counted q w
+            (ap (λ (m : Made). get m.unretired q) was.is
+            ∙ (get-insert nat_cmp_total before.unretired (before.last_txn + 1) (new_logged was.txn.container was.txn.locals) q
+            ∙ ap (λ b. cond b (Some (new_logged was.txn.container was.txn.locals)) (get before.unretired q)) other) ∙ is)
+      ]
     ]
 
     pub kept_back : Kept log → Kept later

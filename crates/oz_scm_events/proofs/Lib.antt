@@ -8,5 +8,4 @@ mod Needed
 mod Left
 mod Enabled
 mod Notes
-mod Pending
 mod Members

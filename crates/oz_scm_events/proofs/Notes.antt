@@ -1,8 +1,9 @@
 -- An entry of the log of deleted blocks that is noted, and what is told of it.
-use Rattle.std.specs.Prelude.{◌≢◌, ◌&&◌, ◌||◌, Bool, true, false, not, if◌then◌else◌, IfSome, OnOk, nat_le, replicate}
+use Rattle.std.specs.Prelude.{◌≢◌, ◌&&◌, ◌||◌, Bool, true, false, not, if◌then◌else◌, All, Contains, IfNone, IfSome, OnOk, nat_le, replicate}
 use Rattle.std.proofs.Common.{◌≡◌, inl, inr, ⊎_elim, ℕ, ◌+◌, ◌<◌, ◌≤◌, List, [], ◌∷◌, ◌++◌, length, Option, None, Some, Result, Ok, Err, IfErr, refl, sym, ap, ◌∙◌, subst, arith}
-use Rattle.std.proofs.lemmas.Bool.{false≢true, and_parts}
+use Rattle.std.proofs.lemmas.Bool.{false≢true, and_parts, eqb-true, leb-true}
 use Rattle.std.proofs.lemmas.List.{length-replicate}
+use Rattle.std.proofs.lemmas.List.Elements.{All-weaker, Contains-append_left}
 use Rattle.std.proofs.lemmas.List.Folds.{list_any-append}
 use Rattle.std.specs.FinMap.{get}
 use Rattle.std.specs.Option.{option_map_or}
@@ -14,30 +15,37 @@ use Rattle.oz_core.specs.declared.event.Node.TheVariants.{Scm}
 use Rattle.oz_core.specs.declared.opening.Opening.{Opening}
 use Rattle.oz_core.specs.Contents.{OpeningBytes}
 use Rattle.oz_core.specs.Fits.{EventFits}
-use Rattle.oz_core.specs.Law.{KindIsEnabled, applies}
+use Rattle.oz_core.specs.Law.{IsPurged, KindIsEnabled, applies}
 use Rattle.oz_core.specs.Manager.{halt_count, halt_of}
 use Rattle.oz_core.specs.Scm.{acknowledgers, containers, up_or_down}
 use Rattle.oz_core.specs.Seats.{scm_seat}
 use Rattle.oz_core.specs.Stories.{has_event}
 use Rattle.oz_dellog.specs.declared.logged.Logged.{Logged}
-use Rattle.oz_dellog.specs.Log.{is_done}
+use Rattle.oz_dellog.specs.declared.txn.TheConstants.{MOST_LOCALS}
+use Rattle.oz_dellog.specs.declared.txn.Txn.{Txn}
+use Rattle.oz_dellog.specs.Log.{is_done, with_txn}
 use Rattle.oz_dellog.specs.Logged.{acknowledgement_count, is_acknowledged_by, nobody}
+use Rattle.oz_fields.specs.declared.block.Block.{Block}
 use Rattle.oz_scm.specs.declared.grants.entry.Entry.{Entry}
-use Rattle.oz_scm.specs.declared.grants.entry.Entry.TheVariants.{Acked, Retired}
-use Rattle.oz_scm.specs.grants.Made.{Made, after_ack, after_entry, after_retirement, container_at, is_member, is_owed_by, log_of, may_ack}
+use Rattle.oz_scm.specs.declared.grants.entry.Entry.TheVariants.{Acked, Logged as Logs, Retired}
+use Rattle.oz_scm.specs.grants.Made.{Made, after_ack, after_entry, after_log, after_retirement, container_at, is_local_count, is_made, is_member, is_next_txn, is_owed_by, log_of, may_ack, may_log, MayLog}
+use Rattle.oz_scm.specs.declared.fault.ScmStop.{ScmStop}
+use Rattle.oz_scm.specs.Logging as scm_logs
+use Rattle.oz_scm.specs.Logging.{noted}
 use Rattle.oz_scm.specs.Noting.{Notes, StandsOrNoted}
 use Rattle.oz_scm.specs.Scm.{State, StandsFor}
 use Rattle.oz_script.specs.declared.lines.script.Script.{Script}
 use Rattle.oz_scm_events.specs.declared.acking.AckFault.{AckFault}
 use Rattle.oz_scm_events.specs.declared.acking.AckFault.TheVariants.{Stopped, NotDue, OutOfMemory}
 use Rattle.oz_scm_events.specs.Granted.{by_scm, with_told}
-use Rattle.oz_scm_events.specs.Kept.{AreContainers, IsKept, IsUnretired}
+use Rattle.oz_scm_events.specs.Kept.{AreContainers, IsKept, IsLogOf, IsUnretired}
 use Rattle.oz_scm_events.specs.Left.{IsMadeOf, LoadsAsOrOneMore, ScmHalted}
+use Rattle.oz_scm_events.specs.Logged.{log_event}
 use Rattle.oz_scm_events.specs.Noted.{IsNoteRefusal, noted_as, told_of_note}
 use Rattle.oz_scm_events.proofs.Enabled.{Last, halt_enabled, least_count, made_is, still_made, unhalted}
 use Rattle.oz_scm_events.proofs.Kept.{containers_more, kept_halted, kept_made, kept_more, known, quiet_next}
 use Rattle.oz_scm_events.proofs.Left.{halts_now}
-use Rattle.oz_scm_events.proofs.Log.{log_acked, log_retired, three_acknowledged}
+use Rattle.oz_scm_events.proofs.Log.{log_acked, log_logged, log_retired, three_acknowledged}
 use Rattle.oz_turn.specs.Told.{own_entries, BeginsWith}
 use Rattle.oz_world.specs.Disk.{Seen}
 use Rattle.oz_world.specs.Faults.{Rose}
@@ -83,6 +91,27 @@ few_numbers dn few = subst (λ n. dn < n) (sym (length-replicate 256 false)) few
 applied_later : (dn number : ℕ) (seen more : List Event) → has_event (applies dn number) seen ≡ true → has_event (applies dn number) (seen ++ more) ≡ true
 applied_later dn number seen more applied =
     list_any-append (λ (event : Event). applies dn number event.kind) seen more ∙ ap (λ t. t || has_event (applies dn number) more) applied
+
+all_three : (a b c : Bool) → (a && b && c) ≡ true → (a ≡ true) × ((b ≡ true) × (c ≡ true))
+all_three true true true is = (refl, (refl, refl))
+all_three true true false is = absurd (false≢true is)
+all_three true false c is = absurd (false≢true is)
+all_three false b c is = absurd (false≢true is)
+
+pub may_log_of : (made : Made) (txn : Txn) → may_log made txn ≡ true → MayLog made txn
+may_log_of made txn may =
+    let parts = all_three (is_next_txn made.last_txn txn.number) (is_made made.containers txn.container) (is_local_count (length txn.locals)) may in
+    record { number_is = parts.0; container_is = parts.1.0; count_is = parts.1.1 }
+
+purged_later : (seen story : List Event) (block : Block) → BeginsWith story seen → IsPurged seen block → IsPurged story block
+purged_later seen story block begins it =
+    let asked : Event = record { seat = it.seat; kind = events.PurgeAsk it.blocks } in
+    record {
+      seat = it.seat;
+      blocks = it.blocks;
+      there = subst (λ (l : List Event). Contains l asked) (sym begins.1) (Contains-append_left seen begins.0 asked it.there);
+      among = it.among;
+    }
 
 -- ---- an entry that may be noted
 
@@ -143,6 +172,38 @@ module _ {D : Type 0} {loaded : ℕ} (Coherent : Type 0) (opening : Opening) (by
               next = made.next ∙ sym (quiet_next opening story (events.Retire number) refl);
               containers = subst (AreContainers old.made.containers) (sym (containers_more opening story (events.Retire number))) made.containers;
               log = log_retired opening story (log_of old.made) made.log number done.logged done.there;
+            });
+        no_halt = refl;
+        no_up = λ dn. refl;
+        of_seat = tt;
+        fits = λ story. tt;
+      }
+
+  pub may_log_it : (txn : Txn) → may_log old.made txn ≡ true → (Coherent → All (λ local. IsPurged seen_beside (record { container = txn.container; local = local })) txn.locals)
+      → MayNote Coherent opening bytes script old.made mine seen_beside (log_event txn) (Logs txn)
+  may_log_it txn may purged =
+      let parts = all_three (is_next_txn old.made.last_txn txn.number) (is_made old.made.containers txn.container) (is_local_count (length txn.locals)) may in
+      let number_is : txn.number ≡ old.made.last_txn + 1 = eqb-true txn.number (old.made.last_txn + 1) parts.0 in
+      let count = and_parts (nat_le 1 (length txn.locals)) (nat_le (length txn.locals) MOST_LOCALS) parts.1.1 in
+      record {
+        enabled = λ coherent story begins all own.
+            let is = (made_is Coherent opening bytes script old faults seen mine kept coherent story all own running).log in
+            record {
+              of_scm = refl;
+              unhalted = unhalted Coherent opening bytes script old faults seen mine kept coherent story all own running;
+              next = number_is ∙ ap (λ n. n + 1) is.last;
+              some = leb-true 1 (length txn.locals) count.0;
+              few = leb-true (length txn.locals) MOST_LOCALS count.1;
+              purged = All-weaker (λ local. IsPurged seen_beside (record { container = txn.container; local = local })) (λ local. IsPurged story (record { container = txn.container; local = local }))
+                  (λ local it. purged_later seen_beside story (record { container = txn.container; local = local }) begins it) txn.locals (purged coherent);
+            };
+        makes = λ story made later is.
+            subst (IsMadeOf opening (story ++ by_scm (log_event txn) ∷ [])) (same_made (after_log txn old.made) later is) (record {
+              nodes = made.nodes;
+              next = made.next ∙ sym (quiet_next opening story (log_event txn) refl);
+              containers = subst (AreContainers old.made.containers) (sym (containers_more opening story (log_event txn))) made.containers;
+              log = subst (λ n. IsLogOf opening (story ++ by_scm (events.Log n txn.container txn.locals) ∷ []) (with_txn (log_of old.made) txn.container txn.locals)) (sym number_is)
+                  (log_logged opening story (log_of old.made) made.log txn.container txn.locals);
             });
         no_halt = refl;
         no_up = λ dn. refl;
@@ -260,3 +321,12 @@ note_is_note kind (Ok done) note = note
 note_is_note kind (Err (Stopped count)) note = tt
 note_is_note kind (Err NotDue) note = tt
 note_is_note kind (Err OutOfMemory) note = tt
+
+-- ---- a transaction for which there was memory, and one for which there was none
+
+module _ {D T : Type 0} (txn : Txn) (old new : State D) (before after : Seen) (result : Result T ScmStop) (logs : scm_logs.Logs txn old new before after result) where
+  pub noted_at : (answer : Result T ℕ) → Some answer ≡ noted result → Notes (Logs txn) old new before after answer
+  noted_at answer is = subst (λ (o : Option (Result T ℕ)). IfSome o (Notes (Logs txn) old new before after)) (sym is) logs.notes
+
+  pub wanted : None ≡ noted result → new ≡ old
+  wanted is = (subst (λ (o : Option (Result T ℕ)). IfNone o ((old.stopped ≡ false) × (new ≡ old))) (sym is) logs.wants).1

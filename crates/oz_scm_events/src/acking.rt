@@ -25,13 +25,14 @@ use oz_world::Disk;
 use std::alloc::Global;
 use std::sync::Wait;
 
-/// Why an acknowledgement or a retirement isn't noted.
+/// Why nothing is noted: no acknowledgement, no retirement, no transaction.
 #[derive(Clone, Copy, Debug, PartialEq, Eq)]
 pub enum AckFault {
     /// The disk failed, in this call or an earlier one: how often it has failed so far.
     Stopped { count: u64 },
     /// By the log it isn't due: the datanode owes no acknowledgement of the transaction, or fewer than three datanodes
-    /// acknowledged the one that is to be retired.
+    /// acknowledged the one that is to be retired, or the one that is to be logged has another number than the next, a
+    /// container that wasn't made, no id or more than 1,024.
     NotDue,
     OutOfMemory,
 }

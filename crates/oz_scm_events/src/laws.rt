@@ -41,7 +41,7 @@ pub fn the_scm_alone_tells<O: Opened>()
     ensures acknowledgers { (story : List AnyEvent) (number : ℕ) → O.coherent →
         AllFollow (Follows O.coherent O.opening O.bytes O.script) [] story →
         acknowledgers O.opening story number
-            ≡ acknowledgers O.opening (own_entries (λ event. event.seat) scm_seat story) number }
+        ≡ acknowledgers O.opening (own_entries (λ event. event.seat) scm_seat story) number }
     ensures retired { (story : List AnyEvent) (number : ℕ) → O.coherent →
         AllFollow (Follows O.coherent O.opening O.bytes O.script) [] story →
         is_retired number story ≡ is_retired number (own_entries (λ event. event.seat) scm_seat story) }

@@ -6,6 +6,7 @@ mod acking;
 mod cell;
 mod granting;
 mod laws;
+mod logging;
 mod noting;
 mod reading;
 mod readying;

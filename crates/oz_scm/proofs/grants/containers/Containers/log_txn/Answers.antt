@@ -11,11 +11,10 @@ invariant_of-self c =
     let inside = c.self.inside in
     let may : MayLog (made_of inside.log inside.node_count inside.next inside.list.items) c.args.txn = rw (← c.self.view_is) at c.requires in
     elim c.match-add.branch [
-      | in-Ok w ↦
-          kept_log inside.node_count inside.next inside.log inside.list.items inside.roomy.items c.add.new.self c.args.txn.container c.args.txn.locals
+      | in-Ok w ↦ kept_log inside.node_count inside.next inside.log inside.list.items inside.roomy.items c.add.new.self c.args.txn.container c.args.txn.locals
           (counted_by c.args.txn.locals may.count_is) w.in-Ok.ensures.ok c.self.invariant
-      | in-Err w ↦
-          subst (λ (log : Log). IsSound (made_of log inside.node_count inside.next inside.list.items) × IsListed inside.list.items inside.roomy.items) (sym w.in-Err.ensures.err) c.self.invariant
+      | in-Err w ↦ subst (λ (log : Log). IsSound (made_of log inside.node_count inside.next inside.list.items) × IsListed inside.list.items inside.roomy.items)
+          (sym w.in-Err.ensures.err) c.self.invariant
     ]
 
 pub returns-clause-was : goal.returns-clause-was

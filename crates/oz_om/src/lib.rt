@@ -15,6 +15,8 @@ mod refusal;
 mod seating;
 mod serving;
 mod standing;
+mod tally;
+mod tallying;
 mod telling;
 mod working;
 
@@ -24,3 +26,4 @@ pub use oz_locks::Loaded;
 pub use purging::Purged;
 pub use refusal::Refusal;
 pub use standing::{a_run_keeps_used_blocks, a_stripes_tables_stood};
+pub use tally::Tally;

@@ -21,6 +21,7 @@ pub mod Told
 pub mod Longer
 pub mod Rests
 pub mod Works
+pub mod Remains
 pub mod Tallied
 pub mod Answered
 pub mod Placed

@@ -93,7 +93,7 @@ module _ (opening : Opening) (bytes : OpeningBytes) (loaded : Rows) (store : IsS
       (it.is_front.namespace ∙ ap (namespace_of opening) (sym front)))
 
   module _ (pins : List Block) (same : (block : Block) → IsOwn loaded stripe story block → Contains pins block ↔ Contains (pinned story) block) where
-    may_go : (key : RowKey) → IsReclaimable tables part pins key → MayGo opening story tables key
+    pub may_go : (key : RowKey) → IsReclaimable tables part pins key → MayGo opening story tables key
     may_go key may = record {
       blocks = may.blocks;
       row = may.row;
@@ -101,7 +101,7 @@ module _ (opening : Opening) (bytes : OpeningBytes) (loaded : Rows) (store : IsS
       unpinned = λ block there works. may.unpinned block there ((same block (own_now key may.blocks may.row block there)).1 works);
     }
 
-    may_be_found : (key : RowKey) → MayGo opening story tables key → IsReclaimable tables part pins key
+    pub may_be_found : (key : RowKey) → MayGo opening story tables key → IsReclaimable tables part pins key
     may_be_found key may = record {
       blocks = may.blocks;
       row = may.row;

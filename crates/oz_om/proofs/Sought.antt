@@ -68,10 +68,10 @@ module _ {T : Type 0} (Coherent Agrees : Type 0) (opening : Opening) (bytes : Op
     (Keeps : ℕ → List Event → List Event → Rows → Type 0) (opens : Opens Coherent opening bytes loaded last Agrees Keeps)
     (s : StripeView T) (rests : IsAtRest last Agrees Keeps s) (follow : AllFollow (Follows Coherent opening bytes script) [] s.seen)
     (coherent : Coherent) where
-  keeps : KeepsRows Coherent opening loaded s.number s.mine s.seen (newest s.cache)
+  pub keeps : KeepsRows Coherent opening loaded s.number s.mine s.seen (newest s.cache)
   keeps = (opens.keeps s.number s.mine s.seen (newest s.cache)).0 rests.keeps
 
-  legal : IsLegal opening s.seen
+  pub legal : IsLegal opening s.seen
   legal = legal_of Coherent opening bytes script coherent s.seen follow
 
   pub may_ask : (purged : Purged) → 1 ≤ length purged.rows.items → WereFound opening loaded s.number s.seen purged
@@ -80,10 +80,10 @@ module _ {T : Type 0} (Coherent Agrees : Type 0) (opening : Opening) (bytes : Op
       (keeps.whole coherent) some
 
   module _ (kept : IsKept loaded last Agrees s) where
-    flushed : s.flushed ≡ durable_index opening s.seen
+    pub flushed : s.flushed ≡ durable_index opening s.seen
     flushed = rests.whole (opens.agrees.0 coherent) ∙ ap (λ (n : ℕ). last_told stable_index n s.seen) opens.last
 
-    stands : AreFlushed opening loaded s.number s.seen (row_of s.cache.durable.rows)
+    pub stands : AreFlushed opening loaded s.number s.seen (row_of s.cache.durable.rows)
     stands =
         let first : opening.last_index ≤ durable_index opening s.seen = durable_rises opening s.seen [] legal in
         subst (λ (n : ℕ). TablesStand opening loaded s.number s.seen n (row_of s.cache.durable.rows)) flushed

@@ -8,6 +8,7 @@ pub mod Served
 pub mod Shown
 pub mod Working
 pub mod Purging
+pub mod Worked
 pub mod Tallies
 pub mod decider
 pub mod laws

@@ -18,6 +18,7 @@ mod standing;
 mod tally;
 mod tallying;
 mod telling;
+mod worked;
 mod working;
 
 pub use decider::{Outcome, decide};

@@ -2,6 +2,7 @@
 pub mod Numbers
 pub mod Acknowledged
 pub mod Logged
+pub mod Untold
 pub mod Still
 pub mod Shown
 pub mod Copying

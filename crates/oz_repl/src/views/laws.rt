@@ -5,6 +5,7 @@ ghost use Rattle.std.specs.Prelude.{length, slice_index, slice_set};
 ghost use Rattle.oz_dellog.specs.declared.txn.Txn.{Txn as AnyTxn};
 ghost use Rattle.oz_fields.specs.declared.block.Block.{Block as AnyBlock};
 ghost use Rattle.oz_core.specs.declared.event.Event.{Event as AnyEvent};
+ghost use Rattle.oz_core.specs.declared.event.EventKind.TheVariants.{Put};
 ghost use Rattle.oz_core.specs.declared.opening.Opening.{Opening as AnyOpening};
 ghost use Rattle.oz_core.specs.Coherent.{IsCoherent};
 ghost use Rattle.oz_core.specs.Contents.{OpeningBytes};
@@ -34,7 +35,7 @@ ghost use Rattle.oz_script.specs.declared.lines.script.Script.{Script as AnyScri
 ghost use Rattle.oz_core.specs.Fits.{IsAtWork};
 ghost use Rattle.oz_repl.specs.views.Lines.{AreForLines, command_of};
 ghost use Rattle.oz_repl.specs.views.Still.{GaveNothing};
-ghost use Rattle.oz_repl.specs.views.Away.{NumbersAreOld, StaysAway};
+ghost use Rattle.oz_repl.specs.views.Away.{IsUntoldSince, NumbersAreOld, StaysAway};
 
 /// A block that a transaction names and a datanode holds is of a transaction that isn't retired, or of one of the opening,
 /// where behind a Delete the datanode puts no block that it took away.
@@ -44,6 +45,16 @@ pub fn logged_and_held()
         is_logged opening story block ≡ true → holds opening story dn block ≡ true →
         ((txn : AnyTxn) × (names_block block txn ≡ true) × IsUnretired opening story txn)
         ⊎ (is_logged_at_opening opening block ≡ true) }
+{}
+
+/// A datanode stays away from what it deleted as the run begins, and still does behind one event more, where a Put of it is for a
+/// line that wasn't told at a place behind all that its seat had given.
+pub fn a_datanode_stays_away()
+    ensures first { (opening : AnyOpening) (dn : ℕ) → StaysAway opening dn [] }
+    ensures more { (opening : AnyOpening) (dn : ℕ) (story : List AnyEvent) (event : AnyEvent) →
+        IsLegal opening (story ++ event ∷ []) → NumbersAreOld opening → StaysAway opening dn story →
+        ((block : AnyBlock) (id : AnyId) (first count : ℕ) → event.kind ≡ Put dn block id first count →
+        IsUntoldSince dn id.client id.line story) → StaysAway opening dn (story ++ event ∷ []) }
 {}
 
 /// What a line that closes or counts containers was done with stays so, as long as neither the storage container manager nor a

@@ -1,7 +1,7 @@
 //! What holds of all stories and of all views of a container.
 
 ghost use Rattle.std.specs.Prelude.{◌≡◌, ◌⊎◌, ◌↔◌, ◌<◌, ℕ, true, List, [], ◌∷◌, ◌++◌, Some, None};
-ghost use Rattle.std.specs.Prelude.{length, slice_index, slice_set};
+ghost use Rattle.std.specs.Prelude.{Contains, length, slice_index, slice_set};
 ghost use Rattle.oz_dellog.specs.declared.txn.Txn.{Txn as AnyTxn};
 ghost use Rattle.oz_fields.specs.declared.block.Block.{Block as AnyBlock};
 ghost use Rattle.oz_core.specs.declared.event.Event.{Event as AnyEvent};
@@ -18,7 +18,7 @@ ghost use Rattle.oz_core.specs.Due.{AdminIsDone, AreClosed, EmptyAreDeleted, IsC
 ghost use Rattle.oz_core.specs.Law.{AllowsStep, AreEmpty, CopyIsEnabled, IsLegal, may_be_copied};
 ghost use Rattle.std.specs.FinMap.{get};
 ghost use Rattle.oz_core.specs.declared.opening.Container.{Container as AnyContainer};
-ghost use Rattle.oz_core.specs.Seats.{IsDatanodeSeat};
+ghost use Rattle.oz_core.specs.Seats.{IsDatanodeSeat, datanode_seat};
 ghost use Rattle.oz_requests.specs.declared.request.AskId.{AskId as AnyId};
 ghost use Rattle.oz_repl.specs.declared.repl.view.CopyOrder.{CopyOrder as AnyOrder};
 ghost use Rattle.oz_repl.specs.declared.repl.view.View.{View as AnyView};
@@ -48,9 +48,16 @@ pub fn logged_and_held()
 {}
 
 /// A datanode stays away from what it deleted as the run begins, and still does behind one event more, where a Put of it is for a
-/// line that wasn't told at a place behind all that its seat had given.
+/// line that wasn't told at a place behind all that its seat had given. So it does where it puts nothing, and so it did in each part of the
+/// story from its beginning on.
 pub fn a_datanode_stays_away()
     ensures first { (opening : AnyOpening) (dn : ℕ) → StaysAway opening dn [] }
+    ensures unput { (opening : AnyOpening) (dn : ℕ) (story more : List AnyEvent) → IsLegal opening (story ++ more) →
+        NumbersAreOld opening → StaysAway opening dn story →
+        ((block : AnyBlock) (id : AnyId) (first count : ℕ) → Contains more (record { seat = datanode_seat dn; kind = Put dn block id first count }) → ⊥) →
+        StaysAway opening dn (story ++ more) }
+    ensures front { (opening : AnyOpening) (dn : ℕ) (story more : List AnyEvent) →
+        StaysAway opening dn (story ++ more) → StaysAway opening dn story }
     ensures more { (opening : AnyOpening) (dn : ℕ) (story : List AnyEvent) (event : AnyEvent) →
         IsLegal opening (story ++ event ∷ []) → NumbersAreOld opening → StaysAway opening dn story →
         ((block : AnyBlock) (id : AnyId) (first count : ℕ) → event.kind ≡ Put dn block id first count →

@@ -1,7 +1,7 @@
 -- A Put for a line that wasn't told when the datanode gave its last event is of no block that it deleted.
 use Rattle.std.proofs.Common.{◌≡◌, ◌≢◌, ⊎_elim, ℕ, zero, suc, ◌+◌, ◌-◌, ◌<◌, ◌≤◌, Bool, true, false, ◌||◌, ◌==◌, cond, List, []}
-use Rattle.std.proofs.Common.{◌∷◌, ◌++◌, length, length-append, take, drop, map, Option, None, Some, Contains, inl, inr, refl}
-use Rattle.std.proofs.Common.{sym, ◌∙◌, ap, subst, append-nil, arith}
+use Rattle.std.proofs.Common.{◌∷◌, ◌++◌, length, length-append, take, drop, map, None, Some, Contains, inl, inr, refl}
+use Rattle.std.proofs.Common.{sym, ◌∙◌, ap, subst, append-nil, append_assoc, arith}
 use Rattle.std.proofs.lemmas.Bool.{and_parts, cases_lt, eqb-true, or_left}
 use Rattle.std.proofs.lemmas.List.{take-append-drop, take-append-le}
 use Rattle.std.proofs.lemmas.List.Elements.{All-contains, Contains-append_cases, Contains-append_left, Contains-append_right, Contains-push_cases}
@@ -12,7 +12,6 @@ use Rattle.std.specs.List.{list_any, slice_get}
 use Rattle.oz_dellog.specs.declared.txn.Txn.{Txn}
 use Rattle.oz_fields.specs.declared.block.Block.{Block}
 use Rattle.oz_model.specs.laws.Members.{joins}
-use Rattle.oz_requests.specs.declared.reply.Reply.{Reply}
 use Rattle.oz_requests.specs.declared.reply.Reply.TheVariants as replies
 use Rattle.oz_requests.specs.declared.request.AskId.{AskId}
 use Rattle.oz_core.specs.declared.event.Event.{Event}
@@ -21,7 +20,7 @@ use Rattle.oz_core.specs.declared.event.EventKind.TheVariants.{Ask, Decide, Dele
 use Rattle.oz_core.specs.declared.opening.Opening.{Opening}
 use Rattle.oz_core.specs.declared.opening.Unretired.{Unretired}
 use Rattle.oz_core.specs.Asks.{answer_to, is_told}
-use Rattle.oz_core.specs.Law.{DecideIsEnabled, DeleteIsEnabled, IsEnabled, IsLegal, PurgeAskIsEnabled, PutIsEnabled}
+use Rattle.oz_core.specs.Law.{DecideIsEnabled, DeleteIsEnabled, IsEnabled, IsLegal, KindIsEnabled, PurgeAskIsEnabled, PutIsEnabled}
 use Rattle.oz_core.specs.Manager.{IsUsed, IsUsedAndKept, WasUsed, block_of_reply, durable_index, granted_block, kept_block, namespace_of, pinned, pinned_by}
 use Rattle.oz_core.specs.Scm.{is_logged_at_opening, logged, logs, names_block}
 use Rattle.oz_core.specs.Seats.{datanode_seat}
@@ -30,7 +29,7 @@ use Rattle.oz_kept.specs.Purges.{IsPurgeAt}
 use Rattle.oz_kept.specs.laws.Deleted.{enabled_at, found_at, legal_to, logged_purged, one_passes, taken_length}
 use Rattle.oz_kept.specs.laws.Granted.{IsGrantedTo, told_among}
 use Rattle.oz_kept.specs.laws.Places.{later_front, legal_behind, legal_first}
-use Rattle.oz_kept.specs.laws.Reached.{granted_anew, in_none, used_still}
+use Rattle.oz_kept.specs.laws.Reached.{granted_anew, used_still}
 use Rattle.oz_kept.specs.reopened.laws.Named.{told_event}
 use Rattle.oz_repl.specs.views.Away.{IsUntoldSince, NumbersAreOld, StaysAway}
 use Rattle.oz_repl.specs.views.laws.Numbers.{IsLoggedAt, logged_at, of_number}
@@ -158,7 +157,8 @@ module _ (opening : Opening) (place since : List Event) (legal : IsLegal opening
         let found : slice_get story deleted ≡ Some delete = got_front place since deleted delete (found_at place delete there) in
         let may : DeleteIsEnabled opening (take deleted story) seat dn txn.number locals = enabled_at opening story legal deleted delete found in
         let its = (of_number opening story legal numbered logged_place deleted txn may.txn at may.logged may.of_number).1 in
-        let within = slice_get_within (take deleted story) logged_place (record { seat = its.seat; kind = Log txn.number txn.container txn.locals }) its.there in
+        let logging : Event = record { seat = its.seat; kind = Log txn.number txn.container txn.locals } in
+        let within = slice_get_within (take deleted story) logged_place logging its.there in
         let both = and_parts (txn.container == block.container) (list_any (λ local. local == block.local) txn.locals) names in
         let purged = logged_purged opening story logged_place at.seat txn.number txn.container block.local txn.locals legal at.there
         (local_in txn.locals both.1) in
@@ -252,5 +252,38 @@ away_behind opening dn story event legal numbered away for_untold = record {
         (Contains-append_right (record { seat = of.asker; kind = Ask id of.request } ∷ []) of.behind decide of.decided)) in
         let at_place : IsLegal opening (since.place ++ since.since) = subst (IsLegal opening) since.parts front in
         not_deleted opening since.place since.since at_place numbered dn since.none block id since.untold
-        (record { seat = of.stripe; index = of.index; pipeline = of.pipeline; batch = of.batch;
-        there = subst (λ (l : List Event). Contains l decide) since.parts there }) seat locals txn names before rest (sym since.parts ∙ parts) deleted logged
+        (record {
+          seat = of.stripe;
+          index = of.index;
+          pipeline = of.pipeline;
+          batch = of.batch;
+          there = subst (λ (l : List Event). Contains l decide) since.parts there;
+        }) seat locals txn names before rest (sym since.parts ∙ parts) deleted logged
+
+-- ---- a part of a story, and one that goes on without a Put
+
+pub away_front : (opening : Opening) (dn : ℕ) (story more : List Event) → StaysAway opening dn (story ++ more) → StaysAway opening dn story
+away_front opening dn story more away = record {
+  none = λ before behind seat number first count locals block id txn parts deleted logged same names put.
+      away.none before (behind ++ more) seat number first count locals block id txn (ap (λ (l : List Event). l ++ more) parts ∙ append_assoc before behind more)
+      deleted logged same names (Contains-append_left behind more (record { seat = datanode_seat dn; kind = Put dn block id first count }) put);
+}
+
+pub away_unput : (opening : Opening) (dn : ℕ) (more story : List Event) → IsLegal opening (story ++ more) → NumbersAreOld opening
+    → StaysAway opening dn story
+    → ((block : Block) (id : AskId) (first count : ℕ) → Contains more (record { seat = datanode_seat dn; kind = Put dn block id first count }) → ⊥)
+    → StaysAway opening dn (story ++ more)
+away_unput opening dn [] story legal numbered away none = subst (StaysAway opening dn) (sym (append-nil story)) away
+away_unput opening dn (event ∷ more) story legal numbered away none =
+    let parts = append_assoc story (event ∷ []) more in
+    let whole : IsLegal opening ((story ++ event ∷ []) ++ more) = subst (IsLegal opening) (sym parts) legal in
+    let one : IsLegal opening (story ++ event ∷ []) = legal_to opening [] (story ++ event ∷ []) more whole in
+    let may : IsEnabled opening story event = legal_first opening story event [] (legal_behind opening [] story (event ∷ []) one) in
+    subst (StaysAway opening dn) parts
+    (away_unput opening dn more (story ++ event ∷ []) whole numbered
+    (away_behind opening dn story event one numbered away (λ block id first count is.
+    let put : PutIsEnabled opening story event.seat dn block id first count = subst (KindIsEnabled opening story event.seat) is may in
+    let same : event ≡ record { seat = datanode_seat dn; kind = Put dn block id first count } =
+    λ i. record { seat = put.of_datanode.its i; kind = is i } in
+    absurd (none block id first count (0, omega arith, same))))
+    (λ block id first count there. none block id first count (suc there.0, omega (arith, there.1), there.2)))

@@ -1,5 +1,5 @@
 -- A Put for a line that wasn't told when the datanode gave its last event is of no block that it deleted.
-use Rattle.std.proofs.Common.{◌≡◌, ◌≢◌, ⊎_elim, ℕ, zero, suc, ◌+◌, ◌-◌, ◌<◌, ◌≤◌, Bool, true, false, ◌||◌, ◌==◌, cond, List, []}
+use Rattle.std.proofs.Common.{◌≡◌, ◌≢◌, ⊎_elim, ℕ, zero, suc, ◌-◌, ◌<◌, ◌≤◌, Bool, true, false, ◌||◌, ◌==◌, cond, List, []}
 use Rattle.std.proofs.Common.{◌∷◌, ◌++◌, length, length-append, take, drop, map, None, Some, Contains, inl, inr, refl}
 use Rattle.std.proofs.Common.{sym, ◌∙◌, ap, subst, append-nil, append_assoc, arith}
 use Rattle.std.proofs.lemmas.Bool.{and_parts, cases_lt, eqb-true, or_left}
@@ -139,33 +139,33 @@ module _ (opening : Opening) (story : List Event) (legal : IsLegal opening story
 module _ (opening : Opening) (place since : List Event) (legal : IsLegal opening (place ++ since)) (numbered : NumbersAreOld opening) (dn : ℕ)
     (none : All (λ (event : Event). event.seat ≢ datanode_seat dn) since) (block : Block) (id : AskId)
     (untold : is_told id.client id.line place ≡ false) (grant : IsGrantedTo opening (place ++ since) legal block id) where
-  abbrev story : List Event
-  story = place ++ since
+  abbrev joined : List Event
+  joined = place ++ since
 
   -- a transaction of the opening names none that is granted
   not_at_opening : is_logged_at_opening opening block ≡ true → ⊥
-  not_at_opening is = unused opening story legal block id grant (inr (inr (inl is)))
+  not_at_opening is = unused opening joined legal block id grant (inr (inr (inl is)))
 
   module _ (seat : ℕ) (locals : List ℕ) (txn : Txn) (names : names_block block txn ≡ true) where
     abbrev delete : Event
     delete = record { seat = seat; kind = Delete dn txn.number locals }
 
     -- nor does one that was logged, and then applied at the place
-    not_logged : (logged_place : ℕ) → IsLoggedAt story logged_place txn → Contains place delete → ⊥
+    not_logged : (logged_place : ℕ) → IsLoggedAt joined logged_place txn → Contains place delete → ⊥
     not_logged logged_place at there =
         let deleted = there.0 in
-        let found : slice_get story deleted ≡ Some delete = got_front place since deleted delete (found_at place delete there) in
-        let may : DeleteIsEnabled opening (take deleted story) seat dn txn.number locals = enabled_at opening story legal deleted delete found in
-        let its = (of_number opening story legal numbered logged_place deleted txn may.txn at may.logged may.of_number).1 in
+        let found : slice_get joined deleted ≡ Some delete = got_front place since deleted delete (found_at place delete there) in
+        let may : DeleteIsEnabled opening (take deleted joined) seat dn txn.number locals = enabled_at opening joined legal deleted delete found in
+        let its = (of_number opening joined legal numbered logged_place deleted txn may.txn at may.logged may.of_number).1 in
         let logging : Event = record { seat = its.seat; kind = Log txn.number txn.container txn.locals } in
-        let within = slice_get_within (take deleted story) logged_place logging its.there in
+        let within = slice_get_within (take deleted joined) logged_place logging its.there in
         let both = and_parts (txn.container == block.container) (list_any (λ local. local == block.local) txn.locals) names in
-        let purged = logged_purged opening story logged_place at.seat txn.number txn.container block.local txn.locals legal at.there
+        let purged = logged_purged opening joined logged_place at.seat txn.number txn.container block.local txn.locals legal at.there
         (local_in txn.locals both.1) in
         let its_block : record { container = txn.container; local = block.local } ≡ block =
         λ i. record { container = eqb-true txn.container block.container both.0 i; local = block.local } in
-        let told = told_there opening story legal block id grant purged.0 (subst (λ (b : Block). IsPurgeAt story b purged.0) its_block purged.2) in
-        let short = taken_length story deleted in
+        let told = told_there opening joined legal block id grant purged.0 (subst (λ (b : Block). IsPurgeAt joined b purged.0) its_block purged.2) in
+        let short = taken_length joined deleted in
         let less : purged.0 ≤ length place = omega (arith, purged.1, within, short, there.1) in
         false_true (sym untold ∙ told_front id.client id.line purged.0 place
         (subst (λ (l : List Event). is_told id.client id.line l ≡ true) (take-append-le purged.0 place since less) told))
@@ -185,7 +185,7 @@ module _ (opening : Opening) (place since : List Event) (legal : IsLegal opening
                 (suc later.0, omega (arith, later.1), later.2)
 
     -- so it isn't behind a Delete
-    pub not_deleted : (before rest : List Event) → story ≡ before ++ rest → Contains before delete → Contains (logs opening before) txn → ⊥
+    pub not_deleted : (before rest : List Event) → joined ≡ before ++ rest → Contains before delete → Contains (logs opening before) txn → ⊥
     not_deleted before rest parts deleted had =
         ⊎_elim
         (λ old. not_at_opening
@@ -199,10 +199,10 @@ module _ (opening : Opening) (place since : List Event) (legal : IsLegal opening
         (at_the_place (subst (λ (l : List Event). Contains l delete) (sym parts) (Contains-append_left before rest delete deleted))))
         (Contains-append_cases (map (λ (unretired : Unretired). unretired.txn) opening.unretired) (all_told logged before) txn had)
       where
-        at_the_place : Contains story delete → Contains place delete
+        at_the_place : Contains joined delete → Contains place delete
         at_the_place there =
-            let may : DeleteIsEnabled opening (take there.0 story) seat dn txn.number locals =
-            enabled_at opening story legal there.0 delete (found_at story delete there) in
+            let may : DeleteIsEnabled opening (take there.0 joined) seat dn txn.number locals =
+            enabled_at opening joined legal there.0 delete (found_at joined delete there) in
             ⊎_elim
             (λ here. here)
             (λ later. absurd (All-contains (λ (event : Event). event.seat ≢ datanode_seat dn) since delete none later may.of_datanode.its))

@@ -109,8 +109,10 @@ module _ {T : Type 0} (Coherent Agrees : Type 0) (opening : Opening) (bytes : Op
 
   kept_rows : KeepsRows Coherent opening loaded s.number s.mine s.seen (newest s.cache)
   kept_rows = keeps Coherent Agrees opening bytes script loaded last Keeps opens s rests follow coherent
+
   durable : s.flushed ≡ durable_index opening s.seen
   durable = flushed Coherent Agrees opening bytes script loaded last Keeps opens s rests follow coherent kept
+
   flushed_rows : AreFlushed opening loaded s.number s.seen tables
   flushed_rows = stands Coherent Agrees opening bytes script loaded last Keeps opens s rests follow coherent kept
 
@@ -120,10 +122,13 @@ module _ {T : Type 0} (Coherent Agrees : Type 0) (opening : Opening) (bytes : Op
       kept.rows.waiting e kept.rows.changes in
       let over = it.2 in
       let same = durable in
-      inl (it.0, record {
-        written = subst (λ (l : List Event). Contains (writes_of l) it.0) (sym kept_rows.own) it.1;
-        above = omega (arith, over, same);
-      })
+      inl (
+        it.0,
+        record {
+          written = subst (λ (l : List Event). Contains (writes_of l) it.0) (sym kept_rows.own) it.1;
+          above = omega (arith, over, same);
+        },
+      )
 
   pub left_marked : (request : Request) → IsChainWork (newest s.cache) (Some request) → IsLeft opening loaded s.number s.seen
   left_marked request work = inr (inl (request, record { rows = newest s.cache; stood = kept_rows.stood coherent; work = work }))
@@ -136,6 +141,7 @@ module _ {T : Type 0} (Coherent Agrees : Type 0) (opening : Opening) (bytes : Op
       (are : AreFound tables (pinned_blocks s.pins) 1 found) where
     story_legal : IsLegal opening s.seen
     story_legal = legal Coherent Agrees opening bytes script loaded last Keeps opens s rests follow coherent
+
     abbrev part : Namespace
     part = share_of s.number (namespace_of opening flushed_rows.front)
 

@@ -22,6 +22,7 @@ use Rattle.oz_turn.specs.Told.{BeginsWith}
 use Rattle.oz_world.specs.Disk.{Images}
 use Rattle.oz_node_events.specs.NodeSeat.{HasContents, IsAppended, IsKept, NumbersAreOld, SeatView, StandsFor, events_of, is_bad}
 use Rattle.oz_node_events.specs.laws.Contents.{content_push, contents_move}
+use Rattle.oz_node_events.proofs.Greatest.{greatest_push}
 use Rattle.oz_node_events.proofs.Holding.{holds_push}
 use Rattle.oz_node_events.proofs.Moving.{follow_behind, follow_front, length_longer, same_view, stands_on}
 use Rattle.oz_node_events.proofs.Noted.{own_before, own_behind}
@@ -134,6 +135,7 @@ module _ (Coherent : Type 0) (opening : Opening) (bytes : OpeningBytes) (script 
           held = λ coherent up block. holds_push Coherent opening bytes script coherent (numbered coherent) dn block before event all follows ∙ stood.held coherent up block;
           whole = λ coherent up block row is. length_longer opening block row.length before (event ∷ []) (stood.whole coherent up block row is);
           closed = λ coherent up container. told-push (closed_after dn container) (was_closed opening dn container) before event ∙ stood.closed coherent up container;
+          greatest = λ coherent up container. greatest_push Coherent opening bytes script coherent (numbered coherent) dn container before event all follows ∙ stood.greatest coherent up container;
           journal = stood.journal;
           contents = λ coherent up. contents_behind coherent before event all follows old (record old { stopped = false }) refl (λ contents holds. holds) (stood.contents coherent up);
         }
@@ -150,6 +152,7 @@ module _ (Coherent : Type 0) (opening : Opening) (bytes : OpeningBytes) (script 
           held = λ coherent up block. holds_push Coherent opening bytes script coherent (numbered coherent) dn block before event all follows ∙ stood.held coherent up block;
           whole = λ coherent up block row is. length_longer opening block row.length before (event ∷ []) (stood.whole coherent up block row is);
           closed = λ coherent up container. told-push (closed_after dn container) (was_closed opening dn container) before event ∙ stood.closed coherent up container;
+          greatest = λ coherent up container. greatest_push Coherent opening bytes script coherent (numbered coherent) dn container before event all follows ∙ stood.greatest coherent up container;
           journal = stood.journal;
           contents = λ coherent up. contents_behind coherent before event all follows old (record old { stopped = true }) refl (λ contents holds. holds) (stood.contents coherent up);
         }

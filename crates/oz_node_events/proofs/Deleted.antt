@@ -1,5 +1,5 @@
 -- Behind the Delete of a transaction the seat stands for the datanode that holds none of its blocks.
-use Rattle.std.proofs.Common.{◌≡◌, ℕ, suc, Bool, true, false, ◌&&◌, ◌||◌, ◌==◌, cond, List, [], ◌∷◌, ◌++◌, filter, Contains, Option, None, Some, Result, Ok, Err, eq-eqb, refl, sym, ap, ◌∙◌, subst, arith}
+use Rattle.std.proofs.Common.{◌≡◌, ℕ, suc, Bool, true, false, ◌&&◌, ◌||◌, ◌==◌, max, cond, List, [], ◌∷◌, ◌++◌, filter, Contains, Option, None, Some, Result, Ok, Err, eq-eqb, refl, sym, ap, ◌∙◌, subst, arith}
 use Rattle.std.proofs.lemmas.Bool.{and_from, and_parts, eqb-true, false≢true}
 use Rattle.std.specs.Prelude.{IfErr, IfOk, IfSome, IsSome, IsSomeAnd, is_none, is_some, not}
 use Rattle.std.specs.List.{list_any}
@@ -26,7 +26,7 @@ use Rattle.oz_entries.specs.Node.{Node as Held, is_held, names}
 use Rattle.oz_entries.specs.declared.row.BlockRow.{BlockRow}
 use Rattle.oz_fields.specs.declared.block.Block.{Block}
 use Rattle.oz_kept.specs.laws.Deleted.{one_passes}
-use Rattle.oz_kept.specs.reopened.Left.{NumbersAreApart}
+use Rattle.oz_kept.specs.reopened.Left.{NumbersAreApart, greatest_of, is_txn_of}
 use Rattle.oz_kept.specs.reopened.laws.Rising.{member_stays}
 use Rattle.oz_script.specs.declared.lines.script.Script.{Script}
 use Rattle.oz_turn.specs.Told.{BeginsWith}
@@ -42,6 +42,7 @@ use Rattle.oz_node_events.proofs.Apart.{AreApart, log_grows, logs_apart}
 use Rattle.oz_node_events.proofs.Changed.{comes_of, may_tell}
 use Rattle.oz_node_events.proofs.Commanding.{event_stands}
 use Rattle.oz_node_events.proofs.Following.{not_halted, not_stopped}
+use Rattle.oz_node_events.proofs.Greatest.{greatest_push}
 use Rattle.oz_node_events.proofs.Holding.{holds_push}
 use Rattle.oz_node_events.proofs.Moving.{length_longer, stands_on}
 use Rattle.oz_node_events.proofs.Noted.{ready_stands}
@@ -133,6 +134,20 @@ module _ (txns : List Txn) (apart : AreApart txns) (txn : Txn) (there : Contains
           (no_such txns txn.number block.container (λ other among number container.
           let one = ap (λ (t : Txn). t.container) (apart other txn among there number) in
           false≢true (sym apart_from ∙ eq-eqb txn.container block.container (sym one ∙ container))))
+
+-- a transaction has its number in its own container alone
+its_container : (txns : List Txn) → AreApart txns → (txn : Txn) → Contains txns txn → (container : ℕ)
+    → list_any (is_txn_of txn.number container) txns ≡ (txn.container == container)
+its_container txns apart txn there container = by (txn.container == container) refl
+  where
+    by : (t : Bool) → (txn.container == container) ≡ t → list_any (is_txn_of txn.number container) txns ≡ t
+    by true same =
+        one_passes (is_txn_of txn.number container) txns txn there
+        (and_from (txn.number == txn.number) (txn.container == container) (eq-eqb txn.number txn.number refl) same)
+    by false apart_from =
+        no_such txns txn.number container (λ other among number its.
+        let one = ap (λ (t : Txn). t.container) (apart other txn among there number) in
+        false≢true (sym apart_from ∙ eq-eqb txn.container container (sym one ∙ its)))
 
 taken : (gone named : Bool) (rows : Option BlockRow) → (named ≡ true → is_some rows ≡ true → gone ≡ true) → (named ≡ false → gone ≡ false)
     → newer (cond gone (Some false) None) (is_some rows) ≡ is_some (cond named None rows)
@@ -229,6 +244,17 @@ module _ (Coherent : Type 0) (opening : Opening) (bytes : OpeningBytes) (script 
         (other_stays (logs opening before) one txn (logged coherent) (node_in old) block)
         ∙ sym (ap (λ (o : Option BlockRow). is_some o) (applied.rows block)))))
 
+    greatest_then : Coherent → Follow before event → (container : ℕ)
+        → greatest_of opening (before ++ event ∷ []) dn container ≡ (node_in new).greatest container
+    greatest_then coherent follows container =
+        let most = greatest_of opening before dn container in
+        let one = logs_apart Coherent opening bytes script coherent (numbered coherent) (apart coherent) before all in
+        greatest_push Coherent opening bytes script coherent (numbered coherent) dn container before event all follows
+        ∙ (ap (λ (t : Bool). cond (t && list_any (is_txn_of txn.number container) (logs opening before)) (max most txn.number) most) (eq-eqb dn dn refl)
+        ∙ (ap (λ (t : Bool). cond t (max most txn.number) most) (its_container (logs opening before) one txn (logged coherent) container)
+        ∙ (ap (λ (n : ℕ). cond (txn.container == container) (max n txn.number) n) (stood.greatest coherent ran container)
+        ∙ sym (applied.greatest container))))
+
     delete_step : Follow before event
         → Stands (record { dn = dn; seen = before ++ event ∷ []; mine = mine ++ event ∷ []; room = room; last = last }) new
     delete_step follows = record {
@@ -248,6 +274,7 @@ module _ (Coherent : Type 0) (opening : Opening) (bytes : OpeningBytes) (script 
       closed = λ coherent up container.
           told-push (closed_after dn container) (was_closed opening dn container) before event
           ∙ (stood.closed coherent ran container ∙ sym (ap (λ (s : ReplicaState). not (is_open s)) (applied.states container)));
+      greatest = λ coherent up container. greatest_then coherent follows container;
       journal = λ coherent up.
           some_and (told (meta_of new)) (λ (l : List ℕ). StandsForNode l (node_in new))
           (both_tell told faults old new applied.goes_on (stood.tells coherent)).0 applied.stands;

@@ -29,11 +29,11 @@ use Rattle.oz_node_events.proofs.Telling.{is_its, its_kept, its_left, held_away}
 abbrev pub LogsBelow : Opening → List Event → Type 0
 LogsBelow opening front = (txn : Txn) → Contains (logs opening front) txn → txn.number ≤ last_txn opening front
 
-abbrev IsBelow : ℕ → EventKind → Type 0
+abbrev pub IsBelow : ℕ → EventKind → Type 0
 IsBelow last (Delete dn number locals) = number ≤ last
 IsBelow last _ = Unit {0}
 
-abbrev DeletesBelow : ℕ → List Event → Type 0
+abbrev pub DeletesBelow : ℕ → List Event → Type 0
 DeletesBelow last front = AllByRecursion (λ (event : Event). IsBelow last event.kind) front
 
 still_below : (last later : ℕ) (kind : EventKind) → last ≤ later → IsBelow last kind → IsBelow later kind
@@ -142,7 +142,7 @@ module _ (Coherent : Type 0) (opening : Opening) (bytes : OpeningBytes) (script 
     of_opening (one ∷ all) txn old (suc k, lt, is) =
         of_opening all txn (λ other there. old other (suc there.0, omega (arith, there.1), there.2)) (k, omega (arith, lt), is)
 
-  below : (story : List Event) → AllFollow Follow [] story → AreBelow story
+  pub below : (story : List Event) → AllFollow Follow [] story → AreBelow story
   below story all = follow-each Follow AreBelow story below_step below_none all
 
   module _ (dn : ℕ) (block : Block) where

@@ -27,6 +27,7 @@ use Rattle.oz_entries.specs.Node.{Node as Held, is_held, is_same_block, with_row
 use Rattle.oz_entries.specs.declared.row.BlockRow.{BlockRow}
 use Rattle.oz_fields.specs.declared.block.Block.{Block}
 use Rattle.oz_node_events.specs.full.Full.{JournalStands}
+use Rattle.oz_kept.specs.reopened.Left.{greatest_after, greatest_of}
 use Rattle.oz_script.specs.declared.lines.script.Script.{Script}
 use Rattle.oz_replicas.specs.Notes.{Subject, Leads}
 use Rattle.oz_replicas.specs.declared.note.Note.{Note}
@@ -40,6 +41,7 @@ use Rattle.oz_node_events.specs.laws.Contents.{content_push, contents_move}
 use Rattle.oz_node_events.specs.laws.Disks.{both_tell, no_fewer_then}
 use Rattle.oz_node_events.specs.laws.Standing.{stands_still}
 use Rattle.oz_node_events.proofs.Following.{not_halted, put_kind, halt_kind}
+use Rattle.oz_node_events.proofs.Greatest.{greatest_push}
 use Rattle.oz_node_events.proofs.Holding.{holds_push}
 use Rattle.oz_node_events.proofs.Moving.{first_longer, length_longer, length_parts}
 
@@ -113,12 +115,18 @@ module _ (Coherent : Type 0) (opening : Opening) (bytes : OpeningBytes) (script 
         ≡ newer (closed_after view.dn container kind) (is_closed opening view.seen view.dn container)
     closed_told container = told-push (closed_after view.dn container) (was_closed opening view.dn container) view.seen (event_with kind)
 
-    -- an event that tells nothing of what is held, closed and stopped by a line
+    greatest_told : Coherent → (container : ℕ) → greatest_of opening (view.seen ++ event_with kind ∷ []) view.dn container
+        ≡ greatest_after (logs opening view.seen) view.dn container (greatest_of opening view.seen view.dn container) kind
+    greatest_told coherent container =
+        greatest_push Coherent opening bytes script coherent (numbered coherent) view.dn container view.seen (event_with kind) all follows
+
+    -- an event that tells nothing of what is held, closed, applied and stopped by a line
     stands_behind : (old new : State D) → StandsFor told clock image faults Coherent opening bytes script loaded view old → new.id ≡ old.id → node_in new ≡ node_in old → new.stopped ≡ old.stopped
         → newer (halt_count (Datanode view.dn) kind) (halt_of (Datanode view.dn) view.mine) ≡ cond (is_halted new) (Some (count_of faults new)) None
         → stopped_or_started view.dn kind ≡ None
         → ((block : Block) → held_after (logs opening view.seen) view.dn block kind ≡ None)
         → ((container : ℕ) → closed_after view.dn container kind ≡ None)
+        → ((container most : ℕ) → greatest_after (logs opening view.seen) view.dn container most kind ≡ most)
         → (Coherent → IsSome (told (meta_of new)) × IsSome (told (slots_of new)))
         → loaded (Datanode view.dn) ≤ count_of faults new
         → (is_halted new ≡ true → Rose (loaded (Datanode view.dn)) (count_of faults new))
@@ -126,7 +134,7 @@ module _ (Coherent : Type 0) (opening : Opening) (bytes : OpeningBytes) (script 
         → (Coherent → is_halted new ≡ false → JournalStands told new)
         → (Coherent → is_halted new ≡ false → HasContents told clock image faults opening bytes script view.seen new)
         → StandsFor told clock image faults Coherent opening bytes script loaded (after kind) new
-    stands_behind old new stood number node stops halt no_line no_held no_closed tells no_fewer rose was_up journal contents = record {
+    stands_behind old new stood number node stops halt no_line no_held no_closed no_greater tells no_fewer rose was_up journal contents = record {
       number = number ∙ stood.number;
       halt = halt_told ∙ halt;
       line = line_told
@@ -145,6 +153,10 @@ module _ (Coherent : Type 0) (opening : Opening) (bytes : OpeningBytes) (script 
           closed_told container
           ∙ (ap (λ (o : Option Bool). newer o (is_closed opening view.seen view.dn container)) (no_closed container)
           ∙ (stood.closed coherent (was_up up) container ∙ sym (ap (λ (n : Held). not (is_open (n.states container))) node)));
+      greatest = λ coherent up container.
+          greatest_told coherent container
+          ∙ (no_greater container (greatest_of opening view.seen view.dn container)
+          ∙ (stood.greatest coherent (was_up up) container ∙ sym (ap (λ (n : Held). n.greatest container) node)));
       journal = journal;
       contents = λ coherent up.
           contents_move told clock image faults opening bytes script view.seen (view.seen ++ event_with kind ∷ []) new new refl (λ contents holds. holds)
@@ -204,6 +216,9 @@ module _ (Coherent : Type 0) (opening : Opening) (bytes : OpeningBytes) (script 
         closed = λ coherent up container.
             closed_told Coherent opening bytes script loaded told clock image faults view numbered all kind follows container
             ∙ (stood.closed coherent ran container ∙ sym (ap (λ (n : Held). not (is_open (n.states container))) node));
+        greatest = λ coherent up container.
+            greatest_told Coherent opening bytes script loaded told clock image faults view numbered all kind follows coherent container
+            ∙ (stood.greatest coherent ran container ∙ sym (ap (λ (n : Held). n.greatest container) node));
         journal = λ coherent running.
             puts block subject.bytes old new leads.4.took.served.ran (stood.journal coherent ran) held;
         contents = λ coherent running. put_contents coherent ran follows leads.3.least row node leads.4.holds;
@@ -271,7 +286,7 @@ module _ (Coherent : Type 0) (opening : Opening) (bytes : OpeningBytes) (script 
       (record { member = subst (λ (m : ℕ). Contains subject.members m) its leads.0.member; its = sym stood.number }, refl, refl, leads.3, leads.4) refl)
   stands_after (notes.Refused n block refusal) leads follows =
       subst (λ (s : State D). StandsFor told clock image faults Coherent opening bytes script loaded (after Coherent opening bytes script loaded told clock image faults view numbered all (events.Refused n block id refusal)) s) (sym leads.3)
-      (stands_behind Coherent opening bytes script loaded told clock image faults view numbered all (events.Refused n block id refusal) follows old old stood refl refl refl stood.halt refl (λ block. refl) (λ container. refl) stood.tells stood.no_fewer stood.rose (λ up. up) stood.journal stood.contents)
+      (stands_behind Coherent opening bytes script loaded told clock image faults view numbered all (events.Refused n block id refusal) follows old old stood refl refl refl stood.halt refl (λ block. refl) (λ container. refl) (λ container most. refl) stood.tells stood.no_fewer stood.rose (λ up. up) stood.journal stood.contents)
   stands_after (notes.Halt n count) leads follows =
       let halts = leads.1 in
       let its = leads.0.its ∙ stood.number in
@@ -280,7 +295,7 @@ module _ (Coherent : Type 0) (opening : Opening) (bytes : OpeningBytes) (script 
       (stands_behind Coherent opening bytes script loaded told clock image faults view numbered all (events.Halt (Datanode view.dn) count) (subst May same follows) old new stood halts.id halts.node halts.line
       (ap (λ (t : Bool). newer (cond t (Some (Some count)) None) (halt_of (Datanode view.dn) view.mine)) (eq-eqb view.dn view.dn refl)
       ∙ (ap (λ (n : ℕ). Some n) halts.counted ∙ sym (ap (λ (t : Bool). cond t (Some (count_of faults new)) None) halts.halted)))
-      refl (λ block. refl) (λ container. refl)
+      refl (λ block. refl) (λ container. refl) (λ container most. refl)
       (λ coherent. both_tell told faults old new halts.goes_on (stood.tells coherent))
       (no_fewer_then told faults old new halts.goes_on (loaded (Datanode view.dn)) stood.no_fewer)
       (λ halted. rose_since (loaded (Datanode view.dn)) (count_of faults old) (count_of faults new) stood.no_fewer (count_rose told faults old new halts.goes_on halts.cause))
@@ -288,4 +303,4 @@ module _ (Coherent : Type 0) (opening : Opening) (bytes : OpeningBytes) (script 
       (λ coherent up. absurd (false≢true (sym up ∙ halts.halted))) (λ coherent up. absurd (false≢true (sym up ∙ halts.halted))))
   stands_after (notes.Bad n block) leads follows =
       stands_still told clock image faults Coherent opening bytes script loaded (after Coherent opening bytes script loaded told clock image faults view numbered all (events.Bad n block id)) old new leads.2.stays
-      (stands_behind Coherent opening bytes script loaded told clock image faults view numbered all (events.Bad n block id) follows old old stood refl refl refl stood.halt refl (λ block. refl) (λ container. refl) stood.tells stood.no_fewer stood.rose (λ up. up) stood.journal stood.contents)
+      (stands_behind Coherent opening bytes script loaded told clock image faults view numbered all (events.Bad n block id) follows old old stood refl refl refl stood.halt refl (λ block. refl) (λ container. refl) (λ container most. refl) stood.tells stood.no_fewer stood.rose (λ up. up) stood.journal stood.contents)

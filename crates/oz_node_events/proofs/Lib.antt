@@ -3,6 +3,7 @@ pub mod Answering
 pub mod Quorum
 pub mod Telling
 pub mod Holding
+pub mod Greatest
 pub mod Apart
 pub mod Moving
 pub mod Following

@@ -11,12 +11,14 @@ use Rattle.oz_core.specs.Nodes.{holds, is_closed, length_in, length_of, put_leng
 use Rattle.oz_core.specs.Stories.{all_told, first_in}
 use Rattle.oz_datanode.specs.Datanode.{State}
 use Rattle.oz_fields.specs.declared.block.Block.{Block}
+use Rattle.oz_kept.specs.reopened.Left.{greatest_of}
 use Rattle.oz_script.specs.declared.lines.script.Script.{Script}
 use Rattle.oz_turn.specs.Told.{BeginsWith}
 use Rattle.oz_world.specs.Disk.{Images}
 use Rattle.oz_node_events.specs.NodeSeat.{HasContents, IsKept, SeatView, StandsFor, events_of}
 use Rattle.oz_node_events.specs.laws.Contents.{content_more, contents_move}
 use Rattle.oz_node_events.proofs.Telling.{closed_more, others_go_on}
+use Rattle.oz_node_events.proofs.Greatest.{greatest_more}
 use Rattle.oz_node_events.proofs.Holding.{holds_more}
 
 -- ---- parts of a story
@@ -67,7 +69,7 @@ module _ {D : Type 0} (told : D → Option (List ℕ)) (clock : D → ℕ) (imag
       subst (λ (l : List Event). Stands (record { dn = b.dn; seen = l; mine = a.mine; room = a.room; last = a.last })) seen one in
       let three : Stands (record { dn = b.dn; seen = b.seen; mine = b.mine; room = a.room; last = a.last }) =
       subst (λ (l : List Event). Stands (record { dn = b.dn; seen = b.seen; mine = l; room = a.room; last = a.last })) mine two in
-      record { number = three.number; halt = three.halt; line = three.line; held = three.held; whole = three.whole; closed = three.closed; tells = three.tells; no_fewer = three.no_fewer; rose = three.rose; journal = three.journal; contents = three.contents }
+      record { number = three.number; halt = three.halt; line = three.line; held = three.held; whole = three.whole; closed = three.closed; greatest = three.greatest; tells = three.tells; no_fewer = three.no_fewer; rose = three.rose; journal = three.journal; contents = three.contents }
 
   pub stands_on : (view : SeatView) → IsKept Coherent opening bytes script view → StandsFor told clock image faults Coherent opening bytes script loaded view node
       → (story : List Event) (room : ℕ) → BeginsWith story view.seen → AllFollow (Follows Coherent opening bytes script) [] story → events_of view.dn story ≡ view.mine
@@ -96,6 +98,10 @@ module _ {D : Type 0} (told : D → Option (List ℕ)) (clock : D → ℕ) (imag
             ap (λ (l : List Event). is_closed opening l view.dn container) begins.1
             ∙ (closed_more Coherent opening bytes script view.dn coherent container view.seen more behind none
             ∙ stood.closed coherent runs container);
+        greatest = λ coherent runs container.
+            ap (λ (l : List Event). greatest_of opening l view.dn container) begins.1
+            ∙ (greatest_more Coherent opening bytes script coherent (kept.numbered coherent) view.dn container more view.seen kept.follow behind none
+            ∙ stood.greatest coherent runs container);
         journal = stood.journal;
         contents = λ coherent runs.
             subst (λ (l : List Event). HasContents told clock image faults opening bytes script l node) (sym begins.1)

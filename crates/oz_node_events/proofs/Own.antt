@@ -91,6 +91,7 @@ loaded_stands {D} told clock image faults Coherent opening bytes script loaded n
   held = λ coherent up block. (as_opened coherent).held block;
   whole = λ coherent up block row is. (as_opened coherent).whole block row is;
   closed = λ coherent up container. (as_opened coherent).closed container;
+  greatest = λ coherent up container. (as_opened coherent).greatest container;
   journal = λ coherent up. journal coherent;
   contents = λ coherent up. of_opening (as_opened coherent);
 } where

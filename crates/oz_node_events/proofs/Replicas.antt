@@ -42,6 +42,7 @@ use Rattle.oz_node_events.proofs.Changed.{changed_ok, comes_of, may_tell, still_
 use Rattle.oz_node_events.proofs.Commanding.{event_stands}
 use Rattle.oz_node_events.proofs.Deleted.{fewer, runs_now, some_and, still_held}
 use Rattle.oz_node_events.proofs.Following.{not_halted}
+use Rattle.oz_node_events.proofs.Greatest.{greatest_push}
 use Rattle.oz_node_events.proofs.Holding.{holds_push}
 use Rattle.oz_node_events.proofs.Moving.{length_longer}
 use Rattle.oz_node_events.proofs.Noted.{ready_stands}
@@ -168,6 +169,9 @@ module _ (Coherent : Type 0) (opening : Opening) (bytes : OpeningBytes) (script 
           ∙ (ap (λ (t : Bool). newer (cond (t && container == number) (Some true) None) (is_closed opening before dn number)) (eq-eqb dn dn refl)
           ∙ (closed_now (container == number) (is_closed opening before dn number) state ((node_in old).states number) shut (stood.closed coherent ran number)
           ∙ sym (ap (λ (n : Held). not (is_open (n.states number))) changed.made)));
+      greatest = λ coherent up number.
+          greatest_push Coherent opening bytes script coherent (numbered coherent) dn number before event all follows
+          ∙ (stood.greatest coherent ran number ∙ sym (ap (λ (n : Held). n.greatest number) changed.made));
       journal = λ coherent up.
           some_and (told (meta_of new)) (λ (l : List ℕ). StandsForNode l (node_in new))
           (both_tell told faults old new changed.goes_on (stood.tells coherent)).0 changed.stands;
@@ -224,6 +228,8 @@ module _ (Coherent : Type 0) (opening : Opening) (bytes : OpeningBytes) (script 
             dropped (container == other) (is_closed opening later.seen later.dn other) ((node_in old).states other) (here.closed coherent ran other)
             (λ same. ap (λ (n : ℕ). is_open ((node_in old).states n)) (sym (eqb-true container other same)) ∙ shut)
             ∙ sym (ap (λ (n : Held). not (is_open (n.states other))) changed.made);
+        greatest = λ coherent up other.
+            here.greatest coherent ran other ∙ sym (ap (λ (n : Held). n.greatest other) changed.made);
         journal = λ coherent up.
             some_and (told (meta_of new)) (λ (l : List ℕ). StandsForNode l (node_in new))
             (both_tell told faults old new changed.goes_on (here.tells coherent)).0 changed.stands;

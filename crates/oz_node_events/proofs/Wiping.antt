@@ -17,12 +17,14 @@ use Rattle.oz_datanode.specs.Datanode.{State, count_of, is_halted}
 use Rattle.oz_datanode.specs.Writing.{intact, is_open}
 use Rattle.oz_datanode.specs.laws.GoingOn.{count_rose, rose_since}
 use Rattle.oz_entries.specs.Node.{Node as Held, is_held}
+use Rattle.oz_kept.specs.reopened.Left.{greatest_of}
 use Rattle.oz_script.specs.declared.lines.script.Script.{Script}
 use Rattle.oz_world.specs.Disk.{Images}
 use Rattle.oz_node_events.specs.Commands.{HaltsSo, IsWipedSo, by_node}
 use Rattle.oz_node_events.specs.NodeSeat.{IsAppended, IsKept, NumbersAreOld, SeatView, StandsFor, events_of}
 use Rattle.oz_node_events.specs.laws.Disks.{both_tell, no_fewer_then}
 use Rattle.oz_node_events.proofs.Commanding.{event_stands}
+use Rattle.oz_node_events.proofs.Greatest.{greatest_push}
 use Rattle.oz_node_events.proofs.Holding.{holds_push}
 use Rattle.oz_node_events.proofs.Telling.{halt_own}
 
@@ -93,6 +95,10 @@ module _ (Coherent : Type 0) (opening : Opening) (bytes : OpeningBytes) (script 
               told-push (closed_after dn container) (was_closed opening dn container) before event
               ∙ (ap (λ (t : Bool). newer (cond t (Some false) None) (is_closed opening before dn container)) its
               ∙ sym (ap (λ (n : Held). not (is_open (n.states container))) wiped.empty));
+          greatest = λ coherent up container.
+              greatest_push Coherent opening bytes script coherent (numbered coherent) dn container before event all follows
+              ∙ (ap (λ (t : Bool). cond t 0 (greatest_of opening before dn container)) its
+              ∙ sym (ap (λ (n : Held). n.greatest container) wiped.empty));
           journal = λ coherent up. wiped.journal coherent;
           contents = λ coherent up. record {
             contents = λ block. intact [];
@@ -118,6 +124,7 @@ module _ (Coherent : Type 0) (opening : Opening) (bytes : OpeningBytes) (script 
           held = λ coherent up. absurd (true_false (sym halts.halted ∙ up));
           whole = λ coherent up. absurd (true_false (sym halts.halted ∙ up));
           closed = λ coherent up. absurd (true_false (sym halts.halted ∙ up));
+          greatest = λ coherent up. absurd (true_false (sym halts.halted ∙ up));
           journal = λ coherent up. absurd (true_false (sym halts.halted ∙ up));
           contents = λ coherent up. absurd (true_false (sym halts.halted ∙ up));
         }

@@ -20,6 +20,7 @@ use Rattle.oz_datanode.specs.Writing.{intact, is_open}
 use Rattle.oz_entries.specs.Node.{is_held}
 use Rattle.oz_entries.specs.declared.row.BlockRow.{BlockRow}
 use Rattle.oz_fields.specs.declared.block.Block.{Block}
+use Rattle.oz_kept.specs.reopened.Left.{greatest_of, was_greatest}
 use Rattle.oz_node_events.specs.full.Full.{JournalStands}
 use Rattle.oz_script.specs.declared.lines.script.Script.{Script}
 use Rattle.oz_nodes.specs.declared.nodes.TheConstants.{MOST_NODES}
@@ -71,8 +72,8 @@ pub record HasContents {D : Type 0} (told : D → Option (List ℕ)) (clock : D 
 
 -- It stands for a datanode that is what the story makes of it: halted and stopped as the seat's own events tell. Where the
 -- opening is coherent its disks tell their bytes; and where no call on them failed in the run it has the blocks, the lengths, the
--- contents and the open replicas of the story that the seat has seen, and a journal that stands for them. Its disks have failed as
--- often as once they were loaded, and more often where it halted.
+-- contents, the open replicas and the greatest transactions of the story that the seat has seen, and a journal that stands for
+-- them. Its disks have failed as often as once they were loaded, and more often where it halted.
 pub record StandsFor {D : Type 0} (told : D → Option (List ℕ)) (clock : D → ℕ) (image : D → Images) (faults : D → ℕ)
     (Coherent : Type 0) (opening : Opening) (bytes : OpeningBytes) (script : Script) (loaded : Node → ℕ) (view : SeatView)
     (node : State D) : Type 0 where
@@ -88,6 +89,8 @@ pub record StandsFor {D : Type 0} (told : D → Option (List ℕ)) (clock : D �
       → length_of opening view.seen block ≡ Some row.length
   pub closed : Coherent → is_halted node ≡ false → (container : ℕ)
       → is_closed opening view.seen view.dn container ≡ not (is_open ((node_in node).states container))
+  pub greatest : Coherent → is_halted node ≡ false → (container : ℕ)
+      → greatest_of opening view.seen view.dn container ≡ (node_in node).greatest container
   pub journal : Coherent → is_halted node ≡ false → JournalStands told node
   pub contents : Coherent → is_halted node ≡ false → HasContents told clock image faults opening bytes script view.seen node
 
@@ -107,6 +110,7 @@ pub record IsAsOpened {D : Type 0} (told : D → Option (List ℕ)) (clock : D �
   pub whole : (block : Block) (row : BlockRow) → (node_in node).rows block ≡ Some row
       → length_of opening [] block ≡ Some row.length
   pub closed : (container : ℕ) → was_closed opening node.id container ≡ not (is_open ((node_in node).states container))
+  pub greatest : (container : ℕ) → was_greatest opening node.id container ≡ (node_in node).greatest container
   pub contents : (block : Block) (row : BlockRow) → (node_in node).rows block ≡ Some row
       → HasOpeningBytes bytes node.id block row (told (slots_of node))
   pub pairs : (contents : Block → Content) → (IsSome (told (meta_of node)) → IfSome (told (slots_of node))

@@ -64,6 +64,7 @@ module _ {D : Type 0} (told : D → Option (List ℕ)) (clock : D → ℕ) (imag
     held = stood.held;
     whole = stood.whole;
     closed = stood.closed;
+    greatest = stood.greatest;
     journal = stood.journal;
     contents = stood.contents;
   }

@@ -50,6 +50,8 @@ stands_still told clock image faults Coherent opening bytes script loaded view o
       stood.whole coherent (sym same.halted ∙ runs) block row (sym (ap (λ (n : Node). n.rows block) same.node) ∙ is);
   closed = λ coherent runs container. stood.closed coherent (sym same.halted ∙ runs) container
       ∙ sym (ap (λ (n : Node). not (is_open (n.states container))) same.node);
+  greatest = λ coherent runs container. stood.greatest coherent (sym same.halted ∙ runs) container
+      ∙ sym (ap (λ (n : Node). n.greatest container) same.node);
   journal = λ coherent runs.
       moved (told (meta_of old)) (told (meta_of new)) (node_in old) (node_in new) (ap told same.journal) same.node
       (stood.journal coherent (sym same.halted ∙ runs));

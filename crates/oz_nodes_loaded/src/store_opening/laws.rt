@@ -17,6 +17,7 @@ ghost use Rattle.oz_entries.specs.declared.row.BlockRow.{BlockRow as AnyRow};
 ghost use Rattle.oz_fields.specs.declared.block.Block.{Block as AnyBlock};
 ghost use Rattle.oz_scm.specs.grants.Made.{Made, begun, container_at};
 ghost use Rattle.oz_journal.specs.Grammar.{IsJournal};
+ghost use Rattle.oz_kept.specs.reopened.Left.{was_greatest};
 ghost use Rattle.oz_loaded.specs.Loads.{IsLoaded};
 ghost use Rattle.oz_loaded.specs.Unseated.{UnseatedView};
 ghost use Rattle.oz_namespace.specs.declared.namespace.Namespace.{Namespace as AnyNamespace};
@@ -111,6 +112,9 @@ pub fn an_opening_has_what_was_loaded<D: Disk>()
         (node : AnyDatanode D) (container : ℕ) → slice_get nodes dn ≡ Some node →
         was_closed (opening_of unseated namespace made nodes) dn container
         ≡ not (is_open ((node_in node).states container)) }
+    ensures greatest { (unseated : UnseatedView) (namespace : AnyNamespace) (made : Made) (nodes : List (AnyDatanode D)) (dn : ℕ)
+        (node : AnyDatanode D) (container : ℕ) → slice_get nodes dn ≡ Some node →
+        was_greatest (opening_of unseated namespace made nodes) dn container ≡ (node_in node).greatest container }
     ensures replicas { (node : AnyDatanode D) (replica : AnyReplica) →
         Contains (opened_node node.blocks.held).replicas replica →
         (replica.state ≡ (node_in node).states replica.container)

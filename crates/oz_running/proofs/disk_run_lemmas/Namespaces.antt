@@ -16,6 +16,7 @@ use Rattle.oz_datanode.specs.Writing.{is_open}
 use Rattle.oz_entries.specs.Node.{is_held}
 use Rattle.oz_entries.specs.declared.row.BlockRow.{BlockRow}
 use Rattle.oz_fields.specs.declared.block.Block.{Block}
+use Rattle.oz_kept.specs.reopened.Left.{greatest_of}
 use Rattle.oz_scm.specs.grants.Made.{Made}
 use Rattle.oz_headline.specs.halts.Disks.{OtherNodes}
 use Rattle.oz_headline.specs.halts.Nodes.{AreAsTold, ScmIsAsTold, seat_over}
@@ -107,6 +108,7 @@ module _ {D : Type 0} (told : D → Option (List ℕ)) (clock : D → ℕ) (imag
     held = over (λ (o : Opening). is_halted node ≡ false → (block : Block) → holds o view.seen view.dn block ≡ is_held (node_in node) block) stood.held;
     whole = over (λ (o : Opening). is_halted node ≡ false → (block : Block) (row : BlockRow) → (node_in node).rows block ≡ Some row → length_of o view.seen block ≡ Some row.length) stood.whole;
     closed = over (λ (o : Opening). is_halted node ≡ false → (container : ℕ) → is_closed o view.seen view.dn container ≡ not (is_open ((node_in node).states container))) stood.closed;
+    greatest = over (λ (o : Opening). is_halted node ≡ false → (container : ℕ) → greatest_of o view.seen view.dn container ≡ (node_in node).greatest container) stood.greatest;
     journal = λ coherent. stood.journal (agree coherent);
     contents = over (λ (o : Opening). is_halted node ≡ false → HasContents told clock image faults o bytes script view.seen node) stood.contents;
   }

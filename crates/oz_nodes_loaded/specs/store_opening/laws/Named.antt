@@ -159,7 +159,7 @@ module _ (node : Node) (container : ℕ) where
       (closed_listed containers closed) among
 
 -- a replica that is found stands under its container
-abbrev containers_in : List (ℕ × KeptReplica) → List ℕ
+abbrev pub containers_in : List (ℕ × KeptReplica) → List ℕ
 containers_in replicas = map (λ (entry : ℕ × KeptReplica). entry.0) replicas
 
 replica_next : (container first : ℕ) (replica : KeptReplica) (rest : Option KeptReplica) (among t : Bool) → is_eq (nat_cmp container first) ≡ t
@@ -167,7 +167,7 @@ replica_next : (container first : ℕ) (replica : KeptReplica) (rest : Option Ke
 replica_next container first replica rest among true same others e = or_left (eqb container first) among (sym (eq_number container first) ∙ same)
 replica_next container first replica rest among false same others e = or_right (eqb container first) among (others e)
 
-replica_listed : (replicas : List (ℕ × KeptReplica)) (container : ℕ) → is_some (replica_of replicas container) ≡ true
+pub replica_listed : (replicas : List (ℕ × KeptReplica)) (container : ℕ) → is_some (replica_of replicas container) ≡ true
     → list_any (λ (other : ℕ). eqb container other) (containers_in replicas) ≡ true
 replica_listed [] container is = absurd (false≢true is)
 replica_listed (entry ∷ replicas) container is =

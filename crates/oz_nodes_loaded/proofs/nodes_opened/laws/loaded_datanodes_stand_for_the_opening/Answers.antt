@@ -6,6 +6,7 @@ use Rattle.oz_datanode.specs.declared.disks.NodeDisks.{NodeDisks}
 use Rattle.oz_entries.specs.Node.{is_held}
 use Rattle.oz_entries.specs.declared.row.BlockRow.{BlockRow}
 use Rattle.oz_fields.specs.declared.block.Block.{Block}
+use Rattle.oz_kept.specs.reopened.Left.{was_greatest}
 use Rattle.oz_nodes_loaded.specs.store_opening.Openings.{bytes_on, opened_node, opening_bytes, opening_of}
 use Rattle.oz_world.specs.Disk.{seen}
 use Rattle.oz_nodes_loaded.proofs.nodes_opened_lemmas.Contents.{loaded_pairs, opened_bytes, tells_still}
@@ -54,6 +55,7 @@ returns-clause-opened g c = λ all unseated namespace made disks nodes dn node t
       held = held;
       whole = λ block row is. c.each_row_has_the_length_of_its_block.ensures all unseated namespace made disks nodes dn node block row journals are agree at is;
       closed = λ container. ap (λ (n : ℕ). was_closed (opening_of unseated namespace made nodes) n container) its ∙ (has.closed unseated namespace made nodes dn node container at ∙ ap not (open_alike ((node_in node).states container)));
+      greatest = λ container. ap (λ (n : ℕ). was_greatest (opening_of unseated namespace made nodes) n container) its ∙ has.greatest unseated namespace made nodes dn node container at;
       contents = λ block row is.
           opened_bytes see (0 + dn) from.0 node from.1.0 from.1.1.0 c.a_journal_keeps_slots_apart.ensures.loaded
           (λ row slots content. (c.bytes_that_are_intact_have_their_digests.ensures row slots content).0) (opening_bytes see nodes) node.id block row is

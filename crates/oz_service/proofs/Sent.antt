@@ -1,5 +1,6 @@
 -- What came of a transaction that was sent to a datanode.
 use Rattle.std.proofs.Common.{◌≡◌, ℕ, Bool, true, false, ◌==◌, ◌&&◌, ◌||◌, List, [], ◌∷◌, ◌++◌, Option, None, Some, eq-eqb, refl, sym, ap, ◌∙◌, subst, append_assoc}
+use Rattle.std.proofs.lemmas.List.Elements.{filter-append}
 use Rattle.std.specs.Prelude.{Result, Ok, Err, IfErr, OnOk, is_some, not, if◌then◌else◌}
 use Rattle.oz_buffer.specs.Buffer.{AllFollow, Follows}
 use Rattle.oz_core.specs.declared.event.Event.{Event}
@@ -12,6 +13,7 @@ use Rattle.oz_core.specs.Contents.{OpeningBytes}
 use Rattle.oz_core.specs.Law.{applies}
 use Rattle.oz_core.specs.Manager.{halt_of}
 use Rattle.oz_core.specs.Nodes.{is_running}
+use Rattle.oz_core.specs.Seats.{scm_seat}
 use Rattle.oz_core.specs.Stories.{has_event}
 use Rattle.oz_datanode.specs.Datanode.{State, count_of, is_halted}
 use Rattle.oz_dellog.specs.declared.txn.Txn.{Txn}
@@ -25,12 +27,14 @@ use Rattle.oz_node_events.specs.NodeSeat.{IsAppended, SeatView, StandsFor, event
 use Rattle.oz_scm.specs.Scm.{State as ScmState}
 use Rattle.oz_scm.specs.grants.Made.{Made}
 use Rattle.oz_scm_events.specs.declared.acking.AckFault.{AckFault}
+use Rattle.oz_scm_events.specs.declared.acking.AckFault.TheVariants as acks
 use Rattle.oz_scm_events.specs.Kept.{IsKept}
 use Rattle.oz_scm_events.specs.Noted.{IsNoteRefusal, own_noted}
 use Rattle.oz_script.specs.declared.lines.script.Script.{Script}
-use Rattle.oz_turn.specs.Told.{BeginsWith}
+use Rattle.oz_turn.specs.Told.{BeginsWith, own_entries}
 use Rattle.oz_world.specs.Disk.{Images}
-use Rattle.oz_service.specs.Deleting.{AppliedSo, IsNotedSo, WasApplied, WasTold}
+use Rattle.oz_service.specs.declared.deleting.noted.Noted.{Noted}
+use Rattle.oz_service.specs.Deleting.{AppliedSo, IsNotedSo, WasApplied, WasNoted, WasTold}
 
 -- ---- an event that was told since
 
@@ -137,10 +141,27 @@ some_where : (stopped : Bool) (faults : ℕ) → is_some (halt_by stopped faults
 some_where true faults = refl
 some_where false faults = refl
 
+runs_where : (stopped : Bool) (answer : Result (Unit {0}) AckFault) (faults : ℕ) (halt : Option ℕ) → (stopped ≡ true → (count : ℕ) × (answer ≡ Err (acks.Stopped count)))
+    → halt ≡ halt_by stopped faults → OnOk answer (halt ≡ None)
+runs_where true answer faults halt halted is =
+    let it = halted refl in
+    subst (λ (a : Result (Unit {0}) AckFault). OnOk a (halt ≡ None)) (sym it.1) tt
+runs_where false (Ok done) faults halt halted is = is
+runs_where false (Err fault) faults halt halted is = tt
+
+-- what a seat had given it has given
+pub own_begins : (later seen : List Event) → BeginsWith later seen
+    → BeginsWith (own_entries (λ (event : Event). event.seat) scm_seat later) (own_entries (λ (event : Event). event.seat) scm_seat seen)
+own_begins later seen begins = (
+  own_entries (λ (event : Event). event.seat) scm_seat begins.0,
+  ap (own_entries (λ (event : Event). event.seat) scm_seat) begins.1 ∙ filter-append (λ (event : Event). event.seat == scm_seat) seen begins.0,
+)
+
 pub noted_so : {D : Type 0} (opening : Opening) (loaded : ℕ) (scm : ScmState D) (faults : ℕ) (seen mine later : List Event) (kind : EventKind) (is_due : Made → Bool)
     (answer : Result (Unit {0}) AckFault) → IsKept opening loaded scm faults seen mine → later ≡ own_noted scm.stopped kind mine answer
+    → (scm.stopped ≡ true → (count : ℕ) × (answer ≡ Err (acks.Stopped count)))
     → OnOk answer (is_due scm.made ≡ true) → IfErr answer (IsNoteRefusal later (is_due scm.made)) → IsNotedSo opening kind is_due mine later answer
-noted_so opening loaded scm faults seen mine later kind is_due answer kept given due refused = record {
+noted_so opening loaded scm faults seen mine later kind is_due answer kept given halted due refused = record {
   made = scm.made;
   is_made = λ none. record {
     nodes = kept.nodes;
@@ -149,6 +170,26 @@ noted_so opening loaded scm faults seen mine later kind is_due answer kept given
     log = kept.log (none_where scm.stopped faults (sym kept.halt ∙ none));
   };
   given = given ∙ ap (λ (t : Bool). own_noted t kind mine answer) (sym (ap is_some kept.halt ∙ some_where scm.stopped faults));
+  running = runs_where scm.stopped answer faults (halt_of Scm mine) halted kept.halt;
   due = due;
   refused = refused;
 }
+
+-- what was noted behind a story was noted behind each before it
+pub noted_since : (opening : Opening) (dn number : ℕ) (later seen story : List Event) (noted : Noted) → BeginsWith later seen
+    → WasNoted opening dn number later story noted → WasNoted opening dn number seen story noted
+noted_since opening dn number later seen story noted begins was =
+    let own = own_begins later seen begins in
+    record {
+      before = was.before;
+      between = was.between;
+      behind = was.behind;
+      since = (
+        own.0 ++ was.since.0,
+        was.since.1 ∙ (ap (λ (l : List Event). l ++ was.since.0) own.1
+            ∙ append_assoc (own_entries (λ (event : Event). event.seat) scm_seat seen) own.0 was.since.0),
+      );
+      acknowledged = was.acknowledged;
+      retired = was.retired;
+      own = was.own;
+    }

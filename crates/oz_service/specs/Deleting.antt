@@ -51,14 +51,17 @@ pub record IsNotedSo (opening : Opening) (kind : EventKind) (is_due : Made → B
   pub made : Made
   pub is_made : halt_of Scm mine ≡ None → IsMadeOf opening mine made
   pub given : later ≡ own_noted (is_some (halt_of Scm mine)) kind mine answer
+  pub running : OnOk answer (halt_of Scm mine ≡ None)
   pub due : OnOk answer (is_due made ≡ true)
   pub refused : IfErr answer (IsNoteRefusal later (is_due made))
 
--- First the acknowledgement of a datanode was to be noted, and then that the transaction is retired. The story has what was given.
-pub record WasNoted (opening : Opening) (dn number : ℕ) (story : List Event) (noted : Noted) : Type 0 where
+-- First the acknowledgement of a datanode was to be noted, and then that the transaction is retired, all behind what was seen. The
+-- story has what was given.
+pub record WasNoted (opening : Opening) (dn number : ℕ) (seen story : List Event) (noted : Noted) : Type 0 where
   pub before : List Event
   pub between : List Event
   pub behind : List Event
+  pub since : BeginsWith between (own_entries (λ (event : Event). event.seat) scm_seat seen)
   pub acknowledged : IsNotedSo opening (AckDel dn number) (λ made. may_ack made number dn) before between noted.acknowledged
   pub retired : IsNotedSo opening (Retire number) (λ made. is_done (log_of made) number) between behind noted.retired
   pub own : own_entries (λ (event : Event). event.seat) scm_seat story ≡ behind
@@ -66,5 +69,5 @@ pub record WasNoted (opening : Opening) (dn number : ℕ) (story : List Event) (
 -- It was applied, and at a later place it was noted; or it wasn't applied.
 abbrev pub SentSo : Type 0 → Opening → ℕ → Txn → List Event → List Event → Result Noted ChangeRefusal → Type 0
 SentSo Coherent opening dn txn seen story (Ok noted) =
-    WasApplied dn txn seen story × WasNoted opening dn txn.number story noted
+    WasApplied dn txn seen story × WasNoted opening dn txn.number seen story noted
 SentSo Coherent opening dn txn seen story (Err refusal) = AppliedSo Coherent dn txn seen story (Err refusal)

@@ -8,7 +8,7 @@ mod drains;
 mod looks;
 
 pub use all_locked::{AllLocked, Shown, lock_all};
-pub use deleting::{Noted, send_one};
+pub use deleting::{Lent, Noted, send_one};
 pub use drains::{
     a_drains_end_stays, empty_containers_are_deleted, what_is_drained, what_is_held,
     what_is_up_holds_old_blocks_alone, what_left_reach_was_garbage,

@@ -4,34 +4,30 @@ ghost use Rattle.std.specs.Prelude.{◌≡◌, ◌≤◌, ◌<◌, [], length};
 ghost use Rattle.oz_buffer.specs.Buffer.{AllFollow, Follows};
 ghost use Rattle.oz_dellog.specs.declared.txn.TheConstants.{MOST_LOCALS as MOST};
 ghost use Rattle.oz_kept.specs.reopened.Left.{NumbersAreApart};
-ghost use Rattle.oz_node_admin.specs.Seats.{MayTake, OnlyLooked};
+ghost use Rattle.oz_node_admin.specs.Seats.{OnlyLooked};
 ghost use Rattle.oz_node_events.specs.Deleting.{MayApply, as_done};
 ghost use Rattle.oz_service.specs.Deleting.{AppliedSo};
-ghost use Rattle.oz_turn.specs.Seat.{seen_of};
-ghost use Rattle.oz_turn.specs.Turn.{turn_id};
+ghost use Rattle.oz_turn.specs.Seat.{IsReady, number_of, seen_of};
 
+use crate::deleting::lent::Lent;
 use oz_buffer::{Ledger, Opened};
 use oz_dellog::Txn;
 use oz_node_events::{ChangeRefusal, NodeSeat, a_line_has_it_run_or_not, its_seat_alone_tells};
-use oz_replicas::{NodeCell, Nodes};
+use oz_replicas::NodeCell;
 use oz_scm_events::a_datanode_alone_tells_that_it_runs;
-use oz_turn::{Ring, Seat, Turn};
+use oz_turn::{Ring, Seat};
 use oz_world::Disk;
-use std::alloc::Global;
 use std::sync::Wait;
 
 /// Has the datanode of this number apply a transaction.
 pub(crate) fn apply_at<D: Disk, O: Opened, R: Ring, W: Wait>(
-    rt: &W,
-    alloc: Global,
-    turn: &Turn<Ledger<O>>,
-    nodes: &Nodes<D, NodeSeat<Ledger<O>, O, R>>,
+    lent: &Lent<'_, D, O, R, W>,
     seat: &mut Seat<Ledger<O>>,
     dn: u8,
     txn: &Txn,
 ) -> Result<u32, ChangeRefusal>
-    requires seat { MayTake R.turn (turn_id turn.now) seat.old }
-    requires there { dn < nodes.now }
+    requires ready { IsReady R.turn (number_of seat.old) seat.old }
+    requires there { dn < lent.now.nodes.now }
     requires number { 1 ≤ txn.now.number }
     requires least { 1 ≤ length txn.now.locals }
     requires most { length txn.now.locals ≤ MOST }
@@ -41,21 +37,19 @@ pub(crate) fn apply_at<D: Disk, O: Opened, R: Ring, W: Wait>(
     ensures follow { AllFollow (Follows O.coherent O.opening O.bytes O.script) [] (seen_of seat.new) }
     ensures looked { OnlyLooked R.turn seat.old seat.new }
 {
-    let mut cell = nodes.lock(rt, dn);
-    apply_locked(rt, alloc, turn, &mut cell, seat, dn, txn)
+    let mut cell = lent.nodes.lock(lent.rt, dn);
+    apply_locked(lent, &mut cell, seat, dn, txn)
 }
 
 /// The same, while its lock is held.
 fn apply_locked<D: Disk, O: Opened, R: Ring, W: Wait>(
-    rt: &W,
-    alloc: Global,
-    turn: &Turn<Ledger<O>>,
+    lent: &Lent<'_, D, O, R, W>,
     cell: &mut NodeCell<D, NodeSeat<Ledger<O>, O, R>>,
     seat: &mut Seat<Ledger<O>>,
     dn: u8,
     txn: &Txn,
 ) -> Result<u32, ChangeRefusal>
-    requires seat { MayTake R.turn (turn_id turn.now) seat.old }
+    requires ready { IsReady R.turn (number_of seat.old) seat.old }
     requires its { cell.old.node.id ≡ dn }
     requires number { 1 ≤ txn.now.number }
     requires least { 1 ≤ length txn.now.locals }
@@ -69,5 +63,6 @@ fn apply_locked<D: Disk, O: Opened, R: Ring, W: Wait>(
     its_seat_alone_tells::<D, O>();
     a_line_has_it_run_or_not::<D, O>();
     a_datanode_alone_tells_that_it_runs::<O>();
+    let (rt, alloc, turn) = (lent.rt, lent.alloc, lent.turn);
     cell.kept.delete(rt, alloc, turn, seat, &mut cell.node, txn)
 }

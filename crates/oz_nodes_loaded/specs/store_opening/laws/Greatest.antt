@@ -1,7 +1,7 @@
 -- The greatest transactions of an opening are those of the datanodes.
 use Rattle.std.proofs.Common.{◌≡◌, ℕ, eqb, eqb-true, Bool, true, false, ◌||◌, cond, fold, max, List, [], ◌∷◌}
-use Rattle.std.proofs.Common.{Option, None, Some, is_some, refl, sym, ◌∙◌, ap}
-use Rattle.std.proofs.Math.Nat.{le-max_right, max-eq_left, max-eq_right, zero-le}
+use Rattle.std.proofs.Common.{Option, None, Some, is_some, refl, sym, ◌∙◌, ap, arith}
+use Rattle.std.proofs.Math.Nat.{le-max_right, max-eq_left, max-eq_right}
 use Rattle.std.proofs.lemmas.Bool.{eq-eqb, false≢true}
 use Rattle.std.specs.List.{list_any}
 use Rattle.std.specs.Option.{option_map_or}
@@ -27,24 +27,28 @@ module _ (node : Node) (container : ℕ) where
       ≡ cond (list_any (λ (other : ℕ). eqb container other) containers) (max most (node.greatest container)) most
   all_listed [] most = refl
   all_listed (other ∷ containers) most = by (eqb other container) refl (eqb container other) refl
+      (all_listed containers (max most (node.greatest container))) (all_listed containers most)
     where
       others : List ℕ → Bool
       others l = list_any (λ (o : ℕ). eqb container o) l
 
       by : (t : Bool) → eqb other container ≡ t → (u : Bool) → eqb container other ≡ u
+          → fold greater (max most (node.greatest container)) (replicas_of node containers)
+          ≡ cond (others containers) (max (max most (node.greatest container)) (node.greatest container)) (max most (node.greatest container))
+          → fold greater most (replicas_of node containers) ≡ cond (others containers) (max most (node.greatest container)) most
           → fold greater (cond (eqb other container) (max most (node.greatest other)) most) (replicas_of node containers)
           ≡ cond (eqb container other || list_any (λ (o : ℕ). eqb container o) containers) (max most (node.greatest container)) most
-      by true same true also =
+      by true same true also here there =
           ap (λ (t : Bool). fold greater (cond t (max most (node.greatest other)) most) (replicas_of node containers)) same
           ∙ (ap (λ (n : ℕ). fold greater (max most (node.greatest n)) (replicas_of node containers)) (eqb-true other container same)
-          ∙ (all_listed containers (max most (node.greatest container))
+          ∙ (here
           ∙ (twice (others containers) most
           ∙ sym (ap (λ (t : Bool). cond (t || others containers) (max most (node.greatest container)) most) also))))
-      by true same false not = absurd (false≢true (sym not ∙ eq-eqb container other (sym (eqb-true other container same))))
-      by false not true same = absurd (false≢true (sym not ∙ eq-eqb other container (sym (eqb-true container other same))))
-      by false not false also =
+      by true same false not here there = absurd (false≢true (sym not ∙ eq-eqb container other (sym (eqb-true other container same))))
+      by false not true same here there = absurd (false≢true (sym not ∙ eq-eqb other container (sym (eqb-true container other same))))
+      by false not false also here there =
           ap (λ (t : Bool). fold greater (cond t (max most (node.greatest other)) most) (replicas_of node containers)) not
-          ∙ (all_listed containers most
+          ∙ (there
           ∙ sym (ap (λ (t : Bool). cond (t || others containers) (max most (node.greatest container)) most) also))
 
 -- one that isn't listed has none
@@ -61,5 +65,5 @@ greatest_as held container =
   where
     by : (t : Bool) → list_any (λ (other : ℕ). eqb container other) (containers_in held.replicas) ≡ t
         → cond t (max 0 ((node_of held).greatest container)) 0 ≡ (node_of held).greatest container
-    by true is = max-eq_right zero-le
+    by true is = max-eq_right (omega arith)
     by false is = sym (none_listed held container (replica_of held.replicas container) refl is)

@@ -3,3 +3,5 @@ pub mod Listed
 pub mod Sent
 pub mod Zipped
 pub mod Downs
+pub mod Waits
+pub mod Going

@@ -5,4 +5,5 @@ pub mod Settled
 pub mod Emptied
 pub mod Still
 pub mod Deleting
+pub mod Pass
 pub mod laws

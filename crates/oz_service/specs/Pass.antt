@@ -1,0 +1,42 @@
+-- The service job: what contracts see of it, what it keeps, and how its seat goes on.
+use Rattle.std.specs.Prelude.{◌≡◌, ◌++◌, List, [], Option, None, Some, map}
+use Rattle.oz_core.specs.declared.event.Event.{Event}
+use Rattle.oz_core.specs.Asks.{pending}
+use Rattle.oz_core.specs.Law.{PurgesLogged}
+use Rattle.oz_om.specs.Served.{WaitsForNoOther, service_ask, service_id}
+use Rattle.oz_requests.specs.declared.request.Family.TheVariants.{Service}
+use Rattle.oz_requests.specs.declared.request.Request.{Request}
+use Rattle.oz_requests.specs.Families.{family_of}
+use Rattle.oz_turn.specs.Told.{BeginsWith}
+
+-- What its seat has seen and given, and what it asks that it hasn't seen decided.
+pub record ServiceView : Type 0 where
+  pub seen : List Event
+  pub mine : List Event
+  pub waiting : Option Request
+
+-- what it asks may be asked by it
+abbrev pub IsOfService : Option Request → Type 0
+IsOfService None = Unit {0}
+IsOfService (Some request) = family_of request ≡ Service
+
+-- As the story ends it may ask this, and nothing else that it has asked is undecided.
+abbrev pub Awaits : List Event → Option Request → Type 0
+Awaits story None = pending service_id story ≡ None
+Awaits story (Some request) = PurgesLogged story request × WaitsForNoOther story request
+
+-- It has asked some more of what it may ask, and given nothing else.
+pub record AskedMore (before after : List Event) : Type 0 where
+  pub requests : List Request
+  pub added : after ≡ before ++ map service_ask requests
+
+-- It has seen more of the story, and asked some more.
+pub record GoesOn (old new : ServiceView) : Type 0 where
+  pub seen : BeginsWith new.seen old.seen
+  pub mine : AskedMore old.mine new.mine
+
+-- It has only seen more of it.
+pub record LooksOn (old new : ServiceView) : Type 0 where
+  pub seen : BeginsWith new.seen old.seen
+  pub mine : new.mine ≡ old.mine
+  pub waiting : new.waiting ≡ old.waiting

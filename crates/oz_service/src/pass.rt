@@ -1,0 +1,8 @@
+//! The service job: what nothing reaches any more goes, step by step.
+
+mod asking;
+mod parts;
+mod service;
+
+pub use crate::pass::parts::Parts;
+pub use crate::pass::service::Service;

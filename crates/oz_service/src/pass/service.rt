@@ -1,0 +1,169 @@
+//! The service job's seat, and what it asks.
+
+ghost use Rattle.std.specs.Prelude.{◌≡◌, [], IsSome, None, OnErr, OnOk, Some, if◌then◌else◌};
+ghost use Rattle.oz_buffer.specs.Buffer.{AllFollow, Follows};
+ghost use Rattle.oz_core.specs.Law.{PurgesLogged};
+ghost use Rattle.oz_core.specs.Manager.{durable_index};
+ghost use Rattle.oz_core.specs.Seats.{service_seat};
+ghost use Rattle.oz_om.specs.Shown.{HasSeen};
+ghost use Rattle.oz_service.specs.Pass.{AskedMore, Awaits, GoesOn, IsOfService, LooksOn};
+ghost use Rattle.oz_turn.specs.Seat.{IsNewSeat, IsReady, mine_of, seen_of};
+ghost use Rattle.oz_turn.specs.Told.{BeginsWith};
+
+use crate::pass::parts::Parts;
+use oz_buffer::{Ledger, Opened};
+use oz_core::Event;
+use oz_fields::TryClone;
+use oz_locks::Loaded;
+use oz_om::Refusal;
+use oz_requests::{Family, Request};
+use oz_turn::{Ring, Seat, Told};
+use oz_world::Disk;
+use std::marker::{Model, PhantomData};
+use std::sync::Wait;
+
+/// The seat of the service job.
+pub(crate) const SERVICE_SEAT: u16 = 1;
+
+/// The service job of a run: its seat, and the request that it asks and hasn't seen decided. Whatever it has asked beside that is
+/// decided.
+#[derive(Drop)]
+pub struct Service<T: Told<Entry = Event>, O: Opened, R: Ring> {
+    pub(crate) seat: Seat<T>,
+    pub(crate) waiting: Option<Request>,
+    of: PhantomData<(O, R)>,
+}
+
+impl<T: Told<Entry = Event>, O: Opened, R: Ring> Model for Service<T, O, R> {
+    ghost use Rattle.std.specs.Prelude.{[]};
+    ghost use Rattle.oz_buffer.specs.Buffer.{AllFollow, Follows};
+    ghost use Rattle.oz_core.specs.Seats.{service_seat};
+    ghost use Rattle.oz_service.specs.Pass.{Awaits, IsOfService, ServiceView};
+    ghost use Rattle.oz_turn.specs.Seat.{IsReady, mine_of, seen_of};
+
+    ghost Value = { ServiceView };
+
+    ghost view = { λ it. record { seen = seen_of it.seat; mine = mine_of it.seat; waiting = it.waiting } };
+
+    ghost invariant = { λ it. IsReady R.turn service_seat it.seat
+        × AllFollow (Follows O.coherent O.opening O.bytes O.script) [] (seen_of it.seat)
+        × IsOfService it.waiting
+        × (O.coherent → Awaits (seen_of it.seat) it.waiting) };
+}
+
+impl<O: Opened, R: Ring> Service<Ledger<O>, O, R> {
+    /// One that has asked nothing yet.
+    pub fn make(seat: Seat<Ledger<O>>) -> Service<Ledger<O>, O, R>
+        requires { IsNewSeat R.turn service_seat seat }
+        ensures { result ≡ record { seen = []; mine = []; waiting = None } }
+    {
+        Service {
+            seat,
+            waiting: None,
+            of: PhantomData,
+        }
+    }
+
+    /// In what it has seen each event may follow. It does nothing when it runs.
+    pub fn is_kept(&self)
+        ensures { AllFollow (Follows O.coherent O.opening O.bytes O.script) [] self.now.seen }
+    {
+        let _waits = self.waiting.is_some();
+    }
+
+    /// Its seat, which doesn't hold the ledger.
+    pub fn into_seat(self) -> Seat<Ledger<O>>
+        ensures ready { IsReady R.turn service_seat result }
+        ensures seen { seen_of result ≡ self.seen }
+        ensures mine { mine_of result ≡ self.mine }
+    {
+        self.seat
+    }
+
+    /// Sees all that happened until now. Answers the last index that is flushed there.
+    pub(crate) fn look<D: Disk, L: Loaded, W: Wait>(
+        &mut self,
+        parts: &Parts<'_, D, O, L, R, W>,
+    ) -> u64
+        ensures looked { LooksOn self.old self.new }
+        ensures durable { result ≡ durable_index O.opening self.new.seen }
+    {
+        self.seat.knows_own();
+        let durable = see(parts, &mut self.seat);
+        self.seat.knows_own();
+        durable
+    }
+
+    /// Takes up what it is to ask next, where nothing waits. Answers whether the request is one of the service job's.
+    pub(crate) fn take_up(&mut self, request: Request) -> bool
+        requires none { self.old.waiting ≡ None }
+        requires logged { O.coherent → PurgesLogged self.old.seen request }
+        ensures { self.new ≡ if result then record self.old { waiting = Some request } else self.old }
+    {
+        if request.family() != Family::Service {
+            return false;
+        }
+        self.waiting = Some(request);
+        true
+    }
+
+    /// Asks what waits, and sees it decided. Nothing waits then.
+    ///
+    /// Errors: as `Manager::ask_service` says. It waits then as it did, and is asked again by the next call.
+    pub(crate) fn ask<D: Disk, L: Loaded, W: Wait>(
+        &mut self,
+        parts: &Parts<'_, D, O, L, R, W>,
+    ) -> Result<u64, Refusal>
+        requires { IsSome self.old.waiting }
+        ensures goes_on { GoesOn self.old self.new }
+        ensures none { OnOk result (self.new.waiting ≡ None) }
+        ensures waits { OnErr result (self.new.waiting ≡ self.old.waiting) }
+    {
+        let Some(request) = &self.waiting else {
+            unreachable!()
+        };
+        let copy = request.try_clone(parts.alloc)?;
+        let asked = ask_at(parts, &mut self.seat, copy);
+        if asked.is_ok() {
+            self.waiting = None;
+        }
+        asked
+    }
+}
+
+/// The seat sees all that happened until now. Answers the last index that is flushed there.
+pub(crate) fn see<D: Disk, O: Opened, L: Loaded, R: Ring, W: Wait>(
+    parts: &Parts<'_, D, O, L, R, W>,
+    seat: &mut Seat<Ledger<O>>,
+) -> u64
+    requires { IsReady R.turn service_seat seat.old }
+    ensures shown { HasSeen R.turn O.coherent O.opening O.bytes O.script service_seat seat.old seat.new }
+    ensures durable { result ≡ durable_index O.opening (seen_of seat.new) }
+{
+    let (ledger, held) = parts.turn.take(parts.rt, seat);
+    ledger.all_follow();
+    let durable = ledger.durable_index();
+    parts.turn.give_back(seat, ledger, held);
+    durable
+}
+
+/// Asks by this seat, and sees it decided.
+fn ask_at<D: Disk, O: Opened, L: Loaded, R: Ring, W: Wait>(
+    parts: &Parts<'_, D, O, L, R, W>,
+    seat: &mut Seat<Ledger<O>>,
+    request: Request,
+) -> Result<u64, Refusal>
+    requires ready { IsReady R.turn service_seat seat.old }
+    requires of_service { IsOfService (Some request) }
+    requires awaits { O.coherent → Awaits (seen_of seat.old) (Some request) }
+    ensures ready { IsReady R.turn service_seat seat.new }
+    ensures goes_on { BeginsWith (seen_of seat.new) (seen_of seat.old) }
+    ensures follow { AllFollow (Follows O.coherent O.opening O.bytes O.script) [] (seen_of seat.new) }
+    ensures mine { AskedMore (mine_of seat.old) (mine_of seat.new) }
+    ensures awaits { O.coherent → Awaits (seen_of seat.new) (Some request) }
+    ensures decided { O.coherent → OnOk result (Awaits (seen_of seat.new) None) }
+{
+    parts
+        .manager
+        .ask_service(parts.rt, parts.alloc, parts.turn, seat, request)
+}

@@ -21,7 +21,7 @@ use Rattle.oz_fields.specs.declared.block.Block.{Block}
 use Rattle.oz_kept.specs.laws.Granted.{one_ask_id}
 use Rattle.oz_kept.specs.laws.Places.{legal_behind}
 use Rattle.oz_names.specs.Names.{stripe_of}
-use Rattle.oz_om.specs.Served.{WaitsForNoOther, service_id}
+use Rattle.oz_om.specs.Served.{service_id}
 use Rattle.oz_requests.specs.declared.request.AskId.{AskId}
 use Rattle.oz_requests.specs.declared.request.Request.{Request}
 use Rattle.oz_requests.specs.declared.request.Request.TheVariants.{Purge}

@@ -1,5 +1,5 @@
 -- The service job: what contracts see of it, what it keeps, and how its seat goes on.
-use Rattle.std.specs.Prelude.{◌≡◌, ◌++◌, List, [], Option, None, Some, map}
+use Rattle.std.specs.Prelude.{◌≡◌, ◌++◌, List, Option, None, Some, map}
 use Rattle.oz_core.specs.declared.event.Event.{Event}
 use Rattle.oz_core.specs.Asks.{pending}
 use Rattle.oz_core.specs.Law.{PurgesLogged}

@@ -15,5 +15,5 @@ pub use drains::{
     what_is_up_holds_old_blocks_alone, what_left_reach_was_garbage,
     when_a_block_left_is_told_by_tables, who_holds,
 };
-pub use pass::{Parts, Service};
 pub use looks::{a_look_sweeps_its_stripe, a_stripes_pins_are_pinned, what_a_look_found_is_logged};
+pub use pass::{Parts, Service};

@@ -69,9 +69,13 @@ impl<O: Opened, R: Ring> Service<Ledger<O>, O, R> {
         ensures logged { IfOk result (λ found. IfSome found (λ request. O.coherent → PurgesLogged self.new.seen request)) }
     {
         self.seat.knows_own();
-        let work = parts
-            .manager
-            .chain_work(parts.rt, parts.alloc, parts.turn, &mut self.seat, SERVICE_SEAT);
+        let work = parts.manager.chain_work(
+            parts.rt,
+            parts.alloc,
+            parts.turn,
+            &mut self.seat,
+            SERVICE_SEAT,
+        );
         see(parts, &mut self.seat);
         self.seat.knows_own();
         work

@@ -5,3 +5,5 @@ pub mod Zipped
 pub mod Downs
 pub mod Waits
 pub mod Going
+pub mod Splits
+pub mod Named

@@ -6,4 +6,5 @@ pub mod Emptied
 pub mod Still
 pub mod Deleting
 pub mod Pass
+pub mod Splitting
 pub mod laws

@@ -7,6 +7,7 @@ mod deleting;
 mod drains;
 mod looks;
 mod pass;
+mod splitting;
 
 pub use all_locked::{AllLocked, Shown, lock_all};
 pub use deleting::{Lent, Noted, send_one};
@@ -17,3 +18,4 @@ pub use drains::{
 };
 pub use looks::{a_look_sweeps_its_stripe, a_stripes_pins_are_pinned, what_a_look_found_is_logged};
 pub use pass::{Parts, Service};
+pub use splitting::transactions;

@@ -1,9 +1,7 @@
-//! What the service job finds and asks.
+//! What the service job asks, one step after another.
 
-ghost use Rattle.std.specs.Prelude.{◌≡◌, ◌<◌, false, None, Ok, IfErr, IfOk, IfSome, OnOk};
+ghost use Rattle.std.specs.Prelude.{◌≡◌, false, None, Ok, IfOk, IfSome, OnOk};
 ghost use Rattle.oz_core.specs.Law.{PurgesLogged};
-ghost use Rattle.oz_names.specs.declared.limits.TheConstants.{STRIPES};
-ghost use Rattle.oz_om.specs.Purging.{HasPurged, WasRefused};
 ghost use Rattle.oz_service.specs.Pass.{GoesOn, LooksOn};
 
 use crate::pass::parts::Parts;
@@ -11,7 +9,7 @@ use crate::pass::service::{SERVICE_SEAT, Service, see};
 use oz_buffer::{Ledger, Opened};
 use oz_fields::OutOfMemory;
 use oz_locks::Loaded;
-use oz_om::{Purged, Refusal};
+use oz_om::Refusal;
 use oz_requests::Request;
 use oz_turn::Ring;
 use oz_world::Disk;
@@ -70,40 +68,14 @@ impl<O: Opened, R: Ring> Service<Ledger<O>, O, R> {
     {
         self.seat.knows_own();
         let work = parts.manager.chain_work(
-            parts.rt,
-            parts.alloc,
-            parts.turn,
+            parts.lent.rt,
+            parts.lent.alloc,
+            parts.lent.turn,
             &mut self.seat,
             SERVICE_SEAT,
         );
         see(parts, &mut self.seat);
         self.seat.knows_own();
         work
-    }
-
-    /// Finds deleted rows of a stripe that may go, and has its seat ask for their blocks to be deleted.
-    ///
-    /// Errors: as `Manager::purge_stripe` says.
-    pub(crate) fn find<D: Disk, L: Loaded, W: Wait>(
-        &mut self,
-        parts: &Parts<'_, D, O, L, R, W>,
-        stripe: u8,
-    ) -> Result<Purged, Refusal>
-        requires { stripe < STRIPES }
-        ensures looked { LooksOn self.old self.new }
-        ensures purged { IfOk result (HasPurged O.coherent O.opening L.rows stripe self.old.seen self.new.seen) }
-        ensures refused { IfErr result (WasRefused stripe self.old.seen self.new.seen) }
-    {
-        self.seat.knows_own();
-        let purged = parts.manager.purge_stripe(
-            parts.rt,
-            parts.alloc,
-            parts.turn,
-            &mut self.seat,
-            SERVICE_SEAT,
-            stripe,
-        );
-        self.seat.knows_own();
-        purged
     }
 }

@@ -3,10 +3,9 @@
 ghost use Rattle.std.specs.Prelude.{◌≡◌, [], IsSome, None, OnErr, OnOk, Some, if◌then◌else◌};
 ghost use Rattle.oz_buffer.specs.Buffer.{AllFollow, Follows};
 ghost use Rattle.oz_core.specs.Law.{PurgesLogged};
-ghost use Rattle.oz_core.specs.Manager.{durable_index};
 ghost use Rattle.oz_core.specs.Seats.{service_seat};
 ghost use Rattle.oz_om.specs.Shown.{HasSeen};
-ghost use Rattle.oz_service.specs.Pass.{AskedMore, Awaits, GoesOn, IsOfService, LooksOn};
+ghost use Rattle.oz_service.specs.Pass.{AskedMore, Awaits, GoesOn, IsOfService};
 ghost use Rattle.oz_turn.specs.Seat.{IsNewSeat, IsReady, mine_of, seen_of};
 ghost use Rattle.oz_turn.specs.Told.{BeginsWith};
 
@@ -80,20 +79,6 @@ impl<O: Opened, R: Ring> Service<Ledger<O>, O, R> {
         self.seat
     }
 
-    /// Sees all that happened until now. Answers the last index that is flushed there.
-    pub(crate) fn look<D: Disk, L: Loaded, W: Wait>(
-        &mut self,
-        parts: &Parts<'_, D, O, L, R, W>,
-    ) -> u64
-        ensures looked { LooksOn self.old self.new }
-        ensures durable { result ≡ durable_index O.opening self.new.seen }
-    {
-        self.seat.knows_own();
-        let durable = see(parts, &mut self.seat);
-        self.seat.knows_own();
-        durable
-    }
-
     /// Takes up what it is to ask next, where nothing waits. Answers whether the request is one of the service job's.
     pub(crate) fn take_up(&mut self, request: Request) -> bool
         requires none { self.old.waiting ≡ None }
@@ -122,7 +107,7 @@ impl<O: Opened, R: Ring> Service<Ledger<O>, O, R> {
         let Some(request) = &self.waiting else {
             unreachable!()
         };
-        let copy = request.try_clone(parts.alloc)?;
+        let copy = request.try_clone(parts.lent.alloc)?;
         let asked = ask_at(parts, &mut self.seat, copy);
         if asked.is_ok() {
             self.waiting = None;
@@ -131,20 +116,17 @@ impl<O: Opened, R: Ring> Service<Ledger<O>, O, R> {
     }
 }
 
-/// The seat sees all that happened until now. Answers the last index that is flushed there.
+/// The seat sees all that happened until now.
 pub(crate) fn see<D: Disk, O: Opened, L: Loaded, R: Ring, W: Wait>(
     parts: &Parts<'_, D, O, L, R, W>,
     seat: &mut Seat<Ledger<O>>,
-) -> u64
+)
     requires { IsReady R.turn service_seat seat.old }
     ensures shown { HasSeen R.turn O.coherent O.opening O.bytes O.script service_seat seat.old seat.new }
-    ensures durable { result ≡ durable_index O.opening (seen_of seat.new) }
 {
-    let (ledger, held) = parts.turn.take(parts.rt, seat);
+    let (ledger, held) = parts.lent.turn.take(parts.lent.rt, seat);
     ledger.all_follow();
-    let durable = ledger.durable_index();
-    parts.turn.give_back(seat, ledger, held);
-    durable
+    parts.lent.turn.give_back(seat, ledger, held);
 }
 
 /// Asks by this seat, and sees it decided.
@@ -163,7 +145,11 @@ fn ask_at<D: Disk, O: Opened, L: Loaded, R: Ring, W: Wait>(
     ensures awaits { O.coherent → Awaits (seen_of seat.new) (Some request) }
     ensures decided { O.coherent → OnOk result (Awaits (seen_of seat.new) None) }
 {
-    parts
-        .manager
-        .ask_service(parts.rt, parts.alloc, parts.turn, seat, request)
+    parts.manager.ask_service(
+        parts.lent.rt,
+        parts.lent.alloc,
+        parts.lent.turn,
+        seat,
+        request,
+    )
 }

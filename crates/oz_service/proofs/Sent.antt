@@ -5,7 +5,7 @@ use Rattle.std.specs.Prelude.{Result, Ok, Err, IfErr, OnOk, is_some, not, if◌t
 use Rattle.oz_buffer.specs.Buffer.{AllFollow, Follows}
 use Rattle.oz_core.specs.declared.event.Event.{Event}
 use Rattle.oz_core.specs.declared.event.EventKind.{EventKind}
-use Rattle.oz_core.specs.declared.event.EventKind.TheVariants.{Delete, Halt}
+use Rattle.oz_core.specs.declared.event.EventKind.TheVariants.{Halt}
 use Rattle.oz_core.specs.declared.event.Node.{Node as AnyNode}
 use Rattle.oz_core.specs.declared.event.Node.TheVariants.{Datanode, Scm}
 use Rattle.oz_core.specs.declared.opening.Opening.{Opening}

@@ -7,3 +7,5 @@ pub mod Waits
 pub mod Going
 pub mod Splits
 pub mod Named
+pub mod Viewed
+pub mod Grown

@@ -1,5 +1,6 @@
 pub mod AllLocked
 pub mod TakenDown
+pub mod Viewed
 pub mod Looks
 pub mod Settled
 pub mod Emptied

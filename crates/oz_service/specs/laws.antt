@@ -7,3 +7,4 @@ pub mod Dated
 pub mod Watched
 pub mod Emptied
 pub mod Still
+pub mod Viewed

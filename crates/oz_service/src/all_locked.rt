@@ -13,10 +13,12 @@ ghost use Rattle.oz_turn.specs.Turn.{turn_id};
 mod showing;
 mod standing;
 mod taking_down;
+mod viewing;
 
 use crate::all_locked::showing::show_nodes;
 use crate::all_locked::standing::{add_nodes, of_flusher};
 use crate::all_locked::taking_down::take_down_nodes;
+pub use crate::all_locked::viewing::what_is_seen_tells_what_comes_next;
 use oz_asker::Still;
 use oz_buffer::{Ledger, Opened};
 use oz_core::Event;

@@ -9,7 +9,7 @@ mod looks;
 mod pass;
 mod splitting;
 
-pub use all_locked::{AllLocked, Shown, lock_all};
+pub use all_locked::{AllLocked, Shown, lock_all, what_is_seen_tells_what_comes_next};
 pub use deleting::{Lent, Noted, send_one};
 pub use drains::{
     a_drains_end_stays, empty_containers_are_deleted, what_is_drained, what_is_held,

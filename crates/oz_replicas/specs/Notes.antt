@@ -20,6 +20,13 @@ pub record IsMember {D : Type 0} (subject : Subject) (dn : ℕ) (node : State D)
   pub member : Contains subject.members dn
   pub its : dn ≡ node.id
 
+-- what has to hold where the note is of a block that came to be held
+abbrev pub IfPut : Note → Type 0 → Type 0
+IfPut (notes.Put dn block size) May = May
+IfPut (notes.Refused dn block refusal) May = Unit {0}
+IfPut (notes.Halt dn count) May = Unit {0}
+IfPut (notes.Bad dn block) May = Unit {0}
+
 -- There is something to put, and no more than a piece has.
 pub record IsPiece (bytes : List ℕ) : Type 0 where
   pub least : 1 ≤ length bytes

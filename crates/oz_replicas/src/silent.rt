@@ -23,6 +23,8 @@ impl<'a, D: Disk> Noter<D, ()> for NoNotes<'a> {
 
     ghost knows = { λ noter kept. Unit {0} };
 
+    ghost may_put = { λ noter kept. Unit {0} };
+
     ghost joins = { λ first second third before after noted_first noted_second. tt };
 
     fn ready(&mut self, _kept: &mut ()) -> Result<(), OutOfMemory> {

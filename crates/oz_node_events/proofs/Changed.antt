@@ -40,6 +40,7 @@ use Rattle.oz_node_events.specs.Deleting.{HasApplied}
 use Rattle.oz_node_events.specs.NodeSeat.{IsKept, SeatView, StandsFor, events_of}
 use Rattle.oz_node_events.specs.laws.Standing.{stands_still}
 use Rattle.oz_node_events.specs.laws.Wiped.{counted_once}
+use Rattle.oz_node_events.proofs.Away.{halt_untold}
 use Rattle.oz_node_events.proofs.Following.{not_halted, not_stopped}
 use Rattle.oz_node_events.proofs.Noted.{begins_through, ready_stands}
 use Rattle.oz_node_events.proofs.Wiping.{halt_follows, halt_stands}
@@ -267,7 +268,7 @@ each_told May dn kind (Err OutOfMemory) done fails = tt
 
 -- a Halt is a note of a change
 pub notes_of : (dn : ℕ) (kind : Option EventKind) → IfSome kind IsNoteOfChange → (came : Result (Unit {0}) ChangeRefusal) → IfSome (change_kind dn kind came) IsNoteOfChange
-notes_of dn kind is came = each_told IsNoteOfChange dn kind came (λ done. is) (λ count fails. record { note = tt; no_bad = refl; uncommanded = tt })
+notes_of dn kind is came = each_told IsNoteOfChange dn kind came (λ done. is) (λ count fails. record { note = tt; no_bad = refl; uncommanded = tt; unput = halt_untold dn count })
 
 pub given_before : (dn : ℕ) (kind : Option EventKind) (seen first other second after : List Event) → BeginsWith first seen → BeginsWith second other
     → IsGiven dn kind first second after → IsGiven dn kind seen other after

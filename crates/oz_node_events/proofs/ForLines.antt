@@ -52,7 +52,7 @@ module _ {X : Type 0} where
       from (inl begins) = inl (begins.0, both_cons y z first ((place ++ x ∷ []) ++ begins.0) head begins.1)
       from (inr behind) = inr (behind.0, (both_cons z y place (first ++ behind.0) (sym head) behind.1.0, behind.1.1))
 
-  same_rest : (first one other : List X) → first ++ one ≡ first ++ other → one ≡ other
+  pub same_rest : (first one other : List X) → first ++ one ≡ first ++ other → one ≡ other
   same_rest [] one other same = same
   same_rest (x ∷ first) one other same = same_rest first one other (same_tail x x (first ++ one) (first ++ other) same)
 

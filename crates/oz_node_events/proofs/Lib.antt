@@ -6,6 +6,7 @@ pub mod Holding
 pub mod Greatest
 pub mod Apart
 pub mod Moving
+pub mod Away
 pub mod Following
 pub mod Leading
 pub mod Noted

@@ -1,23 +1,26 @@
 -- What a note comes to for the noter and for the seat.
-use Rattle.std.proofs.Common.{◌≡◌, ℕ, List, [], ◌∷◌, ◌++◌, length, eq-eqb, refl, sym, ap, ◌∙◌, subst, append_assoc, append-nil, length-append, arith}
+use Rattle.std.proofs.Common.{◌≡◌, ℕ, false, List, [], ◌∷◌, ◌++◌, length, eq-eqb, refl, sym, ap, ◌∙◌, subst, append_assoc, append-nil, length-append, arith}
 use Rattle.std.proofs.Common.{Option}
 use Rattle.std.specs.Borrow.{GName}
 use Rattle.oz_buffer.specs.Buffer.{AllFollow, Follows}
 use Rattle.oz_core.specs.declared.event.Event.{Event}
+use Rattle.oz_core.specs.declared.event.EventKind.TheVariants.{Put}
 use Rattle.oz_core.specs.declared.event.Node.{Node}
 use Rattle.oz_core.specs.declared.opening.Opening.{Opening}
+use Rattle.oz_core.specs.Asks.{is_told}
 use Rattle.oz_core.specs.Contents.{OpeningBytes}
 use Rattle.oz_core.specs.Seats.{datanode_seat}
 use Rattle.oz_core.specs.Stories.{has_event}
 use Rattle.oz_datanode.specs.Datanode.{State}
+use Rattle.oz_fields.specs.declared.block.Block.{Block}
 use Rattle.oz_script.specs.declared.lines.script.Script.{Script}
-use Rattle.oz_replicas.specs.Notes.{Subject, Leads}
+use Rattle.oz_replicas.specs.Notes.{IfPut, Subject, Leads}
 use Rattle.oz_replicas.specs.declared.note.Note.{Note}
 use Rattle.oz_replicas.specs.declared.note.Note.TheVariants as notes
 use Rattle.oz_requests.specs.declared.request.AskId.{AskId}
 use Rattle.oz_turn.specs.Told.{BeginsWith}
 use Rattle.oz_world.specs.Disk.{Images}
-use Rattle.oz_node_events.specs.NodeSeat.{IsAppended, IsKept, SeatView, StandsFor, events_of, is_bad}
+use Rattle.oz_node_events.specs.NodeSeat.{IsAppended, IsKept, PutsUntold, SeatView, StandsFor, events_of, is_bad}
 use Rattle.oz_node_events.specs.Noting.{AreTold, IsNotedBy, IsNoting, NotingView, event_of}
 use Rattle.oz_node_events.proofs.Following.{FilledIsFull, note_follows}
 use Rattle.oz_node_events.proofs.Leading.{PutStands, stands_after}
@@ -42,6 +45,18 @@ event_is told clock image faults id first dn subject old new (notes.Halt n count
     ap (λ (m : ℕ). record { seat = datanode_seat m; kind = (event_of id first (notes.Halt n count)).kind }) (leads.0.its ∙ number)
 event_is told clock image faults id first dn subject old new (notes.Bad n block) number leads =
     ap (λ (m : ℕ). record { seat = datanode_seat m; kind = (event_of id first (notes.Bad n block)).kind }) (leads.0.its ∙ number)
+
+-- what is put by a note is put for the ask's line
+pub note_untold : (id : AskId) (first : ℕ) (note : Note) (story : List Event) → IfPut note (is_told id.client id.line story ≡ false)
+    → PutsUntold (event_of id first note).kind story
+note_untold id first (notes.Put n block size) story untold dn other by place count is =
+    subst (λ (i : AskId). is_told i.client i.line story ≡ false) (same_ask n first size dn place count block other id by is) untold
+  where
+    same_ask : (n first size dn place count : ℕ) (block other : Block) (id by : AskId) → Put n block id first size ≡ Put dn other by place count → id ≡ by
+    same_ask n first size dn place count block other id by is = cc
+note_untold id first (notes.Refused n block refusal) story may dn other by place count is = absurd (cc is)
+note_untold id first (notes.Halt n count) story may dn other by place size is = absurd (cc is)
+note_untold id first (notes.Bad n block) story may dn other by place count is = absurd (cc is)
 
 -- ---- the parts of a story in which the seat gave one event more
 

@@ -12,6 +12,7 @@ use Rattle.oz_datanode.specs.Datanode.{State, is_halted}
 use Rattle.oz_script.specs.declared.lines.script.Line.{Line}
 use Rattle.oz_script.specs.declared.lines.script.Script.{Script}
 use Rattle.oz_script.specs.declared.lines.script.TheConstants.{MOST_CLIENTS}
+use Rattle.oz_repl.specs.views.Away.{StaysAway}
 use Rattle.oz_turn.specs.Told.{own_entries, BeginsWith}
 use Rattle.oz_world.specs.Disk.{Images}
 use Rattle.oz_node_events.specs.declared.command.DoneRefusal.{DoneRefusal}
@@ -23,9 +24,10 @@ use Rattle.oz_node_events.specs.Doing.{EndsSo, IsDoneSo, IsToldSo, IsUndone, IsW
 use Rattle.oz_node_events.specs.Led.{HasItDone, HaveLed, done_kind, last_of}
 use Rattle.oz_node_events.specs.NodeSeat.{IsAppended, IsKept, SeatView, StandsFor, events_of, is_bad}
 use Rattle.oz_node_events.specs.laws.Wiped.{counted_once}
+use Rattle.oz_node_events.proofs.Away.{done_untold, halt_untold}
 use Rattle.oz_node_events.proofs.Commanding.{run_follows, run_stands}
 use Rattle.oz_node_events.proofs.Noted.{ready_stands}
-use Rattle.oz_node_events.proofs.Seated.{done_more, done_on, kept_more, kept_on, noted_more}
+use Rattle.oz_node_events.proofs.Seated.{done_more, done_on, kept_more, kept_on, noted_more, stays_more, stays_on}
 use Rattle.oz_node_events.proofs.Wiping.{halt_stands, wipe_follows, wipe_stands}
 
 -- ---- in the hold
@@ -107,6 +109,19 @@ module _ (Coherent : Type 0) (opening : Opening) (bytes : OpeningBytes) (script 
       done_on Coherent opening bytes script dn room last seen mine kept led number its later begins follow given places own (more ∙ append-nil mine)
   led_so few behind before begun by (Err OutOfMemory) ends told more =
       done_on Coherent opening bytes script dn room last seen mine kept led number its later begins follow given places own (more ∙ append-nil mine)
+
+  pub stays_so : (result : Result (Unit {0}) DoneRefusal) → given ≡ mine ++ told_of dn done result
+      → (Coherent → StaysAway opening dn seen) → Coherent → StaysAway opening dn later
+  stays_so (Ok it) more =
+      stays_more Coherent opening bytes script dn room last seen mine kept led number its later begins follow given places own (done_kind dn done) (λ coherent. not_bad dn done) more
+      (done_untold dn done seen)
+  stays_so (Err (Halted count)) more =
+      stays_more Coherent opening bytes script dn room last seen mine kept led number its later begins follow given places own (Halt (Datanode dn) count) (λ coherent. refl) more
+      (halt_untold dn count seen)
+  stays_so (Err Told) more =
+      stays_on Coherent opening bytes script dn room last seen mine kept led number its later begins follow given places own (more ∙ append-nil mine)
+  stays_so (Err OutOfMemory) more =
+      stays_on Coherent opening bytes script dn room last seen mine kept led number its later begins follow given places own (more ∙ append-nil mine)
 
 -- ---- for the datanode
 

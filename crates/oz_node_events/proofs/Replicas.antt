@@ -1,5 +1,5 @@
 -- Behind a replica that was closed, or dropped, the seat stands for the datanode as it is then.
-use Rattle.std.proofs.Common.{◌≡◌, ◌≢◌, ◌⊎◌, inl, inr, ⊎_elim, ℕ, Bool, true, false, ◌&&◌, ◌||◌, ◌==◌, cond, List, [], ◌∷◌, ◌++◌, Option, None, Some, Result, Ok, Err, eq-eqb, eqb-true, refl, sym, ap, ◌∙◌, subst}
+use Rattle.std.proofs.Common.{◌≡◌, ◌≢◌, inl, inr, ⊎_elim, ℕ, Bool, true, false, ◌&&◌, ◌||◌, ◌==◌, cond, List, [], ◌∷◌, ◌++◌, Option, None, Some, Result, Ok, Err, eq-eqb, eqb-true, refl, sym, ap, ◌∙◌, subst}
 use Rattle.std.proofs.lemmas.Bool.{false≢true}
 use Rattle.std.proofs.lemmas.List.Folds.{list_any-append}
 use Rattle.std.specs.Prelude.{IfErr, IfSome, OnOk, is_some, not}
@@ -17,7 +17,7 @@ use Rattle.oz_core.specs.declared.opening.Opening.{Opening}
 use Rattle.oz_core.specs.Contents.{OpeningBytes}
 use Rattle.oz_core.specs.Law.{comes_to_a_state}
 use Rattle.oz_core.specs.Manager.{halt_count}
-use Rattle.oz_core.specs.Nodes.{closed_after, holds, is_closed, stopped_or_started, was_closed}
+use Rattle.oz_core.specs.Nodes.{closed_after, is_closed, stopped_or_started, was_closed}
 use Rattle.oz_core.specs.Stories.{has_event, newer}
 use Rattle.oz_datanode.specs.Changing.{IsJournaled}
 use Rattle.oz_datanode.specs.Datanode.{State, DisksGoOn, Runs, count_of, is_halted, meta_of, node_in}

@@ -10,18 +10,21 @@ use Rattle.oz_core.specs.Stories.{has_event}
 use Rattle.oz_script.specs.declared.lines.script.Line.{Line}
 use Rattle.oz_script.specs.declared.lines.script.Script.{Script}
 use Rattle.oz_script.specs.declared.lines.script.TheConstants.{MOST_CLIENTS}
+use Rattle.oz_repl.specs.views.Away.{StaysAway}
 use Rattle.oz_turn.specs.Told.{own_entries, BeginsWith}
 use Rattle.oz_node_events.specs.declared.command.NodeCommand.{NodeCommand}
 use Rattle.oz_node_events.specs.Commands.{by_node}
 use Rattle.oz_node_events.specs.Led.{HasItDone, HaveLed, IsUncommanded, done_kind, last_of}
-use Rattle.oz_node_events.specs.NodeSeat.{IsAppended, IsKept, events_of, is_bad}
+use Rattle.oz_node_events.specs.NodeSeat.{IsAppended, IsKept, PutsUntold, events_of, is_bad}
 use Rattle.oz_node_events.specs.laws.Lines.{done_later}
-use Rattle.oz_node_events.proofs.ForLines.{for_done, for_noted, for_on}
+use Rattle.oz_node_events.proofs.Away.{away_noted, away_on}
+use Rattle.oz_node_events.proofs.ForLines.{for_done, for_noted, for_on, same_rest}
 use Rattle.oz_node_events.proofs.Led.{led_done, led_noted, led_on}
 use Rattle.oz_node_events.proofs.Moving.{follow_front}
 use Rattle.oz_node_events.proofs.Noted.{begins_through, own_before, own_behind}
 use Rattle.oz_node_events.proofs.Own.{kept_later}
 use Rattle.oz_node_events.proofs.Sound.{none_more}
+use Rattle.oz_node_events.proofs.Telling.{its_parts, others_go_on}
 
 -- what a seat had seen is seen behind an event that it gave
 pub seen_behind : (event : Event) (seen other after : List Event) → IsAppended event seen other after → BeginsWith after seen
@@ -48,11 +51,29 @@ module _ (Coherent : Type 0) (opening : Opening) (bytes : OpeningBytes) (script 
       (led_on script dn last seen mine later begins
       (for_on script dn Coherent opening bytes coherent last seen later begins follow (known ∙ (same ∙ sym kept.own)) was.for_lines) was)
 
+  since_follow : AllFollow (Follows Coherent opening bytes script) [] (seen ++ begins.0)
+  since_follow = subst (λ (l : List Event). AllFollow (Follows Coherent opening bytes script) [] l) begins.1 follow
+
+  -- and it stays away from what it deleted
+  pub stays_on : given ≡ mine → (Coherent → StaysAway opening dn seen) → Coherent → StaysAway opening dn later
+  stays_on same away coherent =
+      subst (StaysAway opening dn) (sym begins.1)
+      (away_on Coherent opening bytes script coherent (kept.numbered coherent) dn seen begins.0 since_follow
+      (others_go_on dn seen begins.0 mine kept.own (ap (events_of dn) (sym begins.1) ∙ (known ∙ same))) (away coherent))
+
   module _ (kind : EventKind) (no_bad : Coherent → is_bad kind ≡ false) (more : given ≡ mine ++ by_node dn kind ∷ []) where
     pub kept_more : (then : List ℕ) → IsKept Coherent opening bytes script (record { dn = dn; seen = later; mine = given; room = places; last = then })
     kept_more then =
         kept_later Coherent opening bytes script dn room last seen mine kept (record { dn = dn; seen = later; mine = given; room = places; last = then }) refl known follow
         (λ coherent. ap (has_event is_bad) more ∙ none_more mine (by_node dn kind) (kept.no_bad coherent) (no_bad coherent))
+
+    pub stays_more : PutsUntold kind seen → (Coherent → StaysAway opening dn seen) → Coherent → StaysAway opening dn later
+    stays_more untold away coherent =
+        let own = known ∙ (more ∙ ap (λ (l : List Event). l ++ by_node dn kind ∷ []) (sym kept.own)) in
+        subst (StaysAway opening dn) (sym begins.1)
+        (away_noted Coherent opening bytes script coherent (kept.numbered coherent) dn seen begins.0 kind since_follow
+        (same_rest (events_of dn seen) (events_of dn begins.0) (by_node dn kind ∷ []) (sym (its_parts dn seen begins.0) ∙ (ap (events_of dn) (sym begins.1) ∙ own)))
+        untold (away coherent))
 
     pub noted_more : IsUncommanded kind → Coherent → HaveLed script dn last later given
     noted_more none coherent =

@@ -22,7 +22,7 @@ use Rattle.oz_node_events.specs.declared.refusal.ChangeRefusal.{ChangeRefusal}
 use Rattle.oz_node_events.specs.declared.refusal.ChangeRefusal.TheVariants.{Stopped, Halted, Failed, OutOfMemory}
 use Rattle.oz_node_events.specs.Commands.{HaltsSo, by_node}
 use Rattle.oz_node_events.specs.Led.{IsUncommanded}
-use Rattle.oz_node_events.specs.NodeSeat.{IsAppended, IsKept, SeatView, StandsFor, is_bad}
+use Rattle.oz_node_events.specs.NodeSeat.{IsAppended, IsKept, PutsUntold, SeatView, StandsFor, is_bad}
 
 -- a line stopped it; a disk had failed before; one failed while it ran; and without memory it holds what it held
 module _ {D : Type 0} (told : D → Option (List ℕ)) (clock : D → ℕ) (image : D → Images) (faults : D → ℕ) (old new : State D) where
@@ -59,11 +59,12 @@ abbrev pub IsGiven : ℕ → Option EventKind → List Event → List Event → 
 IsGiven dn None seen other after = BeginsWith after seen
 IsGiven dn (Some kind) seen other after = IsAppended (by_node dn kind) seen other after
 
--- For private calls: it is a note, of no bad chunk and of no line's command.
+-- For private calls: it is a note, of no bad chunk, of no line's command and of no Put.
 pub record IsNoteOfChange (kind : EventKind) : Type 0 where
   pub note : IsNote kind
   pub no_bad : is_bad kind ≡ false
   pub uncommanded : IsUncommanded kind
+  pub unput : (story : List Event) → PutsUntold kind story
 
 -- What came of a change that is told by an event of this kind, or by none: for the datanode, and for its seat, where another seat
 -- had seen this.

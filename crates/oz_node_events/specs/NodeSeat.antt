@@ -4,11 +4,12 @@ use Rattle.std.specs.Prelude.{IsSome, IfSome, if◌then◌else◌}
 use Rattle.oz_buffer.specs.Buffer.{AllFollow, Follows}
 use Rattle.oz_core.specs.declared.event.Event.{Event}
 use Rattle.oz_core.specs.declared.event.EventKind.{EventKind}
-use Rattle.oz_core.specs.declared.event.EventKind.TheVariants.{Bad}
+use Rattle.oz_core.specs.declared.event.EventKind.TheVariants.{Bad, Put}
 use Rattle.oz_core.specs.declared.event.Node.{Node}
 use Rattle.oz_core.specs.declared.event.Node.TheVariants.{Datanode}
 use Rattle.oz_core.specs.declared.opening.Opening.{Opening}
 use Rattle.oz_core.specs.declared.opening.Unretired.{Unretired}
+use Rattle.oz_core.specs.Asks.{is_told}
 use Rattle.oz_core.specs.Contents.{HasContent, OpeningBytes}
 use Rattle.oz_core.specs.Manager.{halt_of}
 use Rattle.oz_core.specs.Nodes.{holds, is_closed, length_of, stopped_or_started, was_closed, was_held}
@@ -24,6 +25,7 @@ use Rattle.oz_kept.specs.reopened.Left.{greatest_of, was_greatest}
 use Rattle.oz_node_events.specs.full.Full.{JournalStands}
 use Rattle.oz_script.specs.declared.lines.script.Script.{Script}
 use Rattle.oz_nodes.specs.declared.nodes.TheConstants.{MOST_NODES}
+use Rattle.oz_requests.specs.declared.request.AskId.{AskId}
 use Rattle.oz_turn.specs.Told.{BeginsWith, own_entries}
 use Rattle.oz_world.specs.Disk.{Images}
 use Rattle.oz_world.specs.Faults.{Rose}
@@ -50,6 +52,16 @@ events_of dn story = own_entries (λ (event : Event). event.seat) (datanode_seat
 abbrev pub is_bad : EventKind → Bool
 is_bad (Bad dn block id) = true
 is_bad _ = false
+
+-- the line of an ask wasn't told, where there is one
+abbrev pub IsUntold : Option AskId → List Event → Type 0
+IsUntold None story = Unit {0}
+IsUntold (Some id) story = is_told id.client id.line story ≡ false
+
+-- where the event is a Put, its line wasn't told
+abbrev pub PutsUntold : EventKind → List Event → Type 0
+PutsUntold kind story = (dn : ℕ) (block : Block) (id : AskId) (first count : ℕ) → kind ≡ Put dn block id first count
+    → is_told id.client id.line story ≡ false
 
 module _ (Coherent : Type 0) (opening : Opening) (bytes : OpeningBytes) (script : Script) where
   -- what holds of each datanode's seat

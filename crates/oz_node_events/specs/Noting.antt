@@ -1,11 +1,12 @@
 -- What who notes for an ask has to know, and which events come of the notes.
-use Rattle.std.specs.Prelude.{◌≡◌, ℕ, ◌*◌, ◌≤◌, List, [], ◌∷◌, ◌++◌, length, map, Contains, Some}
+use Rattle.std.specs.Prelude.{◌≡◌, ℕ, ◌*◌, ◌≤◌, false, List, [], ◌∷◌, ◌++◌, length, map, Contains, Some}
 use Rattle.std.specs.Borrow.{GName}
 use Rattle.oz_buffer.specs.Buffer.{AllFollow, Follows}
 use Rattle.oz_core.specs.declared.event.Event.{Event}
 use Rattle.oz_core.specs.declared.event.EventKind.TheVariants.{Put, Refused, Halt, Bad}
 use Rattle.oz_core.specs.declared.event.Node.TheVariants.{Datanode}
 use Rattle.oz_core.specs.declared.opening.Opening.{Opening}
+use Rattle.oz_core.specs.Asks.{is_told}
 use Rattle.oz_core.specs.Contents.{OpeningBytes, HasContent, WasGranted, piece_number}
 use Rattle.oz_core.specs.Fits.{OwnHasStarted}
 use Rattle.oz_core.specs.Law.{IsNamedOrOwn}
@@ -91,3 +92,7 @@ pub record IsSameNoter (before after : NotingView) : Type 0 where
 -- the noter's seat has seen all that the datanode's has
 abbrev pub HasSeen : NotingView → SeatView → Type 0
 HasSeen noter seat = BeginsWith noter.seen seat.seen
+
+-- the ask's line wasn't told by what the datanode's seat has seen
+abbrev pub MayPut : NotingView → SeatView → Type 0
+MayPut noter seat = is_told noter.id.client noter.id.line seat.seen ≡ false

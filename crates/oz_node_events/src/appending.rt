@@ -1,9 +1,9 @@
 //! What a datanode's seat does while it holds the turn.
 
-ghost use Rattle.std.specs.Prelude.{◌≡◌, ◌+◌, ◌<◌, ◌≤◌, ◌++◌, ◌∷◌, [], List, None, OnOk, OnErr, length};
+ghost use Rattle.std.specs.Prelude.{◌≡◌, ◌+◌, ◌<◌, ◌≤◌, ◌≢◌, ◌++◌, ◌∷◌, [], ℕ, List, None, OnOk, OnErr, length, slice_index};
 ghost use Rattle.oz_buffer.specs.Buffer.{AllFollow, Follows, IsNote};
 ghost use Rattle.oz_core.specs.declared.event.Event.{Event as AnyEvent};
-ghost use Rattle.oz_node_events.specs.NodeSeat.{IsAppended};
+ghost use Rattle.oz_node_events.specs.NodeSeat.{IsAppended, IsUntold};
 ghost use Rattle.oz_turn.specs.Seat.{IsReady, IsSameSeat, mine_of, room_of, seen_of, taken_of, turn_of};
 ghost use Rattle.oz_turn.specs.Told.{own_entries, BeginsWith};
 ghost use Rattle.oz_turn.specs.Turn.{turn_id};
@@ -11,6 +11,7 @@ ghost use Rattle.oz_turn.specs.Turn.{turn_id};
 use oz_buffer::{Ledger, Opened};
 use oz_core::{Event, EventKind};
 use oz_fields::OutOfMemory;
+use oz_requests::AskId;
 use oz_turn::{Seat, Told, Turn};
 use std::alloc::Global;
 use std::sync::Wait;
@@ -18,27 +19,37 @@ use std::sync::Wait;
 /// The seat of datanode 0. Those of the others follow it.
 pub(crate) const FIRST_DATANODE_SEAT: u16 = 4;
 
-/// Makes a seat's room greater by so many events, and another seat sees all that this one has. `by` is its number.
+/// The room that a seat is to have: the seat's number, how many events more, and the ask for which they are, if they are for one.
+#[derive(Clone, Copy)]
+pub(crate) struct Wanted {
+    pub(crate) by: u16,
+    pub(crate) events: u32,
+    pub(crate) id: Option<AskId>,
+}
+
+/// Makes a seat's room greater, and another seat sees all that this one has.
+///
+/// Errors: `OutOfMemory`, also where the line of the ask is told.
 pub(crate) fn reserve<O: Opened, W: Wait>(
     rt: &W,
     alloc: Global,
     turn: &Turn<Ledger<O>>,
     seat: &mut Seat<Ledger<O>>,
     other: &mut Seat<Ledger<O>>,
-    by: u16,
-    events: u32,
+    wanted: Wanted,
 ) -> Result<(), OutOfMemory>
-    requires ready { IsReady (turn_id turn.now) by seat.old }
-    requires seats { by < 64 }
+    requires ready { IsReady (turn_id turn.now) wanted.by seat.old }
+    requires seats { wanted.by < 64 }
     requires other_turn { turn_of other.old ≡ turn_id turn.now }
     requires other_free { taken_of other.old ≡ None }
-    requires events { events ≤ 64 }
-    ensures ready { IsReady (turn_id turn.now) by seat.new }
-    ensures room { OnOk result (room_of seat.new ≡ room_of seat.old + events) }
+    requires events { wanted.events ≤ 64 }
+    ensures ready { IsReady (turn_id turn.now) wanted.by seat.new }
+    ensures room { OnOk result (room_of seat.new ≡ room_of seat.old + wanted.events) }
     ensures lacks { OnErr result (room_of seat.new ≡ room_of seat.old) }
+    ensures untold { OnOk result (IsUntold wanted.id (seen_of seat.new)) }
     ensures goes_on { BeginsWith (seen_of seat.new) (seen_of seat.old) }
     ensures mine { mine_of seat.new ≡ mine_of seat.old }
-    ensures known { own_entries (λ event. event.seat) by (seen_of seat.new) ≡ mine_of seat.new }
+    ensures known { own_entries (λ event. event.seat) wanted.by (seen_of seat.new) ≡ mine_of seat.new }
     ensures follow { AllFollow (Follows O.coherent O.opening O.bytes O.script) [] (seen_of seat.new) }
     ensures other { IsSameSeat other.old other.new }
     ensures other_free { taken_of other.new ≡ None }
@@ -49,11 +60,34 @@ pub(crate) fn reserve<O: Opened, W: Wait>(
 {
     let (mut ledger, held) = turn.take(rt, seat);
     ledger.all_follow();
-    let made = ledger.reserve_notes(alloc, by, events);
+    let made = make_room(&mut ledger, alloc, wanted);
     turn.show(seat, other);
     turn.give_back(seat, ledger, held);
     seat.knows_own();
     made
+}
+
+/// Makes room for events of a seat, for an ask whose line isn't told.
+fn make_room<O: Opened>(
+    ledger: &mut Ledger<O>,
+    alloc: Global,
+    wanted: Wanted,
+) -> Result<(), OutOfMemory>
+    requires seats { wanted.by < 64 }
+    requires events { wanted.events ≤ 64 }
+    ensures story { ledger.new.story ≡ ledger.old.story }
+    ensures room { OnOk result (slice_index ledger.new.rooms wanted.by
+        ≡ slice_index ledger.old.rooms wanted.by + wanted.events) }
+    ensures others { (n : ℕ) → n ≢ wanted.by → slice_index ledger.new.rooms n ≡ slice_index ledger.old.rooms n }
+    ensures err { OnErr result (ledger.new ≡ ledger.old) }
+    ensures untold { OnOk result (IsUntold wanted.id ledger.old.story) }
+{
+    if let Some(id) = wanted.id {
+        if ledger.is_told(id.client, id.line) {
+            return Err(OutOfMemory);
+        }
+    }
+    ledger.reserve_notes(alloc, wanted.by, wanted.events)
 }
 
 /// Appends an event, of which another seat has seen what stands before it. `by` is the number of the seat that gives it.

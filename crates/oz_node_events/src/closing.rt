@@ -52,7 +52,7 @@ impl<O: Opened, R: Ring> NodeSeat<Ledger<O>, O, R> {
             (Some (CloseCommand self.old.dn container)) (seen_of other.old) self.old self.new node.old node.new result }
         ensures other { HasSeenIt self.new.seen other.old other.new }
     {
-        self.ready(rt, alloc, turn, other)?;
+        self.ready(rt, alloc, turn, other, None)?;
         let dn = self.dn();
         let came = set_state(alloc, node, container, state);
         let done = EventKind::CloseCommand { dn, container };
@@ -85,7 +85,7 @@ impl<O: Opened, R: Ring> NodeSeat<Ledger<O>, O, R> {
             (None) (seen_of other.old) self.old self.new node.old node.new result }
         ensures other { HasSeenIt self.new.seen other.old other.new }
     {
-        self.ready(rt, alloc, turn, other)?;
+        self.ready(rt, alloc, turn, other, None)?;
         let dn = self.dn();
         let came = drop_container(alloc, node, container);
         let kind = change_kind(dn, None, came);

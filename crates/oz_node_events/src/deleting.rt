@@ -57,7 +57,7 @@ impl<O: Opened, R: Ring> NodeSeat<Ledger<O>, O, R> {
             (Some (delete_kind self.old.dn (node_in node.old) txn.now)) (seen_of other.old) self.old self.new node.old node.new (as_done result) }
         ensures other { HasSeenIt self.new.seen other.old other.new }
     {
-        self.ready(rt, alloc, turn, other)?;
+        self.ready(rt, alloc, turn, other, None)?;
         let locals = held_locals(alloc, node, txn)?;
         let dn = self.dn();
         let number = txn.number;

@@ -129,7 +129,7 @@ impl<'a, D: Disk, T: Told<Entry = Event>, O: Opened, R: Ring, W: Wait> Noting<'a
 
 impl<'a, D: Disk, O: Opened, R: Ring, W: Wait> Noter<D, NodeSeat<Ledger<O>, O, R>>
     for Noting<'a, D, Ledger<O>, O, R, W> {
-    ghost use Rattle.oz_node_events.specs.Noting.{HasSeen, IsNotedBy};
+    ghost use Rattle.oz_node_events.specs.Noting.{HasSeen, IsNotedBy, MayPut};
     ghost use Rattle.oz_node_events.specs.laws.Told.{noted_joined};
 
     ghost subject = { λ noter. noter.subject };
@@ -138,10 +138,12 @@ impl<'a, D: Disk, O: Opened, R: Ring, W: Wait> Noter<D, NodeSeat<Ledger<O>, O, R
 
     ghost knows = { HasSeen };
 
+    ghost may_put = { MayPut };
+
     ghost joins = { noted_joined };
 
     fn ready(&mut self, kept: &mut NodeSeat<Ledger<O>, O, R>) -> Result<(), OutOfMemory> {
-        kept.ready(self.rt, self.alloc, self.turn, self.seat)
+        kept.ready(self.rt, self.alloc, self.turn, self.seat, Some(self.id))
     }
 
     fn note(&mut self, kept: &mut NodeSeat<Ledger<O>, O, R>, note: Note) {

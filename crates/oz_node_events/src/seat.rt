@@ -12,7 +12,8 @@ ghost use Rattle.oz_datanode.specs.Datanode.{is_halted};
 ghost use Rattle.oz_node_events.specs.declared.command.DoneRefusal.TheVariants.{Told as WasTold};
 ghost use Rattle.oz_node_events.specs.Doing.{IsToldSo, IsWanted, LeftSo, last_done, told_of};
 ghost use Rattle.oz_node_events.specs.Led.{HasItDone, HaveLed, IsUncommanded, no_lines};
-ghost use Rattle.oz_node_events.specs.NodeSeat.{IsAppended, IsKept, NumbersAreOld, StandsFor, events_of, is_bad};
+ghost use Rattle.oz_node_events.specs.NodeSeat.{IsAppended, IsKept, IsUntold, NumbersAreOld, PutsUntold, StandsFor, events_of, is_bad};
+ghost use Rattle.oz_repl.specs.views.Away.{StaysAway};
 ghost use Rattle.oz_replicas.specs.Stays.{IsIdle};
 ghost use Rattle.oz_node_events.specs.Beside.{ShareAPlace};
 ghost use Rattle.oz_scm_events.specs.Tracked.{IsTracked};
@@ -20,7 +21,7 @@ ghost use Rattle.oz_turn.specs.Seat.{IsNewSeat, IsReady, IsSameSeat, mine_of, ro
 ghost use Rattle.oz_turn.specs.Told.{BeginsWith};
 ghost use Rattle.oz_turn.specs.Turn.{turn_id};
 
-use crate::appending::{FIRST_DATANODE_SEAT, append, reserve, show};
+use crate::appending::{FIRST_DATANODE_SEAT, Wanted, append, reserve, show};
 use crate::command::{DoneRefusal, NodeCommand};
 use crate::doing::do_held;
 use oz_buffer::{Ledger, Opened};
@@ -28,6 +29,7 @@ use oz_core::{Event, EventKind};
 use oz_datanode::Datanode;
 use oz_fields::OutOfMemory;
 use oz_replicas::Kept;
+use oz_requests::AskId;
 use oz_scm_events::ScmCell;
 use oz_script::{Line, MOST_CLIENTS};
 use oz_turn::{Ring, Seat, Told, Turn};
@@ -43,7 +45,8 @@ const NOTES: u32 = 2;
 const CLIENTS: usize = MOST_CLIENTS + 1;
 
 /// The seat of a datanode. It stands for the datanode that is what the story makes of it. With it is kept of each client the
-/// last line that had something done to the datanode, so that no line has it done twice.
+/// last line that had something done to the datanode, so that no line has it done twice. Where the opening is coherent the datanode
+/// stays away from what it deleted: behind a Delete it puts no block that the transaction names.
 #[derive(Drop)]
 pub struct NodeSeat<T: Told<Entry = Event>, O: Opened, R: Ring> {
     dn: u8,
@@ -58,6 +61,7 @@ impl<T: Told<Entry = Event>, O: Opened, R: Ring> Model for NodeSeat<T, O, R> {
     ghost use Rattle.oz_core.specs.Seats.{datanode_seat};
     ghost use Rattle.oz_node_events.specs.Led.{HaveLed};
     ghost use Rattle.oz_node_events.specs.NodeSeat.{IsKept, SeatView};
+    ghost use Rattle.oz_repl.specs.views.Away.{StaysAway};
     ghost use Rattle.oz_turn.specs.Seat.{IsReady, mine_of, room_of, seen_of};
 
     ghost Value = { SeatView };
@@ -67,7 +71,8 @@ impl<T: Told<Entry = Event>, O: Opened, R: Ring> Model for NodeSeat<T, O, R> {
     ghost invariant = { λ s. IsReady R.turn (datanode_seat s.dn) s.seat × (room_of s.seat ≡ s.room)
         × IsKept O.coherent O.opening O.bytes O.script
         (record { dn = s.dn; seen = seen_of s.seat; mine = mine_of s.seat; room = s.room; last = s.last })
-        × (O.coherent → HaveLed O.script s.dn s.last (seen_of s.seat) (mine_of s.seat)) };
+        × (O.coherent → HaveLed O.script s.dn s.last (seen_of s.seat) (mine_of s.seat))
+        × (O.coherent → StaysAway O.opening s.dn (seen_of s.seat)) };
 }
 
 impl<D: Disk, T: Told<Entry = Event>, O: Opened, R: Ring> Kept<D> for NodeSeat<T, O, R> {
@@ -122,6 +127,14 @@ impl<T: Told<Entry = Event>, O: Opened, R: Ring> NodeSeat<T, O, R> {
         let _dn = self.dn;
     }
 
+    /// That the datanode put nothing behind a Delete that took it away, by what the seat has seen, where the opening is coherent. It
+    /// does nothing when it runs.
+    pub fn stays_away(&self)
+        ensures { O.coherent → StaysAway O.opening self.now.dn self.now.seen }
+    {
+        let _dn = self.dn;
+    }
+
     /// The last line of a client that had something done to the datanode, or 0. Clients are numbered from 1.
     pub fn last(&self, client: u16) -> u16
         requires { client ≤ MOST }
@@ -148,14 +161,18 @@ impl<T: Told<Entry = Event>, O: Opened, R: Ring> NodeSeat<T, O, R> {
 }
 
 impl<O: Opened, R: Ring> NodeSeat<Ledger<O>, O, R> {
-    /// Has room for two notes, so that noting takes no memory, and another seat sees all that the datanode's has seen. Where there
-    /// is no memory nothing changes but that the seats may have seen more.
+    /// Has room for two notes, so that noting takes no memory, and another seat sees all that the datanode's has seen. Where notes are
+    /// for an ask, its line wasn't told then: so a Put for it may be noted, as long as the seat has seen no more.
+    ///
+    /// Errors: `OutOfMemory`, where nothing changes but that the seats may have seen more. Where the ask's line is told the answer is
+    /// the same. That never comes, since a line is told behind its writes and its reads; the law lets it be told before.
     pub fn ready<W: Wait>(
         &mut self,
         rt: &W,
         alloc: Global,
         turn: &Turn<Ledger<O>>,
         other: &mut Seat<Ledger<O>>,
+        id: Option<AskId>,
     ) -> Result<(), OutOfMemory>
         requires turn { turn_id turn.now ≡ R.turn }
         requires other_turn { turn_of other.old ≡ R.turn }
@@ -163,6 +180,7 @@ impl<O: Opened, R: Ring> NodeSeat<Ledger<O>, O, R> {
         ensures number { self.new.dn ≡ self.old.dn }
         ensures room { OnOk result (2 ≤ self.new.room) }
         ensures lacks { OnErr result (self.new.room ≡ self.old.room) }
+        ensures untold { OnOk result (IsUntold id self.new.seen) }
         ensures goes_on { BeginsWith self.new.seen self.old.seen }
         ensures mine { self.new.mine ≡ self.old.mine }
         ensures last { self.new.last ≡ self.old.last }
@@ -176,18 +194,16 @@ impl<O: Opened, R: Ring> NodeSeat<Ledger<O>, O, R> {
         ensures other_room { room_of other.new ≡ room_of other.old }
     {
         let by = FIRST_DATANODE_SEAT + u16::from(self.dn);
-        let seat = &mut self.seat;
-        if self.room >= NOTES {
-            show(rt, turn, seat, other, by);
-            return Ok(());
-        }
-        reserve(rt, alloc, turn, seat, other, by, NOTES - self.room)?;
-        self.room = NOTES;
+        let events = NOTES.saturating_sub(self.room);
+        let wanted = Wanted { by, events, id };
+        reserve(rt, alloc, turn, &mut self.seat, other, wanted)?;
+        self.room += events;
         Ok(())
     }
 
     /// Appends an event of the datanode, after the change that it names is stable and while the datanode's lock is held. Another
-    /// seat sees it, and all that the datanode's has seen. It takes no memory.
+    /// seat sees it, and all that the datanode's has seen. Where it is a Put, its line wasn't told by what the datanode's seat has
+    /// seen. It takes no memory.
     pub fn note<W: Wait>(
         &mut self,
         rt: &W,
@@ -202,6 +218,7 @@ impl<O: Opened, R: Ring> NodeSeat<Ledger<O>, O, R> {
         requires kind { IsNote kind }
         requires no_bad { O.coherent → is_bad kind ≡ false }
         requires uncommanded { IsUncommanded kind }
+        requires untold { PutsUntold kind self.old.seen }
         requires follows { (story : List AnyEvent) → BeginsWith story self.old.seen → BeginsWith story (seen_of other.old)
             → AllFollow (Follows O.coherent O.opening O.bytes O.script) [] story
             → events_of self.old.dn story ≡ self.old.mine

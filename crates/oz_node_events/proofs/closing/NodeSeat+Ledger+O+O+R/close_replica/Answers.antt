@@ -11,6 +11,7 @@ use Rattle.oz_node_events.specs.Changing.{IsNoteOfChange, change_kind}
 use Rattle.oz_node_events.specs.Closing.{MayClose}
 use Rattle.oz_node_events.specs.Commands.{by_node}
 use Rattle.oz_node_events.specs.NodeSeat.{events_of}
+use Rattle.oz_node_events.proofs.Away.{close_untold}
 use Rattle.oz_node_events.proofs.Changed.{comes_of_none, notes_of}
 use Rattle.oz_node_events.proofs.Noted.{begins_through, ready_stands}
 use Rattle.oz_node_events.proofs.Replicas.{close_comes, close_later, close_tells}
@@ -21,7 +22,7 @@ give-requires-clause-kind g c =
     let second = c.ready.new.self in
     let came = c.set_state-came.result in
     let kind : c.change_kind-kind.result ≡ change_kind second.dn (Some (CloseCommand second.dn c.args.container)) came = c.change_kind-kind.ensures ∙ (λ i. change_kind (c.dn-dn.ensures i) (Some (CloseCommand (c.dn-dn.ensures i) c.args.container)) came) in
-    subst (λ (k : Option EventKind). IfSome k IsNoteOfChange) (sym kind) (notes_of second.dn (Some (CloseCommand second.dn c.args.container)) (record { note = tt; no_bad = refl; uncommanded = tt }) came)
+    subst (λ (k : Option EventKind). IfSome k IsNoteOfChange) (sym kind) (notes_of second.dn (Some (CloseCommand second.dn c.args.container)) (record { note = tt; no_bad = refl; uncommanded = tt; unput = close_untold second.dn c.args.container }) came)
 
 pub give-requires-clause-follows : goal.give-requires-clause-follows
 give-requires-clause-follows g c =

@@ -9,8 +9,9 @@ use Rattle.oz_turn.specs.Seat.{seen_of}
 use Rattle.oz_turn.specs.Told.{BeginsWith}
 use Rattle.oz_node_events.specs.Changing.{IsNoteOfChange}
 use Rattle.oz_node_events.specs.Commands.{by_node}
-use Rattle.oz_node_events.specs.Deleting.{as_done, delete_kind}
+use Rattle.oz_node_events.specs.Deleting.{as_done, delete_kind, held_locals}
 use Rattle.oz_node_events.specs.NodeSeat.{events_of}
+use Rattle.oz_node_events.proofs.Away.{delete_untold}
 use Rattle.oz_node_events.proofs.Changed.{comes_of_none, notes_of}
 use Rattle.oz_node_events.proofs.Deleted.{delete_comes, delete_tells, may_later, told_kind}
 use Rattle.oz_node_events.proofs.Noted.{begins_through, ready_stands}
@@ -21,7 +22,7 @@ give-requires-clause-kind g c =
     let second = c.ready.new.self in
     let kind = told_kind second.dn (node_in c.args.node.now) c.args.txn.now c.dn-dn.result c.in_ok-locals.locals c.as_done.result c.apply-came.result c.dn-dn.ensures c.in_ok-locals.ensures c.as_done.ensures in
     subst (λ (k : Option EventKind). IfSome k IsNoteOfChange) (sym (c.change_kind-kind.ensures ∙ kind))
-    (notes_of second.dn (Some (delete_kind second.dn (node_in c.args.node.now) c.args.txn.now)) (record { note = tt; no_bad = refl; uncommanded = tt }) (as_done c.apply-came.result))
+    (notes_of second.dn (Some (delete_kind second.dn (node_in c.args.node.now) c.args.txn.now)) (record { note = tt; no_bad = refl; uncommanded = tt; unput = delete_untold second.dn c.args.txn.now.number (held_locals (node_in c.args.node.now) c.args.txn.now) }) (as_done c.apply-came.result))
 
 pub give-requires-clause-follows : goal.give-requires-clause-follows
 give-requires-clause-follows g c =

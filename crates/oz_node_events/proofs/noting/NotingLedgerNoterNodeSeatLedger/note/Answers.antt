@@ -3,12 +3,12 @@ use Rattle.oz_buffer.specs.Buffer.{Follows}
 use Rattle.oz_core.specs.declared.event.Event.{Event}
 use Rattle.oz_core.specs.declared.event.EventKind.{EventKind}
 use Rattle.oz_core.specs.Seats.{datanode_seat}
-use Rattle.oz_replicas.specs.Notes.{Subject, Leads}
+use Rattle.oz_replicas.specs.Notes.{IfPut, Subject, Leads}
 use Rattle.oz_turn.specs.Seat.{mine_of, number_of, room_of, seen_of}
-use Rattle.oz_node_events.specs.NodeSeat.{IsAppended, is_bad}
-use Rattle.oz_node_events.specs.Noting.{AreTold, NotingView}
+use Rattle.oz_node_events.specs.NodeSeat.{IsAppended, PutsUntold, is_bad}
+use Rattle.oz_node_events.specs.Noting.{AreTold, MayPut, NotingView}
 use Rattle.oz_node_events.proofs.Following.{FilledIsFull}
-use Rattle.oz_node_events.proofs.Noted.{appended_begins, same_noting, noted_follows, noted_stands, noted_as, noted_told, noting_later, seen_alike}
+use Rattle.oz_node_events.proofs.Noted.{appended_begins, note_untold, same_noting, noted_follows, noted_stands, noted_as, noted_told, noting_later, seen_alike}
 use Rattle.oz_node_events.proofs.Sound.{none_noted}
 use Rattle.oz_node_events.proofs.noting.NotingLedgerNoterNodeSeatLedger.note.Goals as goal
 
@@ -27,6 +27,13 @@ note-requires-clause-follows g c story begins other all own =
     subst (λ (k : EventKind). Follows O.coherent O.opening O.bytes O.script story (record { seat = datanode_seat c.args.kept.now.dn; kind = k })) (sym c.kind_of-kind.ensures.kind)
     (noted_follows O.coherent O.opening O.bytes O.script O.faults D.told D.clock D.image D.faults filled puts inside.id inside.first subject (seen_of inside.seat.now) c.self.invariant.3
     c.args.kept.now c.is_kept.ensures c.args.note happened.0 happened.1.0 happened.1.1.0 leads story begins other all own)
+
+pub note-requires-clause-untold : goal.note-requires-clause-untold
+note-requires-clause-untold g c =
+    let inside = c.self.inside in
+    let seen = c.args.kept.now.seen in
+    let may = subst (λ (v : NotingView). IfPut c.args.note (MayPut v c.args.kept.now)) (sym c.self.view_is) c.requires.may_put in
+    subst (λ (k : EventKind). PutsUntold k seen) (sym c.kind_of-kind.ensures.kind) (note_untold inside.id inside.first c.args.note seen may)
 
 pub note-requires-clause-no_bad : goal.note-requires-clause-no_bad
 note-requires-clause-no_bad g c coherent =

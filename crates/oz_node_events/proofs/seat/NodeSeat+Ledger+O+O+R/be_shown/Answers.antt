@@ -3,7 +3,7 @@ use Rattle.oz_buffer.specs.Buffer.{AllFollow, Follows}
 use Rattle.oz_core.specs.declared.event.Event.{Event}
 use Rattle.oz_turn.specs.Seat.{mine_of, seen_of}
 use Rattle.oz_turn.specs.Told.{own_entries}
-use Rattle.oz_node_events.proofs.Seated.{done_on, kept_on}
+use Rattle.oz_node_events.proofs.Seated.{done_on, kept_on, stays_on}
 use Rattle.oz_node_events.proofs.seat.NodeSeat+Ledger+O+O+R.be_shown.Goals as goal
 
 pub invariant_of-self : goal.invariant_of-self
@@ -21,4 +21,6 @@ invariant_of-self g c =
           (seen_of seat) show.begins follow (mine_of seat) s.room known show.mine,
       done_on O.coherent O.opening O.bytes O.script s.dn s.room s.last (seen_of s.seat) (mine_of s.seat) c.self.invariant.2 c.self.invariant.3 s.dn refl
           (seen_of seat) show.begins follow (mine_of seat) s.room known show.mine,
+      stays_on O.coherent O.opening O.bytes O.script s.dn s.room s.last (seen_of s.seat) (mine_of s.seat) c.self.invariant.2 c.self.invariant.3 s.dn refl
+          (seen_of seat) show.begins follow (mine_of seat) s.room known show.mine c.self.invariant.4,
     )

@@ -10,7 +10,7 @@ use Rattle.oz_node_events.specs.Doing.{IsToldSo, told_of}
 use Rattle.oz_node_events.specs.Led.{HasItDone, HaveLed, done_kind, last_of}
 use Rattle.oz_node_events.specs.NodeSeat.{IsKept, SeatView, events_of}
 use Rattle.oz_node_events.specs.laws.Lines.{done_later}
-use Rattle.oz_node_events.proofs.Outcomes.{done_follows, kept_so, led_so, left_stands, told_so}
+use Rattle.oz_node_events.proofs.Outcomes.{done_follows, kept_so, led_so, left_stands, stays_so, told_so}
 use Rattle.oz_node_events.proofs.Led.{led_fits}
 use Rattle.oz_node_events.proofs.Noted.{begins_through}
 use Rattle.oz_node_events.proofs.Own.{begins_as}
@@ -69,6 +69,8 @@ invariant_of-self g c =
       λ coherent. subst (λ l. HaveLed O.script s.dn l (seen_of seat) (mine_of seat)) (sym c.keep_line.ensures)
           (led_so O.coherent O.opening O.bytes O.script s.dn s.room s.last (seen_of s.seat) (mine_of s.seat) c.self.invariant.2 c.self.invariant.3 c.from-by.result c.from-by.ensures
           (seen_of seat) begins show.follow (mine_of seat) s.room show.known line done c.requires.client behind place held.goes_on by result ends held.was_told more coherent),
+      stays_so O.coherent O.opening O.bytes O.script s.dn s.room s.last (seen_of s.seat) (mine_of s.seat) c.self.invariant.2 c.self.invariant.3 c.from-by.result c.from-by.ensures
+          (seen_of seat) begins show.follow (mine_of seat) s.room show.known line done result more c.self.invariant.4,
     )
 
 pub returns-clause-stands : goal.returns-clause-stands

@@ -2,10 +2,10 @@ use Rattle.std.proofs.Common.{ap, ◌+◌, ◌-◌, ◌≡◌, ◌∷◌, [], �
 use Rattle.oz_buffer.specs.Buffer.{Follows}
 use Rattle.oz_core.specs.declared.event.Event.{Event}
 use Rattle.oz_turn.specs.Seat.{mine_of, seen_of}
-use Rattle.oz_node_events.specs.NodeSeat.{events_of}
+use Rattle.oz_node_events.specs.NodeSeat.{PutsUntold, events_of}
 use Rattle.oz_node_events.proofs.Noted.{begins_through}
 use Rattle.oz_node_events.proofs.Own.{begins_as}
-use Rattle.oz_node_events.proofs.Seated.{kept_more, noted_more, seen_behind}
+use Rattle.oz_node_events.proofs.Seated.{kept_more, noted_more, seen_behind, stays_more}
 use Rattle.oz_node_events.proofs.seat.NodeSeat+Ledger+O+O+R.note.Goals as goal
 
 pub append-requires-clause-follows : goal.append-requires-clause-follows
@@ -33,4 +33,7 @@ invariant_of-self g c =
           (seen_of seat) begins show.follow (mine_of seat) (s.room - 1) show.known c.args.kind c.requires.no_bad more s.last,
       noted_more O.coherent O.opening O.bytes O.script s.dn s.room s.last (seen_of s.seat) (mine_of s.seat) c.self.invariant.2 c.self.invariant.3 c.from-by.result c.from-by.ensures
           (seen_of seat) begins show.follow (mine_of seat) (s.room - 1) show.known c.args.kind c.requires.no_bad more c.requires.uncommanded,
+      stays_more O.coherent O.opening O.bytes O.script s.dn s.room s.last (seen_of s.seat) (mine_of s.seat) c.self.invariant.2 c.self.invariant.3 c.from-by.result c.from-by.ensures
+          (seen_of seat) begins show.follow (mine_of seat) (s.room - 1) show.known c.args.kind c.requires.no_bad more
+          (subst (PutsUntold c.args.kind) (sym (ap (λ v. v.seen) c.self.view_is)) c.requires.untold) c.self.invariant.4,
     )

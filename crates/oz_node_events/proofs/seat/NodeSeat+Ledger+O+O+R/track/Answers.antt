@@ -5,7 +5,7 @@ use Rattle.oz_turn.specs.Seat.{mine_of, seen_of}
 use Rattle.oz_node_events.specs.NodeSeat.{events_of}
 use Rattle.oz_node_events.proofs.Noted.{begins_through}
 use Rattle.oz_node_events.proofs.Own.{begins_as}
-use Rattle.oz_node_events.proofs.Seated.{done_on, kept_on}
+use Rattle.oz_node_events.proofs.Seated.{done_on, kept_on, stays_on}
 use Rattle.oz_node_events.proofs.seat.NodeSeat+Ledger+O+O+R.track.Goals as goal
 
 pub returns-clause-goes_on : goal.returns-clause-goes_on
@@ -42,4 +42,6 @@ invariant_of-self g c =
           (seen_of seat) track.begins track.follow (mine_of seat) s.room track.its_own track.mine,
       done_on O.coherent O.opening O.bytes O.script s.dn s.room s.last (seen_of s.seat) (mine_of s.seat) c.self.invariant.2 c.self.invariant.3 s.dn refl
           (seen_of seat) track.begins track.follow (mine_of seat) s.room track.its_own track.mine,
+      stays_on O.coherent O.opening O.bytes O.script s.dn s.room s.last (seen_of s.seat) (mine_of s.seat) c.self.invariant.2 c.self.invariant.3 s.dn refl
+          (seen_of seat) track.begins track.follow (mine_of seat) s.room track.its_own track.mine c.self.invariant.4,
     )

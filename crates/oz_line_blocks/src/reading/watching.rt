@@ -23,6 +23,8 @@ impl<D: Disk, K: Kept<D>, N: Noter<D, K> + Drop> Noter<D, K> for Watching<N> {
 
     ghost knows = { λ watching kept. N.knows watching.noter kept };
 
+    ghost may_put = { λ watching kept. N.may_put watching.noter kept };
+
     ghost joins = { λ first second third before after one two. (
       N.joins first.noter second.noter third.noter before after one.0 two.0,
       noted_joined first.has_noted second.has_noted third.has_noted before after one.1 two.1,

@@ -1,5 +1,5 @@
 -- The service job: what contracts see of it, what it keeps, and how its seat goes on.
-use Rattle.std.specs.Prelude.{◌≡◌, ◌++◌, List, Option, None, Some, map}
+use Rattle.std.specs.Prelude.{◌≡◌, ℕ, ◌++◌, List, Option, None, Some, map}
 use Rattle.oz_core.specs.declared.event.Event.{Event}
 use Rattle.oz_core.specs.Asks.{pending}
 use Rattle.oz_core.specs.Law.{PurgesLogged}
@@ -9,11 +9,13 @@ use Rattle.oz_requests.specs.declared.request.Request.{Request}
 use Rattle.oz_requests.specs.Families.{family_of}
 use Rattle.oz_turn.specs.Told.{BeginsWith}
 
--- What its seat has seen and given, and what it asks that it hasn't seen decided.
+-- What its seat has seen and given, what it asks that it hasn't seen decided, and the transaction index up to which rows were purged
+-- for it.
 pub record ServiceView : Type 0 where
   pub seen : List Event
   pub mine : List Event
   pub waiting : Option Request
+  pub purged_to : ℕ
 
 -- what it asks may be asked by it
 abbrev pub IsOfService : Option Request → Type 0
@@ -40,3 +42,4 @@ pub record LooksOn (old new : ServiceView) : Type 0 where
   pub seen : BeginsWith new.seen old.seen
   pub mine : new.mine ≡ old.mine
   pub waiting : new.waiting ≡ old.waiting
+  pub purged_to : new.purged_to ≡ old.purged_to

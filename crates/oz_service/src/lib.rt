@@ -17,5 +17,5 @@ pub use drains::{
     when_a_block_left_is_told_by_tables, who_holds,
 };
 pub use looks::{a_look_sweeps_its_stripe, a_stripes_pins_are_pinned, what_a_look_found_is_logged};
-pub use pass::{Parts, Service};
+pub use pass::{Parts, PassFault, Service};
 pub use splitting::transactions;

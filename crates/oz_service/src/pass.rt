@@ -1,8 +1,10 @@
 //! The service job: what nothing reaches any more goes, step by step.
 
 mod asking;
+mod fault;
 mod parts;
 mod service;
 
+pub use crate::pass::fault::PassFault;
 pub use crate::pass::parts::Parts;
 pub use crate::pass::service::Service;

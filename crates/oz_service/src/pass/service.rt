@@ -24,12 +24,13 @@ use std::sync::Wait;
 /// The seat of the service job.
 pub(crate) const SERVICE_SEAT: u16 = 1;
 
-/// The service job of a run: its seat, and the request that it asks and hasn't seen decided. Whatever it has asked beside that is
-/// decided.
+/// The service job of a run: its seat, the request that it asks and hasn't seen decided, and the transaction index up to which rows
+/// were purged for it. Whatever it has asked beside that request is decided.
 #[derive(Drop)]
 pub struct Service<T: Told<Entry = Event>, O: Opened, R: Ring> {
     pub(crate) seat: Seat<T>,
     pub(crate) waiting: Option<Request>,
+    pub(crate) purged_to: u64,
     of: PhantomData<(O, R)>,
 }
 
@@ -42,7 +43,12 @@ impl<T: Told<Entry = Event>, O: Opened, R: Ring> Model for Service<T, O, R> {
 
     ghost Value = { ServiceView };
 
-    ghost view = { λ it. record { seen = seen_of it.seat; mine = mine_of it.seat; waiting = it.waiting } };
+    ghost view = { λ it. record {
+      seen = seen_of it.seat;
+      mine = mine_of it.seat;
+      waiting = it.waiting;
+      purged_to = it.purged_to;
+    } };
 
     ghost invariant = { λ it. IsReady R.turn service_seat it.seat
         × AllFollow (Follows O.coherent O.opening O.bytes O.script) [] (seen_of it.seat)
@@ -54,11 +60,12 @@ impl<O: Opened, R: Ring> Service<Ledger<O>, O, R> {
     /// One that has asked nothing yet.
     pub fn make(seat: Seat<Ledger<O>>) -> Service<Ledger<O>, O, R>
         requires { IsNewSeat R.turn service_seat seat }
-        ensures { result ≡ record { seen = []; mine = []; waiting = None } }
+        ensures { result ≡ record { seen = []; mine = []; waiting = None; purged_to = 0 } }
     {
         Service {
             seat,
             waiting: None,
+            purged_to: 0,
             of: PhantomData,
         }
     }

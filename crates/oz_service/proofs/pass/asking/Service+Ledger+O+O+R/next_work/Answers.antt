@@ -30,9 +30,10 @@ returns-clause-looked g c =
     let after = c.see.new.seat in
     let its = c.chain_work-work.ensures in
     let shown = c.see.ensures.shown in
-    subst (λ (v : ServiceView). LooksOn v (record { seen = seen_of after; mine = mine_of after; waiting = c.self.inside.waiting })) c.self.view_is
+    subst (λ (v : ServiceView). LooksOn v (record { seen = seen_of after; mine = mine_of after; waiting = c.self.inside.waiting; purged_to = c.self.inside.purged_to })) c.self.view_is
     (record {
       seen = begins_then (seen_of before) (seen_of between) (seen_of after) its.goes_on shown.goes_on;
       mine = shown.mine ∙ its.mine;
       waiting = refl;
+      purged_to = refl;
     })

@@ -9,3 +9,9 @@ pub mod Splits
 pub mod Named
 pub mod Viewed
 pub mod Grown
+pub mod Logs
+pub mod Fronts
+pub mod Logging
+pub mod Finding
+pub mod OwnRows
+pub mod Purged

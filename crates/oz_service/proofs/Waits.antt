@@ -106,7 +106,7 @@ logged_more seen more block is =
     ∙ (list_any-append (names_block block) (all_told logged seen) (all_told logged more)
     ∙ or_left (is_in_logs (all_told logged seen) block) (is_in_logs (all_told logged more) block) is)
 
-go_still : (seen more : List Event) (stripe local : ℕ) → MayGo seen stripe local → MayGo (seen ++ more) stripe local
+pub go_still : (seen more : List Event) (stripe local : ℕ) → MayGo seen stripe local → MayGo (seen ++ more) stripe local
 go_still seen more stripe local go = record {
   blocks = go.blocks;
   purged = Contains-append_left seen more (record { seat = stripe_seat stripe; kind = PurgeAsk go.blocks }) go.purged;

@@ -7,5 +7,6 @@ pub mod Emptied
 pub mod Still
 pub mod Deleting
 pub mod Pass
+pub mod Purges
 pub mod Splitting
 pub mod laws

@@ -2,7 +2,10 @@
 
 mod asking;
 mod fault;
+mod logging;
+mod naming;
 mod parts;
+mod purging;
 mod service;
 
 pub use crate::pass::fault::PassFault;

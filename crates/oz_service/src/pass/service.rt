@@ -1,11 +1,15 @@
 //! The service job's seat, and what it asks.
 
-ghost use Rattle.std.specs.Prelude.{◌≡◌, [], IsSome, None, OnErr, OnOk, Some, if◌then◌else◌};
+ghost use Rattle.std.specs.Prelude.{◌≡◌, [], IfErr, IfOk, IfSome, IsSome, None, OnErr, OnOk, Some, if◌then◌else◌, max, true};
 ghost use Rattle.oz_buffer.specs.Buffer.{AllFollow, Follows};
 ghost use Rattle.oz_core.specs.Law.{PurgesLogged};
 ghost use Rattle.oz_core.specs.Seats.{service_seat};
+ghost use Rattle.oz_om.specs.Served.{IsServed};
 ghost use Rattle.oz_om.specs.Shown.{HasSeen};
+ghost use Rattle.oz_requests.specs.declared.request.Family.TheVariants.{Service as OfService};
+ghost use Rattle.oz_requests.specs.Families.{family_of};
 ghost use Rattle.oz_service.specs.Pass.{AskedMore, Awaits, GoesOn, IsOfService};
+ghost use Rattle.oz_service.specs.Purges.{AskRefusalHolds, is_purge, purged_with};
 ghost use Rattle.oz_turn.specs.Seat.{IsNewSeat, IsReady, mine_of, seen_of};
 ghost use Rattle.oz_turn.specs.Told.{BeginsWith};
 
@@ -90,7 +94,8 @@ impl<O: Opened, R: Ring> Service<Ledger<O>, O, R> {
     pub(crate) fn take_up(&mut self, request: Request) -> bool
         requires none { self.old.waiting ≡ None }
         requires logged { O.coherent → PurgesLogged self.old.seen request }
-        ensures { self.new ≡ if result then record self.old { waiting = Some request } else self.old }
+        ensures taken { self.new ≡ if result then record self.old { waiting = Some request } else self.old }
+        ensures of_service { family_of request ≡ OfService → result ≡ true }
     {
         if request.family() != Family::Service {
             return false;
@@ -99,7 +104,8 @@ impl<O: Opened, R: Ring> Service<Ledger<O>, O, R> {
         true
     }
 
-    /// Asks what waits, and sees it decided. Nothing waits then.
+    /// Asks what waits, and sees it decided, at the index that it answers. Nothing waits then; where it was a Purge, rows were purged
+    /// up to that index.
     ///
     /// Errors: as `Manager::ask_service` says. It waits then as it did, and is asked again by the next call.
     pub(crate) fn ask<D: Disk, L: Loaded, W: Wait>(
@@ -110,16 +116,39 @@ impl<O: Opened, R: Ring> Service<Ledger<O>, O, R> {
         ensures goes_on { GoesOn self.old self.new }
         ensures none { OnOk result (self.new.waiting ≡ None) }
         ensures waits { OnErr result (self.new.waiting ≡ self.old.waiting) }
+        ensures served { O.coherent → IfOk result (λ index. IfSome self.old.waiting
+            (λ request. IsServed O.opening self.old.seen self.new.seen request index)) }
+        ensures purged { IfOk result (λ index. IfSome self.old.waiting
+            (λ request. self.new.purged_to ≡ purged_with request index self.old.purged_to)) }
+        ensures same { OnErr result (self.new.purged_to ≡ self.old.purged_to) }
+        ensures refused { IfErr result (AskRefusalHolds O.coherent O.opening self.new.seen) }
     {
         let Some(request) = &self.waiting else {
             unreachable!()
         };
         let copy = request.try_clone(parts.lent.alloc)?;
-        let asked = ask_at(parts, &mut self.seat, copy);
-        if asked.is_ok() {
-            self.waiting = None;
-        }
-        asked
+        let purges = is_purge(&copy);
+        let index = ask_at(parts, &mut self.seat, copy)?;
+        self.purged_to = purged_to(purges, index, self.purged_to);
+        self.waiting = None;
+        Ok(index)
+    }
+}
+
+fn is_purge(request: &Request) -> bool
+    ensures { result ≡ is_purge request.now }
+{
+    matches!(request, Request::Purge { .. })
+}
+
+/// The transaction index up to which rows were purged, once a request, which purges or doesn't, was decided with this index.
+fn purged_to(purges: bool, index: u64, before: u64) -> u64
+    ensures { result ≡ if purges then max before index else before }
+{
+    if purges && before < index {
+        index
+    } else {
+        before
     }
 }
 
@@ -151,6 +180,8 @@ fn ask_at<D: Disk, O: Opened, L: Loaded, R: Ring, W: Wait>(
     ensures mine { AskedMore (mine_of seat.old) (mine_of seat.new) }
     ensures awaits { O.coherent → Awaits (seen_of seat.new) (Some request) }
     ensures decided { O.coherent → OnOk result (Awaits (seen_of seat.new) None) }
+    ensures served { O.coherent → IfOk result (IsServed O.opening (seen_of seat.old) (seen_of seat.new) request) }
+    ensures refused { IfErr result (AskRefusalHolds O.coherent O.opening (seen_of seat.new)) }
 {
     parts.manager.ask_service(
         parts.lent.rt,

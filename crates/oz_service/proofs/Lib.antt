@@ -15,3 +15,6 @@ pub mod Logging
 pub mod Finding
 pub mod OwnRows
 pub mod Purged
+pub mod Entries
+pub mod Due
+pub mod Sending

@@ -8,5 +8,6 @@ pub mod Still
 pub mod Deleting
 pub mod Pass
 pub mod Purges
+pub mod Sending
 pub mod Splitting
 pub mod laws

@@ -11,13 +11,16 @@ ghost use Rattle.oz_service.specs.Deleting.{SentSo};
 ghost use Rattle.oz_turn.specs.Seat.{IsReady, number_of, seen_of};
 
 mod applying;
+mod due;
 mod lent;
 mod noted;
+mod sending;
 
 use crate::deleting::applying::apply_at;
 pub use crate::deleting::lent::Lent;
 pub use crate::deleting::noted::Noted;
 use crate::deleting::noted::note_at;
+pub(crate) use crate::deleting::sending::send_due;
 use oz_buffer::{Ledger, Opened};
 use oz_dellog::Txn;
 use oz_node_events::ChangeRefusal;

@@ -6,6 +6,7 @@ mod logging;
 mod naming;
 mod parts;
 mod purging;
+mod sending;
 mod service;
 
 pub use crate::pass::fault::PassFault;

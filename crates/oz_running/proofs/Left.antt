@@ -3,7 +3,7 @@ use Rattle.std.proofs.Common.{◌≡◌, ◌<◌, ◌≤◌, ℕ, ◌+◌, List,
 use Rattle.std.proofs.lemmas.Option.{slice_get_within}
 use Rattle.oz_core.specs.declared.event.Event.{Event}
 use Rattle.oz_core.specs.declared.opening.Opening.{Opening}
-use Rattle.oz_core.specs.Seats.{datanode_seat, flusher_seat, scm_seat, service_seat, stripe_seat}
+use Rattle.oz_core.specs.Seats.{caller_seat, datanode_seat, flusher_seat, scm_seat, service_seat, stripe_seat}
 use Rattle.oz_datanode.specs.Datanode.{State as Datanode}
 use Rattle.oz_headline.specs.NodeSeat.{SeatView}
 use Rattle.oz_nodes.specs.declared.nodes.TheConstants.{MOST_NODES}
@@ -12,10 +12,11 @@ use Rattle.oz_rows.specs.RowMaps.{Rows}
 use Rattle.oz_running.specs.Seats.{AddsReady, AreNewFrom, HasLeft, HaveLeft}
 use Rattle.oz_running.proofs.Placed.{joined_placed, one_placed, there}
 use Rattle.oz_worker.specs.servers.Served.{AreServed, IsServed}
+use Rattle.oz_service.specs.Pass.{AskedMore}
 use Rattle.oz_turn.specs.declared.seat.Seat.{Seat}
 use Rattle.oz_turn.specs.declared.told.Told.{Ghosts}
 use Rattle.oz_turn.specs.Ring.{TurnId}
-use Rattle.oz_turn.specs.Seat.{IsReady, mine_of, seen_of}
+use Rattle.oz_turn.specs.Seat.{IsNewSeat, IsReady, mine_of, seen_of}
 
 -- The seats of datanodes that were served are theirs.
 pub served_left : {D T : Type 0} {told : Ghosts T Event} (turn : TurnId) (Kept : SeatView → Type 0) (Stands : SeatView → Datanode D → Type 0)
@@ -32,21 +33,35 @@ module _ {T : Type 0} {told : Ghosts T Event} (turn : TurnId) (Coherent : Type 0
   flusher_left s ready kept = record {
     ready = ready;
     flusher = λ at. kept;
+    service = λ at. absurd (omega (arith, at));
     scm = λ at. absurd (omega (arith, at));
     datanode = λ dn of. let its = of.its in absurd (omega (arith, its));
-    quiet = λ of. let above = of.behind_flusher in absurd (omega (arith, above));
+    quiet = λ of. let above = of.behind_service in absurd (omega (arith, above));
     stripe = λ coherent stripe less at. absurd (omega (arith, at));
   }
 
-  quiet_left : (n : ℕ) (s : Seat T Event told) → n < 2 → IsReady turn (1 + n) s → mine_of s ≡ []
-      → HasLeft turn Coherent opening loaded FlusherKept ScmKept Served (1 + n) s
-  quiet_left n s few ready none = record {
+  service_left : (s : Seat T Event told) → IsReady turn service_seat s → AskedMore [] (mine_of s)
+      → HasLeft turn Coherent opening loaded FlusherKept ScmKept Served 1 s
+  service_left s ready asked = record {
     ready = ready;
     flusher = λ at. absurd (omega (arith, at));
-    scm = λ at. absurd (omega (arith, at, few));
-    datanode = λ dn of. let its = of.its in absurd (omega (arith, its, few));
+    service = λ at. asked;
+    scm = λ at. absurd (omega (arith, at));
+    datanode = λ dn of. let its = of.its in absurd (omega (arith, its));
+    quiet = λ of. let above = of.behind_service in absurd (omega (arith, above));
+    stripe = λ coherent stripe less at. absurd (omega (arith, at));
+  }
+
+  caller_left : (s : Seat T Event told) → IsReady turn caller_seat s → mine_of s ≡ []
+      → HasLeft turn Coherent opening loaded FlusherKept ScmKept Served 2 s
+  caller_left s ready none = record {
+    ready = ready;
+    flusher = λ at. absurd (omega (arith, at));
+    service = λ at. absurd (omega (arith, at));
+    scm = λ at. absurd (omega (arith, at));
+    datanode = λ dn of. let its = of.its in absurd (omega (arith, its));
     quiet = λ of. none;
-    stripe = λ coherent stripe less at. absurd (omega (arith, at, few));
+    stripe = λ coherent stripe less at. absurd (omega (arith, at));
   }
 
   scm_left : (s : Seat T Event told) → IsReady turn scm_seat s → ScmKept (seen_of s) (mine_of s)
@@ -54,6 +69,7 @@ module _ {T : Type 0} {told : Ghosts T Event} (turn : TurnId) (Coherent : Type 0
   scm_left s ready kept = record {
     ready = ready;
     flusher = λ at. absurd (omega (arith, at));
+    service = λ at. absurd (omega (arith, at));
     scm = λ at. kept;
     datanode = λ dn of. let its = of.its in absurd (omega (arith, its));
     quiet = λ of. absurd (of.not_scm refl);
@@ -65,6 +81,7 @@ module _ {T : Type 0} {told : Ghosts T Event} (turn : TurnId) (Coherent : Type 0
   node_left dn s there few ready served = record {
     ready = ready;
     flusher = λ at. absurd (omega (arith, at));
+    service = λ at. absurd (omega (arith, at));
     scm = λ at. absurd (omega (arith, at));
     datanode = λ other of. let its = of.its in let e : dn ≡ other = omega (arith, its) in subst (λ (k : ℕ). Served k s) e served;
     quiet = λ of. absurd (of.not_datanode dn (record { there = there; its = refl }));
@@ -76,6 +93,7 @@ module _ {T : Type 0} {told : Ghosts T Event} (turn : TurnId) (Coherent : Type 0
   absent_left n s few ready none = record {
     ready = ready;
     flusher = λ at. absurd (omega (arith, at));
+    service = λ at. absurd (omega (arith, at));
     scm = λ at. absurd (omega (arith, at));
     datanode = λ dn of. let its = of.its in let there = of.there in absurd (omega (arith, its, there));
     quiet = λ of. none;
@@ -87,6 +105,7 @@ module _ {T : Type 0} {told : Ghosts T Event} (turn : TurnId) (Coherent : Type 0
   stripe_left n s few ready stood = record {
     ready = ready;
     flusher = λ at. absurd (omega (arith, at));
+    service = λ at. absurd (omega (arith, at));
     scm = λ at. absurd (omega (arith, at));
     datanode = λ dn of. let its = of.its in let there = of.there in absurd (omega (arith, its, there, few));
     quiet = λ of. let below = of.before_stripes in absurd (omega (arith, below));
@@ -98,6 +117,7 @@ module _ {T : Type 0} {told : Ghosts T Event} (turn : TurnId) (Coherent : Type 0
   worker_left n s few ready = record {
     ready = ready;
     flusher = λ at. absurd (omega (arith, at));
+    service = λ at. absurd (omega (arith, at));
     scm = λ at. absurd (omega (arith, at));
     datanode = λ dn of. let its = of.its in let there = of.there in absurd (omega (arith, its, there, few));
     quiet = λ of. let below = of.before_stripes in absurd (omega (arith, below));
@@ -116,21 +136,21 @@ module _ {T : Type 0} {told : Ghosts T Event} (turn : TurnId) (Coherent : Type 0
       joined_placed (HasLeft turn Coherent opening loaded FlusherKept ScmKept Served) before more left
       (subst (λ (k : ℕ). ArePlaced (λ n. HasLeft turn Coherent opening loaded FlusherKept ScmKept Served (k + n)) more) (sym count) are)
 
-  -- the seats of the flusher, of the service job and the caller, and of the storage container manager
-  pub first_left : (flusher scm : Seat T Event told) (quiet : List (Seat T Event told))
+  -- the seats of the flusher, of the service job, of the caller, and of the storage container manager
+  pub first_left : (flusher service caller scm : Seat T Event told)
       → IsReady turn flusher_seat flusher → FlusherKept (seen_of flusher) (mine_of flusher)
-      → length quiet ≡ 2 → AreNewFrom turn service_seat quiet
+      → IsReady turn service_seat service → AskedMore [] (mine_of service)
+      → IsNewSeat turn caller_seat caller
       → IsReady turn scm_seat scm → ScmKept (seen_of scm) (mine_of scm)
-      → HaveLeft turn Coherent opening loaded FlusherKept ScmKept Served ((flusher ∷ quiet) ++ scm ∷ [])
-  first_left flusher scm quiet ready kept quiet_count new scm_ready scm_kept =
+      → HaveLeft turn Coherent opening loaded FlusherKept ScmKept Served (flusher ∷ service ∷ caller ∷ scm ∷ [])
+  first_left flusher service caller scm ready kept service_ready asked new scm_ready scm_kept =
       let P = HasLeft turn Coherent opening loaded FlusherKept ScmKept Served in
       let one : ArePlaced P (flusher ∷ []) = one_placed P flusher (flusher_left flusher ready kept) in
-      let two : ArePlaced P (flusher ∷ quiet) = behind_left (flusher ∷ []) quiet 1 refl one
-      (λ n s at. let is = new n s at in
-      let few : n < 2 = omega (arith, slice_get_within quiet n s at, quiet_count) in
-      quiet_left n s few is.ready is.mine) in
-      let c2 : length (flusher ∷ quiet) ≡ 3 = counted (flusher ∷ []) quiet 1 2 3 refl quiet_count refl in
-      behind_left (flusher ∷ quiet) (scm ∷ []) 3 c2 two
+      let two : ArePlaced P (flusher ∷ service ∷ []) = behind_left (flusher ∷ []) (service ∷ []) 1 refl one
+      (one_placed (λ n. P (1 + n)) service (service_left service service_ready asked)) in
+      let three : ArePlaced P (flusher ∷ service ∷ caller ∷ []) = behind_left (flusher ∷ service ∷ []) (caller ∷ []) 2 refl two
+      (one_placed (λ n. P (2 + n)) caller (caller_left caller new.ready new.mine)) in
+      behind_left (flusher ∷ service ∷ caller ∷ []) (scm ∷ []) 3 refl three
       (one_placed (λ n. P (3 + n)) scm (scm_left scm scm_ready scm_kept))
 
   -- then those of the datanodes, of those that aren't there, of the stripes, and of the workers

@@ -4,3 +4,4 @@ pub mod Left
 pub mod Placed
 pub mod Whole
 mod disk_run_lemmas
+pub mod Freed

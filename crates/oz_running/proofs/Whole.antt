@@ -7,7 +7,7 @@ use Rattle.oz_core.specs.declared.event.Event.{Event}
 use Rattle.oz_core.specs.declared.event.Node.{Node}
 use Rattle.oz_core.specs.declared.opening.Opening.{Opening}
 use Rattle.oz_core.specs.Contents.{OpeningBytes}
-use Rattle.oz_core.specs.Seats.{datanode_seat, first_worker_seat, flusher_seat, scm_seat, stripe_seat}
+use Rattle.oz_core.specs.Seats.{datanode_seat, first_worker_seat, flusher_seat, scm_seat, service_seat, stripe_seat}
 use Rattle.oz_core.specs.Stories.{has_event, mine}
 use Rattle.oz_datanode.specs.Datanode.{State as Datanode}
 use Rattle.oz_flusher.specs.flushing.Kept.{IsKept}
@@ -25,6 +25,7 @@ use Rattle.oz_running.proofs.Placed.{all_at, there}
 use Rattle.oz_scm.specs.Scm.{State as Scm}
 use Rattle.oz_scm_events.specs.Kept.{IsKept as ScmIsKept}
 use Rattle.oz_worker.specs.servers.Served.{IsServed}
+use Rattle.oz_service.specs.Pass.{AskedMore}
 use Rattle.oz_turn.specs.declared.seat.Seat.{Seat}
 use Rattle.oz_turn.specs.declared.told.Told.{Ghosts}
 use Rattle.oz_turn.specs.Ring.{TurnId}
@@ -125,6 +126,11 @@ module _ {D T : Type 0} {told_of : Ghosts T Event} (told : D → Option (List �
 
     begins_at : (n : ℕ) (s : Seat T Event told_of) → slice_get seats n ≡ Some s → BeginsWith story (seen_of s)
     begins_at n s at = all_at (λ (s : Seat T Event told_of). BeginsWith story (seen_of s)) seats n s begins at
+
+    pub service_left : AskedMore [] (mine service_seat story)
+    service_left =
+        let it = there seats service_seat (omega (arith, many)) in
+        subst (λ (given : List Event). AskedMore [] given) (sym (own_at service_seat it.0 it.1)) ((left.left service_seat it.0 it.1).service refl)
 
     pub quiet_left : (seat : ℕ) → IsQuietSeat opening seat → mine seat story ≡ []
     quiet_left seat is =

@@ -5,7 +5,7 @@ use Rattle.oz_core.specs.declared.event.Event.{Event}
 use Rattle.oz_core.specs.declared.event.Node.{Node}
 use Rattle.oz_core.specs.declared.opening.Opening.{Opening}
 use Rattle.oz_core.specs.Contents.{OpeningBytes}
-use Rattle.oz_core.specs.Seats.{IsDatanodeSeat, flusher_seat, scm_seat, stripe_seat}
+use Rattle.oz_core.specs.Seats.{IsDatanodeSeat, flusher_seat, scm_seat, service_seat, stripe_seat}
 use Rattle.oz_core.specs.Stories.{mine}
 use Rattle.oz_flusher.specs.flushing.Kept.{IsKept}
 use Rattle.oz_headline.specs.halts.Nodes.{AreAsTold, ScmIsAsTold}
@@ -15,11 +15,12 @@ use Rattle.oz_names.specs.declared.limits.TheConstants.{STRIPES}
 use Rattle.oz_headline.specs.Keeps.{HasRun}
 use Rattle.oz_rows.specs.RowMaps.{Rows}
 use Rattle.oz_running.specs.declared.ran.Ran.{Ran}
+use Rattle.oz_service.specs.Pass.{AskedMore}
 use Rattle.oz_world.specs.Disk.{Images, Seen, seen}
 
--- the seat of the service job, of the caller, or of a datanode that isn't there
+-- the seat of the caller, or of a datanode that isn't there
 pub record IsQuietSeat (opening : Opening) (seat : ℕ) : Type 0 where
-  pub behind_flusher : flusher_seat < seat
+  pub behind_service : service_seat < seat
   pub before_stripes : seat < stripe_seat 0
   pub not_scm : seat ≢ scm_seat
   pub not_datanode : (dn : ℕ) → IsDatanodeSeat opening dn seat → ⊥
@@ -48,7 +49,8 @@ module _ {D : Type 0} (told : D → Option (List ℕ)) (clock : D → ℕ) (imag
     -- The storage container manager and each datanode are what the whole story makes of them.
     pub scm : ScmIsAsTold faults opening counts ran.story.items ran.scm
     pub datanodes : AreAsTold told clock image faults Coherent opening bytes script counts ran.story.items ran.nodes.items
-    -- The service job, the caller and datanodes that aren't there gave nothing.
+    -- The service job asked, and gave nothing else. The caller and datanodes that aren't there gave nothing.
+    pub asked : AskedMore [] (mine service_seat ran.story.items)
     pub quiet : (seat : ℕ) → IsQuietSeat opening seat → mine seat ran.story.items ≡ []
     pub seated : All (λ event. event.seat < seats) ran.story.items
     pub done : (ran.is_done ≡ true) ↔ IsWorkedOff ran.journal.stopped script ran.story.items

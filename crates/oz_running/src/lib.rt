@@ -5,6 +5,7 @@
 mod closing;
 mod counting;
 mod disk_run;
+mod freeing;
 mod hiring;
 mod leaving;
 mod parting;

@@ -1,7 +1,7 @@
 //! Who takes which seat of a turn.
 
 ghost use Rattle.std.specs.Prelude.{◌≡◌, ◌≤◌, ◌+◌, [], length, vec_capacity, vec_len, IfOk, OnOk};
-ghost use Rattle.oz_core.specs.Seats.{datanode_seat, first_worker_seat, flusher_seat, scm_seat, service_seat};
+ghost use Rattle.oz_core.specs.Seats.{caller_seat, datanode_seat, first_worker_seat, flusher_seat, scm_seat, service_seat};
 ghost use Rattle.oz_nodes.specs.declared.nodes.TheConstants.{MOST_NODES};
 ghost use Rattle.oz_headline.specs.Seated.{AreNewStripeSeats, ArePlaced};
 ghost use Rattle.oz_running.specs.Seats.{AreNewFrom};
@@ -14,19 +14,23 @@ use oz_turn::{Ring, Seat, Told};
 /// The first seat of the workers.
 pub(crate) const FIRST_WORKER_SEAT: u16 = 36;
 
-// The first seats of the stripes, of the datanodes, and of the service job and the caller.
+// The first seats of the stripes and of the datanodes, and the seats before those.
 const FIRST_STRIPE_SEAT: usize = 20;
 
 const FIRST_DATANODE_SEAT: usize = 4;
 
-const FIRST_QUIET_SEAT: usize = 1;
+const SCM_SEAT: usize = 3;
+
+const CALLER_SEAT: usize = 2;
+
+const SERVICE_SEAT: usize = 1;
 
 /// The seats of a run, by who takes them.
 #[derive(Drop)]
 pub(crate) struct Parted<T: Told<Entry = Event>> {
     pub(crate) flusher: Seat<T>,
-    /// Of the service job and the caller.
-    pub(crate) quiet: Vec<Seat<T>>,
+    pub(crate) service: Seat<T>,
+    pub(crate) caller: Seat<T>,
     pub(crate) scm: Seat<T>,
     pub(crate) nodes: Vec<Seat<T>>,
     /// Of datanodes that aren't there.
@@ -44,8 +48,8 @@ pub(crate) fn parted_seats<T: Told<Entry = Event>, R: Ring>(
     requires new { AreNewSeats R.turn seats.old.items }
     requires most { count ≤ MOST_NODES }
     ensures flusher { IfOk result (λ parted. IsNewSeat R.turn flusher_seat parted.flusher) }
-    ensures quiet_count { IfOk result (λ parted. vec_len parted.quiet ≡ 2) }
-    ensures quiet { IfOk result (λ parted. AreNewFrom R.turn service_seat parted.quiet.items) }
+    ensures service { IfOk result (λ parted. IsNewSeat R.turn service_seat parted.service) }
+    ensures caller { IfOk result (λ parted. IsNewSeat R.turn caller_seat parted.caller) }
     ensures scm { IfOk result (λ parted. IsNewSeat R.turn scm_seat parted.scm) }
     ensures node_count { IfOk result (λ parted. vec_len parted.nodes ≡ count) }
     ensures nodes { IfOk result (λ parted. ArePlaced (λ dn s. IsNewSeat R.turn (datanode_seat dn) s)
@@ -62,16 +66,16 @@ pub(crate) fn parted_seats<T: Told<Entry = Event>, R: Ring>(
     let stripes = seats_from::<T, R>(seats, FIRST_STRIPE_SEAT)?;
     let absent = seats_from::<T, R>(seats, FIRST_DATANODE_SEAT + usize::from(count))?;
     let nodes = seats_from::<T, R>(seats, FIRST_DATANODE_SEAT)?;
-    let Some(scm) = seats.pop() else {
-        unreachable!()
-    };
-    let quiet = seats_from::<T, R>(seats, FIRST_QUIET_SEAT)?;
+    let scm = last_seat::<T, R>(seats, SCM_SEAT);
+    let caller = last_seat::<T, R>(seats, CALLER_SEAT);
+    let service = last_seat::<T, R>(seats, SERVICE_SEAT);
     let Some(flusher) = seats.pop() else {
         unreachable!()
     };
     Ok(Parted {
         flusher,
-        quiet,
+        service,
+        caller,
         scm,
         nodes,
         absent,
@@ -94,4 +98,19 @@ fn seats_from<T: Told<Entry = Event>, R: Ring>(
     ensures room { vec_capacity seats.new ≡ vec_capacity seats.old }
 {
     seats.split_off(first)
+}
+
+/// The last seat leaves, which has this number.
+fn last_seat<T: Told<Entry = Event>, R: Ring>(seats: &mut Vec<Seat<T>>, number: usize) -> Seat<T>
+    requires count { vec_len seats.old ≡ number + 1 }
+    requires new { AreNewSeats R.turn seats.old.items }
+    ensures seat { IsNewSeat R.turn number result }
+    ensures count { vec_len seats.new ≡ number }
+    ensures new { AreNewSeats R.turn seats.new.items }
+    ensures room { vec_capacity seats.new ≡ vec_capacity seats.old }
+{
+    let Some(seat) = seats.pop() else {
+        unreachable!()
+    };
+    seat
 }

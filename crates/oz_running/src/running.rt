@@ -1,11 +1,12 @@
 //! From the loaded disk to the story.
 
-ghost use Rattle.std.specs.Prelude.{◌≡◌, ◌≤◌, ◌+◌, length, vec_len, vec_capacity};
+ghost use Rattle.std.specs.Prelude.{◌≡◌, ◌≤◌, ◌+◌, length, vec_len};
 ghost use Rattle.std.specs.Prelude.{IfOk, IfErr};
 ghost use Rattle.oz_core.specs.Seats.{first_worker_seat};
 ghost use Rattle.oz_script.specs.lines.Numbered.{IsNumbered};
 ghost use Rattle.oz_headline.specs.Opens.{Opens};
 ghost use Rattle.oz_headline.specs.Seated.{ArePartsOf};
+ghost use Rattle.oz_kept.specs.reopened.Left.{NumbersAreApart};
 ghost use Rattle.oz_running.specs.Given.{JournalIsGiven, NodesAreGiven};
 ghost use Rattle.oz_running.specs.Run.{IsRun};
 ghost use Rattle.oz_running.specs.Staff.{IsStaff};
@@ -13,6 +14,7 @@ ghost use Rattle.oz_turn.specs.Seat.{AreNewSeats};
 ghost use Rattle.oz_turn.specs.Turn.{seats_of, turn_id};
 
 use crate::closing::ended;
+use crate::freeing::free;
 use crate::leaving::all_leave;
 use crate::parting::FIRST_WORKER_SEAT;
 use crate::ran::Ran;
@@ -27,6 +29,7 @@ use oz_loaded::Unseated;
 use oz_locks::Loaded;
 use oz_scm::Scm;
 use oz_script::Script;
+use oz_service::Service;
 use oz_turn::{Ring, Seat, Turn};
 use oz_worker::Shared;
 use oz_world::{Disk, Gate};
@@ -66,6 +69,7 @@ pub fn run_lines<
     requires few { workers ≤ 16 }
     requires nodes { NodesAreGiven D.told D.clock D.image D.faults O.coherent O.opening O.bytes O.script O.faults scm nodes.items }
     requires journal { JournalIsGiven D.told D.clock D.image D.faults O.coherent O.bodies M.disk flusher }
+    requires apart { O.coherent → NumbersAreApart O.opening }
     ensures ran { IfOk result (λ ran. IsRun D.told D.clock D.image D.faults O.coherent O.opening O.bytes O.bodies O.script
         O.faults M.disk L.rows (first_worker_seat + workers) ran) }
     ensures journal { IfErr result (λ refused. refused.0.journal ≡ flusher) }
@@ -115,6 +119,7 @@ fn run_in_turn<
     requires numbered { IsNumbered O.script }
     requires nodes { NodesAreGiven D.told D.clock D.image D.faults O.coherent O.opening O.bytes O.script O.faults scm nodes.items }
     requires journal { JournalIsGiven D.told D.clock D.image D.faults O.coherent O.bodies M.disk flusher }
+    requires apart { O.coherent → NumbersAreApart O.opening }
     requires turn { turn_id turn ≡ R.turn }
     requires count { vec_len seats ≡ first_worker_seat + workers }
     requires all { seats_of turn ≡ first_worker_seat + workers }
@@ -171,8 +176,8 @@ fn run_staffed<
     requires journal { JournalIsGiven D.told D.clock D.image D.faults O.coherent O.bodies M.disk flusher }
     requires turn { turn_id turn ≡ R.turn }
     requires all { seats_of turn ≡ first_worker_seat + workers }
-    requires staff { IsStaff R.turn workers (length O.opening.nodes) staff.jobs.items staff.flusher
-        staff.quiet.items staff.absent.items staff.all.items (vec_capacity staff.all) }
+    requires staff { IsStaff R.turn workers (length O.opening.nodes) staff.jobs.items staff.flusher staff.service staff.quiet }
+    requires apart { O.coherent → NumbersAreApart O.opening }
     ensures { IsRun D.told D.clock D.image D.faults O.coherent O.opening O.bytes O.bodies O.script O.faults M.disk L.rows
         (seats_of turn) result }
 {
@@ -180,17 +185,15 @@ fn run_staffed<
         servers,
         mut jobs,
         flusher: seat,
+        service,
         quiet,
-        absent,
-        all,
     } = staff;
     let _workers = workers;
     let flushing = Mutex::new(Flushing::<D, Ledger<O>, O, M, R>::make(flusher, seat));
-    work(
-        &Shared::new(rt, alloc, &turn, &servers, gate),
-        &flushing,
-        jobs.as_mut_slice(),
-    );
-    let left = all_leave(rt, servers, flushing.into_inner(), jobs, quiet, absent, all);
+    let mut service = Service::make(service);
+    let shared = Shared::new(rt, alloc, &turn, &servers, gate);
+    work(&shared, &flushing, jobs.as_mut_slice());
+    free(&shared, &flushing, &mut service);
+    let left = all_leave(rt, servers, flushing.into_inner(), service, jobs, quiet);
     ended::<D, O, L, M, R>(turn, script, left)
 }

@@ -26,14 +26,20 @@ use oz_worker::{Job, Servers};
 use oz_world::Disk;
 use std::alloc::Global;
 
-/// The servers and the jobs in their seats, the seats of the flusher, of the service job and the caller, and of the
-/// datanodes that aren't there, and the list that all came in, empty.
+/// The servers and the jobs in their seats, the seats of the flusher and of the service job, and those that give nothing.
 #[derive(Drop)]
 pub(crate) struct Staff<'s, D: Disk, T: Told<Entry = Event>, O: Opened, L: Loaded, R: Ring> {
     pub(crate) servers: Servers<D, T, O, L, R>,
     pub(crate) jobs: Vec<Job<'s, T, O, R>>,
     pub(crate) flusher: Seat<T>,
-    pub(crate) quiet: Vec<Seat<T>>,
+    pub(crate) service: Seat<T>,
+    pub(crate) quiet: Quiet<T>,
+}
+
+/// The seats that give nothing, of the caller and of the datanodes that aren't there; and the list that all seats came in, empty.
+#[derive(Drop)]
+pub(crate) struct Quiet<T: Told<Entry = Event>> {
+    pub(crate) caller: Seat<T>,
     pub(crate) absent: Vec<Seat<T>>,
     pub(crate) all: Vec<Seat<T>>,
 }
@@ -44,11 +50,10 @@ struct Seated<'s, T: Told<Entry = Event>, O: Opened, L: Loaded, R: Ring> {
     manager: Manager<T, O, L, R>,
     jobs: Vec<Job<'s, T, O, R>>,
     flusher: Seat<T>,
-    quiet: Vec<Seat<T>>,
+    service: Seat<T>,
+    quiet: Quiet<T>,
     scm: Seat<T>,
     nodes: Vec<Seat<T>>,
-    absent: Vec<Seat<T>>,
-    all: Vec<Seat<T>>,
 }
 
 /// Takes all memory that a run needs to hand out what it made. Where there is none the storage container manager and the
@@ -71,7 +76,7 @@ pub(crate) fn staffed<'s, D: Disk, O: Opened, L: Loaded, R: Ring>(
     requires few { workers ≤ 16 }
     requires seats { AreNewSeats R.turn seats.items }
     ensures staff { IfOk result (λ staff. IsStaff R.turn workers (length O.opening.nodes) staff.jobs.items
-        staff.flusher staff.quiet.items staff.absent.items staff.all.items (vec_capacity staff.all)) }
+        staff.flusher staff.service staff.quiet) }
     ensures scm { IfErr result (λ refused. refused.0 ≡ scm) }
     ensures nodes { IfErr result (λ refused. refused.1.items ≡ nodes.items) }
 {
@@ -80,11 +85,10 @@ pub(crate) fn staffed<'s, D: Disk, O: Opened, L: Loaded, R: Ring>(
         manager,
         jobs,
         flusher,
+        service,
         quiet,
         scm: seat_of_scm,
         nodes: seats_of_nodes,
-        absent,
-        all,
     } = match seat_all::<O, L, R>(alloc, script, unseated, seats, count, workers) {
         Ok(seated) => seated,
         Err(error) => return Err((scm, nodes, error)),
@@ -94,9 +98,8 @@ pub(crate) fn staffed<'s, D: Disk, O: Opened, L: Loaded, R: Ring>(
             servers,
             jobs,
             flusher,
+            service,
             quiet,
-            absent,
-            all,
         }),
         Err(refused) => Err(refused),
     }
@@ -122,7 +125,7 @@ fn seat_all<'s, O: Opened, L: Loaded, R: Ring>(
     requires most { nodes ≤ MOST_NODES }
     requires opened { nodes ≡ length O.opening.nodes }
     ensures staff { IfOk result (λ seated. IsStaff R.turn workers nodes seated.jobs.items seated.flusher
-        seated.quiet.items seated.absent.items seated.all.items (vec_capacity seated.all)) }
+        seated.service seated.quiet) }
     ensures scm { IfOk result (λ seated. IsNewSeat R.turn scm_seat seated.scm) }
     ensures node_count { IfOk result (λ seated. length seated.nodes.items ≡ nodes) }
     ensures nodes { IfOk result (λ seated. ArePlaced (λ dn s. IsNewSeat R.turn (datanode_seat dn) s)
@@ -130,7 +133,8 @@ fn seat_all<'s, O: Opened, L: Loaded, R: Ring>(
 {
     let Parted {
         flusher,
-        quiet,
+        service,
+        caller,
         scm,
         nodes: seats_of_nodes,
         absent,
@@ -144,11 +148,14 @@ fn seat_all<'s, O: Opened, L: Loaded, R: Ring>(
             manager,
             jobs,
             flusher,
-            quiet,
+            service,
+            quiet: Quiet {
+                caller,
+                absent,
+                all: seats,
+            },
             scm,
             nodes: seats_of_nodes,
-            absent,
-            all: seats,
         }),
         Err((_unseated, _seats, error)) => Err(error),
     }

@@ -31,7 +31,8 @@ none_among (row ∷ more) key none among = omega (arith, none)
 logged_later : (seen story : List Event) → BeginsWith story seen → (blocks : List Block) → AreLogged seen blocks → AreLogged story blocks
 logged_later seen story begins blocks logged k d within = All-weaker (λ (block : Block). is_in_logs (all_told told_log seen) block ≡ true)
     (λ (block : Block). is_in_logs (all_told told_log story) block ≡ true)
-    (λ block is. subst (λ (l : List Event). is_in_logs (all_told told_log l) block ≡ true) (sym begins.1) (logged_more seen begins.0 block is)) blocks logged k d within
+    (λ block is. subst (λ (l : List Event). is_in_logs (all_told told_log l) block ≡ true) (sym begins.1)
+    (logged_more seen begins.0 block is)) blocks logged k d within
 
 module _ (Coherent : Type 0) (opening : Opening) (loaded : Rows) (stripe : ℕ) (before after : List Event) (it : Purged)
     (has : HasPurged Coherent opening loaded stripe before after it) where
@@ -59,14 +60,16 @@ module _ (Coherent : Type 0) (opening : Opening) (loaded : Rows) (stripe : ℕ) 
     blocks_purged = all_purged stripe after (blocks_of_all it.rows.items) asked_there
 
     -- once they are logged, the rows may be named
-    pub rows_may_go : (later : List Event) → BeginsWith later after → AreLogged later (blocks_of_all it.rows.items) → Coherent → All (MayBeNamed later) it.rows.items
+    pub rows_may_go : (later : List Event) → BeginsWith later after → AreLogged later (blocks_of_all it.rows.items) → Coherent
+        → All (MayBeNamed later) it.rows.items
     rows_may_go later begins logged coherent =
         let found = has.found coherent in
         found_may opening loaded stripe has.story found.tables found.flushed it.rows.items found.whole later
         (subst (λ (l : List Event). Contains l asked_event) (sym begins.1) (Contains-append_left after begins.0 asked_event asked_there)) logged
 
     -- and once they were, all is done
-    pub stripe_purged : (second third : List Event) (most : ℕ) → BeginsWith second after → BeginsWith third second → AreLogged second (blocks_of_all it.rows.items)
+    pub stripe_purged : (second third : List Event) (most : ℕ) → BeginsWith second after → BeginsWith third second
+        → AreLogged second (blocks_of_all it.rows.items)
         → (Coherent → All (WasPurged opening second third most) it.rows.items) → StripeWasPurged Coherent opening loaded stripe before third most
     stripe_purged second third most one two logged each = record {
       it = it;

@@ -18,3 +18,4 @@ pub mod Purged
 pub mod Entries
 pub mod Due
 pub mod Sending
+pub mod Passing

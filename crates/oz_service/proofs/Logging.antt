@@ -52,7 +52,8 @@ purged_still seen story begins block it = record {
 
 pub asked_still : (seen story : List Event) → BeginsWith story seen → (txn : Txn) → ArePurgedOf seen txn → ArePurgedOf story txn
 asked_still seen story begins txn purged k d within =
-    All-weaker (λ local. IsPurged seen (record { container = txn.container; local = local })) (λ local. IsPurged story (record { container = txn.container; local = local }))
+    All-weaker (λ local. IsPurged seen (record { container = txn.container; local = local })) (λ local. IsPurged story
+    (record { container = txn.container; local = local }))
     (λ local it. purged_still seen story begins (record { container = txn.container; local = local }) it) txn.locals purged k d within
 
 -- a transaction that was logged stands in the story
@@ -62,5 +63,6 @@ pub told_in : (stopped : Bool) (before after story : List Event) (txn : Txn) (re
 told_in true before after story txn (Ok done) count own halted shown = let never = halted refl in absurd cc
 told_in false before after story txn (Ok done) count own halted shown =
     let event : Event = record { seat = scm_seat; kind = log_event txn } in
-    (of_filtered (λ (e : Event). e.seat == scm_seat) story event (subst (λ (l : List Event). Contains l event) (sym (shown ∙ own)) (Contains-push before event))).0
+    (of_filtered (λ (e : Event). e.seat == scm_seat) story event (subst (λ (l : List Event). Contains l event) (sym (shown ∙ own))
+    (Contains-push before event))).0
 told_in stopped before after story txn (Err fault) count own halted shown = tt

@@ -1,5 +1,6 @@
 -- Transactions name blocks that were asked for, and where all of them were logged, all these blocks are.
-use Rattle.std.proofs.Common.{◌≡◌, ◌⊎◌, ⊎_elim, inl, inr, ◌==◌, ◌&&◌, Bool, true, false, cond, ℕ, zero, suc, List, [], ◌∷◌, Option, None, Some, All, Contains, eq-eqb, refl, sym, ap, ◌∙◌, subst, arith}
+use Rattle.std.proofs.Common.{◌≡◌, ◌⊎◌, ⊎_elim, inl, inr, ◌==◌, ◌&&◌, Bool, true, false, cond, ℕ, zero, suc}
+use Rattle.std.proofs.Common.{List, [], ◌∷◌, Option, None, Some, All, Contains, eq-eqb, refl, sym, ap, ◌∙◌, subst, arith}
 use Rattle.std.proofs.lemmas.Bool.{eqb-true}
 use Rattle.std.proofs.lemmas.List.Elements.{All-contains, All-contains_itself, All-weaker}
 use Rattle.std.proofs.lemmas.List.Folds.{list_any-from_Any}

@@ -1,5 +1,6 @@
 -- A stripe's rows are of the stripe; and a deleted row of them may be named by a Purge once its blocks were asked for and logged.
-use Rattle.std.proofs.Common.{◌≡◌, ◌==◌, Bool, true, false, cond, ℕ, ◌≤◌, List, [], ◌∷◌, ◌++◌, length, Option, None, Some, All, Contains, eq-eqb, refl, sym, ap, ◌∙◌, subst, arith}
+use Rattle.std.proofs.Common.{◌≡◌, ◌==◌, Bool, true, false, cond, ℕ, ◌≤◌, List, [], ◌∷◌, ◌++◌}
+use Rattle.std.proofs.Common.{length, Option, None, Some, All, Contains, eq-eqb, refl, sym, ap, ◌∙◌, subst, arith}
 use mathlib.Core.Bool.{false≢true}
 use Rattle.std.proofs.lemmas.Bool.{eqb-true}
 use Rattle.std.proofs.lemmas.List.Elements.{All-from_recursion, Contains-append_left, Contains-append_right}
@@ -80,7 +81,8 @@ module _ (opening : Opening) (loaded : Rows) (stripe : ℕ) (story : List Event)
 
   -- ---- and may be named
 
-  module _ (seen : List Event) (all : List Block) (purged : Contains seen (record { seat = stripe_seat stripe; kind = PurgeAsk all })) (logged : AreLogged seen all) where
+  module _ (seen : List Event) (all : List Block) (purged : Contains seen (record { seat = stripe_seat stripe; kind = PurgeAsk all }))
+      (logged : AreLogged seen all) where
     one_may : (key : RowKey) (blocks : List Block) → tables key ≡ Some (rows.Deleted blocks) → RowFits key (rows.Deleted blocks)
         → ((block : Block) → Contains blocks block → Contains all block) → MayBeNamed seen (key, blocks)
     one_may (keys.Deleted volume bucket owner key local) [] is fits among = absurd fits.1.1
@@ -99,7 +101,8 @@ module _ (opening : Opening) (loaded : Rows) (stripe : ℕ) (story : List Event)
         → AllByRecursion (λ (row : DeletedRow). tables (key_of row) ≡ Some (rows.Deleted (blocks_in row))) found → AllByRecursion (MayBeNamed seen) found
     rows_may [] among whole = tt
     rows_may ((key, blocks) ∷ others) among whole = (
-      one_may key blocks whole.0 (tables_fit key (rows.Deleted blocks) whole.0) (λ block there. among block (Contains-append_left blocks (blocks_of_all others) block there)),
+      one_may key blocks whole.0 (tables_fit key (rows.Deleted blocks) whole.0) (λ block there. among block (Contains-append_left blocks
+          (blocks_of_all others) block there)),
       rows_may others (λ block there. among block (Contains-append_right blocks (blocks_of_all others) block there)) whole.1,
     )
 

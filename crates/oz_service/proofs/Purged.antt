@@ -1,5 +1,6 @@
 -- What the service job purges, as its seat sees more of the story.
-use Rattle.std.proofs.Common.{◌≡◌, Bool, true, false, cond, max, ℕ, zero, suc, ◌+◌, ◌≤◌, List, [], ◌∷◌, ◌++◌, length, length-append, take, drop, map, Some, All, Contains, refl, sym, ap, ◌∙◌, subst, arith}
+use Rattle.std.proofs.Common.{◌≡◌, Bool, true, false, cond, max, ℕ, zero, suc, ◌+◌, ◌≤◌, List, [], ◌∷◌}
+use Rattle.std.proofs.Common.{◌++◌, length, length-append, take, drop, map, Some, All, Contains, refl, sym, ap, ◌∙◌, subst, arith}
 use Rattle.std.proofs.lemmas.List.{take-append-le}
 use Rattle.std.proofs.lemmas.List.Elements.{All-append, All-contains, All-take, All-weaker}
 use Rattle.std.proofs.lemmas.Bool.Decides.{nat_tests}
@@ -160,7 +161,8 @@ module _ (opening : Opening) (rows : List DeletedRow) (front : Front) (names : N
       (subst (λ (r : Request). IsServed opening old.seen new.seen r index) names.is its) (omega (arith, is, within))
 
 -- and may be asked
-pub front_logged : (rows : List DeletedRow) (front : Front) → NamesFront rows front → (seen : List Event) → All (MayBeNamed seen) rows → PurgesLogged seen front.request
+pub front_logged : (rows : List DeletedRow) (front : Front) → NamesFront rows front → (seen : List Event) → All (MayBeNamed seen) rows
+    → PurgesLogged seen front.request
 front_logged rows front names seen may = subst (PurgesLogged seen) (sym names.is)
     (purges_logged seen names.volume names.named (take front.count rows) names.names (All-take (MayBeNamed seen) front.count rows may))
 
@@ -169,13 +171,16 @@ front_logged rows front names seen may = subst (PurgesLogged seen) (sym names.is
 pub none_yet : {A : Type 0} (P : A → Type 0) (l : List A) → All P (take 0 l)
 none_yet P l = each_of P (take 0 l) (λ x there. absurd (omega (arith, there.1)))
 
-pub front_then : (opening : Opening) (first before after : ServiceView) (found rest : List DeletedRow) (place count : ℕ) → GoesOn first before → GoesOn before after
+pub front_then : (opening : Opening) (first before after : ServiceView) (found rest : List DeletedRow) (place count : ℕ) → GoesOn first before
+    → GoesOn before after
     → before.purged_to ≤ after.purged_to → rest ≡ drop place found
     → All (WasPurged opening first.seen before.seen before.purged_to) (take place found)
     → All (WasPurged opening before.seen after.seen after.purged_to) (take count rest)
     → All (WasPurged opening first.seen after.seen after.purged_to) (take (place + count) found)
 front_then opening first before after found rest place count one two risen is was now =
     all_taken (WasPurged opening first.seen after.seen after.purged_to) found place count
-    (all_purged_on opening first.seen first.seen before.seen after.seen before.purged_to after.purged_to (begins_same first.seen) two.seen risen (take place found) was)
+    (all_purged_on opening first.seen first.seen before.seen after.seen before.purged_to after.purged_to (begins_same first.seen) two.seen risen
+    (take place found) was)
     (subst (λ (l : List DeletedRow). All (WasPurged opening first.seen after.seen after.purged_to) (take count l)) is
-    (all_purged_on opening first.seen before.seen after.seen after.seen after.purged_to after.purged_to one.seen (begins_same after.seen) (omega arith) (take count rest) now))
+    (all_purged_on opening first.seen before.seen after.seen after.seen after.purged_to after.purged_to one.seen (begins_same after.seen)
+    (omega arith) (take count rest) now))

@@ -17,5 +17,6 @@ pub use drains::{
     when_a_block_left_is_told_by_tables, who_holds,
 };
 pub use looks::{a_look_sweeps_its_stripe, a_stripes_pins_are_pinned, what_a_look_found_is_logged};
-pub use pass::{Parts, PassFault, Service};
+pub use oz_owned::an_ordered_log_is_numbered;
+pub use pass::{Parts, PassFault, Passed, Service};
 pub use splitting::transactions;

@@ -25,6 +25,7 @@ use oz_headline::{
 use oz_loaded::{Unseated, the_parts_are_the_whole};
 use oz_scm::Scm;
 use oz_script::Script;
+use oz_service::an_ordered_log_is_numbered;
 use oz_world::{Disk, Gate};
 use std::alloc::Global;
 use std::marker::Brand;
@@ -73,6 +74,7 @@ pub(crate) fn run_loaded<D: Disk + Send, W: Threads + Wait + Sync, G: Gate + Syn
     a_journal_at_rest_stands::<D>();
     a_loaded_scm_stands_for_the_opening::<D>();
     loaded_datanodes_stand_for_the_opening::<D>();
+    an_ordered_log_is_numbered();
     run_told::<D, Brand, Brand, Brand, W, G>(
         rt, alloc, gate, script, unseated, flusher, scm, nodes, workers,
     )

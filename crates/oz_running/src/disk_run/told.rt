@@ -4,6 +4,7 @@ ghost use Rattle.std.specs.Prelude.{◌≡◌, ◌≤◌, ◌+◌, ℕ, Some, le
 ghost use Rattle.oz_core.specs.declared.event.Node.TheVariants.{Scm as ScmNode};
 ghost use Rattle.oz_core.specs.Seats.{first_worker_seat};
 ghost use Rattle.oz_datanode.specs.Datanode.{State as AnyDatanode};
+ghost use Rattle.oz_kept.specs.reopened.Left.{NumbersAreApart};
 ghost use Rattle.oz_running.specs.Given.{JournalIsGiven};
 ghost use Rattle.oz_running.specs.disk_run.Told.{IsOpened, IsTold, other_nodes};
 ghost use Rattle.oz_headline.specs.halts.Nodes.{AreCounted};
@@ -67,6 +68,7 @@ pub(crate) fn run_told<
         IsOpened D.told D.clock D.image D.faults O.coherent O.opening O.bytes dn node }
     requires counted { AreCounted D.faults O.faults (other_nodes scm nodes.items) }
     requires old { O.coherent → NumbersAreOld O.opening }
+    requires apart { O.coherent → NumbersAreApart O.opening }
     requires journal { JournalIsGiven D.told D.clock D.image D.faults O.coherent O.bodies M.disk flusher }
     ensures told { IfOk result (λ ran. let see = (λ (d : D). seen (D.told d) (D.clock d) (D.image d) (D.faults d)) in
         IsTold see O.coherent O.opening O.bytes O.bodies O.script O.faults M.disk L.rows (first_worker_seat + workers)

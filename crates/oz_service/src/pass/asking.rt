@@ -2,7 +2,9 @@
 
 ghost use Rattle.std.specs.Prelude.{◌≡◌, false, None, Ok, IfOk, IfSome, OnOk};
 ghost use Rattle.oz_core.specs.Law.{PurgesLogged};
-ghost use Rattle.oz_service.specs.Pass.{GoesOn, LooksOn};
+ghost use Rattle.oz_names.specs.declared.limits.TheConstants.{STRIPES};
+ghost use Rattle.oz_om.specs.Working.{NoneBelow};
+ghost use Rattle.oz_service.specs.Pass.{FoundWork, GoesOn, LooksOn};
 
 use crate::pass::parts::Parts;
 use crate::pass::service::{SERVICE_SEAT, Service, see};
@@ -16,37 +18,19 @@ use oz_world::Disk;
 use std::sync::Wait;
 
 impl<O: Opened, R: Ring> Service<Ledger<O>, O, R> {
-    /// One step: what waits is asked again; where nothing waits, the request that works off the first deleted snapshot is asked. It is
-    /// seen decided. Answers whether there was one. Where there was none it has given nothing, and is to be called again once
-    /// something more is flushed.
+    /// Asks the request that works off the first deleted snapshot, and sees it decided. Answers whether there is one. Where there is
+    /// none it has given nothing.
     ///
-    /// Errors: as `Manager::ask_service` says, and want of memory. What was to be asked waits then, and the next step asks it again.
-    pub fn step<D: Disk, L: Loaded, W: Wait>(
-        &mut self,
-        parts: &Parts<'_, D, O, L, R, W>,
-    ) -> Result<bool, Refusal>
-        ensures goes_on { GoesOn self.old self.new }
-        ensures none { OnOk result (self.new.waiting ≡ None) }
-        ensures idle { result ≡ Ok false → self.new.mine ≡ self.old.mine }
-    {
-        if self.waiting.is_some() {
-            self.ask(parts)?;
-            return Ok(true);
-        }
-        self.chain(parts)
-    }
-
-    /// Asks the request that works off the first deleted snapshot, and sees it decided. Answers whether there is one.
-    ///
-    /// Errors: as `Manager::ask_service` says, and want of memory.
-    fn chain<D: Disk, L: Loaded, W: Wait>(
+    /// Errors: as `Manager::ask_service` says, and want of memory. What was to be asked waits then.
+    pub(crate) fn chain<D: Disk, L: Loaded, W: Wait>(
         &mut self,
         parts: &Parts<'_, D, O, L, R, W>,
     ) -> Result<bool, Refusal>
         requires none { self.old.waiting ≡ None }
         ensures goes_on { GoesOn self.old self.new }
         ensures none { OnOk result (self.new.waiting ≡ None) }
-        ensures idle { result ≡ Ok false → self.new.mine ≡ self.old.mine }
+        ensures idle { result ≡ Ok false → LooksOn self.old self.new }
+        ensures work { O.coherent → result ≡ Ok false → NoneBelow O.opening L.rows STRIPES self.old.seen self.new.seen }
     {
         let Some(request) = self.next_work(parts)? else {
             return Ok(false);
@@ -64,6 +48,7 @@ impl<O: Opened, R: Ring> Service<Ledger<O>, O, R> {
         parts: &Parts<'_, D, O, L, R, W>,
     ) -> Result<Option<Request>, OutOfMemory>
         ensures looked { LooksOn self.old self.new }
+        ensures first { O.coherent → IfOk result (FoundWork O.opening L.rows self.old.seen self.new.seen) }
         ensures logged { IfOk result (λ found. IfSome found (λ request. O.coherent → PurgesLogged self.new.seen request)) }
     {
         self.seat.knows_own();

@@ -3,6 +3,7 @@
 ghost use Rattle.std.specs.Prelude.{◌≡◌, [], IfErr, IfOk, IfSome, IsSome, None, OnErr, OnOk, Some, if◌then◌else◌, max, true};
 ghost use Rattle.oz_buffer.specs.Buffer.{AllFollow, Follows};
 ghost use Rattle.oz_core.specs.Law.{PurgesLogged};
+ghost use Rattle.oz_core.specs.Manager.{durable_index};
 ghost use Rattle.oz_core.specs.Seats.{service_seat};
 ghost use Rattle.oz_om.specs.Served.{IsServed};
 ghost use Rattle.oz_om.specs.Shown.{HasSeen};
@@ -152,17 +153,20 @@ fn purged_to(purges: bool, index: u64, before: u64) -> u64
     }
 }
 
-/// The seat sees all that happened until now.
+/// The seat sees all that happened until now. Answers up to which transaction index it is flushed.
 pub(crate) fn see<D: Disk, O: Opened, L: Loaded, R: Ring, W: Wait>(
     parts: &Parts<'_, D, O, L, R, W>,
     seat: &mut Seat<Ledger<O>>,
-)
+) -> u64
     requires { IsReady R.turn service_seat seat.old }
+    ensures durable { result ≡ durable_index O.opening (seen_of seat.new) }
     ensures shown { HasSeen R.turn O.coherent O.opening O.bytes O.script service_seat seat.old seat.new }
 {
     let (ledger, held) = parts.lent.turn.take(parts.lent.rt, seat);
     ledger.all_follow();
+    let durable = ledger.durable_index();
     parts.lent.turn.give_back(seat, ledger, held);
+    durable
 }
 
 /// Asks by this seat, and sees it decided.

@@ -3,7 +3,7 @@ use Rattle.oz_core.specs.declared.event.Event.{Event}
 use Rattle.oz_core.specs.Seats.{first_worker_seat}
 use Rattle.oz_script.specs.declared.lines.script.Script.{Script}
 use Rattle.oz_running.specs.Run.{IsWorkedOff}
-use Rattle.oz_running.proofs.Whole.{flusher_left, nodes_left, quiet_left, ready_left, scm_left, stripe_left}
+use Rattle.oz_running.proofs.Whole.{flusher_left, nodes_left, quiet_left, ready_left, scm_left, service_left, stripe_left}
 use Rattle.oz_turn.specs.Seat.{AreReady, mine_of, number_of, seen_of}
 use Rattle.oz_turn.specs.Told.{BeginsWith, own_entries}
 use Rattle.oz_turn.specs.Turn.{seats_of}
@@ -63,6 +63,7 @@ returns g c =
       scm = scm_left D.told D.clock D.image D.faults O.coherent O.opening O.bytes O.bodies O.script O.faults M.disk rows turn stopped disk left.scm nodes seats is story many begins own;
       datanodes = nodes_left D.told D.clock D.image D.faults O.coherent O.opening O.bytes O.bodies O.script O.faults M.disk rows turn stopped disk left.scm nodes seats is story many begins own follow
           (λ view node kept stood goes_on given. c.its_seat_alone_tells.ensures.stands view node story kept stood goes_on follow given);
+      asked = service_left D.told D.clock D.image D.faults O.coherent O.opening O.bytes O.bodies O.script O.faults M.disk rows turn stopped disk left.scm nodes seats is story many begins own;
       quiet = quiet_left D.told D.clock D.image D.faults O.coherent O.opening O.bytes O.bodies O.script O.faults M.disk rows turn stopped disk left.scm nodes seats is story many begins own;
       seated = subst (λ (l : List Event). All (λ (event : Event). event.seat < seats_of c.args.turn) l) same c.close-ledger.ensures.given;
       done = subst (λ (b : Bool). (c.is_worked_off-is_done.result ≡ true) ↔ IsWorkedOff b O.script story) c.stopped.ensures.stopped

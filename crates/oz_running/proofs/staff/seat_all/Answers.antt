@@ -9,8 +9,8 @@ returns-in-Ok-clause-staff g c = record {
       let count : length c.in_ok-flusher.field-0.workers.items ≡ c.args.workers = omega (arith, c.in_ok-flusher.ensures.worker_count, c.requires.count) in
       subst (λ n. AreJobs n c.in_ok-jobs.jobs.items) count c.in_ok-jobs.ensures.jobs;
   first = search rules;
-  quiet_count = search rules;
-  quiet_seats = search rules;
+  second = search rules;
+  caller = search rules;
   absent_count = search rules;
   absent_seats = search rules;
   none = search rules;

@@ -96,3 +96,12 @@ run_told-requires-clause-journal g c lives within =
           subst (λ (l : List (List ℕ)). StopsHold l [] (D.clock disk) (D.clock disk) (D.image disk)) (sym (told_shows (D.told disk) bodies some c.requires.loaded.2))
           (c.a_journal_at_rest_stands.ensures disk it.0 bodies (journal_at (D.told disk) (λ bytes. IsJournal bytes bodies) it.0 it.1 c.requires.loaded.2) (c.requires.stable it.0 it.1));
     }
+
+pub run_told-requires-clause-apart : goal.run_told-requires-clause-apart
+run_told-requires-clause-apart g c lives within agree =
+    let from = c.requires.others in
+    let unseated = c.args.unseated in
+    let namespace = namespace_shown unseated.parts in
+    let nodes = c.args.nodes.items in
+    c.an_ordered_log_is_numbered.ensures.apart _
+    (c.a_loaded_scm_stands_for_the_opening.ensures.ordered from.disk c.args.scm from.disks nodes unseated namespace from.scm_from from.nodes_from)

@@ -6,7 +6,8 @@ use Rattle.oz_om.specs.Purging.{DeletedRow, blocks_in, blocks_of_all}
 use Rattle.oz_service.proofs.pass.logging.all_blocks.Goals as goal
 
 -- the blocks of one row more
-blocks_more : (rows : List DeletedRow) (i : ℕ) (d : DeletedRow) → i < length rows → blocks_of_all (take (i + 1) rows) ≡ blocks_of_all (take i rows) ++ blocks_in (get_or rows i d)
+blocks_more : (rows : List DeletedRow) (i : ℕ) (d : DeletedRow) → i < length rows
+    → blocks_of_all (take (i + 1) rows) ≡ blocks_of_all (take i rows) ++ blocks_in (get_or rows i d)
 blocks_more rows i d within =
     let row : DeletedRow = get_or rows i d in
     ap blocks_of_all (take_more rows i d within)

@@ -18,7 +18,8 @@ log_one-requires-clause-ready g c = c.loop-txn.invariant.shown.ready
 pub log_one-requires-clause-purged : goal.log_one-requires-clause-purged
 log_one-requires-clause-purged g c =
     asked_still (seen_of c.args.seat.now) (seen_of c.loop-txn.seat) c.loop-txn.invariant.shown.goes_on c.txn-item.result
-    (All-contains (ArePurgedOf (seen_of c.args.seat.now)) c.args.txns.now c.txn-item.result c.requires.purged (c.loop-txn.txn-index, c.loop-txn-test.true, sym c.txn-item.is))
+    (All-contains (ArePurgedOf (seen_of c.args.seat.now)) c.args.txns.now c.txn-item.result c.requires.purged
+    (c.loop-txn.txn-index, c.loop-txn-test.true, sym c.txn-item.is))
 
 pub returns-in_err-log_one-clause-shown : goal.returns-in_err-log_one-clause-shown
 returns-in_err-log_one-clause-shown g c =
@@ -42,7 +43,8 @@ loop-txn-preserved g c =
         goes_on = begins_through (seen_of c.args.seat.now) (seen_of c.loop-txn.seat) (seen_of c.log_one.new.seat) was.goes_on now.goes_on;
         follow = now.follow;
       };
-      logged = in_more (seen_of c.loop-txn.seat) (seen_of c.log_one.new.seat) now.goes_on c.args.txns.now c.loop-txn.txn-index c.txn-item.result c.loop-txn-test.true c.txn-item.is
+      logged = in_more (seen_of c.loop-txn.seat)
+          (seen_of c.log_one.new.seat) now.goes_on c.args.txns.now c.loop-txn.txn-index c.txn-item.result c.loop-txn-test.true c.txn-item.is
           c.loop-txn.invariant.logged c.in_ok-log_one.ensures.logged;
     }
 

@@ -1,7 +1,9 @@
-use Rattle.std.proofs.Common.{refl, ◌∙◌, subst}
+use Rattle.std.proofs.Common.{IfOk, refl, ◌∙◌, subst}
+use Rattle.std.proofs.lemmas.Result.{IfOk-weaker}
 use Rattle.oz_turn.specs.Seat.{mine_of, number_of, seen_of}
-use Rattle.oz_service.specs.Pass.{LooksOn, ServiceView}
+use Rattle.oz_service.specs.Pass.{FoundWork, LooksOn, ServiceView}
 use Rattle.oz_service.proofs.Going.{begins_then}
+use Rattle.oz_service.proofs.Passing.{found_first}
 use Rattle.oz_service.proofs.Waits.{awaits_on, own_of}
 use Rattle.oz_service.proofs.pass.asking.Service+Ledger+O+O+R.next_work.Goals as goal
 
@@ -37,3 +39,15 @@ returns-clause-looked g c =
       waiting = refl;
       purged_to = refl;
     })
+
+pub returns-clause-first : goal.returns-clause-first
+returns-clause-first g c = λ coherent.
+    let O = g.O.Opened in
+    let rows = g.L.Loaded.rows in
+    let before = c.self.inside.seat in
+    let between = c.chain_work-work.new.seat in
+    let after = c.see.new.seat in
+    subst (λ (v : ServiceView). IfOk c.chain_work-work.result (FoundWork O.opening rows v.seen (seen_of after))) c.self.view_is
+    (IfOk-weaker c.chain_work-work.result _ _
+    (λ found work. found_first O.opening rows (seen_of before) (seen_of between) (seen_of after) found c.see.ensures.shown.goes_on (work coherent))
+    c.chain_work-work.ensures.work)

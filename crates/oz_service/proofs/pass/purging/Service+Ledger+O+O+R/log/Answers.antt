@@ -13,7 +13,8 @@ invariant_of-self g c =
       shown.ready,
       shown.follow,
       c.self.invariant.2,
-      λ coherent. awaits_on O.coherent O.opening O.bytes O.script (seen_of before) (seen_of after) (mine_of before) c.self.inside.waiting coherent shown.goes_on shown.follow
+      λ coherent. awaits_on O.coherent O.opening O.bytes O.script (seen_of before) (seen_of after)
+          (mine_of before) c.self.inside.waiting coherent shown.goes_on shown.follow
           (own_of (number_of before) (seen_of before) (mine_of before) c.self.invariant.0.numbered c.knows_own.ensures)
           (own_of (number_of after) (seen_of after) (mine_of before) shown.ready.numbered (c.knows_own-2.ensures ∙ shown.mine))
           (c.self.invariant.3 coherent),
@@ -23,5 +24,11 @@ pub returns-clause-looked : goal.returns-clause-looked
 returns-clause-looked g c =
     let after = c.log_all-logged.new.seat in
     let shown = c.log_all-logged.ensures.shown in
-    subst (λ (v : ServiceView). LooksOn v (record { seen = seen_of after; mine = mine_of after; waiting = c.self.inside.waiting; purged_to = c.self.inside.purged_to })) c.self.view_is
+    subst (λ (v : ServiceView). LooksOn v (record {
+      seen = seen_of after;
+      mine = mine_of after;
+      waiting = c.self.inside.waiting;
+      purged_to =
+          c.self.inside.purged_to;
+    })) c.self.view_is
     (record { seen = shown.goes_on; mine = shown.mine; waiting = refl; purged_to = refl })

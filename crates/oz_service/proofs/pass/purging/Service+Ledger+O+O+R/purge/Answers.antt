@@ -8,7 +8,8 @@ use Rattle.oz_service.proofs.pass.purging.Service+Ledger+O+O+R.purge.Goals as go
 pub returns-then-is_empty-clause-idle : goal.returns-then-is_empty-clause-idle
 returns-then-is_empty-clause-idle g c = λ is.
     let none : length c.in-Ok.purged.rows.items ≡ 0 = search rules in
-    no_rows g.O.Opened.coherent g.O.Opened.opening g.L.Loaded.rows c.args.stripe c.args.self.now.seen c.find.new.self.seen c.in-Ok.purged c.in-Ok.ensures.purged none
+    no_rows g.O.Opened.coherent g.O.Opened.opening g.L.Loaded.rows c.args.stripe c.args.self.now.seen c.find.new.self.seen c.in-Ok.purged
+    c.in-Ok.ensures.purged none
 
 pub log-requires : goal.log-requires
 log-requires g c =
@@ -22,7 +23,8 @@ purge_rows-requires-clause-may g c = λ coherent.
     let some : 1 ≤ length c.in-Ok.purged.rows.items = search rules in
     let seen = c.log.new.self.seen in
     subst (All (MayBeNamed seen)) (sym c.as_slice-2.ensures.value)
-    (rows_may_go g.O.Opened.coherent g.O.Opened.opening g.L.Loaded.rows c.args.stripe c.args.self.now.seen c.find.new.self.seen c.in-Ok.purged c.in-Ok.ensures.purged some
+    (rows_may_go g.O.Opened.coherent g.O.Opened.opening g.L.Loaded.rows c.args.stripe c.args.self.now.seen c.find.new.self.seen c.in-Ok.purged
+    c.in-Ok.ensures.purged some
     seen c.in_default.ensures.looked.seen
     (subst (λ (l : List DeletedRow). AreLogged seen (blocks_of_all l)) c.as_slice.ensures.value c.in_default.ensures.logged) coherent)
 

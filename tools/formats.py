@@ -438,7 +438,7 @@ STEPS = {1: {1: 2}, 2: {2: 3, 3: 4}, 3: {4: 4}, 4: {5: 5}, 5: {6: 6}, 6: {}}
 
 class Scm:
     """What the bodies of the storage container manager's journal make: the containers with their pipelines and states, the
-    grants, and the deletions that aren't retired: by their numbers the container, and who acknowledged them."""
+    grants, and the deletions that aren't retired: by their numbers the container, who acknowledged them, and the local ids."""
 
     def __init__(self):
         self.nodes, self.pipelines, self.states, self.grants, self.next = None, [], [], [], 1
@@ -477,12 +477,12 @@ class Scm:
         container = fields.long("a container that was made", 1, len(self.states))
         locals = fields.list("local ids", lambda: fields.long("a local id"), 1, 1024)
         fields.end()
-        self.last, self.log[number] = number, (container, set())
+        self.last, self.log[number] = number, (container, set(), locals)
         return {"entry": "log", "transaction": number, "blocks": [(container, it) for it in locals]}
 
     def acknowledged(self, fields):
         number = fields.number(8, "a transaction that isn't retired", self.log.__contains__)
-        container, done = self.log[number]
+        container, done, _ = self.log[number]
         waits = [it for it in self.members(container) if it not in done]
         datanode = fields.number(1, f"a datanode of {waits}", waits.__contains__)
         fields.end()
@@ -495,6 +495,15 @@ class Scm:
         fields.end()
         del self.log[number]
         return {"entry": "retire", "transaction": number}
+
+    def due_at(self, datanode):
+        """The blocks that a datanode is still to be told to delete."""
+        return {
+            (container, it)
+            for container, done, locals in self.log.values()
+            if datanode in self.members(container) and datanode not in done
+            for it in locals
+        }
 
     def grant_in(self, fields):
         stripe = fields.number(1, "a stripe below 16", lambda value: value < STRIPES)

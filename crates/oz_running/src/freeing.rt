@@ -13,8 +13,12 @@ use oz_worker::Shared;
 use oz_world::{Disk, Gate};
 use std::sync::{Mutex, Wait};
 
+/// How often the service job passes at most. A pass purges up to 1,024 rows of each stripe. Over disks that don't agree a row may be
+/// found again and again.
+const MOST_PASSES: u8 = 64;
+
 /// Lets the service job pass over and over, and flushes what each pass decided, until one finds nothing to do, or can't go on for want
-/// of memory or since a node halted. What is left then is for a later run.
+/// of memory or since a node halted, or it has passed 64 times. What is left then is for a later run.
 pub(crate) fn free<D: Disk, O: Opened, L: Loaded, M: Mounted, R: Ring, W: Wait, G: Gate>(
     shared: &Shared<'_, D, O, L, R, W, G>,
     flushing: &Mutex<Flushing<D, Ledger<O>, O, M, R>>,
@@ -34,12 +38,11 @@ pub(crate) fn free<D: Disk, O: Opened, L: Loaded, M: Mounted, R: Ring, W: Wait, 
         manager: &shared.servers.manager,
     };
     let count = shared.servers.node_count();
-    for _ in shared.rt.forever() {
+    for _ in 0..MOST_PASSES {
         let passed = service.pass(&parts, count);
         let flushed = flush_in_turn(shared.rt, flushing, shared.turn, shared.gate);
         if flushed.is_err() || !matches!(passed, Ok(Passed::WentOn | Passed::Waits)) {
             return;
         }
     }
-    unreachable!()
 }
